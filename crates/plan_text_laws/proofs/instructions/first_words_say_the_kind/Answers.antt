@@ -1,0 +1,5 @@
+use Rattle.plan_text_laws.proofs.Words.{kind_is}
+use Rattle.plan_text_laws.proofs.instructions.first_words_say_the_kind.Goals as goal
+
+pub returns : goal.returns
+returns c = kind_is

@@ -1,0 +1,5 @@
+use Rattle.plan_text_laws.proofs.Named.{edges_are}
+use Rattle.plan_text_laws.proofs.names.words_name_edge_applies.Goals as goal
+
+pub returns : goal.returns
+returns c = edges_are

@@ -1,0 +1,101 @@
+-- The kinds of instructions, and where an instruction goes on, by its words and by its operation.
+use Rattle.std.specs.Prelude.{ℕ, ◌^◌, List, [], ◌∷◌, ◌++◌, Option, Some, None, codes, option_and_then, slice_get}
+use Rattle.std.specs.Map.{lookup}
+use Rattle.std.specs.Str.{bytes_eq}
+use Rattle.typed_tree.specs.declared.statement.SetValue.{SetValue}
+use Rattle.typed_tree.specs.declared.statement.SetValue.TheVariants as set
+use Rattle.typed_tree.specs.BlockTree as action
+use Rattle.typed_tree.specs.BlockTree.{ActionTree}
+use Rattle.typed_tree.specs.ProgramTree.{ProgramTree}
+use Rattle.plans.specs.Instruction as operation
+use Rattle.plans.specs.Instruction.{OperationTree, InstructionTree}
+use Rattle.lowering.specs.Text.{operation_words, target_words}
+use Rattle.decimal.specs.Numbers.{number_of}
+
+pub data InstructionKind : Type 0 where
+  Set : InstructionKind
+  Put : InstructionKind
+  Print : InstructionKind
+  AddVertex : InstructionKind
+  NewSet : InstructionKind
+  AllSet : InstructionKind
+  CopySet : InstructionKind
+  Filter : InstructionKind
+  ApplyVertices : InstructionKind
+  ApplyEdges : InstructionKind
+  Unless : InstructionKind
+  Turn : InstructionKind
+  Jump : InstructionKind
+  End : InstructionKind
+
+-- the first word of each kind
+abbrev pub kinds : List (List ℕ × InstructionKind)
+kinds =
+    (codes "set", Set) ∷ (codes "put", Put) ∷ (codes "print", Print) ∷ (codes "addvertex", AddVertex)
+    ∷ (codes "newset", NewSet) ∷ (codes "allset", AllSet) ∷ (codes "copyset", CopySet) ∷ (codes "filter", Filter)
+    ∷ (codes "vapply", ApplyVertices) ∷ (codes "eapply", ApplyEdges)
+    ∷ (codes "unless", Unless) ∷ (codes "turn", Turn) ∷ (codes "jump", Jump) ∷ (codes "end", End) ∷ []
+
+-- the words of an instruction, behind its number
+abbrev pub instruction_words : ProgramTree → InstructionTree → List (List ℕ)
+instruction_words p i = operation_words p i.choice i.operation ++ target_words i.operation
+
+-- the kind that the words say, and where they say to go on
+abbrev pub kind_in : List (List ℕ) → Option InstructionKind
+kind_in [] = None
+kind_in (word ∷ words) = lookup (bytes_eq word) kinds
+
+abbrev pub place_behind : Option InstructionKind → List (List ℕ) → Option ℕ
+place_behind (Some Unless) words = option_and_then (number_of (2 ^ 64)) (slice_get words 2)
+place_behind (Some Jump) words = option_and_then (number_of (2 ^ 64)) (slice_get words 1)
+place_behind _ words = None
+
+abbrev pub place_in : List (List ℕ) → Option ℕ
+place_in words = place_behind (kind_in words) words
+
+-- the kind of a statement without a block, and of an operation
+abbrev pub kind_of_set : SetValue → InstructionKind
+kind_of_set set.Empty = NewSet
+kind_of_set set.All = AllSet
+kind_of_set (set.Copy slot) = CopySet
+kind_of_set (set.Filter slot function) = Filter
+kind_of_set (set.Modified ends function vector) = ApplyEdges
+
+abbrev pub kind_of_action : ActionTree → Option InstructionKind
+kind_of_action (action.DeclareInteger name e) = Some Set
+kind_of_action (action.DeclareCondition name c) = Some Set
+kind_of_action (action.SetInteger slot e) = Some Set
+kind_of_action (action.SetCondition slot c) = Some Set
+kind_of_action (action.ReduceInteger slot reduction e) = Some Set
+kind_of_action (action.SetEntry vector index e) = Some Put
+kind_of_action (action.ReduceEntry vector index reduction e) = Some Put
+kind_of_action (action.DeclareSet name value) = Some (kind_of_set value)
+kind_of_action (action.AssignSet slot value) = Some (kind_of_set value)
+kind_of_action (action.AddVertex slot e) = Some AddVertex
+kind_of_action (action.PrintInteger e) = Some Print
+kind_of_action (action.PrintCondition c) = Some Print
+kind_of_action (action.ApplyVertex slot function) = Some ApplyVertices
+kind_of_action (action.ApplyEdges ends function) = Some ApplyEdges
+kind_of_action (action.If c body) = None
+kind_of_action (action.IfElse c body other) = None
+kind_of_action (action.While c body) = None
+kind_of_action (action.For name first last body) = None
+
+abbrev pub kind_of : OperationTree → Option InstructionKind
+kind_of (operation.Do action) = kind_of_action action
+kind_of (operation.ApplyEdgesTogether ends first second) = Some ApplyEdges
+kind_of (operation.ApplyVerticesTogether slot first second) = Some ApplyVertices
+kind_of (operation.Unless c to) = Some Unless
+kind_of (operation.Enter name e) = Some Set
+kind_of (operation.UnlessBelow name to) = Some Unless
+kind_of (operation.Advance name) = Some Set
+kind_of operation.Turn = Some Turn
+kind_of (operation.Jump to) = Some Jump
+kind_of operation.End = Some End
+
+-- the number of the instruction that an operation may go to
+abbrev pub place_of : OperationTree → Option ℕ
+place_of (operation.Unless c to) = Some to
+place_of (operation.UnlessBelow name to) = Some to
+place_of (operation.Jump to) = Some to
+place_of _ = None

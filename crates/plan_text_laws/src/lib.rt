@@ -1,0 +1,32 @@
+//! Laws of the text of plans: what the words that `plan_text` and `lowering` define one by one come to for who reads them.
+//!
+//! The calls do nothing: each is a fact that is proved of every program, state and instruction. `specs/Machine.antt` is a
+//! machine that reads words as `docs/PLANS.md` describes it: from left to right, with a stack of values. It ends with the value
+//! that the expression has, and stops exactly where that has none (`expressions_are_read_by_hand`). It does so with a text in
+//! brackets, which is cut at its spaces (`brackets_are_read_by_hand`), and the brackets of an instruction have the values that the
+//! instruction takes (`instructions_have_their_values`, `reductions_are_read_by_hand`). `specs/Given.antt` says what the machine
+//! knows of names. Each name of the language but `neg` is taken for one, and meets the other premises too (`names_are_plain`).
+//!
+//! The first word of an instruction says its kind (`first_words_say_the_kind`), and the words behind it what it works on
+//! (`words_name_what_is_worked_on`, `words_name_edge_applies`), by which reduction an entry changes (`words_say_the_reduction`),
+//! where a run may go on (`words_say_where_to_go`), and by what the engines do an edge apply (`words_say_the_settings`).
+//!
+//! These laws speak of words. The text of a plan, cut into lines and these into words, is the words of its instructions
+//! (`lines_are_cut_into_words`, `texts_are_cut_into_instructions`).
+//!
+//! No crate of the program stands on this one, so that its proofs are off the way of a build.
+#![tactic(auto)]
+
+mod brackets;
+mod expressions;
+mod instructions;
+mod lines;
+mod names;
+
+pub use brackets::{
+    brackets_are_read_by_hand, instructions_have_their_values, reductions_are_read_by_hand,
+};
+pub use expressions::{expressions_are_read_by_hand, names_are_plain};
+pub use instructions::{first_words_say_the_kind, words_say_the_settings, words_say_where_to_go};
+pub use lines::{lines_are_cut_into_words, texts_are_cut_into_instructions};
+pub use names::{words_name_edge_applies, words_name_what_is_worked_on, words_say_the_reduction};
