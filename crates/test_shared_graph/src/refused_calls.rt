@@ -16,14 +16,19 @@ const ROOM: u64 = 12;
 
 // The kinds of calls.
 #[derive(Clone, Copy)]
-enum Call {
+enum SharedCall {
     Commit,
     Hold,
     Trim,
     Look,
 }
 
-const CALLS: [Call; 4] = [Call::Commit, Call::Hold, Call::Trim, Call::Look];
+const CALLS: [SharedCall; 4] = [
+    SharedCall::Commit,
+    SharedCall::Hold,
+    SharedCall::Trim,
+    SharedCall::Look,
+];
 
 // Whether a call that is not to be refused is answered. A hold is released.
 fn is_answered<J: Naming, W: Wait + Drop, R: Threads + Wait + Sync>(
@@ -31,16 +36,16 @@ fn is_answered<J: Naming, W: Wait + Drop, R: Threads + Wait + Sync>(
     alloc: Global,
     graph: &SharedGraph<J, W>,
     me: &mut Reader<J>,
-    call: Call,
+    call: SharedCall,
 ) -> bool {
     match call {
-        Call::Commit => commit_nothing(rt, alloc, graph, me).is_ok(),
-        Call::Hold => {
+        SharedCall::Commit => commit_nothing(rt, alloc, graph, me).is_ok(),
+        SharedCall::Hold => {
             let held = hold_and_release(rt, alloc, graph, me, Which::Newest);
             matches!(held, Ok((_, None)))
         }
-        Call::Trim => graph.trim(rt, me).is_ok(),
-        Call::Look => newest(me).is_ok(),
+        SharedCall::Trim => graph.trim(rt, me).is_ok(),
+        SharedCall::Look => newest(me).is_ok(),
     }
 }
 
