@@ -12,7 +12,9 @@
 mod apply_schedule;
 mod reduction;
 mod setting;
+mod workers;
 
 pub use apply_schedule::{ApplySchedule, DenseVertexSet, Direction, Fused, Parallelization};
 pub use reduction::Reduction;
 pub use setting::Setting;
+pub use workers::MAX_WORKERS;

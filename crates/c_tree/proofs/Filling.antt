@@ -3,7 +3,7 @@ use Rattle.std.proofs.Common.{◌≡◌, ℕ, ℤ, ◌+◌, ◌-◌, ◌<◌, �
 use Rattle.std.proofs.Math.Seq.{take-add}
 use Rattle.std.proofs.lemmas.Bool.{cases_lt}
 use Rattle.std.proofs.lemmas.List.{drop-drop, drop_at, take_at, drop_all, drop-append-le, take-append-le, length-take-le, length-map, map-append, drop-map, set_split}
-use Rattle.c_tree.specs.Blocks.{IsRead}
+use Rattle.c_tree.specs.inside.Blocks.{IsRead}
 
 module _ {X : Type 0} (f : ℕ × ℤ → X) where
   -- What f gives of the first n entries of whole stands in block, which was old; rest is what is left.

@@ -3,6 +3,4 @@ pub mod Chunks
 pub mod Parts
 pub mod Outcome
 pub mod Refusal
-pub mod Cutting
-pub mod Blocks
-pub mod Spelled
+pub mod inside

@@ -5,7 +5,7 @@ ghost use Rattle.std.specs.Map.{keys_of};
 ghost use Rattle.ascending_lists.specs.Maps.{IsMap};
 ghost use Rattle.ascending_lists.specs.Ascending.{Ascends};
 ghost use Rattle.c_tree.specs.Chunks.{before_head, chunks_of, IsSetOf};
-ghost use Rattle.c_tree.specs.Cutting.{from_head};
+ghost use Rattle.c_tree.specs.inside.Cutting.{from_head};
 ghost use Rattle.c_tree.specs.Outcome.{Builds};
 
 use crate::chunk_size::ChunkSize;

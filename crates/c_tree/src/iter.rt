@@ -3,7 +3,7 @@
 ghost use Rattle.std.specs.Prelude.{◌≡◌, ◌≤◌, length, take, drop, min};
 ghost use Rattle.std.specs.Iterator.{YieldsFirst, item_count};
 ghost use Rattle.std.specs.Map.{keys_of, values_of};
-ghost use Rattle.c_tree.specs.Blocks.{IsRead};
+ghost use Rattle.c_tree.specs.inside.Blocks.{IsRead};
 ghost use Rattle.c_tree.specs.Chunks.{together};
 
 use crate::tail::ChunkTail;

@@ -7,7 +7,7 @@ ghost use Rattle.tail_codec.specs.Appending.{IsAppended};
 ghost use Rattle.ascending_lists.specs.Ascending.{Ascends};
 ghost use Rattle.tail_codec.specs.Spelling.{Spells};
 ghost use Rattle.c_tree.specs.Chunks.{together};
-ghost use Rattle.c_tree.specs.Spelled.{StandsOverItsHead, SpellsUpTo};
+ghost use Rattle.c_tree.specs.inside.Spelled.{StandsOverItsHead, SpellsUpTo};
 
 use crate::ctree::CTree;
 use crate::tail::ChunkTail;

@@ -10,8 +10,8 @@ use mathlib.Core.Logic.{dite}
 use native.Mathlib.Decide.{dec_lt}
 use Rattle.crew.specs.declared.piece_results.Found.{Found}
 use Rattle.crew.specs.ClaimWord.{times}
-use Rattle.crew.specs.Claims.{pieces_at}
-use Rattle.crew.specs.Finding.{IsAnswered, HasAdded}
+use Rattle.crew.specs.inside.Claims.{pieces_at}
+use Rattle.crew.specs.inside.Finding.{IsAnswered, HasAdded}
 use Rattle.crew.specs.Pieces.{IsFoundAt, AreFound, pieces_of}
 
 cond-append : (b : Bool) (y : ℕ) (r a c : List ℕ) → r ≡ a ++ c → cond b (y ∷ r) r ≡ cond b (y ∷ a) a ++ c

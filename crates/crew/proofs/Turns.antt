@@ -7,7 +7,7 @@ use mathlib.Core.Logic.{dite}
 use native.Mathlib.Decide.{dec_lt}
 use Rattle.atomic_table.proofs.Lists.{one_turn}
 use Rattle.crew.specs.ClaimWord.{times}
-use Rattle.crew.specs.Workers.{EachAt}
+use Rattle.crew.specs.inside.Workers.{EachAt}
 use Rattle.crew.proofs.ClaimSteps.{times-append}
 
 module _ {X : Type 0} (P : ℕ → X → Type 0) where

@@ -1,12 +1,9 @@
 pub mod ClaimWord
-pub mod Claims
-pub mod Finding
-pub mod Ordering
 pub mod Outcome
 pub mod Pieces
 pub mod Refusal
-pub mod Workers
 pub mod Boundaries
 pub mod Limits
 pub mod Partition
 pub mod Assignment
+pub mod inside

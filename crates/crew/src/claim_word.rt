@@ -5,7 +5,7 @@
 
 ghost use Rattle.std.specs.Prelude.{◌≡◌, ◌+◌, ◌-◌, ◌<◌, ◌≤◌, [], ◌++◌, length, IfOk};
 ghost use Rattle.crew.specs.ClaimWord.{claim_view, all_rights, IsClaimWord, Claims};
-ghost use Rattle.crew.specs.Claims.{IsClaimAt, view_of, worker_rights};
+ghost use Rattle.crew.specs.inside.Claims.{IsClaimAt, view_of, worker_rights};
 
 use atomic_table::{Join, Play, Seat, Shared, Split, Table, TableRule};
 use std::alloc::{AllocError, Global};

@@ -3,9 +3,9 @@
 ghost use Rattle.std.specs.Prelude.{◌≡◌, ◌+◌, ◌-◌, ◌*◌, ◌^◌, ◌<◌, ◌≤◌, [], length, max, IfOk};
 ghost use Rattle.std.specs.List.{All};
 ghost use Rattle.crew.specs.ClaimWord.{claim_view, all_rights};
-ghost use Rattle.crew.specs.Claims.{IsClaimAt, view_of, worker_rights};
-ghost use Rattle.crew.specs.Finding.{AreAll, IsAnswered};
-ghost use Rattle.crew.specs.Workers.{IsHired, HasClaimed};
+ghost use Rattle.crew.specs.inside.Claims.{IsClaimAt, view_of, worker_rights};
+ghost use Rattle.crew.specs.inside.Finding.{AreAll, IsAnswered};
+ghost use Rattle.crew.specs.inside.Workers.{IsHired, HasClaimed};
 
 use crate::claim_word::{Claim, ClaimWord, dismiss, draw, hire, open_word};
 use crate::gate::Gate;

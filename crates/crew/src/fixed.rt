@@ -2,8 +2,8 @@
 
 ghost use Rattle.std.specs.Prelude.{◌≡◌, ◌+◌, ◌-◌, ◌^◌, ◌<◌, ◌≤◌, length, max, IfOk};
 ghost use Rattle.std.specs.List.{All};
-ghost use Rattle.crew.specs.Finding.{AreAll, IsAnswered};
-ghost use Rattle.crew.specs.Workers.{AreNumbered, IsNumbered, HasEvery, HaveEvery};
+ghost use Rattle.crew.specs.inside.Finding.{AreAll, IsAnswered};
+ghost use Rattle.crew.specs.inside.Workers.{AreNumbered, IsNumbered, HasEvery, HaveEvery};
 
 use crate::gate::Gate;
 use crate::piece::{do_piece, state_or_new};

@@ -1,7 +1,7 @@
 //! One piece, done by a worker.
 
 ghost use Rattle.std.specs.Prelude.{◌+◌, ◌<◌, ◌≤◌, IfOk, IfSome};
-ghost use Rattle.crew.specs.Finding.{HasAdded};
+ghost use Rattle.crew.specs.inside.Finding.{HasAdded};
 
 use crate::gate::Gate;
 use crate::piece_results::Found;

@@ -4,14 +4,13 @@ ghost use Rattle.std.specs.Prelude.{IsTrue, ◌↔◌, ◌≡◌, ◌*◌, ◌�
 ghost use Rattle.crew.specs.Outcome.{AreWorkers, Employs, edges_of_a_worker};
 
 use crate::error::CrewError;
-
-const MOST_WORKERS: usize = 64;
+use apply_options::MAX_WORKERS;
 
 /// Whether a run may have so many workers: 1 to 64.
 pub fn is_crew(workers: usize) -> bool
     ensures { IsTrue result ↔ AreWorkers workers }
 {
-    1 <= workers && workers <= MOST_WORKERS
+    1 <= workers && workers <= MAX_WORKERS
 }
 
 // The edges for which a further worker is worth its thread.

@@ -3,5 +3,5 @@ pub mod Words
 pub mod Contexts
 pub mod Applied
 pub mod Pieces
-pub mod Propositions
 pub mod Merged
+pub mod inside

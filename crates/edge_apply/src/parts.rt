@@ -3,6 +3,7 @@ ghost use Rattle.std.specs.Prelude.{◌≡◌, ◌+◌, ◌++◌, [], length, ve
 ghost use Rattle.edge_fold.specs.Between.{firsts};
 
 use flat_snapshot::Degrees;
+use kernels::PAIRS;
 use std::alloc::AllocError;
 
 /// Takes the next vertices, at most 128, in place of what the part has, and none where none is left. The only error is
@@ -13,7 +14,7 @@ pub fn take_part(vertices: &mut Degrees<'_>, part: &mut Vec<u32>) -> Result<(), 
     ensures fewer { OnOk result (length vertices.new + vec_len part.new ≡ length vertices.old) }
 {
     part.clear();
-    'places: for _place in 0..128usize {
+    'places: for _place in 0..PAIRS {
         let Some((vertex, _)) = vertices.next() else {
             return Ok(());
         };

@@ -8,7 +8,7 @@ ghost use Rattle.edge_fold.specs.Ends.{IsTest};
 
 use crate::vertices::number_between;
 use edge_fold::{ApplyContext, Scratch, compared_set};
-use kernels::EndpointFilter;
+use kernels::{EndpointFilter, PAIRS};
 use std::alloc::{AllocError, Global};
 use vertex_sets::{Form, VertexSet};
 
@@ -51,7 +51,7 @@ fn tested_set(
     let mut kept = Vec::new(alloc);
     let mut next = 0u32;
     'parts: while next < vertices {
-        let stop = next + (vertices - next).min(128);
+        let stop = next + (vertices - next).min(PAIRS as u32);
         number_between(next, stop, &mut part)?;
         kept.clear();
         scratch.keep_passing(context, end, &part, &mut kept)?;

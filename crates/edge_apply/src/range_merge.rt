@@ -1,7 +1,7 @@
 //! The merge of what the pieces of an apply have gathered, in pieces.
 ghost use Rattle.std.specs.Prelude.{◌<◌, ◌^◌};
 ghost use Rattle.crew.specs.Partition.{AreEnds};
-ghost use Rattle.edge_apply.specs.Propositions.{AreEnds-prop};
+ghost use Rattle.edge_apply.specs.inside.Propositions.{AreEnds-prop};
 
 use crate::apply::Apply;
 use crew::{Found, Partition};

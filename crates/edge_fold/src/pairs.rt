@@ -1,13 +1,15 @@
 //! Waiting pairs: edges that wait for a run of the kernels.
 ghost use Rattle.std.specs.Prelude.{◌≡◌, ℕ, ◌+◌, ◌<◌, ◌≤◌, ◌++◌, [], false, if◌then◌else◌, length, take};
 
+use kernels::PAIRS;
+
 /// Pairs of a source and a destination that wait for the kernels, each with a weight: the first ones, as many as there
 /// are. The weights are written only where they count.
 #[derive(Drop)]
 pub(crate) struct Pairs {
-    pub(crate) sources: [u32; 128],
-    pub(crate) destinations: [u32; 128],
-    pub(crate) weights: [i64; 128],
+    pub(crate) sources: [u32; PAIRS],
+    pub(crate) destinations: [u32; PAIRS],
+    pub(crate) weights: [i64; PAIRS],
     pub(crate) count: usize,
     ghost few: { count ≤ 128 },
 }
@@ -32,9 +34,9 @@ impl Pairs {
         ensures { result.count ≡ 0 }
     {
         Pairs {
-            sources: [0; 128],
-            destinations: [0; 128],
-            weights: [0; 128],
+            sources: [0; PAIRS],
+            destinations: [0; PAIRS],
+            weights: [0; PAIRS],
             count: 0,
         }
     }
@@ -43,7 +45,7 @@ impl Pairs {
     pub(crate) fn room(&self) -> usize
         ensures { self.now.count + result ≡ 128 }
     {
-        128 - self.count
+        PAIRS - self.count
     }
 
     /// Those that wait, with their weights where these count.

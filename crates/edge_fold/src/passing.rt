@@ -11,7 +11,7 @@ ghost use Rattle.vectors.specs.Lanes.{lane_entry};
 
 use crate::apply_context::ApplyContext;
 use algorithm_meaning::compare;
-use kernels::{Block, BlockInput, EndpointFilter, FilterKernel, FilterShape};
+use kernels::{Block, BlockInput, EndpointFilter, FilterKernel, FilterShape, PAIRS};
 use std::alloc::AllocError;
 use typed_tree::ComparisonOperator;
 use vectors::Lane;
@@ -97,7 +97,7 @@ fn keep_in_parts(
 {
     let mut rest = vertices;
     'parts: while !rest.is_empty() {
-        let (part, more) = rest.split_at(rest.len().min(128));
+        let (part, more) = rest.split_at(rest.len().min(PAIRS));
         keep_part(context, kernel, part, block, kept)?;
         rest = more;
     }

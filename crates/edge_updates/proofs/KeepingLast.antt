@@ -8,7 +8,7 @@ use Rattle.std.proofs.lemmas.List.{drop_more, take_more_set, drop-set-lt}
 use Rattle.edge_updates.specs.declared.edge_update.EdgeUpdate.{EdgeUpdate}
 use Rattle.edge_updates.specs.EdgeUpdate.{key_of, vertex_of, neighbour_of}
 use Rattle.edge_updates.specs.Updates.{Edge, names, one_decided, decided, times, NamesOnce, FollowInOrder, AreInOrder, IsBefore, FollowAscending, Ascend}
-use Rattle.edge_updates.specs.LastUpdates.{begin_same, last_updates}
+use Rattle.edge_updates.specs.inside.LastUpdates.{begin_same, last_updates}
 use Rattle.edge_updates.proofs.Packing.{key_is, same_vertex, same_neighbour}
 use Rattle.edge_updates.proofs.SortedUpdates.{option_or-none, names_parts, names_other}
 

@@ -1,5 +1,4 @@
 pub mod EdgeUpdate
 pub mod Updates
-pub mod LastUpdates
-pub mod EndWidths
 pub mod Weighted
+pub mod inside

@@ -2,7 +2,7 @@
 
 ghost use Rattle.std.specs.Prelude.{◌≡◌, ◌≤◌, length, take, drop, vec_len};
 ghost use Rattle.edge_updates.specs.Updates.{Edge, decided, AreInOrder, Ascend, NamesOnce};
-ghost use Rattle.edge_updates.specs.LastUpdates.{begin_same, last_updates};
+ghost use Rattle.edge_updates.specs.inside.LastUpdates.{begin_same, last_updates};
 
 use crate::edge_update::EdgeUpdate;
 

@@ -17,7 +17,7 @@ use Rattle.expression_types.specs.Operators.{given, signed_value}
 use Rattle.expression_types.specs.Expression.{unary_value, primary_value}
 use Rattle.expression_types.specs.ScopeTree.{ScopeTree}
 use Rattle.expression_types.proofs.Steps.{bind-sure, bind-bind}
-use Rattle.expression_types.specs.Signs.{signs_value, all_minus, all_not}
+use Rattle.expression_types.specs.inside.Signs.{signs_value, all_minus, all_not}
 use Rattle.expression_types.specs.ValueTree.{ValueTree, Integer, Condition, Vertex, Set, ErrorValue, is_error, is_condition, as_integer, as_condition}
 
 -- one sign more

@@ -7,5 +7,5 @@ pub mod WithFaults
 pub mod Operands
 pub mod Operators
 pub mod ScopeTree
-pub mod Signs
 pub mod ValueTree
+pub mod inside

@@ -5,7 +5,7 @@ ghost use Rattle.expression_types.specs.WithFaults.{ReportsFaults, outcome};
 ghost use Rattle.expression_types.specs.Operators.{added, compared_value, entry_value, equated_value};
 ghost use Rattle.expression_types.specs.Operators.{function_entry, given, main_entry, multiplied, related_value};
 ghost use Rattle.expression_types.specs.Faults.{earlier};
-ghost use Rattle.expression_types.specs.Signs.{all_minus, all_not, signs_value};
+ghost use Rattle.expression_types.specs.inside.Signs.{all_minus, all_not, signs_value};
 ghost use Rattle.expression_types.specs.ValueTree.{ErrorValue, is_condition, is_error, value_tree};
 
 use crate::fault::{Fault, TypeRule, note};

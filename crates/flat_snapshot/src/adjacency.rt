@@ -7,7 +7,7 @@ ghost use Rattle.pages.specs.Vertices.{neighbours_of};
 ghost use Rattle.vertex_blocks.specs.Blocks.{lists_of, AreBlocks, vertices_at, vertices_from};
 ghost use Rattle.tree_batch.specs.VertexBlocks.{HaveFew};
 ghost use Rattle.flat_snapshot.specs.Lists.{degrees_of};
-ghost use Rattle.flat_snapshot.specs.Places.{IsPadded, IsPut};
+ghost use Rattle.flat_snapshot.specs.inside.Places.{IsPadded, IsPut};
 
 use crate::degrees::Degrees;
 use shared_tree::Share;

@@ -4,7 +4,6 @@ pub mod ContributionColumns
 pub mod Expressions
 pub mod Columns
 pub mod Shapes
-pub mod MainCells
 pub use Rattle.algorithm_meaning.specs.Arithmetic
 pub use Rattle.algorithm_meaning.specs.EdgeApply
 pub use Rattle.algorithm_meaning.specs.Laws
@@ -17,3 +16,4 @@ pub use Rattle.register_code.specs.declared.instruction.ContributionCode
 pub use Rattle.register_code.specs.declared.instruction.RegisterInstruction
 pub use Rattle.register_code.specs.declared.register_counts.RegisterCounts
 pub use Rattle.typed_tree.specs.StepTree
+pub mod inside

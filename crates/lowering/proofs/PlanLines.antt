@@ -10,7 +10,7 @@ use Rattle.plans.specs.declared.instruction.Instruction.{Instruction}
 use Rattle.plans.specs.declared.operation.PlanOperation.{PlanOperation}
 use Rattle.plans.specs.declared.operation.PlanOperation.TheVariants as op
 use Rattle.plans.specs.Operation.{AreInstructions, IsOperation}
-use Rattle.lowering.specs.Targets.{places_of}
+use Rattle.lowering.specs.inside.Targets.{places_of}
 use Rattle.lowering.specs.Text.{AreWritten, IsWritten, instruction_line, instruction_lines, operation_words, target_words}
 
 -- instructions that keep their words are instructions

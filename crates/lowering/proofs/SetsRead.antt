@@ -9,7 +9,7 @@ use Rattle.typed_tree.specs.Fold.{all_pass, end_fold, function_fold}
 use Rattle.typed_tree.specs.ProgramTree.{ProgramTree}
 use Rattle.typed_tree.proofs.Gathered.{end_gathered, function_gathered}
 use Rattle.plans.specs.Fusing.{EdgeApplyTree, end_sets, function_sizes, set_of, sets_read}
-use Rattle.lowering.specs.Omitting.{edges_omit}
+use Rattle.lowering.specs.inside.Omitting.{edges_omit}
 
 -- nothing is apart from no set but in the end
 pub apart_of_none : (xs : List ℕ) → true ≡ are_apart xs []

@@ -4,7 +4,7 @@ ghost use Rattle.typed_tree.specs.ProgramTree.{ProgramTree};
 ghost use Rattle.apply_options.specs.ScheduleTree.{ScheduleTree};
 ghost use Rattle.plans.specs.Instruction.{InstructionTree};
 ghost use Rattle.plan_text.specs.Words.{spaced};
-ghost use Rattle.lowering.specs.Targets.{places_of};
+ghost use Rattle.lowering.specs.inside.Targets.{places_of};
 ghost use Rattle.lowering.specs.Text.{HasText, IsWritten, instruction_line, text_of};
 
 use decimal::push_number;

@@ -5,7 +5,7 @@ use Rattle.lexer.specs.declared.symbol.Symbol.TheVariants as symbol
 use Rattle.syntax.specs.Terminals.{Terminal, Identifier, OfKeyword, OfSymbol}
 use Rattle.syntax.specs.SourceTrees.{Apply}
 use Rattle.syntax.specs.SourceReading.{after_terminals, applied_at, argument_at, ends_at}
-use Rattle.parser.specs.Fronts.{applied_by}
+use Rattle.parser.specs.inside.Fronts.{applied_by}
 use Rattle.parser.proofs.Steps.{bind_bind, bind_same}
 
 pub applied_is : (target : Identifier) (ws : List Terminal) → applied_by target ws ≡ applied_at target ws

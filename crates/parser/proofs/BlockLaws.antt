@@ -20,7 +20,7 @@ use Rattle.syntax.specs.SourceReading.{expression, name_at, after_terminal, afte
 use Rattle.parser.proofs.Steps.{bind_bind, bind_same}
 use Rattle.parser.specs.declared.block.Opening.{Opening as Begun}
 use Rattle.parser.specs.declared.block.Opening.TheVariants as opening
-use Rattle.parser.specs.Blocks.{action_at, to_end_by, otherwise_by, opening_of, opened_by}
+use Rattle.parser.specs.inside.Blocks.{action_at, to_end_by, otherwise_by, opening_of, opened_by}
 
 pub rows_tree-items : {m : _} (rows : Row_of-Statement m) → rows_tree rows ≡ block_tree (items-the_row-Statement m rows)
 rows_tree-items end_of-Statement = refl

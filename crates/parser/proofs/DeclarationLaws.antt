@@ -10,7 +10,7 @@ use Rattle.syntax.specs.SourceTrees.{DeclarationTree}
 use Rattle.syntax.specs.SourceReading.{name_at, parameters_at, result_by, after_terminal, declaration_by, next_declaration, begins_declaration, where_begins}
 use Rattle.parser.specs.declared.declaration.Beginning.{Beginning}
 use Rattle.parser.specs.declared.declaration.Beginning.TheVariants as beginning
-use Rattle.parser.specs.Declarations.{beginning_of, declared_by, function_at}
+use Rattle.parser.specs.inside.Declarations.{beginning_of, declared_by, function_at}
 use Rattle.parser.proofs.Steps.{bind_bind}
 
 begins_is : (left : List Terminal) (begins : Bool) → begins_declaration left ≡ begins → next_declaration left ≡ where_begins begins (declaration_by left)

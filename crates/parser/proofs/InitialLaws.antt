@@ -9,7 +9,7 @@ use Rattle.syntax.specs.ExpressionReading.{Reader, ◌>>=◌}
 use Rattle.syntax.specs.SourceTrees.{EndsTree, InitialTree, ApplyModified}
 use Rattle.syntax.specs.SourceReading.{after_terminal, after_terminals, closed, name_at, ends_at, method_at, modified_at, initial_at, named_initial}
 use Rattle.syntax.proofs.TerminalLaws.{after_terminal-sound, after_terminals-sound}
-use Rattle.parser.specs.Fronts.{is_called, called_terminal, begins_call, name_pair_at, modified_by, call_by}
+use Rattle.parser.specs.inside.Fronts.{is_called, called_terminal, begins_call, name_pair_at, modified_by, call_by}
 use Rattle.parser.proofs.Steps.{bind_bind, bind_same, after_terminals-append}
 
 -- the names behind the parenthesis that `applyModified` opens

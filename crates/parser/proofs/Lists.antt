@@ -4,7 +4,7 @@ use Rattle.std.proofs.lemmas.List.{map-append}
 use Rattle.syntax.specs.Terminals.{Terminal}
 use Rattle.syntax.proofs.Loops.{Goes, goes_start, goes_step, goes_end, goes_fails}
 use Rattle.syntax.specs.SourceReading.{each_at}
-use Rattle.parser.specs.Declarations.{with_first}
+use Rattle.parser.specs.inside.Declarations.{with_first}
 
 module _ {L T : Type 0} {link : List Terminal → Option (Option (L × List Terminal))} (view : T → L) where
   pub list_start : (none : List T) (start : List Terminal) → none ≡ [] → Goes link start (map view none) start

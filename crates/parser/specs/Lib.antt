@@ -1,11 +1,6 @@
-pub mod Blocks
-pub mod Declarations
-pub mod Fronts
-pub mod Literals
 pub mod Outcome
-pub mod Plain
 pub mod Readers
 pub mod Refusal
-pub mod Views
 pub use Rattle.syntax.specs.SourceTrees
 pub use Rattle.syntax.specs.SourceViews
+pub mod inside

@@ -5,8 +5,8 @@ ghost use Rattle.parser.specs.Readers.{terminals, Gives};
 ghost use Rattle.syntax.specs.SourceTrees.{While, For, If, IfElse};
 ghost use Rattle.syntax.specs.SourceReading.{block_at, statement_by, begins_statement as begins_statement_at, after_terminal};
 ghost use Rattle.syntax.specs.SourceViews.{action_tree, statement_of, block_tree};
-ghost use Rattle.parser.specs.Blocks.{action_at, block_in, declared_at, printed_at, range_at, to_end_by, otherwise_by, opening_of, opened_by};
-ghost use Rattle.parser.specs.Views.{statements_tree};
+ghost use Rattle.parser.specs.inside.Blocks.{action_at, block_in, declared_at, printed_at, range_at, to_end_by, otherwise_by, opening_of, opened_by};
+ghost use Rattle.parser.specs.inside.Views.{statements_tree};
 
 use crate::cursor::Cursor;
 use crate::initial::assigned;

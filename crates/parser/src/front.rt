@@ -6,7 +6,7 @@ ghost use Rattle.parser.specs.Readers.{terminals, Gives, Passes};
 ghost use Rattle.syntax.specs.SourceReading.{after_terminals, name_at, number_at, text_at};
 ghost use Rattle.syntax.specs.SourceReading.{label_at, argument_at, after_terminal, expression as expression_at_limit};
 ghost use Rattle.syntax.specs.SourceViews.{text_of};
-ghost use Rattle.parser.specs.Plain.{is_plain, plain_terminal};
+ghost use Rattle.parser.specs.inside.Plain.{is_plain, plain_terminal};
 
 use crate::cursor::Cursor;
 use crate::expression::read_expression;

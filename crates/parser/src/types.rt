@@ -3,7 +3,7 @@ ghost use Rattle.std.specs.Prelude.{◌≡◌, ◌<◌, ◌≤◌, ℕ, length, 
 ghost use Rattle.parser.specs.Readers.{terminals, Gives};
 ghost use Rattle.syntax.specs.SourceReading.{edgeset_at, type_at, typed_at};
 ghost use Rattle.syntax.specs.SourceViews.{parameter_tree};
-ghost use Rattle.parser.specs.Fronts.{begun_type, type_behind};
+ghost use Rattle.parser.specs.inside.Fronts.{begun_type, type_behind};
 
 use crate::cursor::Cursor;
 use crate::syntax_error::SyntaxError;

@@ -9,7 +9,7 @@ use Rattle.algorithm_meaning.specs.declared.state.SetBinding.{SetBinding}
 use Rattle.algorithm_meaning.specs.Arithmetic.{negative}
 use Rattle.algorithm_meaning.specs.State.{ScopeValue}
 use Rattle.algorithm_meaning.specs.Value.{value, truth, stays_inside, condition_stays_inside}
-use Rattle.plain_run.specs.Chain.{negative_times, not_times, operands_value, conditions_truth, operands_stay_inside, conditions_stay_inside}
+use Rattle.plain_run.specs.inside.Chain.{negative_times, not_times, operands_value, conditions_truth, operands_stay_inside, conditions_stay_inside}
 
 pub value_negated : (vectors : List (List ℤ)) (sets : List SetBinding) (scope : ScopeValue) (signs : ℕ) (e : IntegerTree)
     → negative_times signs (value vectors sets scope e) ≡ value vectors sets scope (negated signs e)

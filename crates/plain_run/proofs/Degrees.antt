@@ -6,7 +6,7 @@ use Rattle.std.specs.Int.{int_wrap}
 use Rattle.std.specs.List.{range_with_len}
 use Rattle.edge_lists.specs.Edge.{Edge}
 use Rattle.algorithm_meaning.specs.Arithmetic.{wrapped}
-use Rattle.plain_run.specs.Degrees.{counted}
+use Rattle.plain_run.specs.inside.Degrees.{counted}
 use Rattle.algorithm_meaning.specs.Meaning.{out_degree}
 
 -- one more

@@ -4,7 +4,7 @@ use Rattle.std.proofs.lemmas.Bool.Decides.{nat_tests}
 use Rattle.std.proofs.lemmas.List.{length-set}
 use Rattle.std.specs.List.{range_with_len}
 use Rattle.algorithm_meaning.specs.EdgeApply.{is_member}
-use Rattle.plain_run.specs.Flags.{marked}
+use Rattle.plain_run.specs.inside.Flags.{marked}
 
 none_below_zero : (v : ℕ) → nat_lt v 0 ≡ false
 none_below_zero v = grind (arith, nat_tests)

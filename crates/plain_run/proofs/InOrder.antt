@@ -10,7 +10,7 @@ use Rattle.algorithm_meaning.specs.declared.outcome.End.{End}
 use Rattle.algorithm_meaning.specs.State.{GraphValue, StateValue}
 use Rattle.algorithm_meaning.specs.Stand.{Stand, Live, then_do}
 use Rattle.algorithm_meaning.specs.Meaning.{after, after_all}
-use Rattle.plain_run.specs.Seen.{stand}
+use Rattle.plain_run.specs.inside.Seen.{stand}
 
 -- what is left of a block is a statement, and those after it
 one_statement : (p : ProgramTree) (g : GraphValue) (statements : List MainStatement) (place : ℕ) (x none : MainStatement) (s : StateValue) → place < length statements → x ≡ get_or statements place none

@@ -7,7 +7,7 @@ use Rattle.algorithm_meaning.specs.Stand.{Stand, Live, Over, then_do, with_value
 use Rattle.std.specs.Option.{is_some}
 use Rattle.std.specs.Prelude.{IfNone}
 use Rattle.std.proofs.lemmas.Bool.{false≢true}
-use Rattle.plain_run.specs.Seen.{stand}
+use Rattle.plain_run.specs.inside.Seen.{stand}
 use Rattle.algorithm_meaning.specs.Loop.{take_turn, loop}
 
 -- where a turn is left, it is taken

@@ -1,4 +1,1 @@
-pub mod Seen
-pub mod Chain
-pub mod Flags
-pub mod Degrees
+pub mod inside

@@ -4,8 +4,8 @@ ghost use Rattle.std.specs.List.{filter, range_with_len};
 ghost use Rattle.typed_tree.specs.StepTree.{function_tree, steps_tree};
 ghost use Rattle.algorithm_meaning.specs.EdgeApply.{after_edge_apply, after_edges, gives, is_end, is_modified, modified, with_given};
 ghost use Rattle.algorithm_meaning.specs.Filter.{result_of};
-ghost use Rattle.plain_run.specs.Flags.{HasFlags, flagged, marked};
-ghost use Rattle.plain_run.specs.Seen.{graph_of, state_of};
+ghost use Rattle.plain_run.specs.inside.Flags.{HasFlags, flagged, marked};
+ghost use Rattle.plain_run.specs.inside.Seen.{graph_of, state_of};
 
 use crate::entries::{copied, reduce_entry_at};
 use crate::evaluate::{entry_of, members_at};

@@ -5,7 +5,7 @@
 ghost use Rattle.std.specs.Prelude.{◌≡◌, IfOk};
 ghost use Rattle.typed_tree.specs.IntegerTree.{integer_tree};
 ghost use Rattle.algorithm_meaning.specs.Entries.{after_reduce_entry, after_set_entry};
-ghost use Rattle.plain_run.specs.Seen.{stand, state_of};
+ghost use Rattle.plain_run.specs.inside.Seen.{stand, state_of};
 ghost use Rattle.algorithm_meaning.specs.Value.{reduce_at, with_entry};
 
 use crate::evaluate::entry_of;

@@ -7,8 +7,8 @@ ghost use Rattle.std.specs.Prelude.{◌≡◌, false, pos, slice_get, slice_inde
 ghost use Rattle.typed_tree.specs.IntegerTree.{integer_tree};
 ghost use Rattle.typed_tree.specs.ConditionTree.{condition_tree};
 ghost use Rattle.algorithm_meaning.specs.Arithmetic.{arithmetic};
-ghost use Rattle.plain_run.specs.Chain.{conditions_stay_inside, conditions_truth, negative_times, not_times, operands_stay_inside, operands_value};
-ghost use Rattle.plain_run.specs.Seen.{scope_of};
+ghost use Rattle.plain_run.specs.inside.Chain.{conditions_stay_inside, conditions_truth, negative_times, not_times, operands_stay_inside, operands_value};
+ghost use Rattle.plain_run.specs.inside.Seen.{scope_of};
 ghost use Rattle.algorithm_meaning.specs.Value.{condition_stays_inside, entry, entry_at, is_vertex, members_of, stays_inside, truth, value, vertex_at};
 
 use crate::state::Environment;

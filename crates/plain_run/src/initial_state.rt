@@ -2,9 +2,9 @@
 ghost use Rattle.std.specs.Prelude.{◌≡◌, pos, map, replicate, IfOk};
 ghost use Rattle.std.specs.List.{range_with_len};
 ghost use Rattle.typed_tree.specs.ProgramTree.{program_tree};
-ghost use Rattle.plain_run.specs.Degrees.{counted, counted_once};
+ghost use Rattle.plain_run.specs.inside.Degrees.{counted, counted_once};
 ghost use Rattle.algorithm_meaning.specs.Meaning.{all_vertices, opening, opening_entries};
-ghost use Rattle.plain_run.specs.Seen.{graph_of, state_of};
+ghost use Rattle.plain_run.specs.inside.Seen.{graph_of, state_of};
 
 use crate::state::{EdgeList, Environment, InterpreterState};
 use algorithm_meaning::{SetBinding, arithmetic_of};

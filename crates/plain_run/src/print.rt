@@ -3,7 +3,7 @@ ghost use Rattle.std.specs.Prelude.{◌≡◌, ◌++◌, IfOk, OnOk};
 ghost use Rattle.typed_tree.specs.IntegerTree.{integer_tree};
 ghost use Rattle.typed_tree.specs.ConditionTree.{condition_tree};
 ghost use Rattle.algorithm_meaning.specs.Print.{after_print_condition, after_print_integer, condition_line, integer_line};
-ghost use Rattle.plain_run.specs.Seen.{stand, state_of};
+ghost use Rattle.plain_run.specs.inside.Seen.{stand, state_of};
 
 use crate::state::InterpreterState;
 use crate::values::{decide, fault, number_of};

@@ -6,7 +6,7 @@ ghost use Rattle.typed_tree.specs.StepTree.{function_tree};
 ghost use Rattle.algorithm_meaning.specs.EdgeApply.{after_edge_apply, modified};
 ghost use Rattle.algorithm_meaning.specs.Entries.{with_vectors};
 ghost use Rattle.algorithm_meaning.specs.Filter.{filtered};
-ghost use Rattle.plain_run.specs.Seen.{graph_of, stand, state_of};
+ghost use Rattle.plain_run.specs.inside.Seen.{graph_of, stand, state_of};
 ghost use Rattle.algorithm_meaning.specs.Value.{members_of};
 ghost use Rattle.algorithm_meaning.specs.VertexSets.{after_add_vertex, after_assign_set, after_declare_set, inserted, members_for, set_members, vectors_after};
 

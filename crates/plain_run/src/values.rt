@@ -5,7 +5,7 @@ ghost use Rattle.typed_tree.specs.ConditionTree.{condition_tree};
 ghost use Rattle.algorithm_meaning.specs.declared.outcome.End.TheVariants.{Fault};
 ghost use Rattle.algorithm_meaning.specs.Variables.{with_new_integer};
 ghost use Rattle.algorithm_meaning.specs.Loop.{bounds_in, depth_of, forget_beyond, next_of};
-ghost use Rattle.plain_run.specs.Seen.{state_of};
+ghost use Rattle.plain_run.specs.inside.Seen.{state_of};
 ghost use Rattle.algorithm_meaning.specs.Stand.{choice_in, number_in, vertex_in};
 
 use crate::evaluate::{condition_is_inside, evaluate, holds, is_inside};

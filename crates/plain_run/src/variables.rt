@@ -5,7 +5,7 @@
 ghost use Rattle.std.specs.Prelude.{◌≡◌, IfOk, slice_set};
 ghost use Rattle.typed_tree.specs.IntegerTree.{integer_tree};
 ghost use Rattle.typed_tree.specs.ConditionTree.{condition_tree};
-ghost use Rattle.plain_run.specs.Seen.{stand, state_of};
+ghost use Rattle.plain_run.specs.inside.Seen.{stand, state_of};
 ghost use Rattle.algorithm_meaning.specs.Variables.{after_declare_condition, after_declare_integer};
 ghost use Rattle.algorithm_meaning.specs.Variables.{after_reduce_integer, after_set_condition, after_set_integer};
 

@@ -1,7 +1,7 @@
 //! `apply` of a vertex function.
 ghost use Rattle.std.specs.Prelude.{◌≡◌, OnOk, map};
 ghost use Rattle.typed_tree.specs.StepTree.{function_tree, steps_tree};
-ghost use Rattle.plain_run.specs.Seen.{state_of};
+ghost use Rattle.plain_run.specs.inside.Seen.{state_of};
 ghost use Rattle.algorithm_meaning.specs.VertexApply.{after_apply_vertex, after_vertex, after_vertices};
 
 use crate::evaluate::members_at;

@@ -15,7 +15,7 @@ use Rattle.typed_tree.specs.declared.expression.IntExpression.TheViews.{the_lemm
 use Rattle.typed_tree.specs.declared.expression.BoolExpression.TheViews as condition_views
 use Rattle.typed_tree.specs.declared.expression.BoolExpression.TheViews.{the_lemmas as the_condition_lemmas}
 use Rattle.plan_text.specs.Expressions.{integer_words, condition_words, operator_word, connective_word, entry_word, comparison_word}
-use Rattle.plan_text.specs.Rows.{operand_words, connected_words, times}
+use Rattle.plan_text.specs.inside.Rows.{operand_words, connected_words, times}
 use Rattle.plan_text.proofs.Spaces.{absurd_cons, behind_some, times_suc}
 
 pub words_negated : (p : ProgramTree) (signs : ℕ) (e : IntegerTree) → integer_words p (negated signs e) ≡ integer_words p e ++ times signs (codes "neg")

@@ -1,5 +1,4 @@
 pub mod Words
 pub mod Expressions
-pub mod Rows
 pub mod Lines
-pub mod Statements
+pub mod inside

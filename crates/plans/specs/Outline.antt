@@ -1,4 +1,4 @@
--- For proofs only: how many steps a run of instructions takes at most.
+-- How many steps a run of instructions takes at most.
 use Rattle.std.specs.Prelude.{ℕ, true, List, map}
 use Rattle.typed_tree.specs.ConditionTree.{Literal}
 use Rattle.plans.specs.Instruction.{OperationTree, Unless, UnlessBelow, Turn, End, InstructionTree}

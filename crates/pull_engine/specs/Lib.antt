@@ -3,6 +3,6 @@ pub mod Destinations
 pub mod EarlySources
 pub mod Ranges
 pub mod Pulls
-pub mod Propositions
 pub mod Pieces
 pub mod EntryTests
+pub mod inside

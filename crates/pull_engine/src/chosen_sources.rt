@@ -8,6 +8,7 @@ ghost use Rattle.pull_engine.specs.Columns.{entry_at, passing};
 use apply_options::Reduction;
 use edge_apply::passes;
 use edge_fold::{EntryWith, SourceEntries, reduce_entries};
+use kernels::PAIRS;
 use vertex_blocks::Neighbours;
 
 /// Sources of a packed list, by the indices at which they stand in it.
@@ -55,7 +56,7 @@ pub(crate) fn fold_chosen(
     let mut number = old;
     let mut low = 0;
     'rounds: while low < list.len() {
-        let high = list.len().min(low + 128);
+        let high = list.len().min(low + PAIRS);
         let kept = choose(list, words, low, high, block);
         let indices = &block[..kept];
         let chosen = ChosenSources { list, indices };

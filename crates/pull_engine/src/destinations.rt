@@ -17,7 +17,7 @@ ghost use Rattle.edge_apply.specs.Words.{passes_words};
 use edge_apply::{keep_members, keep_members_weighted, take_part};
 use edge_fold::{ApplyContext, Scratch};
 use flat_snapshot::Flat;
-use kernels::EndpointFilter;
+use kernels::{EndpointFilter, PAIRS};
 use std::alloc::{AllocError, Global};
 use vertex_blocks::{NeighbourForm, NeighbourWalk, SetWalk};
 use vertex_sets::VertexSet;
@@ -42,8 +42,8 @@ pub(crate) fn fold_to(
         → HasFolded input.entry.context m steps [] scratch.old
         → HasFolded input.entry.context m steps (edges_between (passes_words input.entry.from) test input.entry.flat.now.edges) scratch.new) }
 {
-    let mut block = [0u32; 128];
-    let mut weights = [0i64; 128];
+    let mut block = [0u32; PAIRS];
+    let mut weights = [0i64; PAIRS];
     let Some(end) = to else {
         fold_all(alloc, input, &mut block, &mut weights, scratch)?;
         return Ok(());
@@ -143,8 +143,8 @@ pub(crate) fn fold_part(
         → HasFolded input.entry.context m steps [] scratch.old
         → HasFolded input.entry.context m steps (columns (passes_words input.entry.from) input.entry.flat.now.edges (filter test part.now)) scratch.new) }
 {
-    let mut block = [0u32; 128];
-    let mut weights = [0i64; 128];
+    let mut block = [0u32; PAIRS];
+    let mut weights = [0i64; PAIRS];
     match to {
         None => {
             fold_columns(alloc, input, part, &mut block, &mut weights, scratch)?;

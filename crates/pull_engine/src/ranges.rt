@@ -16,7 +16,7 @@ use crate::source_folds::SourceFold;
 use edge_apply::number_between;
 use edge_fold::{ApplyContext, Scratch, push_change};
 use flat_snapshot::Flat;
-use kernels::EndpointFilter;
+use kernels::{EndpointFilter, PAIRS};
 use std::alloc::{AllocError, Global};
 use vectors::{EntryChange, Lane};
 use vertex_sets::VertexSet;
@@ -85,8 +85,8 @@ fn pull_tested<F: SourceFold>(
     ensures { IfOk result (λ cs. IsRangePulled range.entry vector (F.reduction fold.now) (F.number fold.now) cs.items) }
 {
     let old = range.context.vectors.lane(vector);
-    let mut block = [0u32; 128];
-    let mut weights = [0i64; 128];
+    let mut block = [0u32; PAIRS];
+    let mut weights = [0i64; PAIRS];
     let mut changes = Vec::new(alloc);
     'vertices: for vertex in range.low..range.high {
         if test.passes(vertex) {
@@ -117,8 +117,8 @@ fn pull_members<F: SourceFold>(
     ensures { IfOk result (λ cs. IsRangePulled range.entry vector (F.reduction fold.now) (F.number fold.now) cs.items) }
 {
     let old = range.context.vectors.lane(vector);
-    let mut block = [0u32; 128];
-    let mut weights = [0i64; 128];
+    let mut block = [0u32; PAIRS];
+    let mut weights = [0i64; PAIRS];
     let mut changes = Vec::new(alloc);
     'members: for member in set.iter() {
         pull_one(
@@ -152,7 +152,7 @@ fn pull_vertices<F: SourceFold>(
     let mut changes = Vec::new(alloc);
     let mut next = range.low;
     'parts: while next < range.high {
-        let stop = next + (range.high - next).min(128);
+        let stop = next + (range.high - next).min(PAIRS as u32);
         number_between(next, stop, &mut part)?;
         keep_destinations(range, &part, &mut kept, scratch)?;
         pull_listed(range.flat, fold, range.from, old, &kept, &mut changes)?;
@@ -198,8 +198,8 @@ fn pull_listed<F: SourceFold>(
         ++ changes_at (lane_entry old.entry) (pulled (F.reduction fold.now) (F.number fold.now) (lane_entry old.entry) (passes_words from.entry)
         flat.now.edges) destinations.now) }
 {
-    let mut block = [0u32; 128];
-    let mut weights = [0i64; 128];
+    let mut block = [0u32; PAIRS];
+    let mut weights = [0i64; PAIRS];
     'destinations: for destination in destinations {
         pull_one(
             flat,

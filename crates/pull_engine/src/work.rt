@@ -9,11 +9,11 @@ ghost use Rattle.crew.specs.Outcome.{AreWorkers};
 ghost use Rattle.edge_fold.specs.Ends.{IsEndTest};
 ghost use Rattle.crew.specs.Boundaries.{boundaries};
 ghost use Rattle.crew.specs.Partition.{AreEnds};
-ghost use Rattle.edge_apply.specs.Propositions.{AreEnds-prop};
+ghost use Rattle.edge_apply.specs.inside.Propositions.{AreEnds-prop};
 ghost use Rattle.flat_snapshot.specs.Neighbours.{sources_of};
 ghost use Rattle.vertex_sets.specs.declared.form.Form.TheVariants as Form;
 ghost use Rattle.pull_engine.specs.Destinations.{passes_set};
-ghost use Rattle.pull_engine.specs.Propositions.{HasShape-prop};
+ghost use Rattle.pull_engine.specs.inside.Propositions.{HasShape-prop};
 ghost use Rattle.pull_engine.specs.Ranges.{IsShapeOfApply};
 
 use crate::listed::{cut_vertices, source_bits};

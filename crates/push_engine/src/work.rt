@@ -10,7 +10,7 @@ ghost use Rattle.crew.specs.Boundaries.{boundaries};
 ghost use Rattle.crew.specs.Partition.{AreEnds};
 ghost use Rattle.flat_snapshot.specs.Neighbours.{destinations_of};
 ghost use Rattle.std.proofs.Props.{props};
-ghost use Rattle.edge_apply.specs.Propositions.{AreEnds-prop, AscendsFrom-prop};
+ghost use Rattle.edge_apply.specs.inside.Propositions.{AreEnds-prop, AscendsFrom-prop};
 ghost use Rattle.edge_apply.specs.Lists.{IsEndOf};
 ghost use Rattle.vertex_sets.specs.declared.form.Form.TheVariants as Form;
 ghost use Rattle.push_engine.specs.Sources.{AreSources, cut_list};

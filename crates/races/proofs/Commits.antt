@@ -15,7 +15,7 @@ use Rattle.shared_graph.specs.Passes.{Pass}
 use Rattle.races.specs.declared.outcomes.CommitReply.{CommitReply}
 use Rattle.races.specs.declared.outcomes.CommitReply.TheVariants as answer
 use Rattle.races.specs.Race.{AreAnswered, IsAnswered, commits, entries_of}
-use Rattle.races.specs.Racing.{RepliesTo}
+use Rattle.races.specs.inside.Racing.{RepliesTo}
 
 -- some batches of all are answered: what the others are answered makes up the whole
 abbrev pub IsAnswering : State → Pass → (all left : List (List Change)) → List CommitReply → Pass → Type 0

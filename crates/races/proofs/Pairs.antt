@@ -4,7 +4,7 @@ use Rattle.std.specs.Global.{Vec}
 use Rattle.std.specs.List.{slice_index_or}
 use Rattle.races.specs.declared.entrants.EarlyRun.{EarlyRun}
 use Rattle.races.specs.declared.entrants.Entrant.{Entrant}
-use Rattle.races.specs.Racing.{AllRanEarly, RanEarly}
+use Rattle.races.specs.inside.Racing.{AllRanEarly, RanEarly}
 
 -- where f of each item of one list is g of the item of the other at its place, all of them are
 pub same_at_places : {A B C : Type 0} (f : B → C) (g : A → C) (xs : List A) (ys : List B) → length ys ≡ length xs

@@ -14,7 +14,7 @@ use Rattle.races.specs.declared.error.RaceError.{RaceError}
 use Rattle.races.specs.declared.error.RaceError.TheVariants.{NotOpened, NotRun}
 use Rattle.snapshot_runs.specs.declared.error.LatestRunError.TheVariants as run
 use Rattle.races.specs.Race.{AllRan, AreAnswered}
-use Rattle.races.specs.Racing.{AnswersAll, IsRaced, RefusesRuns}
+use Rattle.races.specs.inside.Racing.{AnswersAll, IsRaced, RefusesRuns}
 use Rattle.races.specs.Refused.{AllAnswered, RefusesOnGraph}
 use Rattle.races.proofs.Commits.{has_commits}
 

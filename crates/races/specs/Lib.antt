@@ -1,8 +1,7 @@
 pub mod Refusal
 pub mod RaceScript
-pub mod Reading
 pub mod ScriptLaw
 pub mod Race
 pub mod Refused
 pub mod RaceText
-pub mod Racing
+pub mod inside

@@ -3,7 +3,7 @@ ghost use Rattle.std.specs.Prelude.{◌≡◌, IfErr, IfOk, length, map};
 ghost use Rattle.shared_graph.specs.Passes.{Shows};
 ghost use Rattle.version_list.specs.Machine.{opened};
 ghost use Rattle.races.specs.Race.{IsRunOn, RanTwice};
-ghost use Rattle.races.specs.Racing.{RanEarly};
+ghost use Rattle.races.specs.inside.Racing.{RanEarly};
 ghost use Rattle.races.specs.Refused.{RefusesRun};
 
 use crate::outcomes::{ProgramRuns, VersionRun};

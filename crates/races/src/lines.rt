@@ -1,7 +1,7 @@
 //! The lines of a text, read from the front.
 ghost use Rattle.std.specs.Prelude.{◌≡◌, [], ◌∷◌, MatchOption};
 ghost use Rattle.scripts.specs.Pieces.{lines_of};
-ghost use Rattle.races.specs.Reading.{lines_left};
+ghost use Rattle.races.specs.inside.Reading.{lines_left};
 
 use scripts::split_line;
 use std::marker::Model;
@@ -15,7 +15,7 @@ pub(crate) struct ScriptLines<'a> {
 
 impl<'a> Model for ScriptLines<'a> {
     ghost use Rattle.std.specs.Prelude.{ℕ, List};
-    ghost use Rattle.races.specs.Reading.{lines_left};
+    ghost use Rattle.races.specs.inside.Reading.{lines_left};
 
     ghost Value = { List (List ℕ) };
 

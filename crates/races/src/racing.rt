@@ -5,7 +5,7 @@ ghost use Rattle.version_list.specs.Machine.{opened};
 ghost use Rattle.shared_graph.specs.Passes.{fresh_passes};
 ghost use Rattle.races.specs.Race.{AllRan, IsRace};
 ghost use Rattle.races.specs.Refused.{RefusesOnGraph, RefusesRace};
-ghost use Rattle.races.specs.Racing.{AllRanEarly, AnswersAll, IsRaced, RanEarly, RefusesRuns, RepliesTo};
+ghost use Rattle.races.specs.inside.Racing.{AllRanEarly, AnswersAll, IsRaced, RanEarly, RefusesRuns, RepliesTo};
 
 use crate::entrants::{EarlyRun, Entrant, entrants};
 use crate::error::RaceError;

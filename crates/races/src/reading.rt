@@ -3,7 +3,7 @@ ghost use Rattle.std.specs.Prelude.{◌≡◌, [], ◌∷◌, ◌++◌, MatchOpt
 ghost use Rattle.std.specs.Option.{option_map};
 ghost use Rattle.scripts.specs.Commands.{command_of};
 ghost use Rattle.races.specs.RaceScript.{ReadsScript, batches_in, order, order_in};
-ghost use Rattle.races.specs.Reading.{Opens, ReadsBatches, Takes};
+ghost use Rattle.races.specs.inside.Reading.{Opens, ReadsBatches, Takes};
 ghost use Rattle.races.specs.declared.error.RaceScriptError.TheVariants.{NoMemory};
 
 use crate::error::RaceScriptError;
@@ -91,7 +91,7 @@ struct Committed {
 }
 
 impl Model for Committed {
-    ghost use Rattle.races.specs.Reading.{Committed as Value_of};
+    ghost use Rattle.races.specs.inside.Reading.{Committed as Value_of};
 
     ghost Value = { Value_of };
 

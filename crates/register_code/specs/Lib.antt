@@ -3,5 +3,5 @@ pub mod Code
 pub mod FunctionCode
 pub mod VertexCode
 pub mod Meaning
-pub mod Chain
 pub mod Rooms
+pub mod inside

@@ -10,7 +10,7 @@ use Rattle.clap.specs.Words.{Row, Text, one_of}
 use Rattle.clap.specs.declared.builder.value_parser.ValueParser.TheVariants.{Unsigned}
 use Rattle.clap.proofs.ValueTestLemmas.{accepts-Accepts, Accepts-accepts}
 use Rattle.requests.specs.Asked.{number_in, number_of}
-use Rattle.requests.specs.Numbers.{within}
+use Rattle.requests.specs.inside.Numbers.{within}
 
 -- the number that the text writes
 abbrev value : Text → ℕ

@@ -1,5 +1,5 @@
 pub mod CommandLine
 pub mod Refusal
 pub mod Asked
-pub mod Numbers
 pub mod Forms
+pub mod inside

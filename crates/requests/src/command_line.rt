@@ -8,6 +8,7 @@ ghost use Rattle.requests.specs.CommandLine.{program as program_alone, script_co
 ghost use Rattle.requests.specs.CommandLine.{file_commands as commands_of_files, race_command, race_script as script_rule};
 ghost use Rattle.requests.specs.CommandLine.{race_programs as programs_rule, workers_option, turns_option};
 
+use apply_options::MAX_WORKERS;
 use clap::{Arg, ArgAction, Command, value_parser};
 use std::alloc::{AllocError, Global};
 
@@ -280,7 +281,7 @@ fn workers_option<'a>(alloc: Global) -> Arg<'a>
 {
     Arg::new(alloc, WORKERS)
         .long(WORKERS)
-        .value_parser(value_parser!(usize).range(1..=64))
+        .value_parser(value_parser!(usize).range(1..=MAX_WORKERS as i64))
         .help("How many workers a run has, 1 to 64; 2 where none are given")
 }
 

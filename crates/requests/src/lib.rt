@@ -19,4 +19,4 @@ pub use laws::{
     numbers_out_of_range_are_faults, options_are_numbers, plain_commands_are_taken,
     plain_commands_are_their_operands, races_are_asked_for, races_come_in_any_order,
 };
-pub use reading::{DEFAULT_TURNS, DEFAULT_WORKERS, MAX_WORKERS, request};
+pub use reading::{DEFAULT_TURNS, DEFAULT_WORKERS, request};

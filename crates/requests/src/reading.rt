@@ -4,20 +4,18 @@ ghost use Rattle.std.specs.Prelude.{◌≡◌, IfOk, codes, map};
 ghost use Rattle.clap.specs.Words.{found_of, rows_of, subcommand_rows_of};
 ghost use Rattle.requests.specs.Asked.{Answers, HasFewWorkers, asked_by, command_of, file_of, files_of, found_request};
 ghost use Rattle.requests.specs.Asked.{number_of, race_of, script_with};
-ghost use Rattle.requests.specs.Numbers.{within};
+ghost use Rattle.requests.specs.inside.Numbers.{within};
 
 use crate::asked::{Request, RequestError};
 use crate::command_line::{
     CHECK, FILE, PLAN, RACE, RACE_PROGRAMS, RACE_SCRIPT, TURNS, WORKERS, command,
 };
+use apply_options::MAX_WORKERS;
 use clap::ArgMatches;
 use std::alloc::{AllocError, Global};
 
 /// How many workers a run of a race has where the words give no number.
 pub const DEFAULT_WORKERS: usize = 2;
-
-/// The most workers of a run.
-pub const MAX_WORKERS: usize = 64;
 
 /// How many turns a run of a race may use where the words give no number.
 pub const DEFAULT_TURNS: u64 = 1_000_000;

@@ -19,7 +19,7 @@ use Rattle.kernels.specs.Meaning.{IsVertexCode, vertex_input}
 use Rattle.vectors.specs.declared.changes.EntryChange.{EntryChange}
 use Rattle.vectors.specs.declared.changes.VectorChanges.{VectorChanges}
 use Rattle.vectors.specs.Changes.{with_all_changes, with_changes}
-use Rattle.run_state.specs.NamedSets.{HaveLength}
+use Rattle.run_state.specs.inside.NamedSets.{HaveLength}
 
 -- the lengths of vectors
 abbrev lengths : List (List ℤ) → List ℕ

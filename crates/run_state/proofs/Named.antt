@@ -6,7 +6,7 @@ use Rattle.algorithm_meaning.specs.VertexSets.{with_members, with_new_set}
 use Rattle.vertex_sets.specs.VertexSet.{IsAscendingBelow, VertexSubset}
 use Rattle.vertex_sets.proofs.Ascending.{ascending_below, contains_nothing}
 use Rattle.run_state.specs.View.{members_in}
-use Rattle.run_state.specs.NamedSets.{AreNamed, AreSetsOf, named, nothing, size_of, sizes_of, with_first_set, with_first_sets}
+use Rattle.run_state.specs.inside.NamedSets.{AreNamed, AreSetsOf, named, nothing, size_of, sizes_of, with_first_set, with_first_sets}
 
 pub named_push : (ns : List ℕ) (ms : List VertexSubset) (n : ℕ) (m : VertexSubset) → length ns ≡ length ms → named (ns ++ n ∷ []) (ms ++ m ∷ []) ≡ with_new_set (named ns ms) n m.members
 named_push [] [] n m h = refl

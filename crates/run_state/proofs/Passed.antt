@@ -9,7 +9,7 @@ use Rattle.kernels.specs.declared.block.Block.{Block}
 use Rattle.kernels.specs.Kernels.{passes_at}
 use Rattle.vertex_sets.specs.VertexSet.{IsAscendingBelow}
 use Rattle.vertex_sets.proofs.Ascending.{Rises, ascending_below, below, contains_first, contains_later, contains_nothing, first_or_later, rises, rises_from_lower}
-use Rattle.run_state.specs.Passing.{passing}
+use Rattle.run_state.specs.inside.Passing.{passing}
 
 pub parts_of : (n : ℕ) (all part rest : List ℕ) → part ≡ take n all → rest ≡ drop n all → part ++ rest ≡ all
 parts_of n all part rest first behind = ap₂ (λ (xs ys : List ℕ). xs ++ ys) first behind ∙ take-append-drop n all

@@ -13,7 +13,7 @@ use Rattle.plans.specs.SetExpression.{set_value}
 use Rattle.kernels.specs.Cells.{HasSizes}
 use Rattle.vectors.specs.Vectors.{VectorsValue}
 use Rattle.run_state.specs.State.{IsRunState, RunState}
-use Rattle.run_state.specs.NamedSets.{AreAscending, HaveLength, run_state, size_of, sizes_of, with_first_sets}
+use Rattle.run_state.specs.inside.NamedSets.{AreAscending, HaveLength, run_state, size_of, sizes_of, with_first_sets}
 use Rattle.run_state.proofs.Lengths.{length_at}
 
 -- a fact of what came out holds where another follows from it

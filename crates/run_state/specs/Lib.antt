@@ -1,6 +1,5 @@
 pub mod State
 pub mod SetUpdate
-pub mod NamedSets
-pub mod Passing
 pub mod VertexKernels
 pub mod View
+pub mod inside

@@ -6,7 +6,7 @@ ghost use Rattle.algorithm_meaning.specs.Filter.{result_of};
 ghost use Rattle.algorithm_meaning.specs.State.{StateValue};
 ghost use Rattle.kernels.specs.Cells.{HasSizes};
 ghost use Rattle.kernels.specs.Kernels.{IsFilterKernel, passes_at};
-ghost use Rattle.run_state.specs.Passing.{passing};
+ghost use Rattle.run_state.specs.inside.Passing.{passing};
 
 use crate::vertices::take_part;
 use kernels::{Block, BlockInput, FilterKernel};

@@ -8,7 +8,7 @@ ghost use Rattle.algorithm_meaning.specs.Value.{members_of};
 ghost use Rattle.algorithm_meaning.specs.VertexSets.{inserted, with_members, with_new_set};
 ghost use Rattle.run_state.specs.View.{members_in};
 ghost use Rattle.vertex_sets.specs.VertexSet.{IsVertexSet};
-ghost use Rattle.run_state.specs.NamedSets.{AreNamed, named, size_of as size};
+ghost use Rattle.run_state.specs.inside.NamedSets.{AreNamed, named, size_of as size};
 ghost use Rattle.run_state.specs.SetUpdate.{IsUpdateOf, with_update};
 
 use crate::outcome::{first, name_sets};
@@ -40,7 +40,7 @@ impl Drop for NamedSets {
 }
 
 impl Model for NamedSets {
-    ghost use Rattle.run_state.specs.NamedSets.{AreNamed, named, sets_alone};
+    ghost use Rattle.run_state.specs.inside.NamedSets.{AreNamed, named, sets_alone};
     ghost use Rattle.run_state.specs.State.{RunState};
 
     ghost Value = { RunState };
@@ -51,7 +51,7 @@ impl Model for NamedSets {
 }
 
 impl NamedSets {
-    ghost use Rattle.run_state.specs.NamedSets.{AreAscending, named, nothing, sets_alone, sizes_of, with_first_sets};
+    ghost use Rattle.run_state.specs.inside.NamedSets.{AreAscending, named, nothing, sets_alone, sizes_of, with_first_sets};
     ghost use Rattle.run_state.specs.State.{RunState, with_state};
 
     /// No sets.

@@ -78,7 +78,7 @@ impl Drop for State {
 
 impl Model for State {
     ghost use Rattle.run_state.specs.State.{RunState};
-    ghost use Rattle.run_state.specs.NamedSets.{HaveLength, run_state};
+    ghost use Rattle.run_state.specs.inside.NamedSets.{HaveLength, run_state};
 
     ghost Value = { RunState };
 

@@ -28,7 +28,7 @@ use Rattle.plans.proofs.EdgePairs.{after_part}
 use Rattle.plans.proofs.Results.{result_beside_vectors, vectors_of_result}
 use Rattle.run_state.specs.declared.set_update.SetUpdate.{SetUpdate}
 use Rattle.run_state.specs.declared.set_update.SetUpdate.TheVariants as update
-use Rattle.run_state.specs.NamedSets.{HaveLength}
+use Rattle.run_state.specs.inside.NamedSets.{HaveLength}
 use Rattle.run_state.specs.SetUpdate.{with_update}
 use Rattle.run_state.proofs.Lengths.{after_all_changes, count}
 use Rattle.vectors.specs.declared.changes.VectorChanges.{VectorChanges}

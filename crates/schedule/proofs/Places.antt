@@ -13,7 +13,7 @@ use Rattle.expression_types.specs.Names.{found}
 use Rattle.typed_tree.specs.declared.statement.MainStatement.{MainStatement}
 use Rattle.typed_tree.specs.BlockTree.{block_tree}
 use Rattle.schedule.specs.declared.site.Site.{Site}
-use Rattle.schedule.specs.Putting.{first_of, PutsPlace, PutsSite}
+use Rattle.schedule.specs.inside.Putting.{first_of, PutsPlace, PutsSite}
 use Rattle.schedule.specs.Sites.{label_of}
 
 if_some : (b : Bool) (place : ℕ) (rest : Option ℕ) → first_of (if b then Some place else None) rest ≡ (if b then Some place else rest)

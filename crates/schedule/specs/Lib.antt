@@ -2,7 +2,6 @@ pub mod BrokenRules
 pub mod Calls
 pub mod Laws
 pub mod Names
-pub mod Putting
 pub mod Refusal
 pub mod Schedule
 pub mod Sites
@@ -12,3 +11,4 @@ pub use Rattle.apply_options.specs.declared.reduction.Reduction
 pub use Rattle.typed_tree.specs.Access
 pub use Rattle.typed_tree.specs.ProgramTree
 pub use Rattle.typed_tree.specs.StepTree
+pub mod inside

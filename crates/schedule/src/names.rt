@@ -2,7 +2,7 @@
 ghost use Rattle.std.specs.Prelude.{◌≡◌, IfOk, OnOk};
 ghost use Rattle.typed_tree.specs.Independence.{name_at as name_of};
 ghost use Rattle.schedule.specs.Names.{vector_names};
-ghost use Rattle.schedule.specs.Putting.{ArePlaces, PutsPlace};
+ghost use Rattle.schedule.specs.inside.Putting.{ArePlaces, PutsPlace};
 
 use expression_types::Names;
 use std::alloc::{AllocError, Global};

@@ -6,7 +6,7 @@ use Rattle.std.proofs.lemmas.Bool.Decides.{eqb_tells}
 use Rattle.std.proofs.lemmas.Bool.{eq-eqb}
 use Rattle.std.proofs.lemmas.List.{take-append-drop, drop_more}
 use Rattle.scripts.specs.Pieces.{HasNone, pieces, lines_of, AreParts, JoinsAgain, all_but_last, last_of, ended_lines, unended_line}
-use Rattle.scripts.specs.Parsing.{IsCutAt}
+use Rattle.scripts.specs.inside.Parsing.{IsCutAt}
 
 -- two texts with no c, one after the other, have none
 pub HasNone-append : (c : ℕ) (xs ys : List ℕ) → HasNone c xs → HasNone c ys → HasNone c (xs ++ ys)

@@ -12,7 +12,7 @@ use Rattle.scripts.specs.Pieces.{HasNone}
 use Rattle.scripts.specs.Replies.{OpenState, answer, replies, replies_to_ended, has_faulted}
 use Rattle.scripts.specs.Script.{Input, Taken, taken_by, IsBeginning, NoneFails, RepliesInPart, RepliesToEnded, RunsScript}
 use Rattle.replies.specs.Sending.{Output, output, Sends, SendsPart, Fails}
-use Rattle.scripts.specs.Progress.{Reading, at_start, reading_after, replies_within}
+use Rattle.scripts.specs.inside.Progress.{Reading, at_start, reading_after, replies_within}
 use Rattle.scripts.proofs.PieceLaws.{HasNone-unended}
 use Rattle.scripts.proofs.ReadingLaws.{reading_then, replies_then, replies-last, faults-last}
 use Rattle.replies.proofs.SendingLaws.{sends_none, sends_then, fails_then, all_taken}

@@ -11,7 +11,7 @@ use Rattle.version_list.specs.Timeline.{Answers, Timeline}
 use Rattle.version_list.proofs.Holding.{is_open_is}
 use Rattle.replies.specs.declared.line_reply.LineReply.TheVariants as line_reply
 use Rattle.scripts.specs.Replies.{OpenState, stepping, step_line}
-use Rattle.scripts.specs.Stepping.{IsAnswered}
+use Rattle.scripts.specs.inside.Stepping.{IsAnswered}
 
 -- a release of a ticket that is not open is refused
 pub not_held : (o : OpenState) (number : ℕ) → ticket_version o.versions.open_tickets number ≡ None → IsAnswered o (stepping o (step.Release number) o.pending) (line_reply.Refused 122)

@@ -10,7 +10,7 @@ use Rattle.std.proofs.lemmas.List.{length-take, take-append-drop, drop_more}
 use Rattle.decimal.specs.Numbers.{value_of}
 use Rattle.scripts.specs.Pieces.{HasNone, pieces, words_of}
 use Rattle.decimal.specs.Digits.{AreLeadingDigits}
-use Rattle.scripts.specs.Parsing.{words_left, first_number}
+use Rattle.scripts.specs.inside.Parsing.{words_left, first_number}
 use Rattle.decimal.proofs.NumberLaws.{number_of-digits, number_of-large, number_of-other, value_of-longer}
 use Rattle.scripts.proofs.PieceLaws.{pieces-AreParts, pieces_alone, pieces_before, pieces_other, cut_at}
 

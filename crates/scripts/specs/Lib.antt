@@ -3,7 +3,5 @@ pub mod Commands
 pub mod Refusal
 pub mod Replies
 pub mod Script
-pub mod Parsing
-pub mod Stepping
-pub mod Progress
 pub mod Text
+pub mod inside

@@ -7,11 +7,12 @@ ghost use Rattle.version_flats.specs.VersionFlats.{IsKept};
 ghost use Rattle.replies.specs.declared.send_error.SendError.TheVariants.{NoMemory};
 ghost use Rattle.scripts.specs.Replies.{on_open, joined, stepping, which_of, graph_of, listing, running, program_of};
 ghost use Rattle.replies.specs.Sending.{Emits};
-ghost use Rattle.scripts.specs.Stepping.{IsAnswered, refusal_of};
+ghost use Rattle.scripts.specs.inside.Stepping.{IsAnswered, refusal_of};
 
 use crate::commands::Command;
 use crate::host::Host;
 use crate::programs::Programs;
+use apply_options::MAX_WORKERS;
 use devices::Drain;
 use replies::{LineReply, ReplyWriter, SendError, is_fault};
 use std::alloc::{AllocError, Global};
@@ -251,7 +252,7 @@ impl OpenGraph {
         let Some((version, graph)) = version_of(&self.versions, ticket) else {
             return replies.send_line(LineReply::Refused(VersionError::NotHeld.number()));
         };
-        if workers == 0 || workers > 64 {
+        if workers == 0 || workers > MAX_WORKERS as u64 {
             return replies.send_line(LineReply::Refused(BAD_WORKERS));
         }
         let flat = self.flats.flat(host.alloc, version, graph)?;

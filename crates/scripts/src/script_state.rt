@@ -1,7 +1,7 @@
 //! What a script has opened, and its lines, whose bytes come in pieces.
 ghost use Rattle.std.specs.Prelude.{◌≡◌, [], ◌++◌, None, OnOk};
 ghost use Rattle.scripts.specs.Pieces.{HasNone};
-ghost use Rattle.scripts.specs.Progress.{at_start, reading_after, replies_within};
+ghost use Rattle.scripts.specs.inside.Progress.{at_start, reading_after, replies_within};
 ghost use Rattle.scripts.specs.Replies.{answer, unopened, has_faulted as state_has_faulted};
 ghost use Rattle.replies.specs.Sending.{Emits};
 
@@ -38,7 +38,7 @@ impl Drop for ScriptState {
 }
 
 impl Model for ScriptState {
-    ghost use Rattle.scripts.specs.Progress.{Reading};
+    ghost use Rattle.scripts.specs.inside.Progress.{Reading};
 
     ghost Value = { Reading };
 

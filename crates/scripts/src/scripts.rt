@@ -1,6 +1,6 @@
 //! Scripts from their first byte to their last.
 ghost use Rattle.std.specs.Prelude.{◌≡◌, ◌<◌, [], length};
-ghost use Rattle.scripts.specs.Progress.{at_start};
+ghost use Rattle.scripts.specs.inside.Progress.{at_start};
 ghost use Rattle.scripts.specs.Script.{input, taken_by, RunsScript};
 
 use crate::error::ScriptError;

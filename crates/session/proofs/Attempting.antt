@@ -32,7 +32,7 @@ use Rattle.session.specs.declared.step.SessionReply.TheVariants.{Of, Job, Stands
 use Rattle.session.specs.declared.step.SessionStep.{SessionStep}
 use Rattle.session.specs.World.{ScheduledProgram, WorldJob, World, Answer, place_after, place_of, after_its_step, numbered, with_numbered, refused, on_versions, start, job_step, answer}
 use Rattle.session.specs.Standing.{SessionValue, IsPlanOf, StandsAt, IsAt, Takes}
-use Rattle.session.specs.Attempts.{StepsVersions, Attempts, told_of}
+use Rattle.session.specs.inside.Attempts.{StepsVersions, Attempts, told_of}
 use Rattle.session.proofs.Alone.{more_instructions, steps_once}
 
 -- lists that agree place by place are as long as each other

@@ -15,7 +15,7 @@ use Rattle.session.specs.declared.error.SessionError.TheVariants.{VertexRange, B
 use Rattle.session.specs.declared.step.SessionReply.{SessionReply}
 use Rattle.session.specs.Refusal.{of_versions}
 use Rattle.session.specs.Standing.{SessionValue}
-use Rattle.session.specs.Attempts.{StepsVersions}
+use Rattle.session.specs.inside.Attempts.{StepsVersions}
 
 -- the versions refuse a step by this error, or lack memory for it
 abbrev DoesNotStep : Timeline → Step → VersionError → Timeline → Type 0

@@ -2,4 +2,4 @@ pub mod World
 pub mod Standing
 pub mod Laws
 pub mod Refusal
-pub mod Attempts
+pub mod inside

@@ -8,7 +8,7 @@ ghost use Rattle.session.specs.declared.error.SessionError.TheVariants.{NoMemory
 ghost use Rattle.session.specs.declared.step.SessionStep.TheVariants.{Start, JobStep};
 ghost use Rattle.session.specs.World.{ScheduledProgram, World, answer, first_world, numbered};
 ghost use Rattle.session.specs.Standing.{IsAt, IsPlanOf, Opens, Runs, Takes};
-ghost use Rattle.session.specs.Attempts.{Attempts, StepsVersions, told_of};
+ghost use Rattle.session.specs.inside.Attempts.{Attempts, StepsVersions, told_of};
 
 use crate::error::SessionError;
 use crate::step::{SessionReply, SessionStep};

@@ -20,8 +20,8 @@ use Rattle.c_tree.specs.Parts.{IsRoot}
 use Rattle.c_tree.specs.declared.cut.Cut.{Cut}
 use Rattle.set_ops.specs.declared.combined.Combined.{Combined}
 use Rattle.set_ops.specs.declared.combined.Head.{Head}
-use Rattle.set_ops.specs.Answers.{kept, around, rejoined, IsCombined, IsRejoined}
-use Rattle.set_ops.specs.Halving.{AreHalves, AreHalvesOver, AreAnswers}
+use Rattle.set_ops.specs.inside.Answers.{kept, around, rejoined, IsCombined, IsRejoined}
+use Rattle.set_ops.specs.inside.Halving.{AreHalves, AreHalvesOver, AreAnswers}
 use Rattle.set_ops.proofs.Cutting.{front_ascends, back_ascends}
 use Rattle.set_ops.proofs.Laws.{combined_cut, combined_count, combined_ascends, most_room, with_no_second, most_no_second}
 

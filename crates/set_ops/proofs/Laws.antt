@@ -19,7 +19,7 @@ use Rattle.tail_codec.specs.Operations.{combined, on_keys}
 use Rattle.tail_codec.proofs.MapPlaces.{entries_below_none, entries_above_all, no_value}
 use Rattle.tail_codec.proofs.MapMerging.{second_nothing, without_nothing}
 use Rattle.tail_codec.proofs.Writing.{length_keys, few_entries}
-use Rattle.set_ops.specs.Answers.{kept, around}
+use Rattle.set_ops.specs.inside.Answers.{kept, around}
 use Rattle.set_ops.proofs.Cutting.{has_lookup, one_of, second_at, first_at, without_at}
 
 -- how often a key counts

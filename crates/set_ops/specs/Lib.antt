@@ -1,4 +1,3 @@
 pub mod Outcome
 pub mod Refusal
-pub mod Answers
-pub mod Halving
+pub mod inside

@@ -3,7 +3,7 @@
 ghost use Rattle.std.specs.Prelude.{◌≡◌, IfOk};
 ghost use Rattle.std.specs.Map.{keys_of};
 ghost use Rattle.ascending_lists.specs.Ascending.{Ascends};
-ghost use Rattle.set_ops.specs.Answers.{IsCombined};
+ghost use Rattle.set_ops.specs.inside.Answers.{IsCombined};
 
 use crate::combined::{Combined, Head, Task, combine_lists, rejoin};
 use crate::halves::{Begun, begin};

@@ -6,7 +6,7 @@ ghost use Rattle.ascending_lists.specs.Operations.{most};
 ghost use Rattle.ascending_lists.specs.Ascending.{Ascends};
 ghost use Rattle.tail_codec.specs.Operations.{on_keys};
 ghost use Rattle.c_tree.specs.Heads.{is_head};
-ghost use Rattle.set_ops.specs.Answers.{IsCombined, IsRejoined, kept, rejoined};
+ghost use Rattle.set_ops.specs.inside.Answers.{IsCombined, IsRejoined, kept, rejoined};
 
 use c_tree::{CTree, ChunkSize, Part};
 use std::alloc::{AllocError, Global};

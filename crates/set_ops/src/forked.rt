@@ -4,8 +4,8 @@ ghost use Rattle.std.specs.Prelude.{◌≡◌, ◌+◌, ◌<◌, ◌≤◌, IfOk
 ghost use denote.Param.Send.{IsSync};
 ghost use Rattle.std.specs.Map.{keys_of};
 ghost use Rattle.ascending_lists.specs.Ascending.{Ascends};
-ghost use Rattle.set_ops.specs.Answers.{IsCombined};
-ghost use Rattle.set_ops.specs.Halving.{HasForks, AreLent, AreLentAnswers, IsLentBelow, IsLentAbove};
+ghost use Rattle.set_ops.specs.inside.Answers.{IsCombined};
+ghost use Rattle.set_ops.specs.inside.Halving.{HasForks, AreLent, AreLentAnswers, IsLentBelow, IsLentAbove};
 
 use crate::combine::combine;
 use crate::combined::{Combined, Head, Task, rejoin};

@@ -5,8 +5,8 @@ ghost use Rattle.std.specs.Map.{keys_of};
 ghost use Rattle.ascending_lists.specs.Ascending.{Ascends};
 ghost use Rattle.ascending_lists.specs.MapOperations.{without_keys};
 ghost use Rattle.c_tree.specs.Chunks.{HasNoHead};
-ghost use Rattle.set_ops.specs.Answers.{IsCombined};
-ghost use Rattle.set_ops.specs.Halving.{IsBegun};
+ghost use Rattle.set_ops.specs.inside.Answers.{IsCombined};
+ghost use Rattle.set_ops.specs.inside.Halving.{IsBegun};
 
 use crate::combined::{Combined, Task};
 use crate::with_list::combine_with_list;

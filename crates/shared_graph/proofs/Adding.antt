@@ -6,7 +6,7 @@ use mathlib.Core.List.{IsPrefix}
 use prog.Atomic.{either}
 use Rattle.logbook.specs.Pages.{Cell, cell, keeps, no_nib, step, Moves, Goes}
 use Rattle.shared_graph.specs.declared.entry.Entry.{Entry}
-use Rattle.shared_graph.specs.Book.{IsCounted, Adds}
+use Rattle.shared_graph.specs.inside.Book.{IsCounted, Adds}
 use Rattle.shared_graph.proofs.Prefixes.{prefix_whole}
 
 abbrev pub shown : List Entry → List Entry

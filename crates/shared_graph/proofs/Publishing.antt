@@ -4,7 +4,7 @@ use mathlib.Core.Option.{some}
 use lib.ListN.{get_elem?}
 use Rattle.left_right.specs.Register.{Admits, TurnsAt, Turns, Forks, Merges}
 use Rattle.atomic_table.proofs.Lists.{at_set, at_snoc}
-use Rattle.shared_graph.specs.Publishing.{Published, GoesOn, IsSeen, AreSeen, Sees, latest}
+use Rattle.shared_graph.specs.inside.Publishing.{Published, GoesOn, IsSeen, AreSeen, Sees, latest}
 use Rattle.shared_graph.proofs.Prefixes.{prefix_self, prefix_trans}
 
 pub goes_on_self : (x : Published) → GoesOn x x

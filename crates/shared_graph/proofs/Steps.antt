@@ -25,7 +25,7 @@ use Rattle.shared_graph.specs.Holding.{Hold, HoldsVersion}
 use Rattle.shared_graph.specs.Passes.{Pass, HasMade}
 use Rattle.shared_graph.specs.Outcome.{Refuses}
 use Rattle.shared_graph.specs.Refusal.{from_version}
-use Rattle.shared_graph.specs.Locked.{IsTimelineOf, AreCounts, ShowsRefusal}
+use Rattle.shared_graph.specs.inside.Locked.{IsTimelineOf, AreCounts, ShowsRefusal}
 use Rattle.shared_graph.proofs.Growing.{steps_of-push, legal-push, state_at-push, own-mine, own-other}
 
 pub made : (base : State) (old : Pass) (log : List Entry) (done : Done) → IsPrefix old.shown log → own old.number log ≡ own old.number old.last → IsLegal base (steps_of log) → MayFollow base log done

@@ -1,7 +1,7 @@
 //! The history that all threads share. Threads share its length alone, one word; its entries are in the proofs.
 
 ghost use Rattle.std.specs.Prelude.{◌≡◌, []};
-ghost use Rattle.shared_graph.specs.Book.{count_of};
+ghost use Rattle.shared_graph.specs.inside.Book.{count_of};
 
 use crate::entry::Entry;
 use crate::front::Front;
@@ -17,7 +17,7 @@ pub(crate) struct Law;
 impl Rule<Entry, u64> for Law {
     ghost use Rattle.std.specs.Prelude.{[]};
     ghost use base.Fml.{ftrue};
-    ghost use Rattle.shared_graph.specs.Book.{IsCounted};
+    ghost use Rattle.shared_graph.specs.inside.Book.{IsCounted};
 
     ghost holds = { λ cells log. IsCounted cells log };
 
@@ -45,7 +45,7 @@ impl Gain<Entry, u64> for Nothing {
 pub(crate) struct Add;
 
 impl Play<Entry, u64> for Add {
-    ghost use Rattle.shared_graph.specs.Book.{Adds};
+    ghost use Rattle.shared_graph.specs.inside.Book.{Adds};
 
     ghost then = { Adds };
 }
@@ -74,7 +74,7 @@ pub struct Opening {
 impl Model for Opening {
     ghost use Rattle.std.specs.Prelude.{◌≡◌, []};
     ghost use Rattle.logbook.specs.Pages.{Book};
-    ghost use Rattle.shared_graph.specs.Book.{count_of};
+    ghost use Rattle.shared_graph.specs.inside.Book.{count_of};
 
     ghost Value = { Book };
 

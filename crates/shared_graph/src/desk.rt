@@ -10,7 +10,7 @@ ghost use Rattle.version_list.specs.Timeline.{beginning};
 ghost use Rattle.shared_graph.specs.declared.error.SharedError.TheVariants.{NoMemory};
 ghost use Rattle.shared_graph.specs.Histories.{state_at, IsNewest};
 ghost use Rattle.shared_graph.specs.Holding.{HoldsVersion};
-ghost use Rattle.shared_graph.specs.Locked.{IsTimelineOf};
+ghost use Rattle.shared_graph.specs.inside.Locked.{IsTimelineOf};
 ghost use Rattle.shared_graph.specs.Outcome.{Answers, AnswersRelease, Refuses};
 
 use crate::error::SharedError;
@@ -52,7 +52,7 @@ impl<J: Naming, R: Wait + Drop> Model for Desk<J, R> {
     ghost use Rattle.std.specs.Prelude.{List};
     ghost use Rattle.version_list.specs.Machine.{opened};
     ghost use Rattle.shared_graph.specs.declared.entry.Entry.{Entry};
-    ghost use Rattle.shared_graph.specs.Locked.{IsTimelineOf};
+    ghost use Rattle.shared_graph.specs.inside.Locked.{IsTimelineOf};
 
     ghost Value = { List Entry };
 

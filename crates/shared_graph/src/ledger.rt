@@ -7,7 +7,7 @@ ghost use Rattle.version_list.specs.Machine.{opened, state_after};
 ghost use Rattle.version_list.specs.Timeline.{IsLegal};
 ghost use Rattle.shared_graph.specs.Histories.{own, steps_of, state_at, MayFollow, IsNewest};
 ghost use Rattle.shared_graph.specs.Passes.{HasMade, fresh_passes};
-ghost use Rattle.shared_graph.specs.Locked.{AreCounts, ShowsRefusal};
+ghost use Rattle.shared_graph.specs.inside.Locked.{AreCounts, ShowsRefusal};
 ghost use Rattle.shared_graph.specs.Refusal.{from_version};
 
 use crate::book::{Book, Opening};
@@ -52,7 +52,7 @@ impl<J: Naming, R: Wait + Drop> Model for Ledger<J, R> {
     ghost use Rattle.std.specs.Prelude.{◌≡◌, List};
     ghost use Rattle.version_list.specs.Machine.{opened};
     ghost use Rattle.shared_graph.specs.declared.entry.Entry.{Entry};
-    ghost use Rattle.shared_graph.specs.Locked.{AreCounts};
+    ghost use Rattle.shared_graph.specs.inside.Locked.{AreCounts};
 
     ghost Value = { List Entry };
 

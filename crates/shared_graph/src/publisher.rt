@@ -2,7 +2,7 @@
 
 ghost use Rattle.std.specs.Prelude.{◌≡◌, ◌<◌, ◌≤◌, ◌^◌, ◌++◌, ◌∷◌, [], List, Some, drop, fold, IfOk, MatchBool, MatchResult};
 ghost use Rattle.left_right.specs.Sides.{view as view_of};
-ghost use Rattle.shared_graph.specs.Publishing.{Published, GoesOn, latest};
+ghost use Rattle.shared_graph.specs.inside.Publishing.{Published, GoesOn, latest};
 
 use crate::shown::Shown;
 use atomic_table::{Join, Split};
@@ -19,7 +19,7 @@ pub(crate) struct Grows;
 
 impl Protocol<Shown, Option<Shown>> for Grows {
     ghost use Rattle.std.specs.Prelude.{None};
-    ghost use Rattle.shared_graph.specs.Publishing.{AreSeen};
+    ghost use Rattle.shared_graph.specs.inside.Publishing.{AreSeen};
 
     ghost holds = { AreSeen };
 
@@ -30,7 +30,7 @@ impl Protocol<Shown, Option<Shown>> for Grows {
 pub(crate) struct Seeing;
 
 impl Outcome<Shown, Option<Shown>> for Seeing {
-    ghost use Rattle.shared_graph.specs.Publishing.{Sees};
+    ghost use Rattle.shared_graph.specs.inside.Publishing.{Sees};
 
     ghost then = { Sees };
 }
@@ -65,7 +65,7 @@ pub(crate) struct Publisher<R: Wait + Drop> {
 impl<R: Wait + Drop> Model for Publisher<R> {
     ghost use Rattle.std.specs.Prelude.{◌≡◌, Some};
     ghost use Rattle.left_right.specs.Sides.{view as view_of};
-    ghost use Rattle.shared_graph.specs.Publishing.{Published};
+    ghost use Rattle.shared_graph.specs.inside.Publishing.{Published};
 
     ghost Value = { Published };
 

@@ -8,7 +8,7 @@ ghost use Rattle.version_list.specs.Machine.{opened};
 ghost use Rattle.version_list.specs.Timeline.{IsLegal};
 ghost use Rattle.shared_graph.specs.Histories.{steps_of, own, state_at, IsNewest};
 ghost use Rattle.shared_graph.specs.Passes.{fresh, Shows};
-ghost use Rattle.shared_graph.specs.Publishing.{Knows};
+ghost use Rattle.shared_graph.specs.inside.Publishing.{Knows};
 
 use crate::error::LatestError;
 use crate::front::Front;
@@ -48,7 +48,7 @@ impl<J: Naming> Model for Reader<J> {
     ghost use Rattle.version_list.specs.Machine.{opened};
     ghost use Rattle.shared_graph.specs.Histories.{own};
     ghost use Rattle.shared_graph.specs.Passes.{Pass};
-    ghost use Rattle.shared_graph.specs.Publishing.{Knows};
+    ghost use Rattle.shared_graph.specs.inside.Publishing.{Knows};
 
     ghost Value = { Pass };
 

@@ -48,7 +48,7 @@ impl Model for Shown {
     ghost use Rattle.version_list.specs.Machine.{opened};
     ghost use Rattle.version_list.specs.Timeline.{IsLegal};
     ghost use Rattle.shared_graph.specs.Histories.{steps_of, state_at, IsNewest};
-    ghost use Rattle.shared_graph.specs.Publishing.{Published};
+    ghost use Rattle.shared_graph.specs.inside.Publishing.{Published};
 
     ghost Value = { Published };
 
@@ -124,7 +124,7 @@ impl Shown {
 }
 
 impl Absorb<Shown> for Shown {
-    ghost use Rattle.shared_graph.specs.Publishing.{latest};
+    ghost use Rattle.shared_graph.specs.inside.Publishing.{latest};
 
     type State = Shown;
 

@@ -7,9 +7,9 @@ use Rattle.shared_tree.specs.declared.tree.Link.{Link}
 use Rattle.shared_tree.specs.declared.tree.Link.TheVariants.{Empty, Fork}
 use Rattle.shared_tree.specs.declared.tree.Node.{Node}
 use Rattle.shared_tree.specs.Balanced.{Balanced}
-use Rattle.shared_tree.specs.Shape.{seen, IsBalanced, IsBelow}
+use Rattle.shared_tree.specs.inside.Shape.{seen, IsBalanced, IsBelow}
 use Rattle.shared_tree.proofs.Forks.{root_room}
-use Rattle.shared_tree.specs.Pending.{from_link, pending, HasRoomAt, HasRoom}
+use Rattle.shared_tree.specs.inside.Pending.{from_link, pending, HasRoomAt, HasRoom}
 
 module _ {V : Type 0} where
   -- a link on top of a stack comes first

@@ -1,10 +1,7 @@
 pub mod Changes
 pub mod ChangedMaps
 pub mod Balanced
-pub mod Shape
 pub mod Joins
-pub mod Halves
-pub mod Opened
-pub mod Pending
 pub mod Refusal
 pub mod Outcome
+pub mod inside

@@ -5,7 +5,7 @@ ghost use Rattle.std.specs.Option.{option_copied};
 ghost use Rattle.ascending_lists.specs.Maps.{IsMap, Rises};
 ghost use Rattle.shared_tree.specs.Changes.{entry_at, IsSplit};
 ghost use Rattle.shared_tree.specs.ChangedMaps.{IsChangedMap, total_weight, GrewBy};
-ghost use Rattle.shared_tree.specs.Halves.{AreHalves};
+ghost use Rattle.shared_tree.specs.inside.Halves.{AreHalves};
 
 use crate::joins::{concatenated, joined};
 use crate::nodes::{Slot, fork_new};

@@ -2,8 +2,8 @@
 
 ghost use Rattle.std.specs.Prelude.{◌≡◌, ◌+◌, ◌^◌, ◌≤◌, ◌++◌, length, take};
 ghost use Rattle.std.specs.Iterator.{YieldsFirstBy, item_count};
-ghost use Rattle.shared_tree.specs.Shape.{seen, IsBalanced};
-ghost use Rattle.shared_tree.specs.Pending.{pending, HasRoom};
+ghost use Rattle.shared_tree.specs.inside.Shape.{seen, IsBalanced};
+ghost use Rattle.shared_tree.specs.inside.Pending.{pending, HasRoom};
 
 use crate::tree::{Link, Tree};
 use std::marker::Model;
@@ -20,7 +20,7 @@ pub struct Iter<'a, V> {
 
 impl<'a, V> Model for Iter<'a, V> {
     ghost use Rattle.std.specs.Prelude.{◌≡◌, ℕ, ◌≤◌, List, length, take};
-    ghost use Rattle.shared_tree.specs.Pending.{pending, HasRoom};
+    ghost use Rattle.shared_tree.specs.inside.Pending.{pending, HasRoom};
 
     ghost Value = { List (ℕ × V) };
 

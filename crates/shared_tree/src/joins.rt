@@ -3,7 +3,7 @@
 ghost use Rattle.std.specs.Prelude.{◌≡◌, ◌+◌, ◌≤◌, ◌∷◌, ◌++◌, IfOk, IfErr};
 ghost use Rattle.ascending_lists.specs.Maps.{IsMap};
 ghost use Rattle.shared_tree.specs.Joins.{IsJoin, IsConcatenation};
-ghost use Rattle.shared_tree.specs.Opened.{IsPopped};
+ghost use Rattle.shared_tree.specs.inside.Opened.{IsPopped};
 ghost use Rattle.shared_tree.specs.declared.error.TreeError.TheVariants.{NoMemory};
 
 use crate::error::TreeError;

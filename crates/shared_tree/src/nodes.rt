@@ -3,7 +3,7 @@
 ghost use Rattle.std.specs.Prelude.{◌≡◌, ◌∷◌, ◌++◌, IfOk};
 ghost use Rattle.ascending_lists.specs.Maps.{IsMap};
 ghost use Rattle.shared_tree.specs.Balanced.{IsFork, DifferByAtMostOne};
-ghost use Rattle.shared_tree.specs.Opened.{IsOpened};
+ghost use Rattle.shared_tree.specs.inside.Opened.{IsOpened};
 
 use crate::share::Share;
 use crate::tree::{Link, Node, Tree};

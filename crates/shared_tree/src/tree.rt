@@ -4,7 +4,7 @@ ghost use Rattle.std.specs.Prelude.{◌≡◌, ◌+◌, ◌*◌, ◌^◌, ◌<�
 ghost use Rattle.std.specs.Option.{option_copied};
 ghost use Rattle.ascending_lists.specs.Maps.{lookup};
 ghost use Rattle.shared_tree.specs.Balanced.{empty, IsFork};
-ghost use Rattle.shared_tree.specs.Shape.{IsBelow, IsBalanced, seen};
+ghost use Rattle.shared_tree.specs.inside.Shape.{IsBelow, IsBalanced, seen};
 
 use crate::share::Share;
 use std::alloc::AllocError;
@@ -54,7 +54,7 @@ impl<V> Model for Tree<V> {
 
     ghost Value = { Balanced V };
 
-    ghost use Rattle.shared_tree.specs.Shape.{seen, IsBalanced};
+    ghost use Rattle.shared_tree.specs.inside.Shape.{seen, IsBalanced};
 
     ghost view = { λ a. seen a.link };
 

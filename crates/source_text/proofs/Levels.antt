@@ -13,7 +13,7 @@ use Rattle.syntax.specs.ExpressionSpelling.{addition_terminal, comparison_termin
 use Rattle.syntax.specs.ExpressionTrees.{ConjunctionTree, ComparisonTree, TermTree, UnaryTree, PrimaryTree, Bare}
 use Rattle.syntax.specs.Terminals.{Terminal, OfKeyword}
 use Rattle.syntax.specs.SourceSpelling.{each_before}
-use Rattle.source_text.specs.Written.{signs_before}
+use Rattle.source_text.specs.inside.Written.{signs_before}
 
 abbrev pub or_before : Conjunction → List Terminal → List Terminal
 or_before c rest = OfKeyword keyword.Or ∷ (conjunction_terminals (conjunction_of c) ++ rest)

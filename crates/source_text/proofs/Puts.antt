@@ -6,7 +6,7 @@ use Rattle.syntax.specs.declared.statement.Statement.{Statement}
 use Rattle.syntax.specs.SourceSpelling.{each_before, label_terminals, action_before, block_before}
 use Rattle.syntax.specs.SourceViews.{action_tree, block_tree}
 use Rattle.source_text.specs.Text.{terminal_bytes, gap_behind, text_of}
-use Rattle.source_text.specs.Written.{Completes, Puts, PutsUpTo}
+use Rattle.source_text.specs.inside.Written.{Completes, Puts, PutsUpTo}
 
 -- the bytes of a terminal and what stands after it
 pub put_terminal : (w : Terminal) (bytes : List ℕ) (gap : ℕ) (old new : List ℕ) → bytes ≡ terminal_bytes w → gap ≡ gap_behind w → new ≡ old ++ (bytes ++ gap ∷ [])

@@ -1,4 +1,4 @@
 pub mod Bare
 pub mod ReadBack
 pub mod Text
-pub mod Written
+pub mod inside

@@ -2,7 +2,7 @@
 ghost use Rattle.std.specs.Prelude.{map, option_map, OnOk};
 ghost use Rattle.syntax.specs.SourceSpelling.{declaration_before, each_before, next_parameter_before, parameters_before, result_before};
 ghost use Rattle.syntax.specs.SourceViews.{declaration_tree, parameter_tree};
-ghost use Rattle.source_text.specs.Written.{Puts};
+ghost use Rattle.source_text.specs.inside.Written.{Puts};
 
 use crate::initial::{put_assigned, put_parameter};
 use crate::statement::put_block;

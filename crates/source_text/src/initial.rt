@@ -8,7 +8,7 @@ ghost use Rattle.syntax.specs.SourceSpelling.{argument_terminals, assigned_befor
 ghost use Rattle.syntax.specs.SourceSpelling.{ended_before, initial_before, type_terminals, typed_before};
 ghost use Rattle.syntax.specs.SourceReading.{edge_ends};
 ghost use Rattle.syntax.specs.SourceViews.{ends_tree, initial_tree, parameter_tree};
-ghost use Rattle.source_text.specs.Written.{Puts};
+ghost use Rattle.source_text.specs.inside.Written.{Puts};
 
 use crate::expression::put_expression;
 use crate::terminals::{put_keyword, put_name, put_number, put_symbol};

@@ -3,7 +3,7 @@ ghost use Rattle.std.specs.Prelude.{ℕ, ◌∷◌, map, option_map, OnOk};
 ghost use Rattle.syntax.specs.Terminals.{Opening};
 ghost use Rattle.syntax.specs.SourceSpelling.{call_before, chain_before, each_before, next_call_before, next_text_before, schedule_before, setting_keyword};
 ghost use Rattle.syntax.specs.SourceViews.{call_tree, chain_tree, text_of};
-ghost use Rattle.source_text.specs.Written.{Puts, chains_tree};
+ghost use Rattle.source_text.specs.inside.Written.{Puts, chains_tree};
 
 use crate::terminals::{put_keyword, put_symbol, put_text};
 use apply_options::Setting;

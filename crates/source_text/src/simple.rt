@@ -6,7 +6,7 @@ ghost use Rattle.syntax.specs.ExpressionSpelling.{expression_terminals};
 ghost use Rattle.syntax.specs.SourceSpelling.{action_before, reduction_terminal};
 ghost use Rattle.syntax.specs.SourceTrees.{AddVertex, Apply, Assign, Declare, Print, Reduce, ReduceEntry, SetEntry};
 ghost use Rattle.syntax.specs.SourceViews.{action_tree, ends_tree, initial_tree, parameter_tree};
-ghost use Rattle.source_text.specs.Written.{IsSimple, Puts};
+ghost use Rattle.source_text.specs.inside.Written.{IsSimple, Puts};
 
 use crate::expression::put_expression;
 use crate::initial::{put_argument, put_assigned, put_ended, put_ends, put_method, put_parameter};

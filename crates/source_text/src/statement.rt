@@ -6,7 +6,7 @@ ghost use Rattle.syntax.specs.Terminals.{OfSymbol, Name as terminal_name, Openin
 ghost use Rattle.syntax.specs.ExpressionSpelling.{expression_terminals};
 ghost use Rattle.syntax.specs.SourceSpelling.{action_before, block_before, label_terminals};
 ghost use Rattle.syntax.specs.SourceViews.{action_tree, block_tree};
-ghost use Rattle.source_text.specs.Written.{Puts};
+ghost use Rattle.source_text.specs.inside.Written.{Puts};
 
 use crate::expression::put_expression;
 use crate::simple::put_simple;

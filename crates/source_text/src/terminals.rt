@@ -3,7 +3,7 @@ ghost use Rattle.std.specs.Prelude.{◌≡◌, ◌++◌, ℕ, List, [], ◌∷�
 ghost use Rattle.lexer.specs.Spelling.{symbol_spelling};
 ghost use Rattle.syntax.specs.Terminals.{Terminal, Label as label_terminal, OfSymbol, Name as name_terminal, Number, Opening, OfKeyword, Text as text_terminal};
 ghost use Rattle.source_text.specs.Text.{text_of, keyword_gap, symbol_gap, AreSpelled, HasTerminals};
-ghost use Rattle.source_text.specs.Written.{Puts};
+ghost use Rattle.source_text.specs.inside.Written.{Puts};
 
 use decimal::push_integer;
 use lexer::{Keyword, Symbol};

@@ -6,7 +6,7 @@ ghost use Rattle.syntax.specs.SourceTrees.{SourceTree};
 ghost use Rattle.parser.specs.Outcome.{Parses};
 ghost use Rattle.source_text.specs.ReadBack.{IsReadBack, IsWritable};
 ghost use Rattle.source_text.specs.Text.{text_of};
-ghost use Rattle.source_text.specs.Written.{Puts, elements_before};
+ghost use Rattle.source_text.specs.inside.Written.{Puts, elements_before};
 
 use crate::declaration::put_declarations;
 use crate::schedule::put_schedule;

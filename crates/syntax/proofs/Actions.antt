@@ -11,7 +11,7 @@ use Rattle.apply_options.specs.declared.reduction.Reduction.TheVariants as reduc
 use Rattle.syntax.specs.SourceTrees.{ParameterTree, EndsTree, InitialTree, NewSet, Load, Vertices, OutDegrees, Filter, ApplyModified, Value, ActionTree, Declare, While, For, If, IfElse, Print, Assign, Reduce, SetEntry, ReduceEntry, AddVertex, Apply, BlockTree, Empty, Then}
 use Rattle.syntax.specs.SourceSpelling.{ends_before, initial_before, assigned_before, ended_before, end_terminals, reduction_terminal, label_terminals, action_before, block_before, each_before, typed_before, argument_terminals, type_terminals}
 use Rattle.syntax.specs.SourceReading.{expression, ends_at, method_at, initial_at, named_initial, modified_at, assigned_at, ended_at, entry_by, applied_at, argument_at, named_action, else_by, action_by, block_at, no_block, next_statement, statement_by, begins_statement, label_at, block_from, where_begins, each_at, closed, after_terminal, after_terminals, name_at}
-use Rattle.syntax.specs.Fits.{Fits, FitsInitial, FitsAction, FitsBlock}
+use Rattle.syntax.specs.inside.Fits.{Fits, FitsInitial, FitsAction, FitsBlock}
 use Rattle.syntax.proofs.Complete.{typed_complete, Each, IsRead, each_complete}
 
 apply_ends : (from to : Option Identifier) (rest : List Terminal)

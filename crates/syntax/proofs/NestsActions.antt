@@ -12,7 +12,7 @@ use Rattle.apply_options.specs.declared.reduction.Reduction.{Reduction}
 use Rattle.apply_options.specs.declared.reduction.Reduction.TheVariants as reduction
 use Rattle.syntax.specs.SourceTrees.{ParameterTree, InitialTree, NewSet, Load, Vertices, OutDegrees, Filter, ApplyModified, Value, ActionTree, Declare, While, For, If, IfElse, Print, Assign, Reduce, SetEntry, ReduceEntry, AddVertex, Apply, BlockTree, Empty, Then, DeclarationTree, Constant, Function, SourceTree}
 use Rattle.syntax.specs.SourceSpelling.{type_terminals, initial_before, assigned_before, ended_before, end_terminals, reduction_terminal, label_terminals, action_before, block_before, each_before, typed_before, argument_terminals, parameters_before, next_parameter_before, result_before, declaration_before, schedule_before, source_terminals}
-use Rattle.syntax.specs.Fits.{Fits, FitsInitial, FitsAction, FitsBlock, FitsDeclaration, FitDeclarations, FitsSource}
+use Rattle.syntax.specs.inside.Fits.{Fits, FitsInitial, FitsAction, FitsBlock, FitsDeclaration, FitDeclarations, FitsSource}
 use Rattle.syntax.specs.Nesting.{limit, nesting_behind, StaysWithin}
 use Rattle.syntax.proofs.Nests.{expression_balanced, expression_deep, within-front, within-behind}
 

@@ -13,7 +13,7 @@ use Rattle.syntax.proofs.ExpressionReadings.{expressions_sound, expressions_comp
 use Rattle.syntax.specs.SourceTrees.{SourceTree}
 use Rattle.syntax.specs.SourceSpelling.{source_terminals}
 use Rattle.syntax.specs.Nesting.{limit, StaysWithin}
-use Rattle.syntax.specs.Fits.{Fits}
+use Rattle.syntax.specs.inside.Fits.{Fits}
 use Rattle.syntax.specs.SourceReading.{expression, source_at}
 use Rattle.syntax.proofs.Sound.{IsSound}
 use Rattle.syntax.proofs.Actions.{goes_on}

@@ -7,7 +7,6 @@ pub mod ExpressionReading
 pub mod ExpressionSpelling
 pub mod ExpressionTrees
 pub mod ExpressionViews
-pub mod Fits
 pub mod Nesting
 pub mod Offsets
 pub mod SourceReading
@@ -15,3 +14,4 @@ pub mod SourceSpelling
 pub mod SourceTrees
 pub mod SourceViews
 pub mod Terminals
+pub mod inside

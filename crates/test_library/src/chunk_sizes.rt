@@ -3,7 +3,8 @@
 use std::alloc::Global;
 use std::test::Fail;
 use std::thread::Threads;
-use tree_batch::{Batch, Entry, Graph, NeighbourSet, Quiet};
+use test_helpers::stand_in_chunks;
+use tree_batch::{Batch, Entry, Graph, Quiet};
 use version_list::{Versions, Which};
 
 const CHUNK_SIZES: [u32; 3] = [1, 16, 256];
@@ -24,24 +25,6 @@ fn hub_batch(alloc: Global, hub: u32) -> Result<Batch, Fail> {
         batch.push(Entry::Add(other, hub, 1))?;
     }
     Ok(batch)
-}
-
-// The chunk size of neighbours that are a set in chunks.
-fn chunk_size_of(neighbours: Option<NeighbourSet<'_>>) -> Option<u32> {
-    let neighbours = neighbours?;
-    let set = neighbours.chunked()?;
-    Some(set.chunk_size().get())
-}
-
-// Whether the neighbours of so many vertices stand in chunks of this size, in both directions.
-fn stand_in_chunks(graph: &Graph, hubs: u32, chunk_size: u32) -> bool {
-    for hub in 0..hubs {
-        let (out, into) = (chunk_size_of(graph.out(hub)), chunk_size_of(graph.in_(hub)));
-        if out != Some(chunk_size) || into != Some(chunk_size) {
-            return false;
-        }
-    }
-    true
 }
 
 // The graph after the batch of a vertex, by `apply`.

@@ -10,19 +10,9 @@ use scripts::{ScriptError, script};
 use set_ops::{Quiet, SetError, union_forked};
 use std::alloc::{AllocError, Global};
 use std::test::Fail;
+use test_helpers::{ask, tell};
 use tree_batch::{Batch, Entry, Graph};
 use version_list::{Reply, VersionError, Versions, Which};
-
-// Says that the requests for memory are those of the call from now on.
-fn ask<R: Print>(rt: &R) -> bool {
-    println!(rt; "asked").is_ok()
-}
-
-// Says that the call was answered, and whether by 900.
-fn tell<R: Print>(rt: &R, is_refused: bool) -> bool {
-    let answer = if is_refused { "900" } else { "whole" };
-    println!(rt; "{answer}").is_ok()
-}
 
 // Every third number below so many, from the first on, each with a weight.
 fn every_third(alloc: Global, first: u32, below: u32) -> Result<Vec<(u32, i64)>, AllocError> {

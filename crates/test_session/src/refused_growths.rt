@@ -9,19 +9,9 @@ use algorithm_meaning::End;
 use session::{Session, SessionError, SessionReply, SessionStep};
 use std::alloc::{AllocError, Global};
 use std::test::Fail;
+use test_helpers::{ask, tell};
 use tree_batch::Entry;
 use version_list::{Reply, Which};
-
-// Says that the requests for memory are those of the steps from now on.
-fn ask<R: Print>(rt: &R) -> bool {
-    println!(rt; "asked").is_ok()
-}
-
-// Says that the steps were answered, and whether one of them by 900.
-fn tell<R: Print>(rt: &R, is_refused: bool) -> bool {
-    let answer = if is_refused { "900" } else { "whole" };
-    println!(rt; "{answer}").is_ok()
-}
 
 // A fork with weights, and a seventh vertex.
 const GROWN_FORK: &[Entry] = &[

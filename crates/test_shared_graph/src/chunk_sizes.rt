@@ -9,7 +9,8 @@ use std::marker::Brand;
 use std::sync::Wait;
 use std::test::Fail;
 use std::thread::Threads;
-use tree_batch::{Batch, Entry, Graph, NeighbourSet};
+use test_helpers::stand_in_chunks;
+use tree_batch::{Batch, Entry, Graph};
 use version_list::Which;
 
 // More than the 2,048 that are packed.
@@ -53,24 +54,6 @@ fn hub_batch(
 
 fn push(batch: &mut Batch, entry: Entry) -> Result<(), AllocError> {
     batch.push(entry).map_err(|_| AllocError)
-}
-
-// The chunk size of neighbours that are a set in chunks.
-fn chunk_size_of(neighbours: Option<NeighbourSet<'_>>) -> Option<u32> {
-    let neighbours = neighbours?;
-    let set = neighbours.chunked()?;
-    Some(set.chunk_size().get())
-}
-
-// Whether the neighbours of so many vertices stand in chunks of this size, in both directions.
-fn stand_in_chunks(graph: &Graph, hubs: u32, chunk_size: u32) -> bool {
-    for hub in 0..hubs {
-        let (out, into) = (chunk_size_of(graph.out(hub)), chunk_size_of(graph.in_(hub)));
-        if out != Some(chunk_size) || into != Some(chunk_size) {
-            return false;
-        }
-    }
-    true
 }
 
 #[test]

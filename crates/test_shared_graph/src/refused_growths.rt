@@ -12,6 +12,7 @@ use std::marker::Brand;
 use std::sync::Wait;
 use std::test::Fail;
 use std::thread::Threads;
+use test_helpers::{ask, tell};
 use tree_batch::{Entry, Graph};
 use version_list::{Ticket, Which};
 
@@ -70,17 +71,6 @@ impl Version<'_> {
         let snapshot = held.snapshot();
         held.ticket() == Ticket { number } && self.is(snapshot.number, &snapshot.graph)
     }
-}
-
-// Says that the requests for memory are those of the call from now on.
-fn ask<R: Print>(rt: &R) -> bool {
-    println!(rt; "asked").is_ok()
-}
-
-// Says that the call was answered, and whether by 900.
-fn tell<R: Print>(rt: &R, is_refused: bool) -> bool {
-    let answer = if is_refused { "900" } else { "whole" };
-    println!(rt; "{answer}").is_ok()
 }
 
 // The calls.

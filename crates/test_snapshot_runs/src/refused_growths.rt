@@ -21,6 +21,7 @@ use std::sync::Wait;
 use std::sync::atomic::{AtomicU64, Ordering};
 use std::test::Fail;
 use std::thread::Threads;
+use test_helpers::{ask, tell};
 use tree_batch::{Batch, Entry, Graph};
 
 // The most turns of a run.
@@ -56,17 +57,6 @@ impl Gate for Counting {
     fn enter(&self, _worker: usize, _piece: usize, _pieces: usize) {
         self.0.fetch_add(1, Ordering::SeqCst);
     }
-}
-
-// Says that the requests for memory are those of the call from now on.
-fn ask<R: Print>(rt: &R) -> bool {
-    println!(rt; "asked").is_ok()
-}
-
-// Says that the call was answered, and whether by 900.
-fn tell<R: Print>(rt: &R, is_refused: bool) -> bool {
-    let answer = if is_refused { "900" } else { "whole" };
-    println!(rt; "{answer}").is_ok()
 }
 
 // A fork that comes together, with weights, and a tail; a sixth vertex has no edge.

@@ -16,7 +16,7 @@ use Rattle.pages.specs.Updates.{AreOfBlock, EdgesAscend}
 use Rattle.pages.proofs.UpdateRuns.{ascend_in_page}
 use Rattle.vertex_blocks.specs.Changes.{BlockChange}
 use Rattle.tree_batch.specs.Edge.{Ends}
-use Rattle.tree_batch.specs.BlockCuts.{IsCutAt, block_decided, AreCut, BeginsElsewhere, BeginsFrom, AreBelow, AreFrom, IsCutAround}
+use Rattle.tree_batch.specs.inside.BlockCuts.{IsCutAt, block_decided, AreCut, BeginsElsewhere, BeginsFrom, AreBelow, AreFrom, IsCutAround}
 use Rattle.tree_batch.proofs.Deciding.{option_or-none}
 use Rattle.tree_batch.proofs.Listed.{some_none}
 use Rattle.tree_batch.proofs.Decided.{decided_append, front_ascends, back_ascends, no_lower, cut_silent, lookup_above, first_cut, same_change}

@@ -17,8 +17,8 @@ use Rattle.tree_batch.specs.Entry.{decision, vertices_after, misfits, AreEdgesAf
 use Rattle.tree_batch.specs.Digraph.{Digraph, digraph, IsDigraph, graph_after, is_chunk_size}
 use Rattle.tree_batch.specs.Neighbours.{edges_of, weight_between, sources_of}
 use Rattle.tree_batch.specs.VertexBlocks.{AreGraphBlocks, IsGraph}
-use Rattle.tree_batch.specs.BlockCuts.{block_decided}
-use Rattle.tree_batch.specs.Forking.{IsChangedTree}
+use Rattle.tree_batch.specs.inside.BlockCuts.{block_decided}
+use Rattle.tree_batch.specs.inside.Forking.{IsChangedTree}
 use Rattle.tree_batch.proofs.Rising.{rises_wider}
 use Rattle.tree_batch.proofs.AllEdges.{edges_after_are, digraph_after}
 use Rattle.vertex_blocks.proofs.Numbering.{lists_rise, list_in_blocks}

@@ -4,7 +4,6 @@ pub mod Sorted
 pub mod Digraph
 pub mod Neighbours
 pub mod VertexBlocks
-pub mod BlockCuts
-pub mod Forking
 pub mod Outcome
 pub mod Refusal
+pub mod inside

@@ -4,8 +4,8 @@ ghost use Rattle.std.specs.Prelude.{◌≤◌, ◌/◌, length, take, drop, IfOk
 ghost use Rattle.std.specs.Map.{keys_of};
 ghost use Rattle.edge_updates.specs.Updates.{Ascend};
 ghost use Rattle.pages.specs.Updates.{AreOfBlock};
-ghost use Rattle.tree_batch.specs.BlockCuts.{AreCut, BeginsElsewhere};
-ghost use Rattle.tree_batch.specs.Forking.{IsChangedTree};
+ghost use Rattle.tree_batch.specs.inside.BlockCuts.{AreCut, BeginsElsewhere};
+ghost use Rattle.tree_batch.specs.inside.Forking.{IsChangedTree};
 
 use c_tree::ChunkSize;
 use edge_updates::Updates;

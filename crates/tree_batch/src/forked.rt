@@ -10,7 +10,7 @@ ghost use Rattle.edge_updates.specs.Updates.{Ascend};
 ghost use Rattle.edge_updates.specs.Weighted.{weighted};
 ghost use Rattle.pages.specs.Updates.{EdgesAscend};
 ghost use Rattle.vertex_blocks.specs.Blocks.{Block, edge_total};
-ghost use Rattle.tree_batch.specs.Forking.{IsChangedTree, IsChangedBlock, AreSides, AreAround, CanRejoin};
+ghost use Rattle.tree_batch.specs.inside.Forking.{IsChangedTree, IsChangedBlock, AreSides, AreAround, CanRejoin};
 
 use crate::cuts::changed;
 use crate::middle::{Middle, cut_at_middle};

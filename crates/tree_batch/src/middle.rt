@@ -4,8 +4,8 @@ ghost use Rattle.std.specs.Prelude.{◌≤◌, length, take, drop, IfOk, IfSome}
 ghost use Rattle.std.specs.Map.{keys_of};
 ghost use Rattle.shared_tree.specs.Changes.{IsSplit};
 ghost use Rattle.edge_updates.specs.Updates.{Ascend};
-ghost use Rattle.tree_batch.specs.BlockCuts.{AreBelow, BeginsFrom};
-ghost use Rattle.tree_batch.specs.Forking.{AreAround};
+ghost use Rattle.tree_batch.specs.inside.BlockCuts.{AreBelow, BeginsFrom};
+ghost use Rattle.tree_batch.specs.inside.Forking.{AreAround};
 
 use crate::cuts::{BLOCK, cut_length};
 use edge_updates::Updates;

@@ -5,7 +5,7 @@ ghost use Rattle.std.specs.Map.{keys_of};
 ghost use Rattle.edge_updates.specs.Updates.{Ascend};
 ghost use Rattle.weighted_updates.specs.WeightedUpdates.{decided_weight};
 ghost use Rattle.tree_batch.specs.Edge.{Ends};
-ghost use Rattle.tree_batch.specs.Forking.{IsChangedTree};
+ghost use Rattle.tree_batch.specs.inside.Forking.{IsChangedTree};
 ghost use Rattle.tree_batch.specs.Sorted.{sorted_pairs};
 
 use crate::cuts::changed;

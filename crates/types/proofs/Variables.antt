@@ -15,7 +15,7 @@ use Rattle.types.specs.Checker.{CheckerTree, declared_in, integer_slot, conditio
 use Rattle.types.specs.Initial.{InitializerTree, initializer_integer, initializer_condition, initializer_members}
 use Rattle.types.specs.Statement.{declare_as}
 use Rattle.types.specs.Step.{declare_step_as}
-use Rattle.types.specs.Variables.{variable_as, step_variable_as}
+use Rattle.types.specs.inside.Variables.{variable_as, step_variable_as}
 
 -- the name becomes visible after what the variable is
 abbrev visible_then : {A : Type 0} → CheckerTree → Identifier → Entity × A → WithFaults (A × CheckerTree)

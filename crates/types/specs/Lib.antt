@@ -6,10 +6,9 @@ pub mod Initial
 pub mod Initializer
 pub mod FunctionKind
 pub mod Literal
-pub mod Plain
 pub mod Program
 pub mod Refusal
 pub mod Statement
 pub mod Step
-pub mod Variables
 pub mod Wanted
+pub mod inside

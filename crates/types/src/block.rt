@@ -6,7 +6,7 @@ ghost use Rattle.expression_types.specs.WithFaults.{ReportsFaults};
 ghost use Rattle.expression_types.specs.ScopeTree.{Keeps};
 ghost use Rattle.types.specs.Block.{action_typed, block_typed, for_typed, statement_tree, statement_typed, statements_typed};
 ghost use Rattle.types.specs.Checker.{checker_of};
-ghost use Rattle.types.specs.Plain.{DeclaresNothing, HasTest, ReducesOrSetsEntry};
+ghost use Rattle.types.specs.inside.Plain.{DeclaresNothing, HasTest, ReducesOrSetsEntry};
 
 use crate::checker::{Checker, count, declare, label};
 use crate::statement::{

@@ -1,6 +1,5 @@
 //! Typing of declarations: constants and functions.
 ghost use Rattle.std.specs.Prelude.{◌≡◌, [], ◌∷◌, OnOk, Some, false, if◌then◌else◌, map, option_map, pos};
-ghost use Rattle.syntax.specs.SourceTrees.{ParameterTree};
 ghost use Rattle.syntax.specs.SourceViews.{block_tree as source_block, declaration_tree, initial_tree, parameter_tree};
 ghost use Rattle.typed_tree.specs.BlockTree.{block_tree};
 ghost use Rattle.typed_tree.specs.ProgramTree.{call_tree, program_tree};
@@ -11,14 +10,15 @@ ghost use Rattle.expression_types.specs.Faults.{earlier};
 ghost use Rattle.expression_types.specs.WithFaults.{ReportsFaults, outcome};
 ghost use Rattle.types.specs.Initial.{ErrorInitializer, is_sound};
 ghost use Rattle.types.specs.Checker.{checker_of};
-ghost use Rattle.types.specs.Declaration.{declaration_typed, declarations_typed, declare_condition, declare_constant, declare_constant_as, declare_edges, declare_integer, declare_name, declare_set, declare_vector, declared_of, edge_function_declared, function_declared, has_all, begins, inside_of, is_bool as bool_type};
-ghost use Rattle.types.specs.Declaration.{is_int as int_type, is_vertex as vertex_type, kind as kind_by, literal_or_fault, kind_fits, kind_of as kind_by_parameters, loads, main_declared, opened, only_edges, parameter, parameters_declared, result_declared, result_entity, steps_declared, takes_weight as weight_taken, with_main};
+ghost use Rattle.types.specs.Declaration.{declaration_typed, declarations_typed, declare_condition, declare_constant, declare_constant_as, declare_edges, declare_integer, declare_name, declare_set, declare_vector, declared_of, edge_function_declared, function_declared, has_all, begins, inside_of};
+ghost use Rattle.types.specs.Declaration.{literal_or_fault, kind_fits, loads, main_declared, opened, only_edges, parameter, parameters_declared, result_declared, result_entity, steps_declared, takes_weight as weight_taken, with_main};
 ghost use Rattle.types.specs.Initializer.{initializer_tree};
 ghost use Rattle.types.specs.FunctionKind.{function_kind_tree};
 ghost use Rattle.types.specs.Literal.{literal_condition, literal_integer};
 
 use crate::block::statements;
 use crate::checker::{Checker, declare};
+use crate::function_kind::{is_int, is_vertex, kind_of};
 use crate::initial::{Initializer, read_initial};
 use crate::literal::{condition_literal, integer_literal};
 use crate::reductions::Reductions;
@@ -468,95 +468,6 @@ fn only(
             note(first_fault, name.at(), TypeRule::Redeclared);
             Some(first)
         }
-    }
-}
-
-/// What a function is, by its name, its parameters and its result.
-fn kind_of(name: &[u8], parameters: &[Parameter], gives: &Option<Parameter>) -> FunctionKind
-    ensures { function_kind_tree result ≡ kind_by name.now (map parameter_tree parameters.now) (option_map parameter_tree gives.now) }
-{
-    if name == b"main".as_slice() {
-        return FunctionKind::Main(parameters.is_empty() && gives.is_none());
-    }
-    kind_by_signature(parameters, gives)
-}
-
-/// What a function is that is not the one that is run.
-fn kind_by_signature(parameters: &[Parameter], gives: &Option<Parameter>) -> FunctionKind
-    ensures { function_kind_tree result ≡ kind_by_parameters (map parameter_tree parameters.now) (option_map parameter_tree gives.now) }
-{
-    let Some((first, others)) = parameters.split_first() else {
-        return FunctionKind::Other;
-    };
-    let Some((second, more)) = others.split_first() else {
-        return kind_on_vertex(first.declared, gives);
-    };
-    let fits = gives.is_none() && is_vertex(first.declared) && is_vertex(second.declared);
-    if fits {
-        kind_on_edge(more)
-    } else {
-        FunctionKind::Other
-    }
-}
-
-/// What a function of two vertices and no result is, by its parameters after them.
-fn kind_on_edge(more: &[Parameter]) -> FunctionKind
-    ensures { (src dst : ParameterTree) → src.declared ≡ DeclaredType.Vertex → dst.declared ≡ DeclaredType.Vertex
-        → function_kind_tree result ≡ kind_by_parameters (src ∷ dst ∷ map parameter_tree more.now) None }
-{
-    let Some((third, others)) = more.split_first() else {
-        return FunctionKind::Edge(false);
-    };
-    if others.is_empty() && is_int(third.declared) {
-        FunctionKind::Edge(true)
-    } else {
-        FunctionKind::Other
-    }
-}
-
-/// What a function of one parameter is.
-fn kind_on_vertex(parameter: DeclaredType, gives: &Option<Parameter>) -> FunctionKind
-    ensures { (p : ParameterTree) → p.declared ≡ parameter → function_kind_tree result ≡ kind_by_parameters (p ∷ []) (option_map parameter_tree gives.now) }
-{
-    if !is_vertex(parameter) {
-        return FunctionKind::Other;
-    }
-    match gives {
-        None => FunctionKind::Vertex,
-        Some(gives) => {
-            if is_bool(gives.declared) {
-                FunctionKind::Filter
-            } else {
-                FunctionKind::Other
-            }
-        }
-    }
-}
-
-fn is_vertex(declared: DeclaredType) -> bool
-    ensures { result ≡ vertex_type declared }
-{
-    match declared {
-        DeclaredType::Vertex => true,
-        _ => false,
-    }
-}
-
-fn is_int(declared: DeclaredType) -> bool
-    ensures { result ≡ int_type declared }
-{
-    match declared {
-        DeclaredType::Int => true,
-        _ => false,
-    }
-}
-
-fn is_bool(declared: DeclaredType) -> bool
-    ensures { result ≡ bool_type declared }
-{
-    match declared {
-        DeclaredType::Bool => true,
-        _ => false,
     }
 }
 

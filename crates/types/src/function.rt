@@ -11,7 +11,7 @@ ghost use Rattle.types.specs.Checker.{checker_of};
 ghost use Rattle.types.specs.Initializer.{initializer_tree};
 ghost use Rattle.types.specs.Step.{assign_step, assigned_step, declare_step, declare_step_as, entry_step, may_reduce, may_set, no_add, no_apply, no_step};
 ghost use Rattle.types.specs.Step.{one_reduction, own_vertex, reduce_entry_step, reduce_step, reduced_step, reduction_step, same_endpoint, same_reduction, set_entry_step, written_at};
-ghost use Rattle.types.specs.Variables.{step_variable_as};
+ghost use Rattle.types.specs.inside.Variables.{step_variable_as};
 
 use crate::checker::{Checker, declare};
 use crate::initial::{Initializer, read_end, read_initial};

@@ -21,6 +21,7 @@ mod checker;
 mod declaration;
 mod error;
 mod function;
+mod function_kind;
 mod initial;
 mod laws;
 mod literal;

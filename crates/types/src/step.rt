@@ -6,7 +6,7 @@ ghost use Rattle.typed_tree.specs.StepTree.{NoStep, step_tree, steps_tree};
 ghost use Rattle.expression_types.specs.WithFaults.{ReportsFaults};
 ghost use Rattle.expression_types.specs.ScopeTree.{Keeps};
 ghost use Rattle.types.specs.Checker.{checker_of};
-ghost use Rattle.types.specs.Plain.{DeclaresNothing, HasTest, ReducesOrSetsEntry};
+ghost use Rattle.types.specs.inside.Plain.{DeclaresNothing, HasTest, ReducesOrSetsEntry};
 ghost use Rattle.types.specs.Step.{labelled_step, no_for, step_typed, steps_inside, steps_typed};
 
 use crate::checker::{Checker, declare, label};

@@ -6,7 +6,7 @@ use Rattle.std.proofs.lemmas.List.{get_or_past}
 use Rattle.vectors.specs.declared.location.Location.{Location}
 use Rattle.vectors.specs.Vectors.{HasRows, IsGrouping}
 use Rattle.vectors.proofs.Layouts.{entry_inside, length-vector, length-vectors, vector_here}
-use Rattle.vectors.specs.Layout.{AreLocated, FitTogether, HasArrays, IsFree, IsLaidOut, IsLocated, IsMember, location_at, nowhere, own_location, vectors_at, vertices_of}
+use Rattle.vectors.specs.inside.Layout.{AreLocated, FitTogether, HasArrays, IsFree, IsLaidOut, IsLocated, IsMember, location_at, nowhere, own_location, vectors_at, vertices_of}
 
 abbrev name_at : List (List ℕ) → ℕ → ℕ → ℕ
 name_at groups g h = get_or (get_or groups g []) h 0

@@ -4,7 +4,7 @@ use Rattle.std.proofs.Math.ListN.{length-set}
 use Rattle.std.proofs.lemmas.Bool.Decides.{eqb_tells, leb_tells}
 use Rattle.std.proofs.lemmas.List.{get_or-take, length-take-le}
 use Rattle.vectors.specs.declared.location.Location.{Location}
-use Rattle.vectors.specs.Layout.{IsLaidOut, StandsIn, location_at, vector_at, vectors_at}
+use Rattle.vectors.specs.inside.Layout.{IsLaidOut, StandsIn, location_at, vector_at, vectors_at}
 use Rattle.vectors.proofs.Layouts.{alone_here, length-vectors, same_lists, stands_in, vector_along, vector_here}
 
 -- those before a place stand in the arrays of their own places, and the other arrays are as they were

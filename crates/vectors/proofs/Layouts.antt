@@ -8,7 +8,7 @@ use Rattle.std.proofs.lemmas.List.FromFn.{fill_by_all, get_or-map-range_with_len
 use Rattle.std.proofs.lemmas.Nat.{div-mul-add, mod-mul-add}
 use Rattle.algorithm_meaning.specs.Value.{entry, with_entry}
 use Rattle.vectors.specs.declared.location.Location.{Location}
-use Rattle.vectors.specs.Layout.{IsHome, IsLaidOut, StandsIn, location_at, nowhere, number_at, own_location, vector_at, vectors_at}
+use Rattle.vectors.specs.inside.Layout.{IsHome, IsLaidOut, StandsIn, location_at, nowhere, number_at, own_location, vector_at, vectors_at}
 use Rattle.vectors.proofs.Rows.{place_in_row}
 
 -- lists of the same items are the same

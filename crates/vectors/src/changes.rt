@@ -14,7 +14,7 @@ pub struct EntryChange {
 impl Model for EntryChange {
     ghost use Rattle.std.specs.Int.{w64, cast_signed, cast_unsigned, from_le_bytes, to_le_bytes};
     ghost use Rattle.vectors.specs.EntryChanges.{EntryChangeValue};
-    ghost use Rattle.vectors.specs.NumberBytes.{AreBytes, bytes_back};
+    ghost use Rattle.vectors.specs.inside.NumberBytes.{AreBytes, bytes_back};
 
     ghost Value = { EntryChangeValue };
 

@@ -1,7 +1,7 @@
 //! Vectors that are put side by side.
 ghost use Rattle.std.specs.Prelude.{◌≡◌, ◌+◌, ◌*◌, ◌^◌, ◌<◌, ◌≤◌, ℕ, false, [], List, IfOk, OnOk, IsTrue, length, slice_index_or, slice_set, vec_len};
 ghost use Rattle.vectors.specs.declared.location.Location.{Location};
-ghost use Rattle.vectors.specs.Layout.{AreLocated, FitTogether, HasArrays, IsFree, location_at, vertices_of as vertices_of_names};
+ghost use Rattle.vectors.specs.inside.Layout.{AreLocated, FitTogether, HasArrays, IsFree, location_at, vertices_of as vertices_of_names};
 
 use crate::location::Location;
 use std::alloc::{AllocError, Global};

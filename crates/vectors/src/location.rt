@@ -1,7 +1,7 @@
 //! Vector locations: the group and the column of each vector.
 ghost use Rattle.std.specs.Prelude.{◌≡◌, ◌+◌, ◌*◌, ◌^◌, ◌<◌, ◌≢◌, ℕ, pos, [], IfOk, OnOk, if◌then◌else◌, length, nat_lt, slice_index_or, slice_set, vec_len};
 ghost use Rattle.vectors.specs.Lanes.{lane_entry};
-ghost use Rattle.vectors.specs.Layout.{StandsIn, location_at, number_at, own_location, vector_at, vectors_at};
+ghost use Rattle.vectors.specs.inside.Layout.{StandsIn, location_at, number_at, own_location, vector_at, vectors_at};
 
 use crate::lane::Lane;
 use std::alloc::{AllocError, Global};

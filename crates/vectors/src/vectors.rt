@@ -32,7 +32,7 @@ impl Drop for Vectors {
 
 impl Model for Vectors {
     ghost use Rattle.vectors.specs.Vectors.{VectorsValue};
-    ghost use Rattle.vectors.specs.Layout.{IsLaidOut, vectors_at};
+    ghost use Rattle.vectors.specs.inside.Layout.{IsLaidOut, vectors_at};
 
     ghost Value = { VectorsValue };
 

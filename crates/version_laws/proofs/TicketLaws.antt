@@ -14,7 +14,7 @@ use Rattle.version_list.specs.declared.step.Which.{Which}
 use Rattle.version_list.specs.declared.step.Done.{Done}
 use Rattle.version_list.specs.Machine.{State, opened, changed, reply_to, state_after, newest_number, newest_graph, version_graph, number_asked, lacks_room, lacks_steps, is_kept, is_open, ticket_version, ticket_graph}
 use Rattle.version_list.specs.Timeline.{Timeline, IsLegal, advanced, advanced_through, beginning, replay, with_reply}
-use Rattle.version_list.specs.Held.{AreTickets, holder_count}
+use Rattle.version_list.specs.inside.Held.{AreTickets, holder_count}
 use Rattle.version_list.proofs.Holding.{is_open_is, is_held_is, ticket_version-push, ticket_version-others, ticket_holds}
 use Rattle.version_list.proofs.Keeping.{some_of, kept_is_made, tickets_committed, tickets_opened, tickets_closed}
 use Rattle.version_laws.specs.Keeping.{HasNoReleaseOf, Keeps, release_of, state_through, steps_in, ticket_given}

@@ -3,7 +3,7 @@ use Rattle.std.proofs.Common.{◌≡◌, ℕ, ◌+◌, ◌≤◌, ◌==◌, true
 use Rattle.std.proofs.lemmas.Bool.{cases_Bool, eqb-true, eqb-false, eq-eqb, ne_eqb}
 use Rattle.std.specs.List.{filter, list_any}
 use Rattle.version_list.specs.Machine.{OpenTicket, ticket_version}
-use Rattle.version_list.specs.Held.{holder_count, AreDistinct}
+use Rattle.version_list.specs.inside.Held.{holder_count, AreDistinct}
 
 -- the tickets but the one of this number
 abbrev pub others : ℕ → List OpenTicket → List OpenTicket

@@ -10,7 +10,7 @@ use Rattle.tree_batch.specs.Digraph.{Digraph, graph_through}
 use Rattle.version_list.specs.declared.held.HeldVersion.{HeldVersion}
 use Rattle.version_list.specs.declared.held.HeldVersions.{HeldVersions}
 use Rattle.version_list.specs.Machine.{OpenTicket, State, ticket_version, newest_number, version_graph, ticket_graph, kept_graph, is_kept}
-use Rattle.version_list.specs.Held.{holder_count, one_more, one_fewer, held_by, Holds, AreDistinct, AreTickets}
+use Rattle.version_list.specs.inside.Held.{holder_count, one_more, one_fewer, held_by, Holds, AreDistinct, AreTickets}
 use Rattle.version_list.proofs.Holding.{others, is_held_is, ticket_version-push, ticket_version-others, AreDistinct-push, AreDistinct-others, length-others, holder_count-push, holder_count-others, holder_count-le-length, ticket_holds}
 
 -- how many hold a version, one more and one fewer

@@ -6,7 +6,7 @@ use Rattle.tree_batch.specs.Digraph.{Digraph}
 use Rattle.version_list.specs.declared.step.Step.TheVariants.{Release}
 use Rattle.version_list.specs.declared.step.Reply.TheVariants.{Released, Refused}
 use Rattle.version_list.specs.Machine.{State, newest_number, version_graph, is_kept, ticket_version, ticket_graph, changed, state_after}
-use Rattle.version_list.specs.Held.{holder_count, AreTickets}
+use Rattle.version_list.specs.inside.Held.{holder_count, AreTickets}
 use Rattle.version_list.specs.Kept.{IsHeld}
 use Rattle.version_list.proofs.Holding.{others, is_open_is, is_held_is, holder_count-others, ticket_holds}
 use Rattle.version_list.proofs.Keeping.{held_is_made}

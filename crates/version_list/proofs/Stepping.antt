@@ -18,8 +18,8 @@ use Rattle.version_list.specs.declared.versions.Versions.TheInside.{Inside}
 use Rattle.version_list.specs.Machine.{State, OpenTicket, reply_to, changed, state_after, newest_number, lacks_room, newest_graph, version_graph, number_asked, is_kept, kept_graph, is_open, ticket_version}
 use Rattle.version_list.specs.Timeline.{Timeline, IsLegal, IsAccepted, replay, Accepts}
 use Rattle.version_list.specs.Prepared.{IsPrepared, IsPreparedAcquire}
-use Rattle.version_list.specs.Held.{AreTickets, Holds, HasRoom, one_more}
-use Rattle.version_list.specs.Fields.{base, timeline, Shows, IsFaithful}
+use Rattle.version_list.specs.inside.Held.{AreTickets, Holds, HasRoom, one_more}
+use Rattle.version_list.specs.inside.Fields.{base, timeline, Shows, IsFaithful}
 use Rattle.version_list.proofs.Holding.{others, is_open_is, length-others}
 use Rattle.version_list.proofs.Keeping.{kept_is_made, holds_opened, tickets_committed, holds_committed, tickets_opened, tickets_closed}
 

@@ -2,8 +2,7 @@ pub mod Machine
 pub mod Timeline
 pub mod Prepared
 pub mod Trims
-pub mod Held
-pub mod Fields
 pub mod Refusal
 pub mod Kept
 pub mod Commits
+pub mod inside

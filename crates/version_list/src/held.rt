@@ -4,7 +4,7 @@ ghost use Rattle.std.specs.Prelude.{◌≡◌, ℕ, ◌+◌, ◌<◌, ◌^◌, �
 ghost use Rattle.std.specs.Option.{option_map, option_copied};
 ghost use Rattle.indexmap.specs.IndexMap.{IsEmpty, IsUnchanged, get, index_map_len};
 ghost use Rattle.version_list.specs.declared.held.HeldVersion.{HeldVersion};
-ghost use Rattle.version_list.specs.Held.{one_more, one_fewer, HasRoom};
+ghost use Rattle.version_list.specs.inside.Held.{one_more, one_fewer, HasRoom};
 
 use indexmap::IndexMap;
 use std::alloc::{AllocError, Global};

@@ -15,7 +15,7 @@ ghost use Rattle.version_list.specs.Machine.{is_kept, kept_graph, ticket_graph, 
 ghost use Rattle.version_list.specs.Timeline.{IsLegal, replay, Opens, Accepts, Answers, Takes, Runs};
 ghost use Rattle.version_list.specs.Prepared.{IsPrepared, IsPreparedAcquire, Prepares};
 ghost use Rattle.version_list.specs.Trims.{PreparesTrim, Trims};
-ghost use Rattle.version_list.specs.Held.{HasRoom};
+ghost use Rattle.version_list.specs.inside.Held.{HasRoom};
 ghost use Rattle.version_list.specs.Kept.{IsHeld};
 
 use crate::base::Base;
@@ -73,7 +73,7 @@ impl Model for Versions {
 
     ghost Value = { Timeline };
 
-    ghost use Rattle.version_list.specs.Fields.{timeline, IsFaithful};
+    ghost use Rattle.version_list.specs.inside.Fields.{timeline, IsFaithful};
 
     ghost view = { timeline };
 

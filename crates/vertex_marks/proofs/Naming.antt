@@ -5,12 +5,12 @@ use Rattle.std.specs.List.Sorted.{IsStrictlyIncreasing}
 use Rattle.std.proofs.lemmas.List.{append-nil}
 use Rattle.std.proofs.lemmas.List.Elements.{Contains-append_left, Contains-append_right, Contains-append_cases}
 use Rattle.std.proofs.lemmas.Nat.Bits.{bit_at-zero}
-use Rattle.vertex_sets.specs.Words.{bit_members, word_members}
+use Rattle.vertex_sets.specs.inside.Words.{bit_members, word_members}
 use Rattle.vertex_sets.proofs.Ascending.{Rises, rises_from_lower, contains_nothing, contains_first, contains_later, first_or_later, increasing_from_rises}
 use Rattle.vertex_sets.proofs.BitMembers.{rises_bits, bit_of, bit_in, bits_none, bits_lowest}
 use Rattle.vertex_sets.proofs.WordMembers.{rises_words, word_members_has, words_push}
 use Rattle.vertex_marks.specs.Bits.{HasBit}
-use Rattle.vertex_marks.specs.Named.{named_members}
+use Rattle.vertex_marks.specs.inside.Named.{named_members}
 use lib.Count.{count_trailing_zeros}
 
 -- the lowest bit of a word, listed before the others

@@ -3,7 +3,7 @@ use Rattle.std.proofs.Common.{◌≡◌, ◌≢◌, ℕ, ◌*◌, ◌+◌, ◌/�
 use Rattle.std.specs.Int.{bit_at}
 use Rattle.std.proofs.lemmas.Bool.{cases_eq, cases_lt, eq-eqb, ne_eqb}
 use Rattle.std.proofs.lemmas.List.{append-nil, get_or_past, drop_all}
-use Rattle.vertex_sets.specs.Words.{bit_members}
+use Rattle.vertex_sets.specs.inside.Words.{bit_members}
 use Rattle.vertex_sets.proofs.Ascending.{contains_nothing, first_or_later}
 use Rattle.vertex_sets.proofs.BitMembers.{bit_in, bits_none, bits_lowest}
 use Rattle.vertex_sets.proofs.WordMembers.{with_bit, words_set, word_members_has}

@@ -1,9 +1,9 @@
 //! The marked vertices, listed and let go.
 ghost use Rattle.std.specs.Prelude.{◌≡◌, ◌≢◌, ◌↔◌, ℕ, ◌+◌, ◌*◌, ◌^◌, ◌≤◌, ◌++◌, true, false, length, slice_index, Contains, IfOk, OnOk};
 ghost use Rattle.std.specs.List.Sorted.{IsStrictlyIncreasing};
-ghost use Rattle.vertex_sets.specs.Words.{bit_members, word_members};
+ghost use Rattle.vertex_sets.specs.inside.Words.{bit_members, word_members};
 ghost use Rattle.vertex_marks.specs.Marks.{is_marked, room};
-ghost use Rattle.vertex_marks.specs.Named.{named_members};
+ghost use Rattle.vertex_marks.specs.inside.Named.{named_members};
 
 use crate::vertex_marks::VertexMarks;
 use std::alloc::{AllocError, Global};

@@ -5,7 +5,7 @@ use Rattle.std.proofs.lemmas.Bool.{eq-eqb, eqb-true}
 use Rattle.std.proofs.lemmas.Nat.Bits.{bit_at_lowest, bit_at-suc}
 use lib.Bits.{and_step, and_self}
 use lib.Count.{count_trailing_zeros, under, ones, ones_step}
-use Rattle.vertex_sets.specs.Words.{bit_members}
+use Rattle.vertex_sets.specs.inside.Words.{bit_members}
 use Rattle.vertex_sets.proofs.Ascending.{Rises, contains_nothing, rises_choice, choice_cases, choice_later, choice_first}
 
 pub rises_bits : (k a word : ℕ) → Rises a (bit_members k a word)

@@ -4,7 +4,7 @@ use Rattle.std.specs.List.{range_with_len}
 use Rattle.std.proofs.lemmas.Bool.{cases_eq, cases_lt}
 use Rattle.std.proofs.lemmas.List.{get_or_push, get_or_append_left, get_or_past}
 use Rattle.vertex_sets.specs.VertexSet.{IsAnswer}
-use Rattle.vertex_sets.specs.Words.{flag_members}
+use Rattle.vertex_sets.specs.inside.Words.{flag_members}
 use Rattle.vertex_sets.proofs.Ascending.{Rises, contains_nothing, rises_choice, choice_cases, choice_later, choice_first, HasOneMore}
 
 pub rises_flags : (a : ℕ) (flags : List Bool) → Rises a (flag_members a flags)

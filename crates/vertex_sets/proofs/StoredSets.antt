@@ -8,8 +8,8 @@ use Rattle.vertex_sets.specs.declared.words.WordSet.{WordSet}
 use Rattle.vertex_sets.specs.declared.set.Members.{Members}
 use Rattle.vertex_sets.specs.declared.set.Members.TheVariants.{Listed, Flagged, Worded}
 use Rattle.vertex_sets.specs.VertexSet.{VertexSubset, subset, IsAscendingBelow, IsVertexSet, Adds, AreFlagsOf, AreWordsOf}
-use Rattle.vertex_sets.specs.Words.{flag_members, word_members}
-use Rattle.vertex_sets.specs.Stored.{members_of, form_of, IsStored}
+use Rattle.vertex_sets.specs.inside.Words.{flag_members, word_members}
+use Rattle.vertex_sets.specs.inside.Stored.{members_of, form_of, IsStored}
 use Rattle.vertex_sets.proofs.Ascending.{HasOneMore, ascending_below, rises_range, range_bound, room}
 use Rattle.vertex_sets.proofs.FlagMembers.{rises_flags, flag_bound, flag_members_has}
 use Rattle.vertex_sets.proofs.WordMembers.{rises_words, word_members_has}

@@ -8,7 +8,7 @@ use Rattle.std.proofs.lemmas.Nat.Bits.{bit_at-zero, bit_at-lt, bit_at_set_same, 
 use Rattle.std.proofs.lemmas.Nat.{one_shl, pow_pos}
 use Rattle.std.specs.List.{range_with_len}
 use Rattle.vertex_sets.specs.VertexSet.{IsAnswer, word_count}
-use Rattle.vertex_sets.specs.Words.{bit_members, word_members}
+use Rattle.vertex_sets.specs.inside.Words.{bit_members, word_members}
 use Rattle.vertex_sets.proofs.Ascending.{Rises, rises_from_lower, contains_nothing, contains_first, contains_later, HasOneMore, same_list, rises_range, range_has, range_bound}
 use Rattle.vertex_sets.proofs.BitMembers.{rises_bits, bit_of, bit_in, bits_none, bits_lowest, bits_room, one_more_bit}
 use lib.Count.{count_trailing_zeros}

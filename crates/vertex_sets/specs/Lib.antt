@@ -1,4 +1,2 @@
 pub mod VertexSet
-pub mod Words
-pub mod Stored
-pub mod Remaining
+pub mod inside

@@ -2,7 +2,7 @@
 
 ghost use Rattle.std.specs.Prelude.{◌≡◌, ◌↔◌, ℕ, ◌<◌, ◌⊎◌, ◌^◌, [], length, Contains, IfOk, IsTrue};
 ghost use Rattle.vertex_sets.specs.VertexSet.{IsAscendingBelow, IsAnswer, all_vertices};
-ghost use Rattle.vertex_sets.specs.Words.{flag_members};
+ghost use Rattle.vertex_sets.specs.inside.Words.{flag_members};
 
 use crate::iter::VertexIter;
 use std::alloc::{AllocError, Global};

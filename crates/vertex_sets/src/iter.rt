@@ -2,7 +2,7 @@
 
 ghost use Rattle.std.specs.Prelude.{◌≡◌, ◌+◌, ◌*◌, ◌^◌, ◌<◌, ◌≤◌, length};
 ghost use Rattle.std.specs.Iterator.{YieldsFirst, item_count};
-ghost use Rattle.vertex_sets.specs.Words.{flag_members, word_members};
+ghost use Rattle.vertex_sets.specs.inside.Words.{flag_members, word_members};
 
 use std::marker::Model;
 
@@ -22,7 +22,7 @@ pub(crate) enum Rest<'a> {
 
 impl<'a> Model for VertexIter<'a> {
     ghost use Rattle.std.specs.Prelude.{ℕ, List};
-    ghost use Rattle.vertex_sets.specs.Remaining.{members_left};
+    ghost use Rattle.vertex_sets.specs.inside.Remaining.{members_left};
 
     ghost Value = { List ℕ };
 
@@ -93,7 +93,7 @@ pub(crate) struct FlagIter<'a> {
 
 impl<'a> Model for FlagIter<'a> {
     ghost use Rattle.std.specs.Prelude.{ℕ, List, ◌+◌, ◌^◌, ◌<◌, length};
-    ghost use Rattle.vertex_sets.specs.Words.{flag_members};
+    ghost use Rattle.vertex_sets.specs.inside.Words.{flag_members};
 
     ghost Value = { List ℕ };
 
@@ -144,7 +144,7 @@ pub(crate) struct WordIter<'a> {
 
 impl<'a> Model for WordIter<'a> {
     ghost use Rattle.std.specs.Prelude.{ℕ, List, ◌+◌, ◌*◌, ◌^◌, ◌≤◌, ◌++◌, length};
-    ghost use Rattle.vertex_sets.specs.Words.{bit_members, word_members};
+    ghost use Rattle.vertex_sets.specs.inside.Words.{bit_members, word_members};
 
     ghost Value = { List ℕ };
 

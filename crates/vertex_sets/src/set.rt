@@ -2,7 +2,7 @@
 
 ghost use Rattle.std.specs.Prelude.{◌≡◌, ◌↔◌, ℕ, ◌<◌, ◌≤◌, [], length, Contains, IfOk, IfSome, IsOk, IsSome, IsTrue, OnOk, OnErr};
 ghost use Rattle.vertex_sets.specs.VertexSet.{IsVertexSet, IsAscendingBelow, IsAnswer, Adds, AreWordsOf, AreFlagsOf, subset, all_vertices};
-ghost use Rattle.vertex_sets.specs.Stored.{members_of, form_of, IsStored};
+ghost use Rattle.vertex_sets.specs.inside.Stored.{members_of, form_of, IsStored};
 
 use crate::flags::FlagSet;
 use crate::form::Form;
@@ -39,7 +39,7 @@ impl Drop for VertexSet {
 
 impl Model for VertexSet {
     ghost use Rattle.vertex_sets.specs.VertexSet.{VertexSubset, subset};
-    ghost use Rattle.vertex_sets.specs.Stored.{members_of, form_of, IsStored};
+    ghost use Rattle.vertex_sets.specs.inside.Stored.{members_of, form_of, IsStored};
 
     ghost Value = { VertexSubset };
 

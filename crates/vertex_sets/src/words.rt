@@ -3,7 +3,7 @@
 ghost use Rattle.std.specs.Prelude.{◌≡◌, ◌↔◌, ℕ, ◌+◌, ◌*◌, ◌/◌, ◌^◌, ◌<◌, ◌≤◌, ◌⊎◌, ◌==◌, [], length, All, Contains, IfOk, IsTrue};
 ghost use Rattle.std.specs.Int.{bit_at};
 ghost use Rattle.vertex_sets.specs.VertexSet.{IsAscendingBelow, IsAnswer, all_vertices, word_count};
-ghost use Rattle.vertex_sets.specs.Words.{word_members};
+ghost use Rattle.vertex_sets.specs.inside.Words.{word_members};
 
 use crate::iter::VertexIter;
 use std::alloc::{AllocError, Global};

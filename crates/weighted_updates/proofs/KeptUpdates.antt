@@ -7,7 +7,7 @@ use Rattle.std.proofs.lemmas.Bool.{false≢true, cases_Bool, eqb-true}
 use Rattle.std.proofs.lemmas.List.{append-nil, drop_more, take_more_set, drop-set-lt}
 use Rattle.edge_updates.specs.declared.edge_update.EdgeUpdate.{EdgeUpdate}
 use Rattle.edge_updates.specs.EdgeUpdate.{key_of}
-use Rattle.edge_updates.specs.LastUpdates.{begin_same, last_updates}
+use Rattle.edge_updates.specs.inside.LastUpdates.{begin_same, last_updates}
 use Rattle.edge_updates.specs.Updates.{Edge, names, AreInOrder, Ascend}
 use Rattle.edge_updates.proofs.KeepingLast.{lasts_ascend}
 use Rattle.edge_updates.proofs.Packing.{same_vertex, same_neighbour}

@@ -1,4 +1,4 @@
--- For proofs only: two lists that are partly merged.
+-- Two lists that are partly merged.
 use Rattle.std.specs.Prelude.{◌≡◌, ℕ, ◌≤◌, ◌⊎◌, List, [], ◌++◌, length, take, drop}
 use Rattle.ascending_lists.specs.Operations.{combined}
 use Rattle.ascending_lists.specs.declared.set_operation.Merged.{Merged}

@@ -1,7 +1,7 @@
 use Rattle.std.proofs.Common.{◌≡◌, ℕ, ◌≤◌, ℤ, List, length, take, drop, refl, sym, ◌∙◌, ap, length-append, arith}
 use Rattle.std.proofs.lemmas.List.{take_at, drop_at}
 use Rattle.c_tree.specs.Chunks.{before_head}
-use Rattle.c_tree.specs.Cutting.{from_head}
+use Rattle.c_tree.specs.inside.Cutting.{from_head}
 use Rattle.c_tree.proofs.Chunking.{cut_at_head}
 use Rattle.c_tree.proofs.building.split_at_head.Goals as goal
 

@@ -1,6 +1,6 @@
 use Rattle.std.proofs.Common.{IfOk}
 use Rattle.std.proofs.lemmas.Result.{IfOk-weaker}
-use Rattle.crew.specs.Workers.{HasClaimed}
+use Rattle.crew.specs.inside.Workers.{HasClaimed}
 use Rattle.crew.proofs.Findings.{all_given}
 use Rattle.crew.proofs.claimed.claim_all.Goals as goal
 

@@ -1,4 +1,4 @@
-use Rattle.crew.specs.Claims.{view_of}
+use Rattle.crew.specs.inside.Claims.{view_of}
 use Rattle.crew.proofs.Findings.{answered_more, pieces_of-added}
 use Rattle.crew.proofs.Gathering.{claims_more}
 use Rattle.crew.proofs.claimed.claim_pieces.Goals as goal

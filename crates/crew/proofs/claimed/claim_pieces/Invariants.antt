@@ -1,7 +1,7 @@
 use Rattle.std.proofs.Common.{◌-◌}
 use Rattle.std.specs.List.{All}
-use Rattle.crew.specs.Claims.{IsClaimAt, view_of}
-use Rattle.crew.specs.Finding.{IsAnswered}
+use Rattle.crew.specs.inside.Claims.{IsClaimAt, view_of}
+use Rattle.crew.specs.inside.Finding.{IsAnswered}
 use Rattle.crew.specs.Pieces.{pieces_of}
 use Rattle.crew.proofs.Gathering.{IsClaiming}
 use Rattle.crew.proofs.claimed.claim_pieces.Given as goal

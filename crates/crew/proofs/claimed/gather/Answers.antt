@@ -1,9 +1,9 @@
 use Rattle.std.proofs.Common.{◌≡◌, refl, subst, length, IfOk, arith}
 use Rattle.std.proofs.lemmas.List.Elements.{All-pop}
-use Rattle.crew.specs.Claims.{view_of}
-use Rattle.crew.specs.Finding.{IsAnswered}
+use Rattle.crew.specs.inside.Claims.{view_of}
+use Rattle.crew.specs.inside.Finding.{IsAnswered}
 use Rattle.crew.specs.Pieces.{pieces_of}
-use Rattle.crew.specs.Workers.{HasClaimed}
+use Rattle.crew.specs.inside.Workers.{HasClaimed}
 use Rattle.crew.proofs.Findings.{all_pushed, all_appended, length_popped, length_pushed, done_popped, pieces_of-appended}
 use Rattle.crew.proofs.Gathering.{IsGathered, gathers_more, gathered, none_left}
 use Rattle.crew.proofs.claimed.gather.Goals as goal

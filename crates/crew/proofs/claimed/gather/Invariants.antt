@@ -1,9 +1,9 @@
 use Rattle.std.proofs.Common.{◌≡◌, ◌+◌, IfOk, length}
 use Rattle.std.specs.List.{All}
-use Rattle.crew.specs.Claims.{IsClaimAt, view_of}
-use Rattle.crew.specs.Finding.{IsAnswered}
+use Rattle.crew.specs.inside.Claims.{IsClaimAt, view_of}
+use Rattle.crew.specs.inside.Finding.{IsAnswered}
 use Rattle.crew.specs.Pieces.{pieces_of}
-use Rattle.crew.specs.Workers.{HasClaimed}
+use Rattle.crew.specs.inside.Workers.{HasClaimed}
 use Rattle.crew.proofs.Gathering.{IsGathered}
 use Rattle.crew.proofs.claimed.gather.Given as goal
 

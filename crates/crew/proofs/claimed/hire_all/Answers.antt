@@ -1,7 +1,7 @@
 use Rattle.std.proofs.Common.{arith}
 use Rattle.std.proofs.lemmas.List.Elements.{All-pop}
-use Rattle.crew.specs.Claims.{view_of}
-use Rattle.crew.specs.Workers.{IsHired}
+use Rattle.crew.specs.inside.Claims.{view_of}
+use Rattle.crew.specs.inside.Workers.{IsHired}
 use Rattle.crew.proofs.Findings.{all_pushed, length_pushed, popped_rest}
 use Rattle.crew.proofs.Gathering.{hired_more}
 use Rattle.crew.proofs.claimed.hire_all.Goals as goal

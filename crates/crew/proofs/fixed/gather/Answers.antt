@@ -2,9 +2,9 @@ use Rattle.std.proofs.Common.{◌≡◌, refl, ◌+◌, ◌-◌, ◌%◌, ◌<�
 use Rattle.std.proofs.Math.Nat.{mod-lt}
 use Rattle.std.proofs.lemmas.Result.{IfOk-at_ok}
 use Rattle.crew.specs.ClaimWord.{times}
-use Rattle.crew.specs.Finding.{IsAnswered}
+use Rattle.crew.specs.inside.Finding.{IsAnswered}
 use Rattle.crew.specs.Pieces.{pieces_of}
-use Rattle.crew.specs.Workers.{HasEvery, GivesEvery}
+use Rattle.crew.specs.inside.Workers.{HasEvery, GivesEvery}
 use Rattle.crew.proofs.Findings.{all_pushed, all_appended, length_popped, length_pushed, pieces_of-appended}
 use Rattle.crew.proofs.Gathering.{none_left}
 use Rattle.crew.proofs.Turns.{each_popped, last_popped, every_gathered}

@@ -1,9 +1,9 @@
 use Rattle.std.proofs.Common.{◌≡◌, ◌+◌, ◌%◌, ◌<◌, ◌≤◌, ℕ, length}
 use Rattle.std.specs.List.{All}
 use Rattle.crew.specs.ClaimWord.{times}
-use Rattle.crew.specs.Finding.{IsAnswered}
+use Rattle.crew.specs.inside.Finding.{IsAnswered}
 use Rattle.crew.specs.Pieces.{pieces_of}
-use Rattle.crew.specs.Workers.{HaveEvery}
+use Rattle.crew.specs.inside.Workers.{HaveEvery}
 use Rattle.crew.proofs.fixed.gather.Given as goal
 
 abbrev pub invariant-loop-worker : goal.invariant-loop-worker

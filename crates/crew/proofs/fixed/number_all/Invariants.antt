@@ -1,6 +1,6 @@
 use Rattle.std.proofs.Common.{◌≡◌, ◌-◌, length}
 use Rattle.std.specs.List.{All}
-use Rattle.crew.specs.Workers.{AreNumbered}
+use Rattle.crew.specs.inside.Workers.{AreNumbered}
 use Rattle.crew.proofs.fixed.number_all.Given as goal
 
 abbrev pub invariant-loop-others : goal.invariant-loop-others

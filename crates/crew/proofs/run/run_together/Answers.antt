@@ -1,8 +1,8 @@
 use Rattle.std.proofs.Common.{sym, subst}
 use Rattle.std.proofs.lemmas.Result.{IfOk-weaker}
 use Rattle.std.specs.List.{All}
-use Rattle.crew.specs.Finding.{IsAnswered, AreAll}
-use Rattle.crew.specs.Ordering.{AreInOrder}
+use Rattle.crew.specs.inside.Finding.{IsAnswered, AreAll}
+use Rattle.crew.specs.inside.Ordering.{AreInOrder}
 use Rattle.crew.specs.Pieces.{AreFound}
 use Rattle.crew.proofs.Ordered.{ranged_from, found_in_order}
 use Rattle.crew.proofs.run.run_together.Goals as goal

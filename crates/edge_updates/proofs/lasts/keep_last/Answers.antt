@@ -1,5 +1,5 @@
 use Rattle.std.proofs.Common.{◌≡◌, length, take, drop, ap, ◌∙◌}
-use Rattle.edge_updates.specs.LastUpdates.{last_updates}
+use Rattle.edge_updates.specs.inside.LastUpdates.{last_updates}
 use Rattle.edge_updates.proofs.KeepingLast.{written, decided_lasts, lasts_ascend, ascend_once}
 use Rattle.edge_updates.proofs.lasts.keep_last.Goals as goal
 

@@ -1,5 +1,5 @@
 use Rattle.std.proofs.Common.{◌≡◌, ◌++◌, ◌≤◌, take, drop}
-use Rattle.edge_updates.specs.LastUpdates.{last_updates}
+use Rattle.edge_updates.specs.inside.LastUpdates.{last_updates}
 use Rattle.edge_updates.proofs.lasts.move_lasts.Given as goal
 
 abbrev pub invariant-loop-index : goal.invariant-loop-index

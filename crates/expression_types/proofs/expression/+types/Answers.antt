@@ -8,7 +8,7 @@ use Rattle.expression_types.specs.Expression.{value_of, conjunction_value, compa
 use Rattle.expression_types.specs.WithFaults.{WithFaults, ReportsFaults, sure, outcome, ◌>>=◌}
 use Rattle.expression_types.specs.Operands.{conditions_of, integers_of}
 use Rattle.expression_types.specs.Operators.{added, multiplied, given, related_value, entry_value, first_integer, first_condition, beside_integer, beside_condition, grouped_integers, grouped_conditions}
-use Rattle.expression_types.specs.Signs.{signs_value}
+use Rattle.expression_types.specs.inside.Signs.{signs_value}
 use Rattle.expression_types.specs.ScopeTree.{ScopeTree}
 use Rattle.expression_types.specs.ValueTree.{ValueTree, value_tree}
 use Rattle.expression_types.proofs.Levels.{sum_step, sum_begins, sum_alone, term_step, term_begins, term_alone, conjunction_step, conjunction_begins, conjunction_alone, expression_step, expression_begins, expression_alone}

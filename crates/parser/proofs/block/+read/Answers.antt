@@ -6,8 +6,8 @@ use Rattle.parser.specs.Readers.{terminals, Gives}
 use Rattle.parser.proofs.Faults.{passed_on}
 use Rattle.syntax.specs.SourceViews.{statement_of, action_tree}
 use Rattle.syntax.specs.SourceReading.{begins_statement}
-use Rattle.parser.specs.Blocks.{action_at, block_in, opening_of}
-use Rattle.parser.specs.Views.{statements_tree}
+use Rattle.parser.specs.inside.Blocks.{action_at, block_in, opening_of}
+use Rattle.parser.specs.inside.Views.{statements_tree}
 use Rattle.parser.proofs.BlockLaws.{block_ends, block_fails, next_is, block_from-map, opened_is}
 use Rattle.parser.proofs.Lists.{list_start, list_step}
 use Rattle.parser.proofs.block.+read.Goals as goal

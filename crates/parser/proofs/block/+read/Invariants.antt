@@ -3,7 +3,7 @@ use Rattle.parser.specs.Readers.{terminals}
 use Rattle.syntax.proofs.Loops.{Goes}
 use Rattle.syntax.specs.SourceReading.{next_statement}
 use Rattle.syntax.specs.SourceViews.{statement_of}
-use Rattle.parser.specs.Blocks.{action_at}
+use Rattle.parser.specs.inside.Blocks.{action_at}
 use Rattle.parser.proofs.block.+read.Given as goal
 
 abbrev pub decreases-inner : goal.decreases-inner

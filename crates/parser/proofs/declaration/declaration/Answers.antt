@@ -4,7 +4,7 @@ use Rattle.syntax.specs.Terminals.{keyword_terminal, terminal_of}
 use Rattle.parser.specs.Readers.{terminals, Gives}
 use Rattle.syntax.specs.SourceViews.{declaration_tree}
 use Rattle.syntax.specs.SourceReading.{declaration_by}
-use Rattle.parser.specs.Declarations.{beginning_of}
+use Rattle.parser.specs.inside.Declarations.{beginning_of}
 use Rattle.parser.proofs.DeclarationLaws.{declared_is}
 use Rattle.parser.proofs.declaration.declaration.Goals as goal
 

@@ -4,7 +4,7 @@ use Rattle.parser.specs.Readers.{terminals}
 use Rattle.parser.proofs.Faults.{passed_on}
 use Rattle.syntax.proofs.Loops.{goes_end, goes_fails}
 use Rattle.syntax.specs.SourceViews.{declaration_tree}
-use Rattle.parser.specs.Views.{each}
+use Rattle.parser.specs.inside.Views.{each}
 use Rattle.parser.proofs.DeclarationLaws.{next_found, next_fails, next_none}
 use Rattle.parser.proofs.Lists.{list_start, list_step}
 use Rattle.parser.proofs.declaration.declarations.Goals as goal

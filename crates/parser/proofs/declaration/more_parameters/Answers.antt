@@ -8,7 +8,7 @@ use Rattle.parser.proofs.Faults.{passed_on}
 use Rattle.syntax.proofs.Loops.{behind_found, behind_fails, below}
 use Rattle.syntax.specs.SourceReading.{typed_at, after_terminal}
 use Rattle.syntax.specs.SourceViews.{parameter_tree}
-use Rattle.parser.specs.Views.{each}
+use Rattle.parser.specs.inside.Views.{each}
 use Rattle.parser.proofs.Lists.{follow_start, follow_step, follow_end, follow_fails}
 use Rattle.parser.proofs.declaration.more_parameters.Goals as goal
 

@@ -7,7 +7,7 @@ use Rattle.syntax.specs.ExpressionReading.{◌>>=◌}
 use Rattle.syntax.specs.SourceReading.{in_parentheses}
 use Rattle.syntax.specs.SourceTrees.{Vertices, OutDegrees}
 use Rattle.syntax.specs.SourceViews.{initial_tree}
-use Rattle.parser.specs.Fronts.{filter_at}
+use Rattle.parser.specs.inside.Fronts.{filter_at}
 use Rattle.parser.proofs.InitialLaws.{call_by_method}
 use Rattle.parser.proofs.Steps.{closed-found}
 use Rattle.parser.proofs.initial.call.Goals as goal

@@ -8,7 +8,7 @@ use Rattle.parser.proofs.Faults.{passed_on}
 use Rattle.syntax.proofs.Loops.{goes_end, goes_fails, behind_found, behind_fails, below}
 use Rattle.syntax.specs.SourceReading.{chain_at, after_terminal}
 use Rattle.syntax.specs.SourceViews.{chain_tree}
-use Rattle.parser.specs.Views.{each}
+use Rattle.parser.specs.inside.Views.{each}
 use Rattle.parser.proofs.Lists.{list_start, list_step}
 use Rattle.parser.proofs.schedule.chains.Goals as goal
 

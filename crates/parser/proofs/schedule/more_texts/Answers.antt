@@ -8,7 +8,7 @@ use Rattle.parser.proofs.Faults.{passed_on}
 use Rattle.syntax.proofs.Loops.{goes_end, goes_fails, behind_found, behind_fails}
 use Rattle.syntax.specs.SourceReading.{text_at, after_terminal}
 use Rattle.syntax.specs.SourceViews.{text_of}
-use Rattle.parser.specs.Views.{each}
+use Rattle.parser.specs.inside.Views.{each}
 use Rattle.parser.proofs.Lists.{list_start, list_step, below_strictly}
 use Rattle.parser.proofs.schedule.more_texts.Goals as goal
 

@@ -4,7 +4,7 @@ use Rattle.typed_tree.specs.StepTree.{steps_tree}
 use Rattle.algorithm_meaning.specs.declared.contribution.Writing.TheVariants.{Collected}
 use Rattle.algorithm_meaning.specs.Function.{WorkValue, after_steps, first_work}
 use Rattle.algorithm_meaning.specs.State.{edge_scope}
-use Rattle.plain_run.specs.Seen.{work_of}
+use Rattle.plain_run.specs.inside.Seen.{work_of}
 use Rattle.plain_run.proofs.Works.{collected_steps}
 use Rattle.algorithm_meaning.specs.declared.contribution.Contribution.{Contribution}
 use Rattle.algorithm_meaning.specs.EdgeApply.{with_given}

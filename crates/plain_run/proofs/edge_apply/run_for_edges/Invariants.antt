@@ -2,7 +2,7 @@ use Rattle.std.proofs.Common.{◌≡◌, [], ◌∷◌, drop}
 use Rattle.std.specs.List.{filter}
 use Rattle.typed_tree.specs.StepTree.{steps_tree}
 use Rattle.algorithm_meaning.specs.EdgeApply.{after_edges}
-use Rattle.plain_run.specs.Flags.{flagged}
+use Rattle.plain_run.specs.inside.Flags.{flagged}
 use Rattle.plain_run.proofs.edge_apply.run_for_edges.Given as goal
 
 -- what is left to do from here comes to what was to be done; the vectors that are read stay

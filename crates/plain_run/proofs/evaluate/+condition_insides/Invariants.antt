@@ -1,6 +1,6 @@
 use Rattle.std.proofs.Common.{◌≡◌, drop}
-use Rattle.plain_run.specs.Chain.{conditions_stay_inside}
-use Rattle.plain_run.specs.Seen.{scope_of}
+use Rattle.plain_run.specs.inside.Chain.{conditions_stay_inside}
+use Rattle.plain_run.specs.inside.Seen.{scope_of}
 use Rattle.plain_run.proofs.evaluate.+condition_insides.Given as goal
 
 -- all conditions so far stay inside

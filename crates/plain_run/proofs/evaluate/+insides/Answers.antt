@@ -1,7 +1,7 @@
 use Rattle.std.proofs.Common.{ap, ◌∙◌, refl}
 use Rattle.typed_tree.specs.IntegerTree.{integer_tree}
 use Rattle.typed_tree.proofs.Chains.{integer_tree-Arithmetic}
-use Rattle.plain_run.specs.Seen.{scope_of}
+use Rattle.plain_run.specs.inside.Seen.{scope_of}
 use Rattle.plain_run.proofs.Chains.{inside-operands}
 use Rattle.plain_run.proofs.evaluate.+insides.Goals as goal
 

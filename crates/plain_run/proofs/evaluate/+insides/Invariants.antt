@@ -1,6 +1,6 @@
 use Rattle.std.proofs.Common.{◌≡◌, drop}
-use Rattle.plain_run.specs.Chain.{operands_stay_inside}
-use Rattle.plain_run.specs.Seen.{scope_of}
+use Rattle.plain_run.specs.inside.Chain.{operands_stay_inside}
+use Rattle.plain_run.specs.inside.Seen.{scope_of}
 use Rattle.plain_run.proofs.evaluate.+insides.Given as goal
 
 -- all operands so far stay inside

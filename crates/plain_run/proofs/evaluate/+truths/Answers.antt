@@ -1,7 +1,7 @@
 use Rattle.std.proofs.Common.{ap, ◌∙◌}
 use Rattle.typed_tree.specs.ConditionTree.{condition_tree}
 use Rattle.typed_tree.proofs.Chains.{condition_tree-Connect}
-use Rattle.plain_run.specs.Seen.{scope_of}
+use Rattle.plain_run.specs.inside.Seen.{scope_of}
 use Rattle.plain_run.proofs.Chains.{truth-conditions}
 use Rattle.plain_run.proofs.evaluate.+truths.Goals as goal
 

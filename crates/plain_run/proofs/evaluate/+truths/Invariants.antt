@@ -1,6 +1,6 @@
 use Rattle.std.proofs.Common.{◌≡◌, drop}
-use Rattle.plain_run.specs.Chain.{conditions_truth}
-use Rattle.plain_run.specs.Seen.{scope_of}
+use Rattle.plain_run.specs.inside.Chain.{conditions_truth}
+use Rattle.plain_run.specs.inside.Seen.{scope_of}
 use Rattle.plain_run.proofs.evaluate.+truths.Given as goal
 
 -- what is left to do from here comes to what was to be done

@@ -1,5 +1,5 @@
 use Rattle.std.proofs.Common.{◌≡◌}
-use Rattle.plain_run.specs.Chain.{negative_times}
+use Rattle.plain_run.specs.inside.Chain.{negative_times}
 use Rattle.plain_run.proofs.evaluate.behind_signs.Given as goal
 
 abbrev pub invariant-signs : goal.invariant-signs

@@ -2,7 +2,7 @@ use Rattle.std.proofs.Common.{ap, ◌∙◌, false, slice_index_or}
 use Rattle.typed_tree.specs.StepTree.{steps_tree}
 use Rattle.algorithm_meaning.specs.declared.contribution.Writing.TheVariants.{Collected}
 use Rattle.algorithm_meaning.specs.Function.{WorkValue, after_steps}
-use Rattle.plain_run.specs.Seen.{work_of}
+use Rattle.plain_run.specs.inside.Seen.{work_of}
 use Rattle.plain_run.proofs.Works.{collected_steps}
 use Rattle.plain_run.proofs.filter.filter_passes.Goals as goal
 

@@ -3,7 +3,7 @@ use Rattle.typed_tree.specs.ConditionTree.{condition_tree}
 use Rattle.typed_tree.specs.StepTree.{step_tree, steps_tree}
 use Rattle.typed_tree.proofs.Steps.{step_tree-If, step_tree-IfElse}
 use Rattle.algorithm_meaning.specs.Value.{truth}
-use Rattle.plain_run.specs.Seen.{scope_of, work_of}
+use Rattle.plain_run.specs.inside.Seen.{scope_of, work_of}
 use Rattle.plain_run.proofs.Works.{after_step-If_true, after_step-IfElse}
 use Rattle.plain_run.proofs.function.+steps.Goals as goal
 

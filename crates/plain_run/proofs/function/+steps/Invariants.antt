@@ -1,7 +1,7 @@
 use Rattle.std.proofs.Common.{◌≡◌, drop}
 use Rattle.typed_tree.specs.StepTree.{steps_tree}
 use Rattle.algorithm_meaning.specs.Function.{after_steps}
-use Rattle.plain_run.specs.Seen.{work_of}
+use Rattle.plain_run.specs.inside.Seen.{work_of}
 use Rattle.plain_run.proofs.function.+steps.Given as goal
 
 -- what is left to do from here comes to what was to be done

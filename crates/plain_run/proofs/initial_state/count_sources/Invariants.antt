@@ -1,5 +1,5 @@
 use Rattle.std.proofs.Common.{◌≡◌, drop}
-use Rattle.plain_run.specs.Degrees.{counted}
+use Rattle.plain_run.specs.inside.Degrees.{counted}
 use Rattle.plain_run.proofs.initial_state.count_sources.Given as goal
 
 -- what is left to do from here comes to what was to be done

@@ -1,6 +1,6 @@
 use Rattle.std.proofs.Common.{◌≡◌, ◌++◌, map, drop}
 use Rattle.algorithm_meaning.specs.Meaning.{opening_entries}
-use Rattle.plain_run.specs.Seen.{graph_of}
+use Rattle.plain_run.specs.inside.Seen.{graph_of}
 use Rattle.plain_run.proofs.initial_state.open_vectors.Given as goal
 
 -- what is opened, and what is still to be, are all

@@ -8,7 +8,7 @@ use Rattle.algorithm_meaning.specs.declared.outcome.End.{End}
 use Rattle.algorithm_meaning.specs.declared.state.LoopCounter.{LoopCounter}
 use Rattle.algorithm_meaning.specs.Loop.{for_test, for_body, next_of, while_body, while_test}
 use Rattle.algorithm_meaning.specs.Meaning.{after_all}
-use Rattle.plain_run.specs.Seen.{graph_of, stand, state_of}
+use Rattle.plain_run.specs.inside.Seen.{graph_of, stand, state_of}
 use Rattle.plain_run.proofs.InOrder.{all_done, ends_in, goes_on}
 use Rattle.plain_run.proofs.Loops.{Again, again_faults, again_goes, again_over, again_stops}
 use Rattle.plain_run.proofs.Blocks.{after-If_true, after-IfElse, after-For}

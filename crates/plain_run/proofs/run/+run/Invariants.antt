@@ -5,7 +5,7 @@ use Rattle.typed_tree.specs.ProgramTree.{program_tree}
 use Rattle.algorithm_meaning.specs.declared.state.LoopCounter.{LoopCounter}
 use Rattle.algorithm_meaning.specs.Loop.{while_test, while_body, for_test, for_body, next_of}
 use Rattle.algorithm_meaning.specs.Meaning.{after_all}
-use Rattle.plain_run.specs.Seen.{graph_of, state_of}
+use Rattle.plain_run.specs.inside.Seen.{graph_of, state_of}
 use Rattle.plain_run.proofs.Loops.{Again}
 use Rattle.plain_run.proofs.run.+run.Given as goal
 

@@ -5,7 +5,7 @@ use Rattle.typed_tree.specs.IntegerTree.{integer_tree}
 use Rattle.typed_tree.specs.ProgramTree.{program_tree}
 use Rattle.typed_tree.proofs.Chains.{condition_tree-Connect}
 use Rattle.plan_text.specs.Expressions.{comparison_word, condition_words, connective_word, integer_words}
-use Rattle.plan_text.specs.Rows.{connected_words, times}
+use Rattle.plan_text.specs.inside.Rows.{connected_words, times}
 use Rattle.plan_text.specs.Words.{spaced}
 use Rattle.plan_text.proofs.Rows.{condition_tree-Not, words_connected, words_turned}
 use Rattle.plan_text.proofs.Spaces.{put_behind, still_left}

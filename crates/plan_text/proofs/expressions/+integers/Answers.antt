@@ -4,7 +4,7 @@ use Rattle.typed_tree.specs.IntegerTree.{integer_tree}
 use Rattle.typed_tree.specs.ProgramTree.{program_tree}
 use Rattle.typed_tree.proofs.Chains.{integer_tree-Arithmetic}
 use Rattle.plan_text.specs.Expressions.{entry_word, integer_words, operator_word}
-use Rattle.plan_text.specs.Rows.{operand_words, times}
+use Rattle.plan_text.specs.inside.Rows.{operand_words, times}
 use Rattle.plan_text.specs.Words.{spaced}
 use Rattle.plan_text.proofs.Rows.{integer_tree-Entry, integer_tree-Negative, words_negated, words_operands}
 use Rattle.plan_text.proofs.Spaces.{put_behind, still_left}

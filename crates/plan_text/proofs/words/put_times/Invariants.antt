@@ -1,5 +1,5 @@
 use Rattle.std.proofs.Common.{◌≡◌, ◌++◌}
-use Rattle.plan_text.specs.Rows.{times}
+use Rattle.plan_text.specs.inside.Rows.{times}
 use Rattle.plan_text.specs.Words.{spaced}
 use Rattle.plan_text.proofs.words.put_times.Given as goal
 

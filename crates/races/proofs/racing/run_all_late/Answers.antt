@@ -1,7 +1,7 @@
 use Rattle.std.proofs.Common.{arith, map}
 use Rattle.std.proofs.lemmas.List.{nil_from_length}
 use Rattle.std.proofs.lemmas.List.Elements.{All-rest}
-use Rattle.races.specs.Racing.{RanEarly}
+use Rattle.races.specs.inside.Racing.{RanEarly}
 use Rattle.races.proofs.Runs.{running_goes_on, running_ends_at}
 use Rattle.races.proofs.racing.run_all_late.Goals as goal
 

@@ -1,6 +1,6 @@
 use Rattle.std.proofs.Common.{map}
 use Rattle.std.specs.List.{All}
-use Rattle.races.specs.Racing.{RanEarly}
+use Rattle.races.specs.inside.Racing.{RanEarly}
 use Rattle.races.proofs.Runs.{IsRunning}
 use Rattle.races.proofs.racing.run_all_late.Given as goal
 

@@ -1,6 +1,6 @@
 use Rattle.std.proofs.Common.{◌≡◌, [], length}
 use Rattle.races.specs.RaceScript.{batches_in}
-use Rattle.races.specs.Reading.{after_batches}
+use Rattle.races.specs.inside.Reading.{after_batches}
 use Rattle.races.proofs.reading.batches.Given as goal
 
 -- the batches are those so far, and those of the lines that are left

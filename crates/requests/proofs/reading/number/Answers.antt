@@ -3,7 +3,7 @@ use Rattle.std.specs.Option.{option_map_or}
 use Rattle.std.specs.Str.Parse.{ParsesUnsigned, ExplainsUnsignedError, HasUnsignedDigitsIfOk}
 use Rattle.clap.specs.Words.{found_of, one_of, rows_of}
 use Rattle.clap.proofs.WalkLemmas.{one_text-rows}
-use Rattle.requests.specs.Numbers.{within}
+use Rattle.requests.specs.inside.Numbers.{within}
 use Rattle.requests.specs.Asked.{number_of}
 use Rattle.requests.proofs.Numbers.{number_found}
 use Rattle.requests.proofs.reading.number.Goals as goal

@@ -5,7 +5,7 @@ use Rattle.algorithm_meaning.specs.Filter.{result_of}
 use Rattle.kernels.specs.Kernels.{HasCells, passes_at}
 use Rattle.kernels.specs.RegisterCounts.{RegisterCounts}
 use Rattle.vertex_sets.specs.VertexSet.{IsAscendingBelow}
-use Rattle.run_state.specs.Passing.{passing}
+use Rattle.run_state.specs.inside.Passing.{passing}
 use Rattle.run_state.proofs.Passed.{Ascends, ascending_of, ascends, kept_ascend, none_left, parts_of, passing_is}
 use Rattle.run_state.proofs.filtering.filtered.Goals as goal
 

@@ -1,5 +1,5 @@
 use Rattle.std.proofs.Common.{ℕ, ◌+◌, ◌<◌, List, ◌++◌, length, drop, append_assoc, ap, ◌∙◌}
-use Rattle.run_state.specs.Passing.{passing}
+use Rattle.run_state.specs.inside.Passing.{passing}
 use Rattle.run_state.proofs.Passed.{next_passing}
 use Rattle.run_state.proofs.filtering.keep_passing.Goals as goal
 

@@ -1,5 +1,5 @@
 use Rattle.std.proofs.Common.{◌≡◌, ◌++◌, drop}
-use Rattle.run_state.specs.Passing.{passing}
+use Rattle.run_state.specs.inside.Passing.{passing}
 use Rattle.run_state.proofs.filtering.keep_passing.Given as goal
 
 -- what is kept, and what still passes, are all that passes

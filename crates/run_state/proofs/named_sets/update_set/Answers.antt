@@ -1,7 +1,7 @@
 use Rattle.std.proofs.Common.{◌≡◌, ℕ, ◌+◌, ◌<◌, length, FitsSigned, w64, rules, ap, ap₂, subst, sym, ◌∙◌, arith}
 use Rattle.std.proofs.lemmas.Int.{to_z-of_z}
 use Rattle.vertex_sets.specs.VertexSet.{IsAscendingBelow}
-use Rattle.run_state.specs.NamedSets.{named}
+use Rattle.run_state.specs.inside.NamedSets.{named}
 use Rattle.run_state.specs.SetUpdate.{IsUpdateOf, with_update}
 use Rattle.run_state.proofs.Named.{named_push, named_replaced, pushed, replaced, replaced_outside}
 use Rattle.run_state.proofs.named_sets.update_set.Goals as goal

@@ -1,6 +1,6 @@
 use Rattle.std.proofs.Common.{◌≡◌, ◌++◌, map, drop}
 use Rattle.algorithm_meaning.specs.Shown.{named_set}
-use Rattle.run_state.specs.NamedSets.{named}
+use Rattle.run_state.specs.inside.NamedSets.{named}
 use Rattle.run_state.proofs.outcome.name_sets.Given as goal
 
 -- what is named, and what is still to be, are all

@@ -7,7 +7,7 @@ use Rattle.schedule.specs.declared.error.ScheduleRule.{ScheduleRule}
 use Rattle.schedule.specs.declared.error.ScheduleError.{ScheduleError}
 use Rattle.schedule.specs.declared.error.ScheduleError.TheVariants.{Faulty, NoMemory}
 use Rattle.schedule.specs.Calls.{Accepts, schedule_of, with_calls}
-use Rattle.schedule.specs.Putting.{PutsAll}
+use Rattle.schedule.specs.inside.Putting.{PutsAll}
 use Rattle.apply_options.specs.ScheduleTree.{ScheduleTree}
 use Rattle.schedule.specs.Schedule.{empty_schedule}
 use Rattle.schedule.proofs.calls.accept.Goals as goal

@@ -1,7 +1,7 @@
 use Rattle.std.proofs.Common.{◌≡◌, ℕ, List, drop}
 use Rattle.expression_types.specs.Names.{found}
 use Rattle.schedule.specs.Names.{place_from}
-use Rattle.schedule.specs.Putting.{first_of}
+use Rattle.schedule.specs.inside.Putting.{first_of}
 use Rattle.schedule.proofs.names.places_of.Given as goal
 
 -- a name has its place so far, or the first of those to come

@@ -1,6 +1,6 @@
 use Rattle.std.proofs.Common.{◌≡◌, to_z, of_z, w64, arith, rules}
-use Rattle.set_ops.specs.Answers.{IsCombined, IsRejoined}
-use Rattle.set_ops.specs.Halving.{AreHalves, AreAnswers}
+use Rattle.set_ops.specs.inside.Answers.{IsCombined, IsRejoined}
+use Rattle.set_ops.specs.inside.Halving.{AreHalves, AreAnswers}
 use Rattle.set_ops.proofs.Combining.{head_of, halves_less, halves_over, halves_rejoin, ok_is}
 use Rattle.set_ops.proofs.combine.+combine.Goals as goal
 

@@ -4,8 +4,8 @@ use denote.Param.Send.{IsSync, sendable, param_send, arg_send, shr_send}
 use Rattle.std.proofs.Common.{◌≡◌, IfOk, Ok, subst, to_z, of_z, w64, arith, rules}
 use Rattle.std.proofs.Crossing.{sync as heap_sync}
 use Rattle.std.proofs.lemmas.Result.{IfOk-weaker}
-use Rattle.set_ops.specs.Answers.{IsRejoined, IsCombined}
-use Rattle.set_ops.specs.Halving.{AreHalves, AreAnswers, IsBelow, IsAbove}
+use Rattle.set_ops.specs.inside.Answers.{IsRejoined, IsCombined}
+use Rattle.set_ops.specs.inside.Halving.{AreHalves, AreAnswers, IsBelow, IsAbove}
 use Rattle.set_ops.proofs.Combining.{head_of, halves_over, halves_rejoin, ok_is}
 use Rattle.set_ops.proofs.Crossing.{halves_sync, task_sync, number_sync, seven_send}
 use Rattle.set_ops.proofs.forked.+forked.Goals as goal

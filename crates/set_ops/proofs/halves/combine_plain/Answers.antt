@@ -1,6 +1,6 @@
 use Rattle.std.proofs.Common.{◌≡◌, ◌∙◌}
 use Rattle.tail_codec.specs.declared.operation.MapOperation.TheVariants.{Union, UnionKeepingFirst}
-use Rattle.set_ops.specs.Answers.{IsCombined}
+use Rattle.set_ops.specs.inside.Answers.{IsCombined}
 use Rattle.set_ops.proofs.Combining.{first_from_second, second_from_first, ok_is}
 use Rattle.set_ops.proofs.halves.combine_plain.Goals as goal
 

@@ -2,7 +2,7 @@ use Rattle.std.proofs.Common.{◌≡◌, length, to_z, of_z, w64, arith, rules}
 use Rattle.std.specs.Map.{keys_of}
 use Rattle.ascending_lists.specs.Ascending.{least}
 use Rattle.ascending_lists.proofs.Ascending.{ascends_from}
-use Rattle.set_ops.specs.Answers.{IsCombined, IsRejoined}
+use Rattle.set_ops.specs.inside.Answers.{IsCombined, IsRejoined}
 use Rattle.set_ops.proofs.Combining.{head_of, over_left, over_right, less_left, less_right, root_rejoin, unchanged, none_of, ok_is}
 use Rattle.set_ops.proofs.with_list.+combine_with_list.Goals as goal
 

@@ -1,5 +1,5 @@
 use Rattle.std.proofs.Common.{◌∙◌, drop, fold, ap}
-use Rattle.shared_graph.specs.Publishing.{latest}
+use Rattle.shared_graph.specs.inside.Publishing.{latest}
 use Rattle.shared_graph.proofs.Publishing.{last_pending}
 use Rattle.shared_graph.proofs.publisher.append.Goals as goal
 

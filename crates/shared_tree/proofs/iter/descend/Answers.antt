@@ -1,6 +1,6 @@
 use Rattle.std.proofs.Common.{◌<◌, ◌++◌, length, take, ap, ◌∙◌, arith, length-set}
-use Rattle.shared_tree.specs.Shape.{seen}
-use Rattle.shared_tree.specs.Pending.{pending}
+use Rattle.shared_tree.specs.inside.Shape.{seen}
+use Rattle.shared_tree.specs.inside.Pending.{pending}
 use Rattle.shared_tree.proofs.Stacks.{pending_put, room_put, fork_entries, fork_room, fork_smaller}
 use Rattle.shared_tree.proofs.iter.descend.Goals as goal
 

@@ -1,6 +1,6 @@
 use Rattle.std.proofs.Common.{◌≡◌, ◌+◌, ◌≤◌, ◌++◌, length, take}
-use Rattle.shared_tree.specs.Shape.{seen, IsBalanced}
-use Rattle.shared_tree.specs.Pending.{pending, HasRoom}
+use Rattle.shared_tree.specs.inside.Shape.{seen, IsBalanced}
+use Rattle.shared_tree.specs.inside.Pending.{pending, HasRoom}
 use Rattle.shared_tree.proofs.iter.descend.Given as goal
 
 abbrev pub invariant-loop-next : goal.invariant-loop-next

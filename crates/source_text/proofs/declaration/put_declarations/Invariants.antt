@@ -1,7 +1,7 @@
 use Rattle.std.proofs.Common.{map}
 use Rattle.syntax.specs.SourceSpelling.{each_before, declaration_before}
 use Rattle.syntax.specs.SourceViews.{declaration_tree}
-use Rattle.source_text.specs.Written.{PutsUpTo}
+use Rattle.source_text.specs.inside.Written.{PutsUpTo}
 use Rattle.source_text.proofs.declaration.put_declarations.Given as goal
 
 abbrev pub invariant-declarations : goal.invariant-declarations

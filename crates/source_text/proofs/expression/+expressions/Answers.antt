@@ -3,7 +3,7 @@ use Rattle.std.proofs.lemmas.Result.{on_ok_weaker}
 use Rattle.syntax.specs.ExpressionViews.{comparison_of, conjunction_of, primary_of, term_of, unary_of}
 use Rattle.syntax.specs.ExpressionSpelling.{comparison_terminals, conjunction_terminals, expression_terminals, primary_terminals, term_terminals, unary_terminals}
 use Rattle.syntax.specs.SourceSpelling.{each_before}
-use Rattle.source_text.specs.Written.{signs_before}
+use Rattle.source_text.specs.inside.Written.{signs_before}
 use Rattle.source_text.proofs.Levels.{or_before, and_before, added_before, multiplied_before, expression_split, conjunction_split, sum_split, term_split, unary_split}
 use Rattle.source_text.proofs.Puts.{up_to_first, up_to_more, up_to_all, completes_same, puts_all_but}
 use Rattle.lexer.specs.declared.symbol.Symbol.TheVariants as symbol

@@ -1,7 +1,7 @@
 use Rattle.std.proofs.Common.{◌++◌}
 use Rattle.syntax.specs.ExpressionViews.{conjunction_of, sum_of, term_of}
 use Rattle.syntax.specs.ExpressionSpelling.{conjunction_terminals, expression_terminals, sum_terminals, term_terminals}
-use Rattle.source_text.specs.Written.{PutsUpTo}
+use Rattle.source_text.specs.inside.Written.{PutsUpTo}
 use Rattle.source_text.proofs.Levels.{or_before, and_before, added_before, multiplied_before}
 use Rattle.source_text.proofs.expression.+expressions.Given as goal
 

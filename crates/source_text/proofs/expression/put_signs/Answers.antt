@@ -1,6 +1,6 @@
 use Rattle.std.proofs.Common.{◌∷◌, refl}
 use Rattle.syntax.specs.ExpressionSpelling.{prefix_terminal}
-use Rattle.source_text.specs.Written.{signs_before}
+use Rattle.source_text.specs.inside.Written.{signs_before}
 use Rattle.source_text.proofs.Puts.{up_to_none, up_to_more, up_to_all}
 use Rattle.source_text.proofs.expression.put_signs.Goals as goal
 

@@ -1,6 +1,6 @@
 use Rattle.std.proofs.Common.{◌∷◌}
 use Rattle.syntax.specs.ExpressionSpelling.{prefix_terminal}
-use Rattle.source_text.specs.Written.{PutsUpTo, signs_before}
+use Rattle.source_text.specs.inside.Written.{PutsUpTo, signs_before}
 use Rattle.source_text.proofs.expression.put_signs.Given as goal
 
 abbrev pub invariant-signs : goal.invariant-signs

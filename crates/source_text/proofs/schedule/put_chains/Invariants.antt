@@ -1,7 +1,7 @@
 use Rattle.std.proofs.Common.{map}
 use Rattle.syntax.specs.SourceSpelling.{each_before, chain_before}
 use Rattle.syntax.specs.SourceViews.{chain_tree}
-use Rattle.source_text.specs.Written.{PutsUpTo}
+use Rattle.source_text.specs.inside.Written.{PutsUpTo}
 use Rattle.source_text.proofs.schedule.put_chains.Given as goal
 
 abbrev pub invariant-chains : goal.invariant-chains

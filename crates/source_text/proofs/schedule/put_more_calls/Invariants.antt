@@ -1,7 +1,7 @@
 use Rattle.std.proofs.Common.{map}
 use Rattle.syntax.specs.SourceSpelling.{each_before, next_call_before}
 use Rattle.syntax.specs.SourceViews.{call_tree}
-use Rattle.source_text.specs.Written.{PutsUpTo}
+use Rattle.source_text.specs.inside.Written.{PutsUpTo}
 use Rattle.source_text.proofs.schedule.put_more_calls.Given as goal
 
 abbrev pub invariant-calls : goal.invariant-calls

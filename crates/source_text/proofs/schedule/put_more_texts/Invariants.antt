@@ -1,7 +1,7 @@
 use Rattle.std.proofs.Common.{map}
 use Rattle.syntax.specs.SourceSpelling.{each_before, next_text_before}
 use Rattle.syntax.specs.SourceViews.{text_of}
-use Rattle.source_text.specs.Written.{PutsUpTo}
+use Rattle.source_text.specs.inside.Written.{PutsUpTo}
 use Rattle.source_text.proofs.schedule.put_more_texts.Given as goal
 
 abbrev pub invariant-texts : goal.invariant-texts

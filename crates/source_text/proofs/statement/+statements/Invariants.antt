@@ -1,6 +1,6 @@
 use Rattle.syntax.specs.SourceSpelling.{block_before}
 use Rattle.syntax.specs.SourceViews.{block_tree}
-use Rattle.source_text.specs.Written.{PutsUpTo}
+use Rattle.source_text.specs.inside.Written.{PutsUpTo}
 use Rattle.source_text.proofs.Puts.{statement_before}
 use Rattle.source_text.proofs.statement.+statements.Given as goal
 

@@ -1,6 +1,6 @@
 use Rattle.std.proofs.Common.{◌∙◌, sym, subst, ap, length, take, drop, arith}
 use Rattle.std.proofs.lemmas.List.{take-append-drop}
-use Rattle.tree_batch.specs.BlockCuts.{AreCutSoFar}
+use Rattle.tree_batch.specs.inside.BlockCuts.{AreCutSoFar}
 use Rattle.tree_batch.proofs.Decided.{cut_ascends, cut_more, cut_all}
 use Rattle.tree_batch.proofs.cuts.cut_by_block.Goals as goal
 

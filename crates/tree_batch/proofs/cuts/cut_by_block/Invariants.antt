@@ -1,5 +1,5 @@
 use Rattle.std.proofs.Common.{length}
-use Rattle.tree_batch.specs.BlockCuts.{AreCutSoFar}
+use Rattle.tree_batch.specs.inside.BlockCuts.{AreCutSoFar}
 use Rattle.tree_batch.proofs.cuts.cut_by_block.Given as goal
 
 abbrev pub invariant-loop-first : goal.invariant-loop-first

@@ -4,7 +4,7 @@ use denote.Param.Send.{IsSync, sendable, param_send, arg_send, shr_send, shr_sli
 use Rattle.std.proofs.Crossing.{crosses, sync as heap_sync}
 use Rattle.c_tree.proofs.chunk_size.ChunkSize.TheSendSync.{the_sync as size_sync}
 use Rattle.edge_updates.proofs.edge_update.EdgeUpdate.TheSendSync.{the_sync as update_sync}
-use Rattle.tree_batch.specs.Forking.{AreAround}
+use Rattle.tree_batch.specs.inside.Forking.{AreAround}
 use Rattle.tree_batch.proofs.Crossing.{tree_send, tree_sync, number_sync, weight_sync, nine_send}
 use Rattle.tree_batch.proofs.CutAround.{below_ascends, above_ascends, here_ascends}
 use Rattle.tree_batch.proofs.forked.+forked.Goals as goal

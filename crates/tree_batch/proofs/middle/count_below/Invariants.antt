@@ -1,5 +1,5 @@
 use Rattle.std.proofs.Common.{◌-◌, ◌≤◌, length, take}
-use Rattle.tree_batch.specs.BlockCuts.{AreBelow}
+use Rattle.tree_batch.specs.inside.BlockCuts.{AreBelow}
 use Rattle.tree_batch.proofs.middle.count_below.Given as goal
 
 abbrev pub invariant-loop-count : goal.invariant-loop-count

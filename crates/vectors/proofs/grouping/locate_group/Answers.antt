@@ -1,7 +1,7 @@
 use Rattle.std.proofs.Common.{◌≡◌, ◌+◌, ◌<◌, ap, sym, ◌∙◌, subst, arith, List, [], ℕ, length, set, get_or, refl}
 use Rattle.std.proofs.lemmas.List.{get_or_read}
 use Rattle.vectors.specs.declared.location.Location.{Location}
-use Rattle.vectors.specs.Layout.{AreLocated, IsFree, vertices_of}
+use Rattle.vectors.specs.inside.Layout.{AreLocated, IsFree, vertices_of}
 use Rattle.vectors.proofs.Groupings.{next_group, one_more, same_vertices, unfit}
 use Rattle.vectors.proofs.grouping.locate_group.Goals as goal
 

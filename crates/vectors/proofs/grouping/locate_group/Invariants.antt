@@ -1,6 +1,6 @@
 use Rattle.std.proofs.Common.{◌≡◌, List, length}
 use Rattle.vectors.specs.declared.location.Location.{Location}
-use Rattle.vectors.specs.Layout.{AreLocated}
+use Rattle.vectors.specs.inside.Layout.{AreLocated}
 use Rattle.vectors.proofs.grouping.locate_group.Given as goal
 
 abbrev pub invariant-names : goal.invariant-names

@@ -1,4 +1,4 @@
-use Rattle.vectors.specs.Layout.{AreLocated}
+use Rattle.vectors.specs.inside.Layout.{AreLocated}
 use Rattle.vectors.proofs.grouping.locate_groups.Given as goal
 
 abbrev pub invariant-groups : goal.invariant-groups

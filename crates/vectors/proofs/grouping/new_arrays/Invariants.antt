@@ -1,5 +1,5 @@
 use Rattle.std.proofs.Common.{◌≡◌, ℕ, ◌+◌, ◌*◌, ◌<◌, ◌^◌, [], get_or, length, vec_len}
-use Rattle.vectors.specs.Layout.{location_at, vertices_of}
+use Rattle.vectors.specs.inside.Layout.{location_at, vertices_of}
 use Rattle.vectors.proofs.grouping.new_arrays.Given as goal
 
 abbrev pub invariant-groups : goal.invariant-groups

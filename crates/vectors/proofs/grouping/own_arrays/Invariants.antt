@@ -1,5 +1,5 @@
 use Rattle.std.proofs.Common.{◌≡◌, ℕ, ◌<◌, ◌^◌, [], get_or, length, vec_len}
-use Rattle.vectors.specs.Layout.{location_at}
+use Rattle.vectors.specs.inside.Layout.{location_at}
 use Rattle.vectors.proofs.grouping.own_arrays.Given as goal
 
 abbrev pub invariant-locations : goal.invariant-locations

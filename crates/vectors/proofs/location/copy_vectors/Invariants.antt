@@ -1,5 +1,5 @@
 use Rattle.std.proofs.Common.{◌≡◌, take}
-use Rattle.vectors.specs.Layout.{vectors_at}
+use Rattle.vectors.specs.inside.Layout.{vectors_at}
 use Rattle.vectors.proofs.location.copy_vectors.Given as goal
 
 -- the vectors of the locations so far

@@ -1,5 +1,5 @@
 use Rattle.std.proofs.Common.{◌≡◌, ℕ, ◌^◌, ◌<◌, [], get_or, length, vec_len}
-use Rattle.vectors.specs.Layout.{location_at, own_location}
+use Rattle.vectors.specs.inside.Layout.{location_at, own_location}
 use Rattle.vectors.proofs.location.own_locations.Given as goal
 
 abbrev pub invariant-arrays : goal.invariant-arrays

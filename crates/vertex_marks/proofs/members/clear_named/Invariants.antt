@@ -1,5 +1,5 @@
 use Rattle.std.proofs.Common.{◌≡◌, ◌≢◌, ◌⊎◌, ℕ, length, get_or, Contains}
-use Rattle.vertex_sets.specs.Words.{bit_members}
+use Rattle.vertex_sets.specs.inside.Words.{bit_members}
 use Rattle.vertex_marks.proofs.members.clear_named.Given as goal
 
 abbrev pub invariant-words : goal.invariant-words

@@ -1,5 +1,5 @@
 use Rattle.std.proofs.Common.{◌≡◌, ◌+◌, ◌^◌, ◌<◌, ◌++◌, ◌∷◌, [], ap, ◌∙◌, rules, bit_and, ◌-◌}
-use Rattle.vertex_sets.specs.Words.{bit_members}
+use Rattle.vertex_sets.specs.inside.Words.{bit_members}
 use Rattle.vertex_marks.proofs.Naming.{lowest_listed, fewer_left, bits_listed}
 use Rattle.vertex_marks.proofs.members.push_bits.Goals as goal
 use lib.Count.{count_trailing_zeros}

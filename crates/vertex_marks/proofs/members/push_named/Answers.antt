@@ -1,6 +1,6 @@
 use Rattle.std.proofs.Common.{◌≡◌, ◌+◌, ◌*◌, ◌^◌, ◌<◌, ◌++◌, get_or, ap, sym, ◌∙◌, rules}
 use Rattle.std.proofs.lemmas.List.{append-nil}
-use Rattle.vertex_sets.specs.Words.{bit_members}
+use Rattle.vertex_sets.specs.inside.Words.{bit_members}
 use Rattle.vertex_sets.proofs.BitMembers.{bits_none}
 use Rattle.vertex_marks.proofs.Naming.{named_listed, fewer_left, words_listed}
 use Rattle.vertex_marks.proofs.members.push_named.Goals as goal

@@ -1,6 +1,6 @@
 use Rattle.std.proofs.Common.{◌≡◌, ◌++◌, length}
-use Rattle.vertex_sets.specs.Words.{bit_members}
-use Rattle.vertex_marks.specs.Named.{named_members}
+use Rattle.vertex_sets.specs.inside.Words.{bit_members}
+use Rattle.vertex_marks.specs.inside.Named.{named_members}
 use Rattle.vertex_marks.proofs.members.push_named.Given as goal
 
 abbrev pub invariant-words : goal.invariant-words

@@ -5,7 +5,7 @@ use Rattle.algorithm_meaning.specs.Value.{members_of}
 use Rattle.algorithm_meaning.specs.VertexSets.{inserted, with_members}
 use Rattle.vertex_sets.specs.VertexSet.{IsAscendingBelow, VertexSubset}
 use Rattle.run_state.specs.View.{members_in}
-use Rattle.run_state.specs.NamedSets.{named, sets_alone, size_of}
+use Rattle.run_state.specs.inside.NamedSets.{named, sets_alone, size_of}
 use Rattle.run_state.specs.State.{RunState, with_state}
 use Rattle.run_state.proofs.Inserted.{inserted_is}
 use Rattle.run_state.proofs.Named.{found_ascending, found_vertices, named_members, named_replaced, replaced, replaced_outside}

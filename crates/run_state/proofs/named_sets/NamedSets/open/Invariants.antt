@@ -1,7 +1,7 @@
 use Rattle.std.proofs.Common.{◌≡◌, map, take}
 use Rattle.algorithm_meaning.specs.State.{GraphValue}
 use Rattle.algorithm_meaning.specs.Meaning.{all_vertices}
-use Rattle.run_state.specs.NamedSets.{nothing, sets_alone}
+use Rattle.run_state.specs.inside.NamedSets.{nothing, sets_alone}
 use Rattle.run_state.proofs.named_sets.NamedSets.open.Given as goal
 
 -- the sets of the names so far

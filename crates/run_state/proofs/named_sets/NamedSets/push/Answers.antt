@@ -2,7 +2,7 @@ use Rattle.std.proofs.Common.{◌≡◌, ℕ, List, [], ◌∷◌, ◌++◌, Fit
 use Rattle.std.proofs.lemmas.Int.{to_z-of_z}
 use Rattle.algorithm_meaning.specs.VertexSets.{with_new_set}
 use Rattle.vertex_sets.specs.VertexSet.{IsAscendingBelow, VertexSubset}
-use Rattle.run_state.specs.NamedSets.{named, sets_alone}
+use Rattle.run_state.specs.inside.NamedSets.{named, sets_alone}
 use Rattle.run_state.specs.State.{RunState, with_state}
 use Rattle.run_state.proofs.Named.{named_push, pushed}
 use Rattle.run_state.proofs.named_sets.NamedSets.push.Goals as goal

@@ -2,7 +2,7 @@ use Rattle.std.proofs.Common.{◌≡◌, ℕ, ◌+◌, ◌<◌, length, FitsSign
 use Rattle.std.proofs.lemmas.Int.{to_z-of_z}
 use Rattle.algorithm_meaning.specs.VertexSets.{with_members}
 use Rattle.vertex_sets.specs.VertexSet.{IsAscendingBelow}
-use Rattle.run_state.specs.NamedSets.{sets_alone}
+use Rattle.run_state.specs.inside.NamedSets.{sets_alone}
 use Rattle.run_state.specs.State.{RunState, with_state}
 use Rattle.run_state.proofs.Named.{named_replaced, replaced, replaced_outside}
 use Rattle.run_state.proofs.named_sets.NamedSets.replace.Goals as goal

@@ -3,7 +3,7 @@ use Rattle.algorithm_meaning.specs.declared.outcome.NamedSet.{NamedSet}
 use Rattle.algorithm_meaning.specs.Shown.{named_set}
 use Rattle.algorithm_meaning.specs.State.{StateValue}
 use Rattle.vertex_sets.specs.VertexSet.{VertexSubset}
-use Rattle.run_state.specs.NamedSets.{named}
+use Rattle.run_state.specs.inside.NamedSets.{named}
 use Rattle.run_state.specs.State.{RunState}
 use Rattle.run_state.proofs.Named.{named_take}
 use Rattle.run_state.proofs.named_sets.NamedSets.shown.Goals as goal

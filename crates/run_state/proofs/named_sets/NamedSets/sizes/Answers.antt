@@ -1,5 +1,5 @@
 use Rattle.std.proofs.Common.{ap, sym, ◌∙◌}
-use Rattle.run_state.specs.NamedSets.{sizes_of}
+use Rattle.run_state.specs.inside.NamedSets.{sizes_of}
 use Rattle.run_state.specs.State.{RunState}
 use Rattle.run_state.proofs.Named.{named_sizes}
 use Rattle.run_state.proofs.named_sets.NamedSets.sizes.Goals as goal

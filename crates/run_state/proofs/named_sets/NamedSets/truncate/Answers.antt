@@ -1,6 +1,6 @@
 use Rattle.std.proofs.Common.{List, ℕ, ap, ap₂, ◌∙◌}
 use Rattle.vertex_sets.specs.VertexSet.{VertexSubset}
-use Rattle.run_state.specs.NamedSets.{named, sets_alone, with_first_sets}
+use Rattle.run_state.specs.inside.NamedSets.{named, sets_alone, with_first_sets}
 use Rattle.run_state.specs.State.{RunState, with_state}
 use Rattle.run_state.proofs.Named.{named_take, taken}
 use Rattle.run_state.proofs.named_sets.NamedSets.truncate.Goals as goal

@@ -1,5 +1,5 @@
 use Rattle.std.proofs.Common.{subst}
-use Rattle.run_state.specs.NamedSets.{AreAscending}
+use Rattle.run_state.specs.inside.NamedSets.{AreAscending}
 use Rattle.run_state.specs.State.{RunState}
 use Rattle.run_state.proofs.Named.{named_ascending}
 use Rattle.run_state.proofs.named_sets.NamedSets.vertices.Goals as goal

@@ -1,6 +1,6 @@
 use Rattle.std.proofs.Common.{slice_get, take, ap, sym, ◌∙◌}
 use Rattle.algorithm_meaning.specs.Value.{members_of}
-use Rattle.run_state.specs.NamedSets.{size_of}
+use Rattle.run_state.specs.inside.NamedSets.{size_of}
 use Rattle.run_state.specs.State.{RunState}
 use Rattle.run_state.proofs.Runs.{has_first_sizes}
 use Rattle.run_state.proofs.state.State.main_state.Goals as goal

@@ -1,7 +1,7 @@
 use Rattle.std.proofs.Common.{ℤ, List, slice_get, ap, sym, subst, ◌∙◌, arith}
 use Rattle.algorithm_meaning.specs.Value.{members_of}
 use Rattle.kernels.specs.Cells.{HasSizes}
-use Rattle.run_state.specs.NamedSets.{size_of}
+use Rattle.run_state.specs.inside.NamedSets.{size_of}
 use Rattle.run_state.specs.State.{RunState}
 use Rattle.run_state.proofs.Runs.{has_sizes}
 use Rattle.run_state.proofs.state.State.view.Goals as goal

@@ -1,6 +1,6 @@
 use Rattle.std.proofs.Common.{sym, subst}
 use Rattle.vectors.specs.Vectors.{VectorsValue}
-use Rattle.run_state.specs.NamedSets.{HaveLength}
+use Rattle.run_state.specs.inside.NamedSets.{HaveLength}
 use Rattle.run_state.proofs.Lengths.{after_all_changes}
 use Rattle.run_state.proofs.state.State.write.Goals as goal
 

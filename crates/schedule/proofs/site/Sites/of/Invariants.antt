@@ -1,6 +1,6 @@
 use Rattle.std.proofs.Common.{◌≡◌, ℕ, drop, nat_eq}
 use Rattle.std.specs.Map.{lookup}
-use Rattle.schedule.specs.Putting.{first_of}
+use Rattle.schedule.specs.inside.Putting.{first_of}
 use Rattle.schedule.proofs.site.Sites.of.Given as goal
 
 -- what a label stands before is there, or comes first of those to come

@@ -8,7 +8,7 @@ use Rattle.version_list.specs.Machine.{ticket_version}
 use Rattle.version_list.specs.Kept.{IsHeld}
 use Rattle.replies.specs.declared.line_reply.LineReply.{LineReply}
 use Rattle.scripts.specs.Replies.{OpenState, stepping}
-use Rattle.scripts.specs.Stepping.{IsAnswered}
+use Rattle.scripts.specs.inside.Stepping.{IsAnswered}
 use Rattle.scripts.proofs.StepLaws.{not_held}
 use Rattle.scripts.proofs.open_graph.OpenGraph.release.Goals as goal
 

@@ -2,7 +2,7 @@ use Rattle.std.proofs.Common.{refl, sym, subst}
 use Rattle.version_list.specs.declared.step.Step.TheVariants as versions
 use Rattle.session.specs.declared.step.SessionStep.{SessionStep}
 use Rattle.session.specs.World.{answer}
-use Rattle.session.specs.Attempts.{Attempts}
+use Rattle.session.specs.inside.Attempts.{Attempts}
 use Rattle.session.proofs.Attempting.{versions_attempt}
 use Rattle.session.proofs.Versions.{steps_err}
 use Rattle.session.proofs.session.Session.attempt.Goals as goal

@@ -3,7 +3,7 @@ use Rattle.tree_batch.specs.Digraph.{Digraph}
 use Rattle.version_list.specs.Machine.{State, opened, state_after}
 use Rattle.shared_graph.specs.declared.entry.Entry.{Entry}
 use Rattle.shared_graph.specs.Histories.{state_at, IsNewest}
-use Rattle.shared_graph.specs.Locked.{IsTimelineOf}
+use Rattle.shared_graph.specs.inside.Locked.{IsTimelineOf}
 use Rattle.shared_graph.proofs.Steps.{newest_after_commit, timeline_push}
 use Rattle.shared_graph.proofs.desk.Desk.commit.Goals as goal
 

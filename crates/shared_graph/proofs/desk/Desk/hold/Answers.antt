@@ -8,7 +8,7 @@ use Rattle.version_list.specs.Timeline.{Accepts}
 use Rattle.shared_graph.specs.declared.entry.Entry.{Entry}
 use Rattle.shared_graph.specs.Histories.{IsVersionOf}
 use Rattle.shared_graph.specs.Holding.{Hold}
-use Rattle.shared_graph.specs.Locked.{IsTimelineOf}
+use Rattle.shared_graph.specs.inside.Locked.{IsTimelineOf}
 use Rattle.shared_graph.proofs.Steps.{holds_version, timeline_push}
 use Rattle.shared_graph.proofs.Versions.{held_is}
 use Rattle.shared_graph.proofs.desk.Desk.hold.Goals as goal

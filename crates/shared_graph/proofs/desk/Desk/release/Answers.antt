@@ -3,7 +3,7 @@ use Rattle.version_list.specs.declared.step.Step.TheVariants.{Release}
 use Rattle.version_list.specs.declared.step.Reply.TheVariants.{Released}
 use Rattle.version_list.specs.Machine.{State, opened, is_open, reply_to}
 use Rattle.shared_graph.specs.declared.entry.Entry.{Entry}
-use Rattle.shared_graph.specs.Locked.{IsTimelineOf}
+use Rattle.shared_graph.specs.inside.Locked.{IsTimelineOf}
 use Rattle.shared_graph.proofs.Steps.{release_accepted, timeline_push}
 use Rattle.shared_graph.proofs.desk.Desk.release.Goals as goal
 

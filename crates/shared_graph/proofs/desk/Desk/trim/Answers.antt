@@ -3,7 +3,7 @@ use Rattle.version_list.specs.declared.step.Step.TheVariants.{Trim}
 use Rattle.version_list.specs.declared.step.Reply.TheVariants.{Trimmed}
 use Rattle.version_list.specs.Machine.{State, opened}
 use Rattle.shared_graph.specs.declared.entry.Entry.{Entry}
-use Rattle.shared_graph.specs.Locked.{IsTimelineOf}
+use Rattle.shared_graph.specs.inside.Locked.{IsTimelineOf}
 use Rattle.shared_graph.proofs.Steps.{timeline_trimmed}
 use Rattle.shared_graph.proofs.desk.Desk.trim.Goals as goal
 

@@ -2,7 +2,7 @@ use Rattle.std.proofs.Common.{◌≡◌, ◌∙◌, ◌∷◌, ◌++◌, [], Lis
 use Rattle.version_list.specs.Machine.{State, opened, state_after}
 use Rattle.shared_graph.specs.declared.entry.Entry.{Entry}
 use Rattle.shared_graph.specs.Histories.{state_at, IsNewest}
-use Rattle.shared_graph.specs.Publishing.{Published}
+use Rattle.shared_graph.specs.inside.Publishing.{Published}
 use Rattle.std.specs.Arc.{arc_value}
 use Rattle.shared_graph.proofs.Growing.{state_at-push, length-own, legal_few}
 use Rattle.shared_graph.proofs.ledger.Ledger.record.Goals as goal

@@ -1,7 +1,7 @@
 use Rattle.std.proofs.Common.{◌≡◌, ◌+◌, ◌<◌, ap, sym, ◌∙◌, subst, arith, [], ℕ, length, get_or}
 use Rattle.std.proofs.lemmas.List.{get_or_read}
 use Rattle.vectors.specs.Vectors.{HasRows, VectorsValue}
-use Rattle.vectors.specs.Layout.{vectors_at}
+use Rattle.vectors.specs.inside.Layout.{vectors_at}
 use Rattle.vectors.proofs.Groupings.{group_has_rows}
 use Rattle.vectors.proofs.vectors.Vectors.group.Goals as goal
 

@@ -1,7 +1,7 @@
 use Rattle.std.proofs.Common.{◌≡◌, ap, sym, ◌∙◌, subst, arith, refl, List, [], ◌++◌, drop, take, ℕ, length, get_or}
 use Rattle.std.proofs.Math.Seq.{take-append_seam}
 use Rattle.vectors.specs.declared.location.Location.{Location}
-use Rattle.vectors.specs.Layout.{AreLocated, FitTogether, HasArrays, IsLaidOut, vectors_at}
+use Rattle.vectors.specs.inside.Layout.{AreLocated, FitTogether, HasArrays, IsLaidOut, vectors_at}
 use Rattle.vectors.proofs.Groupings.{even_vectors, fit_own, is_laid_out, own_are_located}
 use Rattle.vectors.proofs.vectors.Vectors.grouped.Goals as goal
 

@@ -1,7 +1,7 @@
 use Rattle.std.proofs.Common.{◌≡◌, ◌<◌, ◌∙◌, length, sym, subst, arith, ap, take}
 use Rattle.std.proofs.lemmas.List.{get_or_read}
 use Rattle.vectors.specs.Vectors.{VectorsValue}
-use Rattle.vectors.specs.Layout.{StandsIn, nowhere}
+use Rattle.vectors.specs.inside.Layout.{StandsIn, nowhere}
 use Rattle.vectors.proofs.HandedOver.{all_home, next_home, none_home, still_stands}
 use Rattle.vectors.proofs.vectors.Vectors.into_arrays.Goals as goal
 

@@ -3,7 +3,7 @@ use Rattle.std.proofs.lemmas.List.{get_or_read}
 use Rattle.algorithm_meaning.specs.Value.{entry}
 use Rattle.vectors.specs.declared.location.Location.{Location}
 use Rattle.vectors.specs.Vectors.{VectorsValue}
-use Rattle.vectors.specs.Layout.{location_at, nowhere, number_at}
+use Rattle.vectors.specs.inside.Layout.{location_at, nowhere, number_at}
 use Rattle.vectors.proofs.Layouts.{entry_read}
 use Rattle.vectors.proofs.vectors.Vectors.lane.Goals as goal
 

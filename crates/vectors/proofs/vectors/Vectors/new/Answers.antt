@@ -1,6 +1,6 @@
 use Rattle.std.proofs.Common.{◌≡◌, ◌<◌, ◌^◌, ℕ, ap, sym, ◌∙◌, subst, arith, List, [], get_or, ℤ, length}
 use Rattle.vectors.specs.Vectors.{VectorsValue}
-use Rattle.vectors.specs.Layout.{IsLaidOut, location_at, own_location}
+use Rattle.vectors.specs.inside.Layout.{IsLaidOut, location_at, own_location}
 use Rattle.vectors.proofs.Layouts.{own_is_laid_out, own_vectors}
 use Rattle.vectors.proofs.vectors.Vectors.new.Goals as goal
 

@@ -4,7 +4,7 @@ use Rattle.std.proofs.lemmas.List.{get_or_read}
 use Rattle.algorithm_meaning.specs.Value.{with_entry}
 use Rattle.vectors.specs.declared.location.Location.{Location}
 use Rattle.vectors.specs.Vectors.{VectorsValue}
-use Rattle.vectors.specs.Layout.{location_at, nowhere, vectors_at}
+use Rattle.vectors.specs.inside.Layout.{location_at, nowhere, vectors_at}
 use Rattle.vectors.proofs.Layouts.{entry_set, entry_set_past, place_fits}
 use Rattle.vectors.proofs.vectors.Vectors.put.Goals as goal
 

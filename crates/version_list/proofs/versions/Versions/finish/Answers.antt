@@ -2,7 +2,7 @@ use Rattle.std.proofs.Common.{◌+◌, refl, sym, subst}
 use Rattle.version_list.specs.declared.versions.Versions.TheInside.{Inside}
 use Rattle.version_list.specs.Timeline.{Timeline, Accepts}
 use Rattle.version_list.specs.Prepared.{IsPrepared}
-use Rattle.version_list.specs.Fields.{timeline}
+use Rattle.version_list.specs.inside.Fields.{timeline}
 use Rattle.version_list.proofs.Stepping.{kept_commit, accepts_commit}
 use Rattle.version_list.proofs.versions.Versions.finish.Goals as goal
 

@@ -5,7 +5,7 @@ use Rattle.version_list.specs.declared.versions.Versions.TheInside.{Inside}
 use Rattle.version_list.specs.Machine.{State}
 use Rattle.version_list.specs.Timeline.{Timeline, Accepts}
 use Rattle.version_list.specs.Prepared.{IsPreparedAcquire}
-use Rattle.version_list.specs.Fields.{timeline, Shows}
+use Rattle.version_list.specs.inside.Fields.{timeline, Shows}
 use Rattle.version_list.proofs.Keeping.{few_holders}
 use Rattle.version_list.proofs.Stepping.{kept_acquire, accepts_acquire}
 use Rattle.version_list.proofs.versions.Versions.finish_acquire.Goals as goal

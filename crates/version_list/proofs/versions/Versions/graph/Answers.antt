@@ -1,7 +1,7 @@
 use Rattle.std.proofs.Common.{◌∙◌, ap, sym}
 use Rattle.version_list.specs.Machine.{ticket_graph}
 use Rattle.version_list.specs.Timeline.{Timeline}
-use Rattle.version_list.specs.Fields.{timeline}
+use Rattle.version_list.specs.inside.Fields.{timeline}
 use Rattle.version_list.proofs.Keeping.{graph_of_ticket}
 use Rattle.version_list.proofs.versions.Versions.graph.Goals as goal
 

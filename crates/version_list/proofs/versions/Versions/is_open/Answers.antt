@@ -1,7 +1,7 @@
 use Rattle.std.proofs.Common.{◌∙◌, is_some, sym, ap}
 use Rattle.version_list.specs.Machine.{is_open}
 use Rattle.version_list.specs.Timeline.{Timeline}
-use Rattle.version_list.specs.Fields.{timeline}
+use Rattle.version_list.specs.inside.Fields.{timeline}
 use Rattle.version_list.proofs.Holding.{is_open_is}
 use Rattle.version_list.proofs.versions.Versions.is_open.Goals as goal
 

@@ -3,7 +3,7 @@ use Rattle.std.specs.Option.{option_map}
 use Rattle.version_list.specs.Machine.{version_graph, ticket_version}
 use Rattle.version_list.specs.Kept.{IsHeld}
 use Rattle.version_list.specs.Timeline.{Timeline}
-use Rattle.version_list.specs.Fields.{timeline}
+use Rattle.version_list.specs.inside.Fields.{timeline}
 use Rattle.version_list.proofs.Keeping.{graph_of_ticket}
 use Rattle.version_list.proofs.Kept.{held_is}
 use Rattle.version_list.proofs.versions.Versions.kept.Goals as goal

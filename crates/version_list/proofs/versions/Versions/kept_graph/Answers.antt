@@ -1,7 +1,7 @@
 use Rattle.std.proofs.Common.{◌∙◌, ap, sym}
 use Rattle.version_list.specs.Machine.{kept_graph}
 use Rattle.version_list.specs.Timeline.{Timeline}
-use Rattle.version_list.specs.Fields.{timeline}
+use Rattle.version_list.specs.inside.Fields.{timeline}
 use Rattle.version_list.proofs.Keeping.{graph_of_held}
 use Rattle.version_list.proofs.versions.Versions.kept_graph.Goals as goal
 

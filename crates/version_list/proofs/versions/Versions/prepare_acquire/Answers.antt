@@ -1,7 +1,7 @@
 use Rattle.std.proofs.Common.{◌≡◌, length, refl, ap, arith}
 use Rattle.version_list.specs.declared.versions.Versions.TheInside.{Inside}
 use Rattle.version_list.specs.Machine.{State, version_graph}
-use Rattle.version_list.specs.Fields.{timeline}
+use Rattle.version_list.specs.inside.Fields.{timeline}
 use Rattle.version_list.proofs.Keeping.{holds_unchanged}
 use Rattle.version_list.proofs.Stepping.{kept_reserved}
 use Rattle.version_list.proofs.versions.Versions.prepare_acquire.Goals as goal

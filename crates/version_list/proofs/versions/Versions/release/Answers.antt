@@ -5,7 +5,7 @@ use Rattle.version_list.specs.declared.step.Reply.TheVariants.{Released, Refused
 use Rattle.version_list.specs.declared.versions.Versions.TheInside.{Inside}
 use Rattle.version_list.specs.Machine.{State, is_open, reply_to, version_graph, ticket_version}
 use Rattle.version_list.specs.Timeline.{Timeline, Accepts}
-use Rattle.version_list.specs.Fields.{timeline, Shows}
+use Rattle.version_list.specs.inside.Fields.{timeline, Shows}
 use Rattle.version_list.proofs.Holding.{is_open_is}
 use Rattle.version_list.proofs.Keeping.{some_of, holds_closed}
 use Rattle.version_list.proofs.Stepping.{release_reply, release_after, shows_released, kept_step, accepts_step}

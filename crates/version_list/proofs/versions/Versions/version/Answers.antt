@@ -2,7 +2,7 @@ use Rattle.std.proofs.Common.{◌≤◌, ◌∙◌, subst}
 use Rattle.std.specs.Option.{IfSome}
 use Rattle.version_list.specs.Machine.{newest_number}
 use Rattle.version_list.specs.Timeline.{Timeline}
-use Rattle.version_list.specs.Fields.{timeline}
+use Rattle.version_list.specs.inside.Fields.{timeline}
 use Rattle.version_list.proofs.Keeping.{open_is_made}
 use Rattle.version_list.proofs.versions.Versions.version.Goals as goal
 

@@ -1,6 +1,6 @@
 use Rattle.std.proofs.Common.{◌≡◌, ◌*◌, Contains, length, get_or, drop, take, ◌++◌, ap, sym, subst, ◌∙◌, arith, rules}
 use Rattle.std.proofs.lemmas.List.{get_or_default}
-use Rattle.vertex_sets.specs.Words.{bit_members}
+use Rattle.vertex_sets.specs.inside.Words.{bit_members}
 use Rattle.vertex_marks.proofs.Setting.{zero_below, all_zero, none_marked, written_back}
 use Rattle.vertex_marks.proofs.vertex_marks.VertexMarks.clear.Goals as goal
 

@@ -3,8 +3,8 @@ use Rattle.std.proofs.lemmas.Bool.{eqb-true, eq-eqb}
 use Rattle.std.proofs.lemmas.List.{get_or_default}
 use Rattle.std.specs.Int.{bit_at}
 use Rattle.std.specs.List.Sorted.{IsStrictlyIncreasing}
-use Rattle.vertex_sets.specs.Words.{bit_members, word_members}
-use Rattle.vertex_marks.specs.Named.{named_members}
+use Rattle.vertex_sets.specs.inside.Words.{bit_members, word_members}
+use Rattle.vertex_marks.specs.inside.Named.{named_members}
 use Rattle.vertex_marks.proofs.Naming.{summary_listed, members_increase, members_have}
 use Rattle.vertex_marks.proofs.vertex_marks.VertexMarks.members.Goals as goal
 

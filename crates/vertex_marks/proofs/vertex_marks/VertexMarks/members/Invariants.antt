@@ -1,6 +1,6 @@
 use Rattle.std.proofs.Common.{◌≡◌, take}
-use Rattle.vertex_sets.specs.Words.{word_members}
-use Rattle.vertex_marks.specs.Named.{named_members}
+use Rattle.vertex_sets.specs.inside.Words.{word_members}
+use Rattle.vertex_marks.specs.inside.Named.{named_members}
 use Rattle.vertex_marks.proofs.vertex_marks.VertexMarks.members.Given as goal
 
 abbrev pub invariant-sums : goal.invariant-sums

@@ -1,5 +1,5 @@
 use Rattle.std.proofs.Common.{◌≡◌, [], false, length, replicate, ap, sym, ◌∙◌, rules}
-use Rattle.vertex_sets.specs.Words.{flag_members}
+use Rattle.vertex_sets.specs.inside.Words.{flag_members}
 use Rattle.vertex_sets.proofs.FlagMembers.{flags_none}
 use Rattle.vertex_sets.proofs.flags.FlagSet.empty.Goals as goal
 

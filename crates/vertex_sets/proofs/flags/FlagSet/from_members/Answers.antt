@@ -1,5 +1,5 @@
 use Rattle.std.proofs.Common.{◌≡◌, ◌∷◌, Contains, sym, subst, ◌∙◌}
-use Rattle.vertex_sets.specs.Words.{flag_members}
+use Rattle.vertex_sets.specs.inside.Words.{flag_members}
 use Rattle.vertex_sets.proofs.Ascending.{one_done, all_done, contains_later}
 use Rattle.vertex_sets.proofs.FlagMembers.{rises_flags}
 use Rattle.vertex_sets.proofs.flags.FlagSet.from_members.Goals as goal

@@ -1,5 +1,5 @@
 use Rattle.std.proofs.Common.{◌≡◌, ◌<◌, ℕ, length, Contains}
-use Rattle.vertex_sets.specs.Words.{flag_members}
+use Rattle.vertex_sets.specs.inside.Words.{flag_members}
 use Rattle.vertex_sets.proofs.Ascending.{AreDoneOrLeft}
 use Rattle.vertex_sets.proofs.flags.FlagSet.from_members.Given as goal
 

@@ -1,5 +1,5 @@
 use Rattle.std.proofs.Common.{◌≡◌, ℕ, Bool, true, false, ◌+◌, ◌++◌, ◌∷◌, [], length, length-append, arith, cond, ap, rules}
-use Rattle.vertex_sets.specs.Words.{flag_members}
+use Rattle.vertex_sets.specs.inside.Words.{flag_members}
 use Rattle.vertex_sets.proofs.FlagMembers.{flag_answer, next_flag, flags_push, length_flags}
 use Rattle.vertex_sets.proofs.flags.FlagSet.from_test.Goals as goal
 use Rattle.vertex_sets.proofs.flags.FlagSet.from_test.Goals.{then-passes, else-passes}

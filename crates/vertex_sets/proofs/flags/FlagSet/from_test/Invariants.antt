@@ -1,5 +1,5 @@
 use Rattle.std.proofs.Common.{◌≡◌, ◌<◌, ℕ, false, length, get_or}
-use Rattle.vertex_sets.specs.Words.{flag_members}
+use Rattle.vertex_sets.specs.inside.Words.{flag_members}
 use Rattle.vertex_sets.proofs.flags.FlagSet.from_test.Given as goal
 
 abbrev pub invariant-loop-vertex : goal.invariant-loop-vertex

@@ -1,7 +1,7 @@
 use Rattle.std.proofs.Common.{◌≡◌, true, length, replicate, ap, sym, ◌∙◌, rules}
 use Rattle.std.proofs.lemmas.List.FromFn.{length-range_with_len}
 use Rattle.vertex_sets.specs.VertexSet.{all_vertices}
-use Rattle.vertex_sets.specs.Words.{flag_members}
+use Rattle.vertex_sets.specs.inside.Words.{flag_members}
 use Rattle.vertex_sets.proofs.FlagMembers.{flags_all}
 use Rattle.vertex_sets.proofs.flags.FlagSet.full.Goals as goal
 

@@ -1,7 +1,7 @@
 use Rattle.std.proofs.Common.{◌≡◌, true, false, get_or, sym, ◌∙◌, arith, rules}
 use Rattle.std.proofs.lemmas.List.{get_or_default}
 use Rattle.vertex_sets.proofs.Ascending.{one_again}
-use Rattle.vertex_sets.specs.Words.{flag_members}
+use Rattle.vertex_sets.specs.inside.Words.{flag_members}
 use Rattle.vertex_sets.proofs.FlagMembers.{flag_members_has, flags_set, one_more_flag, length_flags}
 use Rattle.vertex_sets.proofs.flags.FlagSet.insert.Goals as goal
 

@@ -1,5 +1,5 @@
 use Rattle.std.proofs.Common.{◌≡◌, ◌+◌, ◌^◌, ◌<◌, length}
-use Rattle.vertex_sets.specs.Words.{flag_members}
+use Rattle.vertex_sets.specs.inside.Words.{flag_members}
 use Rattle.vertex_sets.proofs.iter.FlagIterIterator.next.Given as goal
 
 abbrev pub invariant-loop-flag : goal.invariant-loop-flag

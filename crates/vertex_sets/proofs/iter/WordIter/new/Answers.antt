@@ -1,5 +1,5 @@
 use Rattle.std.proofs.Common.{◌≡◌, ◌++◌, [], ap₂, ap, sym, ◌∙◌}
-use Rattle.vertex_sets.specs.Words.{word_members}
+use Rattle.vertex_sets.specs.inside.Words.{word_members}
 use Rattle.vertex_sets.proofs.BitMembers.{bits_none}
 use Rattle.vertex_sets.proofs.WordMembers.{no_words}
 use Rattle.vertex_sets.proofs.iter.WordIter.new.Goals as goal

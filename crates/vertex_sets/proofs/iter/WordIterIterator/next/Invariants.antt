@@ -1,5 +1,5 @@
 use Rattle.std.proofs.Common.{◌≡◌, ◌+◌, ◌*◌, ◌^◌, ◌≤◌, ◌++◌, length}
-use Rattle.vertex_sets.specs.Words.{bit_members, word_members}
+use Rattle.vertex_sets.specs.inside.Words.{bit_members, word_members}
 use Rattle.vertex_sets.proofs.iter.WordIterIterator.next.Given as goal
 
 abbrev pub invariant-loop-self : goal.invariant-loop-self

@@ -1,8 +1,8 @@
 use Rattle.std.proofs.Common.{◌≡◌, ◌<◌, length, refl, ◌∙◌, ap, subst, arith}
 use Rattle.vertex_sets.specs.declared.set.Members.TheVariants.{Listed, Flagged, Worded}
-use Rattle.vertex_sets.specs.Words.{word_members}
+use Rattle.vertex_sets.specs.inside.Words.{word_members}
 use Rattle.vertex_sets.specs.VertexSet.{IsAscendingBelow}
-use Rattle.vertex_sets.specs.Stored.{IsStored}
+use Rattle.vertex_sets.specs.inside.Stored.{IsStored}
 use Rattle.vertex_sets.proofs.StoredSets.{valid_members, added, on_ok, still_below, inserted_list}
 use Rattle.vertex_sets.proofs.set.VertexSet.insert.Goals as goal
 use Rattle.vertex_sets.proofs.set.VertexSet.insert.Goals.{in-Listed, in-Flagged, in-Worded}

@@ -1,5 +1,5 @@
 use Rattle.std.proofs.Common.{◌≡◌, length, subst, arith}
-use Rattle.vertex_sets.specs.Stored.{IsStored}
+use Rattle.vertex_sets.specs.inside.Stored.{IsStored}
 use Rattle.vertex_sets.specs.declared.set.Members.TheVariants.{Worded}
 use Rattle.vertex_sets.specs.VertexSet.{word_count}
 use Rattle.vertex_sets.proofs.StoredSets.{valid_set}

@@ -1,5 +1,5 @@
 use Rattle.std.proofs.Common.{◌≡◌, length, ap, sym, ◌∙◌, rules}
-use Rattle.vertex_sets.specs.Stored.{members_of}
+use Rattle.vertex_sets.specs.inside.Stored.{members_of}
 use Rattle.vertex_sets.proofs.StoredSets.{valid_set, count_bound}
 use Rattle.vertex_sets.proofs.set.VertexSet.len.Goals as goal
 

@@ -1,6 +1,6 @@
 use Rattle.std.proofs.Common.{◌≡◌, [], length, replicate, ap, sym, ◌∙◌, rules}
 use Rattle.vertex_sets.specs.VertexSet.{word_count}
-use Rattle.vertex_sets.specs.Words.{word_members}
+use Rattle.vertex_sets.specs.inside.Words.{word_members}
 use Rattle.vertex_sets.proofs.WordMembers.{words_none}
 use Rattle.vertex_sets.proofs.words.WordSet.empty.Goals as goal
 

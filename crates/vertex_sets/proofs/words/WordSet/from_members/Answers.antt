@@ -1,5 +1,5 @@
 use Rattle.std.proofs.Common.{◌≡◌, ◌∷◌, Contains, sym, subst, ◌∙◌}
-use Rattle.vertex_sets.specs.Words.{word_members}
+use Rattle.vertex_sets.specs.inside.Words.{word_members}
 use Rattle.vertex_sets.proofs.Ascending.{one_done, all_done, contains_later}
 use Rattle.vertex_sets.proofs.WordMembers.{rises_words}
 use Rattle.vertex_sets.proofs.words.WordSet.from_members.Goals as goal

@@ -1,6 +1,6 @@
 use Rattle.std.proofs.Common.{◌≡◌, ◌<◌, ℕ, length, Contains}
 use Rattle.vertex_sets.specs.VertexSet.{word_count}
-use Rattle.vertex_sets.specs.Words.{word_members}
+use Rattle.vertex_sets.specs.inside.Words.{word_members}
 use Rattle.vertex_sets.proofs.Ascending.{AreDoneOrLeft}
 use Rattle.vertex_sets.proofs.words.WordSet.from_members.Given as goal
 

@@ -1,6 +1,6 @@
 use Rattle.std.proofs.Common.{◌≡◌, ◌+◌, ◌*◌, ◌-◌, ◌^◌, ◌<◌, ◌++◌, ◌∷◌, [], length, length-append, min, ap, ◌∙◌, arith, rules}
 use Rattle.std.proofs.lemmas.List.Elements.{All-from_get_or, Contains-get_or}
-use Rattle.vertex_sets.specs.Words.{bit_members, word_members}
+use Rattle.vertex_sets.specs.inside.Words.{bit_members, word_members}
 use Rattle.vertex_sets.proofs.BitMembers.{length_bits, bits_room}
 use Rattle.vertex_sets.proofs.WordMembers.{next_word, next_below, word_members_has, word_answer, words_push, words_room}
 use Rattle.vertex_sets.proofs.words.WordSet.from_test.Goals as goal

@@ -1,6 +1,6 @@
 use Rattle.std.proofs.Common.{◌≡◌, ◌<◌, ◌*◌, ◌/◌, ◌%◌, ◌==◌, ℕ, length, get_or}
 use Rattle.std.specs.Int.{bit_at}
-use Rattle.vertex_sets.specs.Words.{word_members}
+use Rattle.vertex_sets.specs.inside.Words.{word_members}
 use Rattle.vertex_sets.proofs.WordMembers.{HasBit}
 use Rattle.vertex_sets.proofs.words.WordSet.from_test.Given as goal
 

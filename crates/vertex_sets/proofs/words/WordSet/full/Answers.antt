@@ -1,7 +1,7 @@
 use Rattle.std.proofs.Common.{◌≡◌, ◌/◌, length, set, ap, sym, ◌∙◌, rules}
 use Rattle.std.proofs.lemmas.List.FromFn.{length-range_with_len}
 use Rattle.vertex_sets.specs.VertexSet.{all_vertices, word_count}
-use Rattle.vertex_sets.specs.Words.{word_members}
+use Rattle.vertex_sets.specs.inside.Words.{word_members}
 use Rattle.vertex_sets.proofs.WordMembers.{ones_only, last_word, filled_words, filled_but_last}
 use Rattle.vertex_sets.proofs.words.WordSet.full.Goals as goal
 use Rattle.vertex_sets.proofs.words.WordSet.full.Goals.{then-beyond-ne0, else-beyond-ne0}

@@ -1,6 +1,6 @@
 use Rattle.std.proofs.Common.{◌≡◌, ◌/◌, ◌*◌, ◌%◌, ◌^◌, ◌<◌, length, get_or, bit_and, ◌∙◌, ap, subst, arith}
 use Rattle.std.proofs.lemmas.List.{get_or_default}
-use Rattle.vertex_sets.specs.Words.{word_members}
+use Rattle.vertex_sets.specs.inside.Words.{word_members}
 use Rattle.vertex_sets.proofs.Ascending.{one_again}
 use Rattle.vertex_sets.proofs.WordMembers.{word_members_has, words_set, words_set_more, words_room, mask_off, mask_on}
 use Rattle.vertex_sets.proofs.words.WordSet.insert.Goals as goal

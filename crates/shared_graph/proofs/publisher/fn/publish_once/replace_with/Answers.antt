@@ -1,6 +1,6 @@
 use Rattle.std.proofs.Common.{sym, subst}
 use Rattle.left_right.specs.Sides.{view as view_of}
-use Rattle.shared_graph.specs.Publishing.{GoesOn}
+use Rattle.shared_graph.specs.inside.Publishing.{GoesOn}
 use Rattle.shared_graph.proofs.Publishing.{publishes}
 use Rattle.shared_graph.proofs.publisher.fn.publish_once.replace_with.Goals as goal
 

@@ -1,0 +1,5 @@
+-- What the code is made of: no public contract cites these definitions.
+pub mod Claims
+pub mod Finding
+pub mod Ordering
+pub mod Workers

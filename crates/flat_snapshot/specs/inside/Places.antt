@@ -1,0 +1,16 @@
+-- Arrays of blocks to which places come.
+use Rattle.std.specs.Prelude.{◌≡◌, ℕ, ◌+◌, Option, List, ◌++◌, length}
+use Rattle.vertex_blocks.specs.Blocks.{Block, IsBlock, numbered}
+use Rattle.flat_snapshot.specs.Lists.{lists_in, AreBlocks}
+
+-- places without a block came, up to n of them
+pub record IsPadded (old : List (Option Block)) (n : ℕ) (new : List (Option Block)) : Type 0 where
+  pub count : length new ≡ n
+  pub lists : (k : ℕ) → lists_in k new ≡ lists_in k old
+  pub blocks : AreBlocks old → AreBlocks new
+
+-- the block b came, as number n
+pub record IsPut (old : List (Option Block)) (n : ℕ) (b : Block) (new : List (Option Block)) : Type 0 where
+  pub count : length new ≡ n + 1
+  pub lists : (k : ℕ) → lists_in k new ≡ lists_in k old ++ numbered (k + n) b
+  pub blocks : AreBlocks old → IsBlock b → AreBlocks new

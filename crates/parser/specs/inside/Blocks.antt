@@ -1,0 +1,61 @@
+-- What statements are read by their first terminal, and blocks by how deep they may stand in each other.
+use Rattle.std.specs.Prelude.{ℕ, zero, suc, List, [], ◌∷◌, Option, Some, None}
+use Rattle.lexer.specs.declared.keyword.Keyword.{Keyword}
+use Rattle.lexer.specs.declared.keyword.Keyword.TheVariants as keyword
+use Rattle.lexer.specs.declared.symbol.Symbol.TheVariants as symbol
+use Rattle.syntax.specs.Terminals.{Terminal, Identifier, OfKeyword, OfSymbol}
+use Rattle.syntax.specs.ExpressionTrees.{ExpressionTree}
+use Rattle.syntax.specs.ExpressionReading.{Reader, ◌>>=◌}
+use Rattle.syntax.specs.SourceTrees.{ActionTree, Declare, While, For, If, IfElse, Print, BlockTree}
+use Rattle.syntax.specs.SourceReading.{expression, typed_at, assigned_at, ended_at, name_at, after_terminal, closed, no_block, block_at, action_by}
+use Rattle.parser.specs.declared.block.Opening.{Opening}
+use Rattle.parser.specs.declared.block.Opening.TheVariants as opening
+
+-- a block in a statement, where so many more may stand in each other
+abbrev pub block_in : ℕ → Reader BlockTree
+block_in zero = no_block
+block_in (suc depth) = block_at depth
+
+abbrev pub action_at : ℕ → Reader ActionTree
+action_at depth = action_by (block_in depth)
+
+-- what begins with a keyword
+abbrev pub opening_of : Keyword → Option Opening
+opening_of keyword.Var = Some opening.Var
+opening_of keyword.While = Some opening.While
+opening_of keyword.For = Some opening.For
+opening_of keyword.If = Some opening.If
+opening_of keyword.Print = Some opening.Print
+opening_of _ = None
+
+-- what stands behind `var`
+abbrev pub declared_at : ℕ → Reader ActionTree
+declared_at at ws = typed_at ws >>= λ n. assigned_at n.1 >>= λ i. Some (Declare at n.0 i.0, i.1)
+
+-- what stands behind `print`
+abbrev pub printed_at : ℕ → Reader ActionTree
+printed_at at ws = ended_at ws >>= λ e. Some (Print at e.0, e.1)
+
+-- a variable and the two ends of what it runs over
+abbrev pub range_at : Reader (Identifier × ExpressionTree × ExpressionTree)
+range_at ws =
+    name_at ws >>= λ n. after_terminal (OfKeyword keyword.In) n.1 >>= λ a. expression a >>= λ e.
+    after_terminal (OfSymbol symbol.Colon) e.1 >>= λ c. expression c >>= λ f. Some ((n.0, e.0, f.0), f.1)
+
+-- a block and `end`
+abbrev pub to_end_by : Reader BlockTree → Reader BlockTree
+to_end_by block ws = block ws >>= closed (OfKeyword keyword.End ∷ [])
+
+-- what stands behind the body of an `if`
+abbrev pub otherwise_by : Reader BlockTree → ℕ → ExpressionTree → BlockTree × List Terminal → Option (List Terminal) → Option (ActionTree × List Terminal)
+otherwise_by block at test body None = closed (OfKeyword keyword.End ∷ []) (If at test body.0, body.1)
+otherwise_by block at test body (Some after) = to_end_by block after >>= λ b. Some (IfElse at test body.0 b.0, b.1)
+
+-- what stands behind that keyword
+abbrev pub opened_by : Reader BlockTree → Opening → ℕ → Reader ActionTree
+opened_by block opening.Var at ws = declared_at at ws
+opened_by block opening.While at ws = expression ws >>= λ e. to_end_by block e.1 >>= λ b. Some (While at e.0 b.0, b.1)
+opened_by block opening.For at ws =
+    range_at ws >>= λ r. to_end_by block r.1 >>= λ b. Some (For at r.0.0 r.0.1 r.0.2 b.0, b.1)
+opened_by block opening.If at ws = expression ws >>= λ e. block e.1 >>= λ b. otherwise_by block at e.0 b (after_terminal (OfKeyword keyword.Else) b.1)
+opened_by block opening.Print at ws = printed_at at ws

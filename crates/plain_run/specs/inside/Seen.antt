@@ -1,0 +1,54 @@
+-- What private contracts see of a run's state.
+use Rattle.std.specs.Prelude.{Option, Some, None, List, ℤ}
+use Rattle.typed_tree.specs.declared.function.FunctionStatement.{FunctionStatement}
+use Rattle.typed_tree.specs.declared.function.FunctionStatement.TheVariants as step
+use Rattle.typed_tree.specs.declared.statement.StatementKind.{StatementKind}
+use Rattle.typed_tree.specs.declared.statement.StatementKind.TheVariants as rust
+use Rattle.plain_run.specs.declared.state.EdgeList.{EdgeList}
+use Rattle.plain_run.specs.declared.state.Environment.{Environment}
+use Rattle.plain_run.specs.declared.state.InterpreterState.{InterpreterState}
+use Rattle.algorithm_meaning.specs.declared.outcome.End.{End}
+use Rattle.plain_run.specs.declared.function.FunctionFrame.{FunctionFrame}
+use Rattle.algorithm_meaning.specs.Function.{WorkValue}
+use Rattle.algorithm_meaning.specs.State.{GraphValue, ScopeValue, StateValue}
+use Rattle.algorithm_meaning.specs.Stand.{Stand, Live, Over}
+
+abbrev pub graph_of : EdgeList → GraphValue
+graph_of g = record { vertices = g.vertices; edges = g.edges.now }
+
+abbrev pub scope_of : Environment → ScopeValue
+scope_of s = record { integers = s.integers.items; conditions = s.conditions.items; source = s.source; destination = s.destination; weight = s.weight }
+
+abbrev pub state_of : InterpreterState → StateValue
+state_of s = record { vectors = s.vectors.items; sets = s.sets.items; scope = scope_of s.scope; text = s.text.items; turns = s.turns }
+
+-- where a run stands: it goes on, or it has ended
+abbrev pub stand : Option End → StateValue → Stand
+stand None s = Live s
+stand (Some end) s = Over s end
+
+-- the statement has no block
+abbrev pub HasNoBlock : StatementKind → Type 0
+HasNoBlock (rust.If' c shape body) = ⊥
+HasNoBlock (rust.IfElse' c shape body shape' other) = ⊥
+HasNoBlock (rust.While' c shape body) = ⊥
+HasNoBlock (rust.For' name first end shape body) = ⊥
+HasNoBlock action = Unit
+
+-- the statement makes a set or goes over one
+abbrev pub IsOverSets : StatementKind → Type 0
+IsOverSets (rust.DeclareSet name value) = Unit
+IsOverSets (rust.AssignSet slot value) = Unit
+IsOverSets (rust.ApplyVertex set function) = Unit
+IsOverSets (rust.ApplyEdges ends function) = Unit
+IsOverSets action = ⊥
+
+-- what a function works on
+abbrev pub work_of : List (List ℤ) → FunctionFrame → WorkValue
+work_of vectors w = record { vectors = vectors; scope = scope_of w.scope; given = w.given.items }
+
+-- the statement of a function has no block
+abbrev pub HasNoSteps : FunctionStatement → Type 0
+HasNoSteps (step.If' c shape body) = ⊥
+HasNoSteps (step.IfElse' c shape body shape' other) = ⊥
+HasNoSteps s = Unit

@@ -1,0 +1,25 @@
+-- How far a script has been read.
+use Rattle.std.specs.Prelude.{ℕ, Option, None, List, [], ◌++◌}
+use Rattle.algorithm_meaning.specs.ProgramTree.{ProgramTree}
+use Rattle.scripts.specs.Pieces.{ended_lines, unended_line}
+use Rattle.scripts.specs.Replies.{OpenState, replies_to_lines, state_after_lines}
+
+-- what the lines that have ended left, and the beginning of the line that has not
+pub record Reading : Type 0 where
+  pub state : Option OpenState
+  pub partial : List ℕ
+
+-- before the first byte
+abbrev pub at_start : Reading
+at_start = record { state = None; partial = [] }
+
+-- the reading after more bytes
+abbrev pub reading_after : List ProgramTree → Reading → List ℕ → Reading
+reading_after programs r bytes = record {
+  state = state_after_lines programs r.state (ended_lines (r.partial ++ bytes));
+  partial = unended_line (r.partial ++ bytes);
+}
+
+-- the replies to the lines that end within the bytes
+abbrev pub replies_within : List ProgramTree → Reading → List ℕ → List ℕ
+replies_within programs r bytes = replies_to_lines programs r.state (ended_lines (r.partial ++ bytes))

@@ -1,0 +1,4 @@
+-- What the code is made of: no public contract cites these definitions.
+pub mod Book
+pub mod Publishing
+pub mod Locked

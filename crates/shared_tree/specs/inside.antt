@@ -1,0 +1,5 @@
+-- What the code is made of: no public contract cites these definitions.
+pub mod Shape
+pub mod Halves
+pub mod Opened
+pub mod Pending

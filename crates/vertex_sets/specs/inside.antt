@@ -1,0 +1,4 @@
+-- What the code is made of: no public contract cites these definitions.
+pub mod Words
+pub mod Stored
+pub mod Remaining
