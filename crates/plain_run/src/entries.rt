@@ -9,7 +9,7 @@ ghost use Rattle.plain_run.specs.inside.Seen.{stand, state_of};
 ghost use Rattle.algorithm_meaning.specs.Value.{reduce_at, with_entry};
 
 use crate::evaluate::entry_of;
-use crate::state::InterpreterState;
+use crate::state::{InterpreterState, StatementContext};
 use crate::values::{fault, number_of, vertex_of};
 use algorithm_meaning::{Contribution, End, reduce};
 use apply_options::Reduction;
@@ -20,19 +20,18 @@ pub(crate) fn set_entry_in(
     vector: usize,
     index: &IntExpression,
     e: &IntExpression,
-    number: u64,
-    vertices: u32,
+    context: StatementContext,
     state: &mut InterpreterState,
 ) -> Option<End>
     ensures meaning { stand result (state_of state.new)
-        ≡ after_set_entry vertices number vector (integer_tree index.now) (integer_tree e.now) (state_of state.old) }
+        ≡ after_set_entry context.vertices context.number vector (integer_tree index.now) (integer_tree e.now) (state_of state.old) }
     ensures turns { state.new.turns ≡ state.old.turns }
 {
-    let Some(vertex) = vertex_of(index, vertices, state) else {
-        return fault(number);
+    let Some(vertex) = vertex_of(index, context.vertices, state) else {
+        return fault(context.number);
     };
-    let Some(value) = number_of(e, vertices, state) else {
-        return fault(number);
+    let Some(value) = number_of(e, context.vertices, state) else {
+        return fault(context.number);
     };
     set_entry(&mut state.vectors, vector, vertex as usize, value);
     None
@@ -43,19 +42,18 @@ pub(crate) fn reduce_entry(
     index: &IntExpression,
     reduction: Reduction,
     e: &IntExpression,
-    number: u64,
-    vertices: u32,
+    context: StatementContext,
     state: &mut InterpreterState,
 ) -> Option<End>
     ensures meaning { stand result (state_of state.new)
-        ≡ after_reduce_entry vertices number vector (integer_tree index.now) reduction (integer_tree e.now) (state_of state.old) }
+        ≡ after_reduce_entry context.vertices context.number vector (integer_tree index.now) reduction (integer_tree e.now) (state_of state.old) }
     ensures turns { state.new.turns ≡ state.old.turns }
 {
-    let Some(vertex) = vertex_of(index, vertices, state) else {
-        return fault(number);
+    let Some(vertex) = vertex_of(index, context.vertices, state) else {
+        return fault(context.number);
     };
-    let Some(given) = number_of(e, vertices, state) else {
-        return fault(number);
+    let Some(given) = number_of(e, context.vertices, state) else {
+        return fault(context.number);
     };
     let contribution = Contribution {
         vector,

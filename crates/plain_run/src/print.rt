@@ -5,7 +5,7 @@ ghost use Rattle.typed_tree.specs.ConditionTree.{condition_tree};
 ghost use Rattle.algorithm_meaning.specs.Print.{after_print_condition, after_print_integer, condition_line, integer_line};
 ghost use Rattle.plain_run.specs.inside.Seen.{stand, state_of};
 
-use crate::state::InterpreterState;
+use crate::state::{InterpreterState, StatementContext};
 use crate::values::{decide, fault, number_of};
 use algorithm_meaning::End;
 use decimal::push_integer;
@@ -14,16 +14,15 @@ use typed_tree::{BoolExpression, IntExpression};
 
 pub(crate) fn print_integer_in(
     e: &IntExpression,
-    number: u64,
-    vertices: u32,
+    context: StatementContext,
     state: &mut InterpreterState,
 ) -> Result<Option<End>, AllocError>
     ensures meaning { IfOk result (λ end. stand end (state_of state.new)
-        ≡ after_print_integer vertices number (integer_tree e.now) (state_of state.old)) }
+        ≡ after_print_integer context.vertices context.number (integer_tree e.now) (state_of state.old)) }
     ensures turns { state.new.turns ≡ state.old.turns }
 {
-    let Some(printed) = number_of(e, vertices, state) else {
-        return Ok(fault(number));
+    let Some(printed) = number_of(e, context.vertices, state) else {
+        return Ok(fault(context.number));
     };
     print_integer(&mut state.text, printed)?;
     Ok(None)
@@ -31,16 +30,15 @@ pub(crate) fn print_integer_in(
 
 pub(crate) fn print_condition_in(
     c: &BoolExpression,
-    number: u64,
-    vertices: u32,
+    context: StatementContext,
     state: &mut InterpreterState,
 ) -> Result<Option<End>, AllocError>
     ensures meaning { IfOk result (λ end. stand end (state_of state.new)
-        ≡ after_print_condition vertices number (condition_tree c.now) (state_of state.old)) }
+        ≡ after_print_condition context.vertices context.number (condition_tree c.now) (state_of state.old)) }
     ensures turns { state.new.turns ≡ state.old.turns }
 {
-    let Some(value) = decide(c, vertices, state) else {
-        return Ok(fault(number));
+    let Some(value) = decide(c, context.vertices, state) else {
+        return Ok(fault(context.number));
     };
     print_condition(&mut state.text, value)?;
     Ok(None)

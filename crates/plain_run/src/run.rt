@@ -17,7 +17,7 @@ use crate::initial_state::open;
 use crate::outcome::show;
 use crate::print::{print_condition_in, print_integer_in};
 use crate::sets::{add_vertex, assign_set, declare_set};
-use crate::state::{EdgeList, InterpreterState};
+use crate::state::{EdgeList, InterpreterState, StatementContext};
 use crate::values::{counter_of, decide, depth, fault, forget, go_on, is_below, push_counter};
 use crate::variables::{
     declare_condition, declare_integer, reduce_integer, set_condition, set_integer,
@@ -118,30 +118,27 @@ fn run_without_block(
         ≡ after (program_tree program.now) (graph_of graph.now) number (action_tree action.now) (state_of state.old)) }
     ensures turns { state.new.turns ≡ state.old.turns }
 {
-    let vertices = graph.vertices;
+    let context = StatementContext {
+        number,
+        vertices: graph.vertices,
+    };
     match action {
-        StatementKind::DeclareInteger(_, e) => declare_integer(e, number, vertices, state),
-        StatementKind::DeclareCondition(_, c) => declare_condition(c, number, vertices, state),
-        StatementKind::SetInteger(slot, e) => Ok(set_integer(
-            slot.place, e, number, vertices, state,
-        )),
-        StatementKind::SetCondition(slot, c) => Ok(set_condition(
-            slot.place, c, number, vertices, state,
-        )),
+        StatementKind::DeclareInteger(_, e) => declare_integer(e, context, state),
+        StatementKind::DeclareCondition(_, c) => declare_condition(c, context, state),
+        StatementKind::SetInteger(slot, e) => Ok(set_integer(slot.place, e, context, state)),
+        StatementKind::SetCondition(slot, c) => Ok(set_condition(slot.place, c, context, state)),
         StatementKind::ReduceInteger(slot, reduction, e) => Ok(reduce_integer(
-            slot.place, *reduction, e, number, vertices, state,
+            slot.place, *reduction, e, context, state,
         )),
         StatementKind::SetEntry(vector, index, e) => {
-            Ok(set_entry_in(*vector, index, e, number, vertices, state))
+            Ok(set_entry_in(*vector, index, e, context, state))
         }
         StatementKind::ReduceEntry(vector, index, reduction, e) => Ok(reduce_entry(
-            *vector, index, *reduction, e, number, vertices, state,
+            *vector, index, *reduction, e, context, state,
         )),
-        StatementKind::AddVertex(slot, e) => add_vertex(
-            alloc, slot.place, e, number, vertices, state,
-        ),
-        StatementKind::PrintInteger(e) => print_integer_in(e, number, vertices, state),
-        StatementKind::PrintCondition(c) => print_condition_in(c, number, vertices, state),
+        StatementKind::AddVertex(slot, e) => add_vertex(alloc, slot.place, e, context, state),
+        StatementKind::PrintInteger(e) => print_integer_in(e, context, state),
+        StatementKind::PrintCondition(c) => print_condition_in(c, context, state),
         StatementKind::DeclareSet(_, _)
         | StatementKind::AssignSet(_, _)
         | StatementKind::ApplyVertex(_, _)

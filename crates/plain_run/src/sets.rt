@@ -14,7 +14,7 @@ use crate::edge_apply::{apply_edges, modified_vertices};
 use crate::evaluate::members_at;
 use crate::filter::filter_members;
 use crate::initial_state::vertices_below;
-use crate::state::{EdgeList, InterpreterState};
+use crate::state::{EdgeList, InterpreterState, StatementContext};
 use crate::values::{fault, vertex_of};
 use algorithm_meaning::{End, SetBinding};
 use std::alloc::{AllocError, Global};
@@ -59,16 +59,15 @@ pub(crate) fn add_vertex(
     alloc: Global,
     place: usize,
     e: &IntExpression,
-    number: u64,
-    vertices: u32,
+    context: StatementContext,
     state: &mut InterpreterState,
 ) -> Result<Option<End>, AllocError>
     ensures meaning { IfOk result (λ end. stand end (state_of state.new)
-        ≡ after_add_vertex vertices number place (integer_tree e.now) (state_of state.old)) }
+        ≡ after_add_vertex context.vertices context.number place (integer_tree e.now) (state_of state.old)) }
     ensures turns { state.new.turns ≡ state.old.turns }
 {
-    let Some(vertex) = vertex_of(e, vertices, state) else {
-        return Ok(fault(number));
+    let Some(vertex) = vertex_of(e, context.vertices, state) else {
+        return Ok(fault(context.number));
     };
     let members = with_vertex(alloc, vertex, members_at(&state.sets, place))?;
     put_members(place, Sequence::new(members), &mut state.sets);

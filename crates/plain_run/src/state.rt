@@ -9,6 +9,13 @@ pub(crate) struct EdgeList<'a> {
     pub(crate) edges: &'a [(u32, u32, i64)],
 }
 
+/// What a statement of `main` is told: its number, and how many vertices the graph has.
+#[derive(Clone, Copy)]
+pub(crate) struct StatementContext {
+    pub(crate) number: u64,
+    pub(crate) vertices: u32,
+}
+
 /// The variables that are visible, by their places, and the vertices and the weight that a function works on.
 #[derive(Drop)]
 pub(crate) struct Environment {

@@ -10,7 +10,7 @@ ghost use Rattle.algorithm_meaning.specs.Variables.{after_declare_condition, aft
 ghost use Rattle.algorithm_meaning.specs.Variables.{after_reduce_integer, after_set_condition, after_set_integer};
 
 use crate::evaluate::integer_at;
-use crate::state::InterpreterState;
+use crate::state::{InterpreterState, StatementContext};
 use crate::values::{decide, fault, number_of};
 use algorithm_meaning::{End, reduce};
 use apply_options::Reduction;
@@ -19,16 +19,15 @@ use typed_tree::{BoolExpression, IntExpression};
 
 pub(crate) fn declare_integer(
     e: &IntExpression,
-    number: u64,
-    vertices: u32,
+    context: StatementContext,
     state: &mut InterpreterState,
 ) -> Result<Option<End>, AllocError>
     ensures meaning { IfOk result (λ end. stand end (state_of state.new)
-        ≡ after_declare_integer vertices number (integer_tree e.now) (state_of state.old)) }
+        ≡ after_declare_integer context.vertices context.number (integer_tree e.now) (state_of state.old)) }
     ensures turns { state.new.turns ≡ state.old.turns }
 {
-    let Some(value) = number_of(e, vertices, state) else {
-        return Ok(fault(number));
+    let Some(value) = number_of(e, context.vertices, state) else {
+        return Ok(fault(context.number));
     };
     state.scope.integers.push(value)?;
     Ok(None)
@@ -36,16 +35,15 @@ pub(crate) fn declare_integer(
 
 pub(crate) fn declare_condition(
     c: &BoolExpression,
-    number: u64,
-    vertices: u32,
+    context: StatementContext,
     state: &mut InterpreterState,
 ) -> Result<Option<End>, AllocError>
     ensures meaning { IfOk result (λ end. stand end (state_of state.new)
-        ≡ after_declare_condition vertices number (condition_tree c.now) (state_of state.old)) }
+        ≡ after_declare_condition context.vertices context.number (condition_tree c.now) (state_of state.old)) }
     ensures turns { state.new.turns ≡ state.old.turns }
 {
-    let Some(value) = decide(c, vertices, state) else {
-        return Ok(fault(number));
+    let Some(value) = decide(c, context.vertices, state) else {
+        return Ok(fault(context.number));
     };
     state.scope.conditions.push(value)?;
     Ok(None)
@@ -54,16 +52,15 @@ pub(crate) fn declare_condition(
 pub(crate) fn set_integer(
     place: usize,
     e: &IntExpression,
-    number: u64,
-    vertices: u32,
+    context: StatementContext,
     state: &mut InterpreterState,
 ) -> Option<End>
     ensures meaning { stand result (state_of state.new)
-        ≡ after_set_integer vertices number place (integer_tree e.now) (state_of state.old) }
+        ≡ after_set_integer context.vertices context.number place (integer_tree e.now) (state_of state.old) }
     ensures turns { state.new.turns ≡ state.old.turns }
 {
-    let Some(value) = number_of(e, vertices, state) else {
-        return fault(number);
+    let Some(value) = number_of(e, context.vertices, state) else {
+        return fault(context.number);
     };
     put_integer(place, value, &mut state.scope.integers);
     None
@@ -72,16 +69,15 @@ pub(crate) fn set_integer(
 pub(crate) fn set_condition(
     place: usize,
     c: &BoolExpression,
-    number: u64,
-    vertices: u32,
+    context: StatementContext,
     state: &mut InterpreterState,
 ) -> Option<End>
     ensures meaning { stand result (state_of state.new)
-        ≡ after_set_condition vertices number place (condition_tree c.now) (state_of state.old) }
+        ≡ after_set_condition context.vertices context.number place (condition_tree c.now) (state_of state.old) }
     ensures turns { state.new.turns ≡ state.old.turns }
 {
-    let Some(value) = decide(c, vertices, state) else {
-        return fault(number);
+    let Some(value) = decide(c, context.vertices, state) else {
+        return fault(context.number);
     };
     put_condition(place, value, &mut state.scope.conditions);
     None
@@ -91,16 +87,15 @@ pub(crate) fn reduce_integer(
     place: usize,
     reduction: Reduction,
     e: &IntExpression,
-    number: u64,
-    vertices: u32,
+    context: StatementContext,
     state: &mut InterpreterState,
 ) -> Option<End>
     ensures meaning { stand result (state_of state.new)
-        ≡ after_reduce_integer vertices number place reduction (integer_tree e.now) (state_of state.old) }
+        ≡ after_reduce_integer context.vertices context.number place reduction (integer_tree e.now) (state_of state.old) }
     ensures turns { state.new.turns ≡ state.old.turns }
 {
-    let Some(given) = number_of(e, vertices, state) else {
-        return fault(number);
+    let Some(given) = number_of(e, context.vertices, state) else {
+        return fault(context.number);
     };
     let value = reduce(reduction, integer_at(&state.scope, place), given);
     put_integer(place, value, &mut state.scope.integers);
