@@ -5,7 +5,7 @@ ghost use Rattle.std.specs.List.{All};
 ghost use Rattle.crew.specs.Pieces.{AreFound};
 
 use crate::gate::Gate;
-use crate::piece::{do_piece, state_or_new};
+use crate::piece::{NextPiece, do_piece, state_or_new};
 use crate::piece_results::Found;
 use crate::work::Work;
 use std::alloc::{AllocError, Global};
@@ -48,7 +48,12 @@ fn do_pieces<G: Gate, W: Work>(
 {
     let mut found = Vec::with_capacity(alloc, pieces)?;
     for place in 0..pieces {
-        do_piece(alloc, gate, work, 1, place, pieces, state, &mut found)?;
+        let next = NextPiece {
+            worker: 1,
+            place,
+            pieces,
+        };
+        do_piece(alloc, gate, work, next, state, &mut found)?;
     }
     Ok(found)
 }

@@ -9,7 +9,7 @@ ghost use Rattle.crew.specs.inside.Workers.{IsHired, HasClaimed};
 
 use crate::claim_word::{Claim, ClaimWord, dismiss, draw, hire, open_word};
 use crate::gate::Gate;
-use crate::piece::{do_piece, state_or_new};
+use crate::piece::{NextPiece, do_piece, state_or_new};
 use crate::piece_results::Found;
 use crate::work::Work;
 use crate::worker::{FinishedWorker, StartingWorker, bring_back};
@@ -124,9 +124,12 @@ fn claim_pieces<G: Gate, W: Work>(
     let mut found = Vec::new(alloc);
     let mut place = draw(word, &mut turn) as usize;
     while place < pieces {
-        do_piece(
-            alloc, gate, work, worker, place, pieces, &mut state, &mut found,
-        )?;
+        let next = NextPiece {
+            worker,
+            place,
+            pieces,
+        };
+        do_piece(alloc, gate, work, next, &mut state, &mut found)?;
         place = draw(word, &mut turn) as usize;
     }
     Ok(FinishedWorker { turn, state, found })

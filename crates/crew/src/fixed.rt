@@ -6,7 +6,7 @@ ghost use Rattle.crew.specs.inside.Finding.{AreAll, IsAnswered};
 ghost use Rattle.crew.specs.inside.Workers.{AreNumbered, IsNumbered, HasEvery, HaveEvery};
 
 use crate::gate::Gate;
-use crate::piece::{do_piece, state_or_new};
+use crate::piece::{NextPiece, do_piece, state_or_new};
 use crate::piece_results::Found;
 use crate::work::Work;
 use crate::worker::{FinishedWorker, StartingWorker, bring_back};
@@ -96,9 +96,12 @@ fn fixed_pieces<G: Gate, W: Work>(
     let mut found = Vec::new(alloc);
     let mut place = worker - 1;
     while place < pieces {
-        do_piece(
-            alloc, gate, work, worker, place, pieces, &mut state, &mut found,
-        )?;
+        let next = NextPiece {
+            worker,
+            place,
+            pieces,
+        };
+        do_piece(alloc, gate, work, next, &mut state, &mut found)?;
         place += workers;
     }
     Ok(FinishedWorker {

@@ -23,24 +23,30 @@ pub(crate) fn state_or_new<W: Work>(
     }
 }
 
-/// Does the piece at a place, counted from 0, and adds it to what the worker found.
+/// The piece that a worker does next: its place, counted from 0, among all pieces.
+#[derive(Clone, Copy)]
+pub(crate) struct NextPiece {
+    pub(crate) worker: usize,
+    pub(crate) place: usize,
+    pub(crate) pieces: usize,
+}
+
+/// Does a piece, and adds it to what the worker found.
 pub(crate) fn do_piece<G: Gate, W: Work>(
     alloc: Global,
     gate: &G,
     work: &W,
-    worker: usize,
-    place: usize,
-    pieces: usize,
+    next: NextPiece,
     state: &mut W::State,
     found: &mut Vec<Found<W::Out>>,
 ) -> Result<(), AllocError>
-    requires place { (place < pieces) × (pieces ≤ W.pieces work.now) }
+    requires place { (next.place < next.pieces) × (next.pieces ≤ W.pieces work.now) }
     requires state { W.keeps work.now state.old }
     ensures state { IfOk result (λ _. W.keeps work.now state.new) }
-    ensures found { IfOk result (λ _. HasAdded (W.answers work.now) (place + 1) found.old.items found.new.items) }
+    ensures found { IfOk result (λ _. HasAdded (W.answers work.now) (next.place + 1) found.old.items found.new.items) }
 {
-    let piece = place + 1;
-    gate.enter(worker, piece, pieces);
+    let piece = next.place + 1;
+    gate.enter(next.worker, piece, next.pieces);
     let out = work.piece(alloc, state, piece)?;
     found.push(Found { piece, out })?;
     Ok(())

@@ -4,7 +4,7 @@ ghost use Rattle.std.specs.Prelude.{◌≡◌, ◌+◌, ◌^◌, ◌<◌, ◌≤
 ghost use Rattle.pages.specs.inside.Entries.{keys_size, size_of, list_at, IsListed};
 
 use crate::neighbours::Neighbours;
-use crate::offsets::number;
+use crate::offsets::{PackedOffsets, number};
 use crate::weights::WeightWidth;
 
 /// A vertex that is present, with the place where its list starts, the index of its last neighbour, and
@@ -58,13 +58,12 @@ pub(crate) fn list_of(bytes: &[u8], entry: ListEntry) -> Neighbours<'_>
     let (start, width) = (entry.start as usize, u32::from(entry.width));
     let first = number(bytes, start);
     let mask = u32::MAX >> (32 - 8 * width);
-    let (len, weights) = (entry.degree(), entry.weights);
-    Neighbours::new(
+    let packed = PackedOffsets {
         first,
-        width as usize,
+        width: width as usize,
         mask,
-        len,
-        weights,
-        &bytes[start + 4..],
-    )
+        len: entry.degree(),
+        offsets: &bytes[start + 4..],
+    };
+    Neighbours::new(packed, entry.weights)
 }

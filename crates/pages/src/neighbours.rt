@@ -12,7 +12,7 @@ ghost use Rattle.pages.specs.inside.Packed.{entries_of, IsWeightedView};
 
 use crate::blocks::{fill_after, fill_before};
 use crate::columns::{EntryColumns, pad};
-use crate::offsets::offset;
+use crate::offsets::{PackedOffsets, offset};
 use crate::packed_list::MAX_LONG;
 use crate::walks::{Ascending, Descending};
 use crate::weight_blocks::fill_weights;
@@ -24,15 +24,10 @@ use std::marker::Model;
 /// contract sees the list of the pairs.
 #[derive(Drop)]
 pub struct Neighbours<'a> {
-    first: u32,
-    /// How many bytes each offset takes, and the mask that cuts them out of four.
-    width: usize,
-    mask: u32,
-    len: usize,
+    /// The first and the offsets of the others, with the weights behind them and three bytes or more behind those.
+    packed: PackedOffsets<'a>,
     /// How many bytes each weight takes.
     weights: WeightWidth,
-    /// The offsets from the first, and the weights behind them, with three bytes or more behind those.
-    offsets: &'a [u8],
 }
 
 impl<'a> Model for Neighbours<'a> {
@@ -41,33 +36,19 @@ impl<'a> Model for Neighbours<'a> {
 
     ghost Value = { List (ℕ × ℤ) };
 
-    ghost view = { λ l. entries_of l.first l.width l.len l.weights l.offsets.now };
+    ghost view = { λ l. entries_of l.packed.first l.packed.width l.packed.len l.weights l.packed.offsets.now };
 
-    ghost invariant = { λ l. IsWeightedView l.first l.width l.mask l.len l.weights l.offsets.now };
+    ghost invariant = { λ l. IsWeightedView l.packed.first l.packed.width l.packed.mask l.packed.len l.weights l.packed.offsets.now };
 }
 
 impl<'a> Neighbours<'a> {
     /// The list of a first neighbour, the offsets of the others and the weights behind them.
     #[inline]
-    pub(crate) fn new(
-        first: u32,
-        width: usize,
-        mask: u32,
-        len: usize,
-        weights: WeightWidth,
-        offsets: &'a [u8],
-    ) -> Neighbours<'a>
-        requires { IsWeightedView first width mask len weights offsets.now }
-        ensures { result ≡ entries_of first width len weights offsets.now }
+    pub(crate) fn new(packed: PackedOffsets<'a>, weights: WeightWidth) -> Neighbours<'a>
+        requires { IsWeightedView packed.first packed.width packed.mask packed.len weights packed.offsets.now }
+        ensures { result ≡ entries_of packed.entry.first packed.entry.width packed.entry.len weights packed.entry.offsets.now }
     {
-        Neighbours {
-            first,
-            width,
-            mask,
-            len,
-            weights,
-            offsets,
-        }
+        Neighbours { packed, weights }
     }
 
     /// No neighbour.
@@ -75,7 +56,14 @@ impl<'a> Neighbours<'a> {
     pub fn none() -> Neighbours<'a>
         ensures { result ≡ [] }
     {
-        Neighbours::new(0, 1, 0xff, 0, WeightWidth::Ones, &[])
+        let packed = PackedOffsets {
+            first: 0,
+            width: 1,
+            mask: 0xff,
+            len: 0,
+            offsets: &[],
+        };
+        Neighbours::new(packed, WeightWidth::Ones)
     }
 
     /// How many neighbours there are, at most 2,048. It takes constant time.
@@ -85,7 +73,7 @@ impl<'a> Neighbours<'a> {
         ensures few { result ≤ MAX_LONG }
         ensures ascending { AscendsFrom 0 (keys_of self.now) }
     {
-        self.len
+        self.packed.len
     }
 
     /// Whether there is no neighbour. It takes constant time.
@@ -102,10 +90,11 @@ impl<'a> Neighbours<'a> {
         requires { index < length self.now }
         ensures { result ≡ slice_index (keys_of self.now) index }
     {
+        let packed = self.packed;
         if index == 0 {
-            return self.first;
+            return packed.first;
         }
-        self.first + offset(self.offsets, self.width, self.mask, index - 1)
+        packed.first + offset(packed.offsets, packed.width, packed.mask, index - 1)
     }
 
     /// The weight at an index. It takes constant time.
@@ -114,8 +103,8 @@ impl<'a> Neighbours<'a> {
         requires { index < length self.now }
         ensures { result ≡ (get_or self.now index (0, pos 1)).1 }
     {
-        let start = self.width * (self.len - 1) + self.weights.size() * index;
-        weight_at(self.offsets, self.weights, start)
+        let start = self.packed.width * (self.packed.len - 1) + self.weights.size() * index;
+        weight_at(self.packed.offsets, self.weights, start)
     }
 
     /// The neighbour at an index, with its weight. It takes constant time.
@@ -184,13 +173,12 @@ impl<'a> Neighbours<'a> {
         requires { from + length block.old ≤ length self.now }
         ensures { block.new ≡ take (length block.old) (drop from (keys_of self.now)) }
     {
-        let (first, width, mask, len) = (self.first, self.width, self.mask, self.len);
         if from > 0 {
-            return fill_after(first, width, mask, len, self.offsets, from, block);
+            return fill_after(self.packed, from, block);
         }
         if !block.is_empty() {
-            block[0] = first;
-            fill_after(first, width, mask, len, self.offsets, 1, &mut block[1..]);
+            block[0] = self.packed.first;
+            fill_after(self.packed, 1, &mut block[1..]);
         }
     }
 
@@ -201,22 +189,13 @@ impl<'a> Neighbours<'a> {
         requires room { length block.old ≤ end }
         ensures { block.new ≡ take (length block.old) (reverse (take end (keys_of self.now))) }
     {
-        let (first, width, mask, len) = (self.first, self.width, self.mask, self.len);
         let count = block.len();
         if count < end {
-            return fill_before(first, width, mask, len, self.offsets, end, block);
+            return fill_before(self.packed, end, block);
         }
         if count > 0 {
-            fill_before(
-                first,
-                width,
-                mask,
-                len,
-                self.offsets,
-                end,
-                &mut block[..count - 1],
-            );
-            block[count - 1] = first;
+            fill_before(self.packed, end, &mut block[..count - 1]);
+            block[count - 1] = self.packed.first;
         }
     }
 
@@ -229,8 +208,8 @@ impl<'a> Neighbours<'a> {
         if block.is_empty() {
             return;
         }
-        let start = self.width * (self.len - 1) + self.weights.size() * from;
-        fill_weights(self.offsets, self.weights, start, block);
+        let start = self.packed.width * (self.packed.len - 1) + self.weights.size() * from;
+        fill_weights(self.packed.offsets, self.weights, start, block);
     }
 
     /// Fills a block with the weights below an index, downward.
@@ -293,7 +272,7 @@ impl<'a> Neighbours<'a> {
         ensures { IfOk result (λ _. keys.new.items
             ≡ keys.old.items ++ take count (drop from (keys_of self.now))) }
     {
-        prove!(count <= self.len);
+        prove!(count <= self.packed.len);
         let len = keys.len();
         keys.resize(len + count, 0)?;
         self.fill_from(from, &mut keys[len..]);
@@ -334,7 +313,7 @@ impl<'a> Neighbours<'a> {
         ensures { IfOk result (λ _. weights.new.items
             ≡ weights.old.items ++ take count (drop from (values_of self.now))) }
     {
-        prove!(count <= self.len);
+        prove!(count <= self.packed.len);
         let len = weights.len();
         weights.resize(len + count, 1)?;
         self.fill_weights_from(from, &mut weights[len..]);

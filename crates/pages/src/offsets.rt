@@ -3,6 +3,35 @@
 ghost use Rattle.std.specs.Prelude.{◌≡◌, ◌+◌, ◌-◌, ◌*◌, ◌^◌, ◌≤◌, length};
 ghost use Rattle.pages.specs.inside.Numbers.{number_at};
 
+/// What the neighbours of a packed list are read from: the first of them, and how far each other is above it.
+#[derive(Clone, Copy)]
+pub(crate) struct PackedOffsets<'a> {
+    pub(crate) first: u32,
+    /// How many bytes each offset takes, and the mask that cuts them out of four.
+    pub(crate) width: usize,
+    pub(crate) mask: u32,
+    pub(crate) len: usize,
+    pub(crate) offsets: &'a [u8],
+}
+
+impl PackedOffsets<'_> {
+    /// The same, with its width and its mask as literals of the caller, for which a loop is made.
+    #[inline(always)]
+    pub(crate) fn of_width(self, width: usize, mask: u32) -> Self
+        requires width { width ≡ self.width }
+        requires mask { mask ≡ self.mask }
+        ensures { result ≡ self.entry }
+    {
+        PackedOffsets {
+            first: self.first,
+            width,
+            mask,
+            len: self.len,
+            offsets: self.offsets,
+        }
+    }
+}
+
 /// The number in the four bytes from a place on, the low byte first.
 #[inline(always)]
 pub(crate) fn number(bytes: &[u8], place: usize) -> u32

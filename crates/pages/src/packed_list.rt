@@ -9,7 +9,7 @@ ghost use Rattle.pages.specs.inside.Packed.{packed_in, span_of, IsPackedIn};
 
 use crate::appending::PADDING;
 use crate::neighbours::Neighbours;
-use crate::offsets::number;
+use crate::offsets::{PackedOffsets, number};
 use crate::weights::WeightWidth;
 use crate::writing::{width_of, write, write_weights};
 use std::alloc::{AllocError, Global};
@@ -96,14 +96,14 @@ impl PackedList {
     {
         let first = number(&self.bytes, 0);
         let mask = u32::MAX >> (32 - 8 * self.width as u32);
-        Neighbours::new(
+        let packed = PackedOffsets {
             first,
-            self.width,
+            width: self.width,
             mask,
-            self.len,
-            self.weights,
-            &self.bytes[4..],
-        )
+            len: self.len,
+            offsets: &self.bytes[4..],
+        };
+        Neighbours::new(packed, self.weights)
     }
 }
 
