@@ -29,12 +29,20 @@ use crate::memory::Memory;
 use apply_options::ApplySchedule;
 use flat_snapshot::Flat;
 use kernels::VertexKernel;
-use plans::{EdgeApply, EdgePart, FunctionKernels, Instruction, PartResult};
+use plans::{EdgePart, FunctionKernels, Instruction, PartResult};
 use run_state::{SetUpdate, State};
 use std::alloc::{AllocError, Global};
-use typed_tree::VarRef;
+use typed_tree::{ApplyEnds, VarRef};
 use vectors::Changes;
 use vertex_sets::{Form, VertexSet};
+
+/// What an instruction applies on the edges between two ends: one edge function, or two.
+#[derive(Clone, Copy)]
+pub(crate) struct EdgeApplies {
+    pub(crate) ends: ApplyEnds,
+    pub(crate) first: EdgePart,
+    pub(crate) second: Option<EdgePart>,
+}
 
 impl Memory {
     /// One vertex function, or two, at each member of a set.
@@ -71,14 +79,13 @@ impl Memory {
         functions: &FunctionKernels,
         graph: &Flat,
         instruction: &Instruction,
-        apply: EdgeApply,
-        second: Option<EdgePart>,
+        applies: EdgeApplies,
         by: &mut E,
     ) -> Result<(), AllocError>
         requires applier { E.is_ready by.old }
         ensures applier { E.is_ready by.new }
         ensures done { OnOk result ((p : ProgramTree) (g : GraphValue) (t : OperationTree) → g ≡ graph_value graph.now → IsOn g self.old
-            → AreFunctionKernels functions.now p → ApplyEdgesOf apply.ends apply.part second t → OperationReduces p t
+            → AreFunctionKernels functions.now p → ApplyEdgesOf applies.ends applies.first applies.second t → OperationReduces p t
             → HasDone instruction.now Flow.Next self.old self.new p g t) }
         ensures turns { OnOk result (self.new.state.state.turns ≡ self.old.state.state.turns) }
         ensures vertices { self.new.state.vertices ≡ self.old.state.vertices }
@@ -86,11 +93,15 @@ impl Memory {
         ensures err { OnErr result (IsAsBefore self.old self.new) }
     {
         let schedule = instruction.choice;
-        let part = apply.part;
+        let EdgeApplies {
+            ends,
+            first,
+            second,
+        } = applies;
         let both = function_of(second);
         let asked = EdgeMap {
-            ends: apply.ends,
-            first: part.function,
+            ends,
+            first: first.function,
             second: both,
             schedule,
         };
@@ -102,7 +113,7 @@ impl Memory {
             &mut self.state,
             &changes,
             schedule,
-            part.result,
+            first.result,
             second,
         )?;
         Ok(())

@@ -17,13 +17,14 @@ ghost use Rattle.runner.specs.Groups.{AreGroupsOf};
 ghost use Rattle.runner.specs.Position.{configuration_of, IsOn, steps_left};
 ghost use Rattle.runner.specs.Resting.{resting};
 
+use crate::applies::EdgeApplies;
 use crate::edge_applier::EdgeApplier;
 use crate::flow::Flow;
 use crate::memory::Memory;
 use crate::plan_run::PlanRun;
 use algorithm_meaning::End;
 use flat_snapshot::Flat;
-use plans::{EdgeApply, Instruction, Plan, PlanOperation};
+use plans::{Instruction, Plan, PlanOperation};
 use std::alloc::{AllocError, Global};
 
 impl PlanRun {
@@ -109,11 +110,12 @@ impl Memory {
                 first,
                 second,
             } => {
-                let apply = EdgeApply {
+                let applies = EdgeApplies {
                     ends: *ends,
-                    part: *first,
+                    first: *first,
+                    second: *second,
                 };
-                self.apply_edges(alloc, functions, graph, i, apply, *second, by)?;
+                self.apply_edges(alloc, functions, graph, i, applies, by)?;
                 Ok(Flow::Next)
             }
             PlanOperation::Unless { .. }

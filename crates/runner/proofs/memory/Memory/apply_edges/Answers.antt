@@ -16,9 +16,9 @@ pub returns-clause-done : goal.returns-clause-done
 returns-clause-done over c p g t same on functions is reduces =
     let run = c.args.self.now in
     let s = run.state.state in
-    let ends = c.args.apply.ends in
-    let part = c.args.apply.part in
-    let second = c.args.second in
+    let ends = c.args.applies.ends in
+    let part = c.args.applies.first in
+    let second = c.args.applies.second in
     let cs = c.in_ok-changes.changes.vectors.items in
     let vertices : c.args.graph.now.vertices ≡ g.vertices = sym (ap (λ (x : GraphValue). x.vertices) same) in
     let edges : c.args.graph.now.edges ≡ g.edges = sym (ap (λ (x : GraphValue). x.edges) same) in
