@@ -35,7 +35,8 @@ impl<'a> Lines<'a> {
     /// `eapply FROM TO`
     fn put_ends(self, out: &mut Vec<u8>, ends: ApplyEnds) -> Result<(), AllocError>
         ensures { OnOk result (out.new.items ≡ out.old.items
-            ++ spaced (codes "eapply" ∷ end_word (program_tree self.entry.program.now) ends.from ∷ end_word (program_tree self.entry.program.now) ends.to ∷ [])) }
+            ++ spaced (codes "eapply" ∷ end_word (program_tree self.entry.program.now) ends.from
+            ∷ end_word (program_tree self.entry.program.now) ends.to ∷ [])) }
     {
         put_word(out, b"eapply")?;
         put_word(out, self.end(ends.from))?;

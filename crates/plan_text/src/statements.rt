@@ -280,7 +280,8 @@ impl Lines<'_> {
         e: &IntExpression,
     ) -> Result<(), AllocError>
         ensures { OnOk result (out.new.items ≡ out.old.items
-            ++ spaced (codes "addvertex" ∷ name_at (program_tree self.entry.program.now) name ∷ bracketed (integer_words (program_tree self.entry.program.now) (integer_tree e.now)) ∷ [])) }
+            ++ spaced (codes "addvertex" ∷ name_at (program_tree self.entry.program.now) name
+            ∷ bracketed (integer_words (program_tree self.entry.program.now) (integer_tree e.now)) ∷ [])) }
     {
         self.put_words(out, b"addvertex", name)?;
         self.put_bracketed(out, e)

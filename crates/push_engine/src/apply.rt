@@ -13,7 +13,7 @@ ghost use Rattle.edge_apply.specs.Words.{passes_words};
 ghost use Rattle.push_engine.specs.Work.{work_from};
 
 use crate::neighbour_block::NeighbourBlock;
-use crate::sources::{fold_all, fold_members, fold_passing};
+use crate::sources::{RowInput, fold_all, fold_members, fold_passing};
 use apply_options::Direction;
 use edge_apply::{Apply, passing_set};
 use edge_fold::{ApplyContext, FoldStart, Scratch};
@@ -180,13 +180,15 @@ fn fold_from(
         (edges_between from (passes_words to.entry) apply.now.flat.now.edges) scratch.new) }
 {
     let mut block = NeighbourBlock::new();
+    let flat = apply.flat;
+    let input = RowInput { flat, context, to };
     match apply.from {
         None => {
-            fold_all(alloc, apply.flat, context, to, &mut block, scratch)?;
+            fold_all(alloc, input, &mut block, scratch)?;
             Ok(())
         }
         Some(end) => {
-            fold_from_end(alloc, apply, end, context, to, &mut block, scratch)?;
+            fold_from_end(alloc, apply.direction, end, input, &mut block, scratch)?;
             Ok(())
         }
     }
@@ -195,23 +197,22 @@ fn fold_from(
 /// The same where only some sources pass.
 fn fold_from_end(
     alloc: Global,
-    apply: &Apply<'_>,
+    direction: Direction,
     from: EndpointFilter<'_>,
-    context: ApplyContext<'_>,
-    to: Option<&[u64]>,
+    input: RowInput<'_>,
     block: &mut NeighbourBlock,
     scratch: &mut Scratch,
 ) -> Result<(), AllocError>
-    ensures { OnOk result ((m : StateValue) (steps : List StepsTree) (test : ℕ → Bool) → IsContextOf context.entry m steps → IsTest from.entry m test
-        → HasFolded context.entry m steps [] scratch.old → HasFolded context.entry m steps
-        (edges_between test (passes_words to.entry) apply.now.flat.now.edges) scratch.new) }
+    ensures { OnOk result ((m : StateValue) (steps : List StepsTree) (test : ℕ → Bool) → IsContextOf input.entry.context m steps → IsTest from.entry m test
+        → HasFolded input.entry.context m steps [] scratch.old → HasFolded input.entry.context m steps
+        (edges_between test (passes_words input.entry.to) input.entry.flat.now.edges) scratch.new) }
 {
     if let EndpointFilter::Members(set) = from {
-        if apply.direction != Direction::DensePush {
-            fold_members(alloc, apply.flat, context, set, to, block, scratch)?;
+        if direction != Direction::DensePush {
+            fold_members(alloc, input, set, block, scratch)?;
             return Ok(());
         }
     }
-    fold_passing(alloc, apply.flat, context, from, to, block, scratch)?;
+    fold_passing(alloc, input, from, block, scratch)?;
     Ok(())
 }

@@ -21,7 +21,7 @@ ghost use Rattle.push_engine.specs.Sources.{passing_in};
 
 use crate::listed::words_of_end;
 use crate::neighbour_block::NeighbourBlock;
-use crate::sources::fold_rows;
+use crate::sources::{RowInput, fold_rows};
 use crate::work::PushWork;
 use crew::{Found, Work};
 use edge_apply::{Apply, is_worth_workers, join_all, merge_by_ranges, part_between};
@@ -146,15 +146,9 @@ impl PushWork<'_> {
             return Ok(());
         }
         let mut block = NeighbourBlock::new();
-        fold_rows(
-            alloc,
-            self.apply.flat,
-            context,
-            part,
-            to,
-            &mut block,
-            scratch,
-        )?;
+        let flat = self.apply.flat;
+        let input = RowInput { flat, context, to };
+        fold_rows(alloc, input, part, &mut block, scratch)?;
         Ok(())
     }
 }
@@ -207,15 +201,17 @@ fn fold_passing_part(
         (rows_to (passes_words to.entry) apply.now.flat.now.edges (filter test part.now)) scratch.new) }
 {
     let mut block = NeighbourBlock::new();
+    let flat = apply.flat;
+    let input = RowInput { flat, context, to };
     match apply.from {
         None => {
-            fold_rows(alloc, apply.flat, context, part, to, &mut block, scratch)?;
+            fold_rows(alloc, input, part, &mut block, scratch)?;
             Ok(())
         }
         Some(end) => {
             let mut kept = Vec::new(alloc);
             scratch.keep_passing(context, end, part, &mut kept)?;
-            fold_rows(alloc, apply.flat, context, &kept, to, &mut block, scratch)?;
+            fold_rows(alloc, input, &kept, &mut block, scratch)?;
             Ok(())
         }
     }

@@ -22,21 +22,28 @@ use std::alloc::{AllocError, Global};
 use vertex_blocks::{NeighbourForm, NeighbourWalk, SetWalk};
 use vertex_sets::VertexSet;
 
-/// Folds all edges to the destinations whose bits are set; words that are not given let all through.
+/// What rows are folded of: the functions, and the edges to the destinations whose bits are set. Words that are not given
+/// let all destinations through.
+#[derive(Clone, Copy)]
+pub(crate) struct RowInput<'a> {
+    pub(crate) flat: &'a Flat,
+    pub(crate) context: ApplyContext<'a>,
+    pub(crate) to: Option<&'a [u64]>,
+}
+
+/// Folds all edges.
 pub(crate) fn fold_all(
     alloc: Global,
-    flat: &Flat,
-    context: ApplyContext<'_>,
-    to: Option<&[u64]>,
+    input: RowInput<'_>,
     block: &mut NeighbourBlock,
     scratch: &mut Scratch,
 ) -> Result<(), AllocError>
-    ensures { OnOk result ((m : StateValue) (steps : List StepsTree) (from : ℕ → Bool) → IsContextOf context.entry m steps → ((v : ℕ) → from v ≡ true)
-        → HasFolded context.entry m steps [] scratch.old → HasFolded context.entry m steps (edges_between from (passes_words to.entry) flat.now.edges)
+    ensures { OnOk result ((m : StateValue) (steps : List StepsTree) (from : ℕ → Bool) → IsContextOf input.entry.context m steps → ((v : ℕ) → from v ≡ true)
+        → HasFolded input.entry.context m steps [] scratch.old → HasFolded input.entry.context m steps (edges_between from (passes_words input.entry.to) input.entry.flat.now.edges)
         scratch.new) }
 {
-    'sources: for (source, _) in flat.sources() {
-        fold_row(alloc, flat, context, source, to, block, scratch)?;
+    'sources: for (source, _) in input.flat.sources() {
+        fold_row(alloc, input, source, block, scratch)?;
     }
     Ok(())
 }
@@ -44,20 +51,18 @@ pub(crate) fn fold_all(
 /// The same from the members of a set.
 pub(crate) fn fold_members(
     alloc: Global,
-    flat: &Flat,
-    context: ApplyContext<'_>,
+    input: RowInput<'_>,
     set: &VertexSet,
-    to: Option<&[u64]>,
     block: &mut NeighbourBlock,
     scratch: &mut Scratch,
 ) -> Result<(), AllocError>
-    ensures { OnOk result ((m : StateValue) (steps : List StepsTree) (from : ℕ → Bool) → IsContextOf context.entry m steps
+    ensures { OnOk result ((m : StateValue) (steps : List StepsTree) (from : ℕ → Bool) → IsContextOf input.entry.context m steps
         → ((v : ℕ) → from v ≡ is_member v set.now.members)
-        → HasFolded context.entry m steps [] scratch.old → HasFolded context.entry m steps (edges_between from (passes_words to.entry) flat.now.edges)
+        → HasFolded input.entry.context m steps [] scratch.old → HasFolded input.entry.context m steps (edges_between from (passes_words input.entry.to) input.entry.flat.now.edges)
         scratch.new) }
 {
     'sources: for source in set.iter() {
-        fold_row(alloc, flat, context, source, to, block, scratch)?;
+        fold_row(alloc, input, source, block, scratch)?;
     }
     Ok(())
 }
@@ -65,18 +70,16 @@ pub(crate) fn fold_members(
 /// The same from the sources that an end lets through. Each vertex with an edge is tested once.
 pub(crate) fn fold_passing(
     alloc: Global,
-    flat: &Flat,
-    context: ApplyContext<'_>,
+    input: RowInput<'_>,
     from: EndpointFilter<'_>,
-    to: Option<&[u64]>,
     block: &mut NeighbourBlock,
     scratch: &mut Scratch,
 ) -> Result<(), AllocError>
-    ensures { OnOk result ((m : StateValue) (steps : List StepsTree) (test : ℕ → Bool) → IsContextOf context.entry m steps → IsTest from.entry m test
-        → HasFolded context.entry m steps [] scratch.old → HasFolded context.entry m steps (edges_between test (passes_words to.entry) flat.now.edges)
+    ensures { OnOk result ((m : StateValue) (steps : List StepsTree) (test : ℕ → Bool) → IsContextOf input.entry.context m steps → IsTest from.entry m test
+        → HasFolded input.entry.context m steps [] scratch.old → HasFolded input.entry.context m steps (edges_between test (passes_words input.entry.to) input.entry.flat.now.edges)
         scratch.new) }
 {
-    let mut sources = flat.sources();
+    let mut sources = input.flat.sources();
     let mut part = Vec::new(alloc);
     let mut kept = Vec::new(alloc);
     'parts: loop {
@@ -85,27 +88,25 @@ pub(crate) fn fold_passing(
             return Ok(());
         }
         kept.clear();
-        scratch.keep_passing(context, from, &part, &mut kept)?;
-        fold_rows(alloc, flat, context, &kept, to, block, scratch)?;
+        scratch.keep_passing(input.context, from, &part, &mut kept)?;
+        fold_rows(alloc, input, &kept, block, scratch)?;
     }
 }
 
 /// The same from these sources.
 pub(crate) fn fold_rows(
     alloc: Global,
-    flat: &Flat,
-    context: ApplyContext<'_>,
+    input: RowInput<'_>,
     sources: &[u32],
-    to: Option<&[u64]>,
     block: &mut NeighbourBlock,
     scratch: &mut Scratch,
 ) -> Result<(), AllocError>
-    ensures { OnOk result ((m : StateValue) (steps : List StepsTree) (edges : List Edge) → IsContextOf context.entry m steps
-        → HasFolded context.entry m steps edges scratch.old → HasFolded context.entry m steps (edges
-        ++ rows_to (passes_words to.entry) flat.now.edges sources.now) scratch.new) }
+    ensures { OnOk result ((m : StateValue) (steps : List StepsTree) (edges : List Edge) → IsContextOf input.entry.context m steps
+        → HasFolded input.entry.context m steps edges scratch.old → HasFolded input.entry.context m steps (edges
+        ++ rows_to (passes_words input.entry.to) input.entry.flat.now.edges sources.now) scratch.new) }
 {
     'sources: for source in sources {
-        fold_row(alloc, flat, context, *source, to, block, scratch)?;
+        fold_row(alloc, input, *source, block, scratch)?;
     }
     Ok(())
 }
@@ -114,31 +115,21 @@ pub(crate) fn fold_rows(
 #[inline]
 fn fold_row(
     alloc: Global,
-    flat: &Flat,
-    context: ApplyContext<'_>,
+    input: RowInput<'_>,
     source: u32,
-    to: Option<&[u64]>,
     block: &mut NeighbourBlock,
     scratch: &mut Scratch,
 ) -> Result<(), AllocError>
-    ensures { OnOk result ((m : StateValue) (steps : List StepsTree) (edges : List Edge) → IsContextOf context.entry m steps
-        → HasFolded context.entry m steps edges scratch.old → HasFolded context.entry m steps (edges
-        ++ row source (filter (λ e. passes_words to.entry e.0) (destinations_of source flat.now.edges))) scratch.new) }
+    ensures { OnOk result ((m : StateValue) (steps : List StepsTree) (edges : List Edge) → IsContextOf input.entry.context m steps
+        → HasFolded input.entry.context m steps edges scratch.old → HasFolded input.entry.context m steps (edges
+        ++ row source (filter (λ e. passes_words input.entry.to e.0) (destinations_of source input.entry.flat.now.edges))) scratch.new) }
 {
-    match flat.out_set(source).into_form() {
+    match input.flat.out_set(source).into_form() {
         NeighbourForm::Packed(list) => {
-            fold_walk(alloc, context, source, to, list.ascending(), block, scratch)
+            fold_walk(alloc, input, source, list.ascending(), block, scratch)
         }
         NeighbourForm::Chunked(set) => {
-            fold_walk(
-                alloc,
-                context,
-                source,
-                to,
-                SetWalk::new(set),
-                block,
-                scratch,
-            )
+            fold_walk(alloc, input, source, SetWalk::new(set), block, scratch)
         }
     }
 }
@@ -147,43 +138,41 @@ fn fold_row(
 #[inline]
 fn fold_walk<W: NeighbourWalk + Drop>(
     alloc: Global,
-    context: ApplyContext<'_>,
+    input: RowInput<'_>,
     source: u32,
-    to: Option<&[u64]>,
     walk: W,
     block: &mut NeighbourBlock,
     scratch: &mut Scratch,
 ) -> Result<(), AllocError>
-    ensures { OnOk result ((m : StateValue) (steps : List StepsTree) (edges : List Edge) → IsContextOf context.entry m steps
-        → HasFolded context.entry m steps edges scratch.old → HasFolded context.entry m steps (edges
-        ++ row source (filter (λ e. passes_words to.entry e.0) (W.coming walk))) scratch.new) }
+    ensures { OnOk result ((m : StateValue) (steps : List StepsTree) (edges : List Edge) → IsContextOf input.entry.context m steps
+        → HasFolded input.entry.context m steps edges scratch.old → HasFolded input.entry.context m steps (edges
+        ++ row source (filter (λ e. passes_words input.entry.to e.0) (W.coming walk))) scratch.new) }
 {
-    if context.weighted {
-        return fold_weighted(alloc, context, source, to, walk, block, scratch);
+    if input.context.weighted {
+        return fold_weighted(alloc, input, source, walk, block, scratch);
     }
-    fold_unweighted(alloc, context, source, to, walk, block, scratch)
+    fold_unweighted(alloc, input, source, walk, block, scratch)
 }
 
 /// The same where no function reads weights.
 #[inline]
 fn fold_unweighted<W: NeighbourWalk + Drop>(
     alloc: Global,
-    context: ApplyContext<'_>,
+    input: RowInput<'_>,
     source: u32,
-    to: Option<&[u64]>,
     mut walk: W,
     block: &mut NeighbourBlock,
     scratch: &mut Scratch,
 ) -> Result<(), AllocError>
-    requires { context.weighted ≡ false }
-    ensures { OnOk result ((m : StateValue) (steps : List StepsTree) (edges : List Edge) → IsContextOf context.entry m steps
-        → HasFolded context.entry m steps edges scratch.old → HasFolded context.entry m steps (edges
-        ++ row source (filter (λ e. passes_words to.entry e.0) (W.coming walk))) scratch.new) }
+    requires { input.context.weighted ≡ false }
+    ensures { OnOk result ((m : StateValue) (steps : List StepsTree) (edges : List Edge) → IsContextOf input.entry.context m steps
+        → HasFolded input.entry.context m steps edges scratch.old → HasFolded input.entry.context m steps (edges
+        ++ row source (filter (λ e. passes_words input.entry.to e.0) (W.coming walk))) scratch.new) }
 {
     'rounds: while walk.len() > 0 {
         let count = walk.fill(&mut block.keys);
-        let kept = keep_members(to, &mut block.keys, count);
-        scratch.fold(alloc, context, source, &block.keys[..kept])?;
+        let kept = keep_members(input.to, &mut block.keys, count);
+        scratch.fold(alloc, input.context, source, &block.keys[..kept])?;
     }
     Ok(())
 }
@@ -192,23 +181,22 @@ fn fold_unweighted<W: NeighbourWalk + Drop>(
 #[inline]
 fn fold_weighted<W: NeighbourWalk + Drop>(
     alloc: Global,
-    context: ApplyContext<'_>,
+    input: RowInput<'_>,
     source: u32,
-    to: Option<&[u64]>,
     mut walk: W,
     block: &mut NeighbourBlock,
     scratch: &mut Scratch,
 ) -> Result<(), AllocError>
-    requires { context.weighted ≡ true }
-    ensures { OnOk result ((m : StateValue) (steps : List StepsTree) (edges : List Edge) → IsContextOf context.entry m steps
-        → HasFolded context.entry m steps edges scratch.old → HasFolded context.entry m steps (edges
-        ++ row source (filter (λ e. passes_words to.entry e.0) (W.coming walk))) scratch.new) }
+    requires { input.context.weighted ≡ true }
+    ensures { OnOk result ((m : StateValue) (steps : List StepsTree) (edges : List Edge) → IsContextOf input.entry.context m steps
+        → HasFolded input.entry.context m steps edges scratch.old → HasFolded input.entry.context m steps (edges
+        ++ row source (filter (λ e. passes_words input.entry.to e.0) (W.coming walk))) scratch.new) }
 {
     'rounds: while walk.len() > 0 {
         let count = walk.fill_weighted(&mut block.keys, &mut block.weights);
-        let kept = keep_members_weighted(to, &mut block.keys, &mut block.weights, count);
+        let kept = keep_members_weighted(input.to, &mut block.keys, &mut block.weights, count);
         let weights = &block.weights[..kept];
-        scratch.fold_weighted(alloc, context, source, &block.keys[..kept], weights)?;
+        scratch.fold_weighted(alloc, input.context, source, &block.keys[..kept], weights)?;
     }
     Ok(())
 }

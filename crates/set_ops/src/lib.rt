@@ -45,4 +45,4 @@ mod with_list;
 pub use error::SetError;
 pub use fork::{Fork, Quiet};
 pub use lists::{insert_all, remove_all};
-pub use sets::{difference, difference_forked, union, union_forked};
+pub use sets::{MAX_FORKS, difference, difference_forked, union, union_forked};

@@ -15,7 +15,7 @@ use std::thread::Threads;
 use tail_codec::MapOperation;
 
 /// The most levels at which halves go to two threads.
-const MOST_FORKS: u32 = 6;
+pub const MAX_FORKS: u32 = 6;
 
 /// The set of the entries of both sets, in chunks of the size that both have. Where both have a key, the
 /// weight is the second's. The two sets stay as they were, and the answer shares with them the chunks in
@@ -59,7 +59,7 @@ pub fn union_forked<R: Threads + Sync, F: Fork + Sync>(
     ensures { Unites first.now second.now result }
 {
     let (a, b) = views_of(first, second)?;
-    let forks = forks.min(MOST_FORKS);
+    let forks = forks.min(MAX_FORKS);
     let both = combine_forked(
         rt,
         alloc,
@@ -89,7 +89,7 @@ pub fn difference_forked<R: Threads + Sync, F: Fork + Sync>(
     ensures { Subtracts first.now second.now result }
 {
     let (a, b) = views_of(first, second)?;
-    let forks = forks.min(MOST_FORKS);
+    let forks = forks.min(MAX_FORKS);
     let left = combine_forked(
         rt,
         alloc,

@@ -12,7 +12,7 @@ use Rattle.left_right.specs.contracts.reader.Reader as read
 use Rattle.logbook.specs.contracts.tokens.Seen as seen
 use Rattle.logbook.proofs.tokens.Seen.TheSendSync as seen_the
 use Rattle.left_right.proofs.reader.Reader.TheSendSync as read_the
-use Rattle.shared_graph.proofs.front.Front.TheSendSync as front_the
+use Rattle.shared_graph.proofs.history_prefix.HistoryPrefix.TheSendSync as history_prefix_the
 use Rattle.core.specs.contracts.sync.Mutex as mutex
 use Rattle.left_right.proofs.writer.Writer.TheSendSync as writer_the
 use Rattle.left_right.specs.contracts.writer.Writer as writer
@@ -25,17 +25,17 @@ use Rattle.tree_batch.specs.contracts.graph.Graph as graph
 use Rattle.shared_graph.specs.contracts.book.Law as law
 use Rattle.shared_graph.specs.contracts.book.LawRuleEntryU64.TheImpl as law_rule
 use Rattle.shared_graph.proofs.book.Book.TheSendSync as book_the
-use Rattle.shared_graph.specs.contracts.desk.Desk as desk
-use Rattle.shared_graph.specs.contracts.desk.Desk.TheInside as desk_inside
-use Rattle.shared_graph.specs.contracts.ledger.Ledger as ledger
-use Rattle.shared_graph.specs.contracts.ledger.Ledger.TheInside as ledger_inside
+use Rattle.shared_graph.specs.contracts.locked_state.LockedState as locked_state
+use Rattle.shared_graph.specs.contracts.locked_state.LockedState.TheInside as desk_inside
+use Rattle.shared_graph.specs.contracts.published_log.PublishedLog as published_log
+use Rattle.shared_graph.specs.contracts.published_log.PublishedLog.TheInside as published_log_inside
 use Rattle.shared_graph.specs.contracts.publisher.Publisher as publisher
 use Rattle.shared_graph.specs.contracts.publisher.Publisher.TheInside as publisher_inside
 use Rattle.shared_graph.specs.contracts.shared.SharedGraph as shared
 use Rattle.shared_graph.specs.contracts.shown.ShownAbsorb.TheImpl as absorbs
 use Rattle.version_list.proofs.Crossing.{versions_send}
 use Rattle.shared_graph.specs.contracts.entry.Entry as entry
-use Rattle.shared_graph.specs.contracts.front.Front as front
+use Rattle.shared_graph.specs.contracts.history_prefix.HistoryPrefix as history_prefix
 use Rattle.shared_graph.specs.contracts.publisher.Grows as grows
 use Rattle.shared_graph.specs.contracts.publisher.GrowsProtocolShownOptionShown.TheImpl as grows_rule
 use Rattle.shared_graph.specs.contracts.reader.Reader as reader
@@ -88,14 +88,14 @@ read_send = read_the.the_send shown.the_row (option.the_row shown.the_row) grows
     heap_send shown_sync heap_sync frees
 
 module _ (J : RattleType) (g : naming.Ghosts J.Denot) where
-  front_send : IsSend (front.the_row J g)
-  front_send = front_the.the_send J g
+  history_prefix_send : IsSend (history_prefix.the_row J g)
+  history_prefix_send = history_prefix_the.the_send J g
 
   pub reader_send : IsSend (reader.the_row J g)
   reader_send =
       let o : IsSend (option.the_row ShownRead) = search (sendable, read_send) depth 20 in
       view_send _ _ _ _ _ (declared_send (reader_inside.the_type J g)
-      (number_send, (o, (front_send, (front_send, (number_send, tt))))))
+      (number_send, (o, (history_prefix_send, (history_prefix_send, (number_send, tt))))))
 
 writer_send : IsSend ShownWriter
 writer_send = writer_the.the_send shown.the_row shown.the_row (option.the_row shown.the_row) grows.the_row heap.the_row shown.the_row
@@ -106,16 +106,16 @@ module _ (R : RattleType) (r : IsSend R) where
   publisher_send = view_send _ _ _ _ _ (declared_send (publisher_inside.the_type R) (writer_send, (as_row_send (row_field R) r, tt)))
 
 module _ (J R : RattleType) (g : naming.Ghosts J.Denot) (r : IsSend R) where
-  ledger_send : IsSend (ledger.the_row J R g)
-  ledger_send = view_send _ _ _ _ _ (declared_send (ledger_inside.the_type J R g)
-      (small_send, (number_send, (book_the.the_send J g, (front_send J g, (Vec-send u64 number_send, (publisher_send R r, tt)))))))
+  published_log_send : IsSend (published_log.the_row J R g)
+  published_log_send = view_send _ _ _ _ _ (declared_send (published_log_inside.the_type J R g)
+      (small_send, (number_send, (book_the.the_send J g, (history_prefix_send J g, (Vec-send u64 number_send, (publisher_send R r, tt)))))))
 
-  desk_send : IsSend (desk.the_row J R g)
-  desk_send = view_send _ _ _ _ _ (declared_send (desk_inside.the_type J R g) (versions_send, (ledger_send, tt)))
+  locked_state_send : IsSend (locked_state.the_row J R g)
+  locked_state_send = view_send _ _ _ _ _ (declared_send (desk_inside.the_type J R g) (versions_send, (published_log_send, tt)))
 
   pub graph_shared : IsSync (shared.the_row J R g)
   graph_shared =
-      let m : IsSync (mutex.the_row (desk.the_row J R g)) = search (crosses, desk_send) in
+      let m : IsSync (mutex.the_row (locked_state.the_row J R g)) = search (crosses, locked_state_send) in
       declared_sync (shared.the_type J R g) (m, tt)
 
 -- a closure that captures four values goes to another thread with them

@@ -1,4 +1,4 @@
--- What an accepted step does to the ledger and to the reader that made it, and what a refusal shows.
+-- What an accepted step does to the published_log and to the reader that made it, and what a refusal shows.
 use Rattle.std.proofs.Common.{◌≡◌, ℕ, ◌+◌, ◌<◌, Result, Ok, Err, IfErr, List, [], ◌∷◌, ◌++◌, length, slice_index, slice_set, get_or-set_same, get_or-set_other, inl, inr, refl, sym, ap, ◌∙◌, subst, arith, length-append, append_assoc}
 use Rattle.std.proofs.lemmas.Bool.{cases_eq}
 use Rattle.std.proofs.lemmas.List.{append-nil, length-set}

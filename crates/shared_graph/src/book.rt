@@ -4,7 +4,7 @@ ghost use Rattle.std.specs.Prelude.{◌≡◌, []};
 ghost use Rattle.shared_graph.specs.inside.Book.{count_of};
 
 use crate::entry::Entry;
-use crate::front::Front;
+use crate::history_prefix::HistoryPrefix;
 use crate::naming::Naming;
 use logbook::{Gain, Plain, Play, Rule, Seen, Start, Word};
 use std::marker::{Model, PhantomData};
@@ -99,8 +99,8 @@ impl Opening {
         }
     }
 
-    /// The history under a name: its word, and the front that has seen nothing.
-    pub(crate) fn named<J: Naming>(self) -> (Book<J>, Front<J>)
+    /// The history under a name: its word, and the prefix that has seen nothing.
+    pub(crate) fn named<J: Naming>(self) -> (Book<J>, HistoryPrefix<J>)
         requires { self ≡ J.book }
         ensures { result.1 ≡ [] }
     {
@@ -109,7 +109,7 @@ impl Opening {
             count,
             of: PhantomData,
         };
-        (book, Front::first(seen))
+        (book, HistoryPrefix::first(seen))
     }
 }
 

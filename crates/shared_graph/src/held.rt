@@ -5,7 +5,7 @@ ghost use Rattle.std.specs.Arc.{arc_value};
 ghost use Rattle.shared_graph.specs.Histories.{IsVersionOf};
 
 use crate::error::SharedError;
-use crate::front::Front;
+use crate::history_prefix::HistoryPrefix;
 use crate::naming::Naming;
 use crate::snapshot::Snapshot;
 use std::marker::Model;
@@ -17,7 +17,7 @@ use version_list::Ticket;
 pub struct Held<J: Naming> {
     ticket: Ticket,
     snapshot: Snapshot,
-    history: Front<J>,
+    history: HistoryPrefix<J>,
 }
 
 impl<J: Naming> Model for Held<J> {
@@ -33,7 +33,7 @@ impl<J: Naming> Model for Held<J> {
 }
 
 impl<J: Naming> Held<J> {
-    pub(crate) fn new(ticket: Ticket, snapshot: Snapshot, history: &Front<J>) -> Held<J>
+    pub(crate) fn new(ticket: Ticket, snapshot: Snapshot, history: &HistoryPrefix<J>) -> Held<J>
         requires { IsVersionOf J.vertices history.now snapshot.number (arc_value snapshot.graph) }
         ensures { result ≡ record { ticket = ticket.number; version = snapshot.number; graph = arc_value snapshot.graph; history = history.now } }
     {

@@ -22,14 +22,14 @@
 #![tactic(auto)]
 
 mod book;
-mod desk;
 mod entry;
 mod error;
-mod front;
 mod held;
+mod history_prefix;
 mod laws;
-mod ledger;
+mod locked_state;
 mod naming;
+mod published_log;
 mod publisher;
 mod reader;
 mod shared;

@@ -11,7 +11,7 @@ ghost use Rattle.shared_graph.specs.Passes.{fresh, Shows};
 ghost use Rattle.shared_graph.specs.inside.Publishing.{Knows};
 
 use crate::error::LatestError;
-use crate::front::Front;
+use crate::history_prefix::HistoryPrefix;
 use crate::naming::Naming;
 use crate::publisher::{Seeing, ShownReader};
 use crate::shown::Shown;
@@ -24,8 +24,8 @@ use std::marker::Model;
 pub struct Reader<J: Naming> {
     number: u64,
     read: Option<ShownReader>,
-    front: Front<J>,
-    last: Front<J>,
+    history_prefix: HistoryPrefix<J>,
+    last: HistoryPrefix<J>,
     steps: u64,
 }
 
@@ -34,7 +34,7 @@ impl<J: Naming> Drop for Reader<J> {
         let Reader {
             number: _,
             read: _,
-            front: _,
+            history_prefix: _,
             last: _,
             steps: _,
         } = self;
@@ -52,15 +52,15 @@ impl<J: Naming> Model for Reader<J> {
 
     ghost Value = { Pass };
 
-    ghost view = { λ r. record { number = r.number; shown = r.front; last = r.last } };
+    ghost view = { λ r. record { number = r.number; shown = r.history_prefix; last = r.last } };
 
-    ghost invariant = { λ r. (r.steps ≡ length (own r.number r.last)) × IsPrefix r.last r.front
+    ghost invariant = { λ r. (r.steps ≡ length (own r.number r.last)) × IsPrefix r.last r.history_prefix
         × IfSome r.read (λ x. Knows J.book (opened J.vertices J.room) (view_of x.place)) };
 }
 
 impl<J: Naming> Reader<J> {
     /// A reader that has shown nothing.
-    pub(crate) fn new(number: u64, read: ShownReader, first: &Front<J>) -> Reader<J>
+    pub(crate) fn new(number: u64, read: ShownReader, first: &HistoryPrefix<J>) -> Reader<J>
         requires first { first.now ≡ [] }
         requires read { Knows J.book (opened J.vertices J.room) (view_of read.place) }
         ensures { result ≡ fresh number }
@@ -68,7 +68,7 @@ impl<J: Naming> Reader<J> {
         Reader {
             number,
             read: Some(read),
-            front: first.again(),
+            history_prefix: first.again(),
             last: first.again(),
             steps: 0,
         }
@@ -88,14 +88,14 @@ impl<J: Naming> Reader<J> {
         ensures err { OnErr result (self.new ≡ self.old) }
         ensures legal { IsLegal (opened J.vertices J.room) (steps_of self.new.shown) }
     {
-        self.front.len();
+        self.history_prefix.len();
         let Some(reader) = self.read.take() else {
             return Err(LatestError::Closed);
         };
-        let (reader, seen) = read_shown(reader, &self.front);
+        let (reader, seen) = read_shown(reader, &self.history_prefix);
         self.read = Some(reader);
-        let (snapshot, front) = seen?;
-        self.front = front;
+        let (snapshot, history_prefix) = seen?;
+        self.history_prefix = history_prefix;
         Ok(snapshot)
     }
 
@@ -105,7 +105,7 @@ impl<J: Naming> Reader<J> {
         ensures { result ≡ self.now.last }
     {
         Token {
-            front: self.last.again(),
+            history_prefix: self.last.again(),
         }
     }
 
@@ -124,7 +124,7 @@ impl<J: Naming> Reader<J> {
         ensures told { IsPrefix token.now self.new.shown }
         ensures legal { IsLegal (opened J.vertices J.room) (steps_of self.new.shown) }
     {
-        self.front = self.front.longer(&token.front);
+        self.history_prefix = self.history_prefix.longer(&token.history_prefix);
     }
 
     /// The reader's number, and how many steps it made.
@@ -137,28 +137,28 @@ impl<J: Naming> Reader<J> {
     }
 
     /// What it shows.
-    pub(crate) fn front(&self) -> &Front<J>
+    pub(crate) fn history_prefix(&self) -> &HistoryPrefix<J>
         ensures { result.now ≡ self.now.shown }
     {
-        &self.front
+        &self.history_prefix
     }
 
     /// Shows a history that begins with the one shown.
-    pub(crate) fn show(&mut self, front: &Front<J>)
-        requires { IsPrefix self.old.shown front.now }
-        ensures { self.new ≡ record self.old { shown = front.now } }
+    pub(crate) fn show(&mut self, history_prefix: &HistoryPrefix<J>)
+        requires { IsPrefix self.old.shown history_prefix.now }
+        ensures { self.new ≡ record self.old { shown = history_prefix.now } }
     {
-        self.front = front.again();
+        self.history_prefix = history_prefix.again();
     }
 
     /// Shows a history that ends in a step of this reader.
-    pub(crate) fn has_made(&mut self, front: &Front<J>)
-        requires own { length (own self.old.number front.now) ≡ length (own self.old.number self.old.last) + 1 }
-        requires few { length (own self.old.number front.now) < 2 ^ 64 }
-        ensures { self.new ≡ record self.old { shown = front.now; last = front.now } }
+    pub(crate) fn has_made(&mut self, history_prefix: &HistoryPrefix<J>)
+        requires own { length (own self.old.number history_prefix.now) ≡ length (own self.old.number self.old.last) + 1 }
+        requires few { length (own self.old.number history_prefix.now) < 2 ^ 64 }
+        ensures { self.new ≡ record self.old { shown = history_prefix.now; last = history_prefix.now } }
     {
-        self.front = front.again();
-        self.last = front.again();
+        self.history_prefix = history_prefix.again();
+        self.last = history_prefix.again();
         self.steps += 1;
     }
 }
@@ -166,7 +166,7 @@ impl<J: Naming> Reader<J> {
 /// A history that a reader showed, for other readers of the same graph to learn.
 #[derive(Drop)]
 pub struct Token<J: Naming> {
-    front: Front<J>,
+    history_prefix: HistoryPrefix<J>,
 }
 
 impl<J: Naming> Model for Token<J> {
@@ -175,22 +175,25 @@ impl<J: Naming> Model for Token<J> {
 
     ghost Value = { List Entry };
 
-    ghost view = { λ t. t.front };
+    ghost view = { λ t. t.history_prefix };
 }
 
 // What is shown, as `see` has it, and the reader with which it was read.
 fn read_shown<J: Naming>(
     reader: ShownReader,
-    front: &Front<J>,
-) -> (ShownReader, Result<(Snapshot, Front<J>), LatestError>)
+    history_prefix: &HistoryPrefix<J>,
+) -> (
+    ShownReader,
+    Result<(Snapshot, HistoryPrefix<J>), LatestError>,
+)
     requires { Knows J.book (opened J.vertices J.room) (view_of reader.place) }
     ensures knows { Knows J.book (opened J.vertices J.room) (view_of result.0.place) }
-    ensures seen { IfOk result.1 (λ r. IsPrefix front.now r.1 × IsLegal (opened J.vertices J.room) (steps_of r.1)) }
+    ensures seen { IfOk result.1 (λ r. IsPrefix history_prefix.now r.1 × IsLegal (opened J.vertices J.room) (steps_of r.1)) }
     ensures newest { IfOk result.1 (λ r. IsNewest (state_at (opened J.vertices J.room) r.1) r.0.number (arc_value r.0.graph)) }
 {
     match reader.enter_as::<Seeing>() {
         Ok(reading) => {
-            let seen = see(reading.get(), front);
+            let seen = see(reading.get(), history_prefix);
             (reading.leave(), seen)
         }
         Err(reader) => (reader, Err(LatestError::Closed)),
@@ -198,13 +201,16 @@ fn read_shown<J: Naming>(
 }
 
 // The version that is shown, and the history that made it, where that begins with what was seen.
-fn see<J: Naming>(shown: &Shown, front: &Front<J>) -> Result<(Snapshot, Front<J>), LatestError>
+fn see<J: Naming>(
+    shown: &Shown,
+    history_prefix: &HistoryPrefix<J>,
+) -> Result<(Snapshot, HistoryPrefix<J>), LatestError>
     requires { (shown.now.book ≡ J.book) × (shown.now.base ≡ opened J.vertices J.room) }
-    ensures seen { IfOk result (λ r. IsPrefix front.now r.1 × IsLegal (opened J.vertices J.room) (steps_of r.1)) }
+    ensures seen { IfOk result (λ r. IsPrefix history_prefix.now r.1 × IsLegal (opened J.vertices J.room) (steps_of r.1)) }
     ensures newest { IfOk result (λ r. IsNewest (state_at (opened J.vertices J.room) r.1) r.0.number (arc_value r.0.graph)) }
 {
-    let newer = shown.front::<J>();
-    if !front.begins(&newer) {
+    let newer = shown.history_prefix::<J>();
+    if !history_prefix.begins(&newer) {
         return Err(LatestError::Closed);
     }
     let snapshot = shown.snapshot()?;

@@ -9,11 +9,11 @@ ghost use Rattle.shared_graph.specs.Holding.{HoldsVersion};
 ghost use Rattle.shared_graph.specs.Outcome.{Answers, AnswersRelease, Opens};
 
 use crate::book::Opening;
-use crate::desk::Desk;
 use crate::error::SharedError;
 use crate::held::{Held, Unreleased};
-use crate::ledger::Ledger;
+use crate::locked_state::LockedState;
 use crate::naming::Naming;
+use crate::published_log::PublishedLog;
 use crate::reader::Reader;
 use std::alloc::Global;
 use std::sync::{Arc, Mutex, Wait};
@@ -28,12 +28,12 @@ pub const MAX_READERS: usize = 64;
 /// the newest version without it, by [`Reader::latest`]. Dropped, it waits for readers that are in
 /// the midst of that, and publishes nothing any more.
 pub struct SharedGraph<J: Naming, R: Wait + Drop> {
-    desk: Mutex<Desk<J, R>>,
+    locked_state: Mutex<LockedState<J, R>>,
 }
 
 impl<J: Naming, R: Wait + Drop> Drop for SharedGraph<J, R> {
     fn drop(self) {
-        let SharedGraph { desk: _ } = self;
+        let SharedGraph { locked_state: _ } = self;
     }
 }
 
@@ -98,9 +98,11 @@ impl<J: Naming, R: Wait + Drop> SharedGraph<J, R> {
             return Err(SharedError::BadSeats);
         }
         let graph = Arc::new(alloc, versions.newest().1.clone()?)?;
-        let (ledger, passes) = Ledger::open(rt, alloc, opening, vertices, room, graph, readers)?;
-        let desk = Mutex::new(Desk::new(versions, ledger));
-        Ok((SharedGraph { desk }, passes))
+        let (published_log, passes) = PublishedLog::open(
+            rt, alloc, opening, vertices, room, graph, readers,
+        )?;
+        let locked_state = Mutex::new(LockedState::new(versions, published_log));
+        Ok((SharedGraph { locked_state }, passes))
     }
 
     /// Makes the next version by a batch, also by an empty one, in the name of a reader, and answers
@@ -125,7 +127,7 @@ impl<J: Naming, R: Wait + Drop> SharedGraph<J, R> {
     ) -> Result<u64, SharedError>
         ensures { Answers (opened J.vertices J.room) me.old (Commit batch) reply.Version result me.new }
     {
-        self.desk.lock(rt).commit(rt, alloc, me, batch)
+        self.locked_state.lock(rt).commit(rt, alloc, me, batch)
     }
 
     /// Holds a version by a new ticket in the name of a reader: of the newest all batches of the
@@ -153,7 +155,7 @@ impl<J: Naming, R: Wait + Drop> SharedGraph<J, R> {
         ensures version { IfOk result (HoldsVersion (state_at (opened J.vertices J.room) me.new.shown) which) }
         ensures history { IfOk result (λ h. h.history ≡ me.new.shown) }
     {
-        self.desk.lock(rt).hold(rt, alloc, me, which)
+        self.locked_state.lock(rt).hold(rt, alloc, me, which)
     }
 
     /// Closes the ticket of a held version in the name of a reader. The history that the reader shows
@@ -170,7 +172,7 @@ impl<J: Naming, R: Wait + Drop> SharedGraph<J, R> {
     ) -> Result<(), Unreleased<J>>
         ensures { AnswersRelease (opened J.vertices J.room) me.old held result me.new }
     {
-        self.desk.lock(rt).release(rt, me, held)
+        self.locked_state.lock(rt).release(rt, me, held)
     }
 
     /// Drops the entries that the versions keep under the lock, in the name of a reader, and answers
@@ -185,6 +187,6 @@ impl<J: Naming, R: Wait + Drop> SharedGraph<J, R> {
     pub fn trim<T: Wait>(&self, rt: &T, me: &mut Reader<J>) -> Result<u64, SharedError>
         ensures { Answers (opened J.vertices J.room) me.old Trim reply.Trimmed result me.new }
     {
-        self.desk.lock(rt).trim(rt, me)
+        self.locked_state.lock(rt).trim(rt, me)
     }
 }

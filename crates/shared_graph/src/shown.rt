@@ -8,7 +8,7 @@ ghost use Rattle.shared_graph.specs.Histories.{steps_of, state_at, IsNewest};
 
 use crate::book::Law;
 use crate::entry::Entry;
-use crate::front::Front;
+use crate::history_prefix::HistoryPrefix;
 use crate::naming::Naming;
 use crate::snapshot::Snapshot;
 use left_right::Absorb;
@@ -67,19 +67,19 @@ impl Shown {
         room: u64,
         number: u64,
         graph: Arc<Graph>,
-        front: &Front<J>,
+        history_prefix: &HistoryPrefix<J>,
     ) -> Shown
         requires base { opened J.vertices J.room ≡ opened vertices room }
-        requires newest { IsNewest (state_at (opened J.vertices J.room) front.now) number (arc_value graph) }
-        ensures { result ≡ record { book = J.book; base = opened J.vertices J.room; log = front.now } }
+        requires newest { IsNewest (state_at (opened J.vertices J.room) history_prefix.now) number (arc_value graph) }
+        ensures { result ≡ record { book = J.book; base = opened J.vertices J.room; log = history_prefix.now } }
     {
         Shown {
             number,
             graph,
             vertices,
             room,
-            count: front.len(),
-            seen: front.seen(),
+            count: history_prefix.len(),
+            seen: history_prefix.seen(),
         }
     }
 
@@ -114,12 +114,12 @@ impl Shown {
     }
 
     /// The history.
-    pub(crate) fn front<J: Naming>(&self) -> Front<J>
+    pub(crate) fn history_prefix<J: Naming>(&self) -> HistoryPrefix<J>
         requires { (self.now.book ≡ J.book) × (self.now.base ≡ opened J.vertices J.room) }
-        ensures front { result ≡ self.now.log }
+        ensures history_prefix { result ≡ self.now.log }
         ensures legal { IsLegal (opened J.vertices J.room) (steps_of result) }
     {
-        Front::of_seen(self.seen.again(), self.count)
+        HistoryPrefix::of_seen(self.seen.again(), self.count)
     }
 }
 

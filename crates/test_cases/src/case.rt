@@ -2,7 +2,7 @@
 
 use crate::beside;
 use crate::compare::{Output, add_differences};
-use crate::listing::Place;
+use crate::listing::CaseName;
 use crate::repeated::expanded;
 use crate::wanted::wanted_without_files;
 use devices::Device;
@@ -61,7 +61,7 @@ impl Files for Folder<'_> {
 pub fn differences<T: Threads + Wait + Sync>(
     rt: &HostRuntime,
     threads: &T,
-    place: &Place,
+    place: &CaseName,
 ) -> io::Result<String> {
     let name = place.name.as_str();
     let folder = &Folder {

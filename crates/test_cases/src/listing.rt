@@ -5,7 +5,7 @@ use std::{fs, io};
 
 /// Where a case stands: its folder, and the name of its files without their endings.
 #[derive(Clone, Debug, Drop, PartialEq, Eq, PartialOrd, Ord)]
-pub struct Place {
+pub struct CaseName {
     pub folder: String,
     pub name: String,
 }
@@ -13,7 +13,7 @@ pub struct Place {
 /// The cases in the folders of this folder, in order of their places: all, or those of these names where some are given.
 ///
 /// Errors: that of the listing, and `NotFound` where there is none of these names.
-pub fn cases(rt: &HostRuntime, names: &[String]) -> io::Result<Vec<Place>> {
+pub fn cases(rt: &HostRuntime, names: &[String]) -> io::Result<Vec<CaseName>> {
     let mut places = Vec::new(rt.alloc());
     for entry in fs::read_dir(rt, ".")? {
         let entry = entry?;
@@ -34,7 +34,7 @@ fn add_cases(
     rt: &HostRuntime,
     folder: &str,
     names: &[String],
-    places: &mut Vec<Place>,
+    places: &mut Vec<CaseName>,
 ) -> io::Result<()> {
     for entry in fs::read_dir(rt, folder)? {
         let entry = entry?;
@@ -44,7 +44,7 @@ fn add_cases(
         if names.is_empty() || names.iter().any(|wanted| wanted.as_str() == name) {
             let folder = String::from_str(rt.alloc(), folder)?;
             let name = String::from_str(rt.alloc(), name)?;
-            places.push(Place { folder, name })?;
+            places.push(CaseName { folder, name })?;
         }
     }
     Ok(())

@@ -59,7 +59,7 @@ const ON_FIVE: Wanted<'static> = Wanted {
 
 // The search, and the program that writes one entry.
 #[derive(Clone, Copy)]
-struct Programs<'a> {
+struct GrowthPlans<'a> {
     search: &'a Plan,
     fourth: &'a Plan,
 }
@@ -108,7 +108,7 @@ fn shows<J: Naming, R: Threads + Sync>(
 fn is_of<J: Naming, R: Threads + Sync>(
     rt: &R,
     alloc: Global,
-    programs: Programs<'_>,
+    programs: GrowthPlans<'_>,
     held: &Held<J>,
     wanted: Wanted<'_>,
 ) -> bool {
@@ -140,7 +140,7 @@ fn is_newest<J: Naming, R: Threads + Sync>(
 fn each_held_version_has_its_own_vertices(rt: HostRuntime) -> Result<(), Fail> {
     let search = compile(rt.alloc(), SEARCH)?;
     let fourth = compile(rt.alloc(), FOURTH)?;
-    let programs = Programs {
+    let programs = GrowthPlans {
         search: &search,
         fourth: &fourth,
     };
@@ -154,7 +154,7 @@ fn each_held_version_has_its_own_vertices(rt: HostRuntime) -> Result<(), Fail> {
 fn two_vertices<J: Naming, R: Threads + Wait + AllocGlobal + Sync>(
     rt: &R,
     opening: Opening,
-    programs: Programs<'_>,
+    programs: GrowthPlans<'_>,
 ) -> Result<[bool; 4], SharedError>
     requires book { opening ≡ J.book }
     requires vertices { J.vertices ≡ 2 }
@@ -185,7 +185,7 @@ fn grow_to_three<J: Naming, W: Wait + Drop, R: Threads + Wait + Sync>(
     rt: &R,
     alloc: Global,
     graph: &SharedGraph<J, W>,
-    programs: Programs<'_>,
+    programs: GrowthPlans<'_>,
     me: &mut Reader<J>,
 ) -> bool {
     let made = commit(rt, alloc, graph, me, &[Entry::Add(2, 0, 1), Entry::Grow(3)]) == Ok(2);
@@ -205,7 +205,7 @@ fn grow_to_five<J: Naming, W: Wait + Drop, R: Threads + Wait + Sync>(
     rt: &R,
     alloc: Global,
     graph: &SharedGraph<J, W>,
-    programs: Programs<'_>,
+    programs: GrowthPlans<'_>,
     me: &mut Reader<J>,
 ) -> bool {
     let entries = [Entry::Grow(5), Entry::Grow(4), Entry::Add(1, 4, 1)];

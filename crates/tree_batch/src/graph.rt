@@ -15,7 +15,7 @@ use crate::error::GraphError;
 use crate::neighbours::neighbours;
 use crate::updates::{updates, updates_forked};
 use c_tree::ChunkSize;
-use set_ops::Fork;
+use set_ops::{Fork, MAX_FORKS};
 use shared_tree::{Share, Tree};
 use std::alloc::{AllocError, Global};
 use std::fmt::{self, Debug};
@@ -25,9 +25,6 @@ use vertex_blocks::{NeighbourSet, VertexBlock};
 
 /// The greatest number of vertices of a graph.
 pub const MAX_VERTICES: u32 = 16_777_216;
-
-/// The most levels at which halves go to two threads.
-const MOST_FORKS: u32 = 6;
 
 /// A directed graph whose vertices are the numbers below `vertices`. Self-loops are allowed, and
 /// an edge is there once, with one weight, or not at all. No call changes a graph, and graphs share
@@ -144,7 +141,7 @@ impl Graph {
         if batch.misfits(self.vertices) {
             return Err(GraphError::VertexRange);
         }
-        let (size, most) = (self.chunk_size, forks.min(MOST_FORKS));
+        let (size, most) = (self.chunk_size, forks.min(MAX_FORKS));
         let updates = updates_forked(rt, alloc, batch)?;
         let outs = updates.change_forked(rt, alloc, &self.outgoing, size, most, fork)?;
         let turned = updates.turned_forked(rt, alloc)?;

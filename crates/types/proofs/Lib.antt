@@ -1,3 +1,4 @@
+pub mod Applies
 pub mod BlockLaws
 pub mod DeclarationLaws
 pub mod EdgeWrites

@@ -1,3 +1,4 @@
 -- What the code is made of: no public contract cites these definitions.
+pub mod Applies
 pub mod Plain
 pub mod Variables

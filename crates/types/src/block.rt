@@ -4,9 +4,9 @@ ghost use Rattle.syntax.specs.SourceViews.{action_tree as source_action, block_t
 ghost use Rattle.typed_tree.specs.BlockTree.{Empty, action_tree, block_tree};
 ghost use Rattle.expression_types.specs.WithFaults.{ReportsFaults};
 ghost use Rattle.expression_types.specs.ScopeTree.{Keeps};
-ghost use Rattle.types.specs.Block.{action_typed, block_typed, for_typed, statement_tree, statement_typed, statements_typed};
+ghost use Rattle.types.specs.Block.{action_typed, block_typed, statement_tree, statement_typed, statements_typed};
 ghost use Rattle.types.specs.Checker.{checker_of};
-ghost use Rattle.types.specs.inside.Plain.{DeclaresNothing, HasTest, ReducesOrSetsEntry};
+ghost use Rattle.types.specs.inside.Plain.{DeclaresNothing, HasTest, IsFor, ReducesOrSetsEntry};
 
 use crate::checker::{Checker, count, declare, label};
 use crate::statement::{
@@ -15,7 +15,7 @@ use crate::statement::{
 use crate::wanted::{condition, integer};
 use expression_types::{Entity, Fault};
 use std::alloc::{AllocError, Global};
-use syntax::{Action as Written, Expression, Name};
+use syntax::Action as Written;
 use typed_tree::{MainStatement, StatementKind};
 
 /// Statements in order. What they declare stays visible after them.
@@ -96,13 +96,7 @@ fn action(
             variable,
             initial,
         } => declare_variable(alloc, checker, *at, variable, initial, first_fault),
-        Written::For {
-            at,
-            name,
-            first,
-            limit,
-            body,
-        } => repeat(alloc, body, *at, name, first, limit, checker, first_fault),
+        Written::For { .. } => repeat(alloc, action, checker, first_fault),
         Written::While { .. } | Written::If { .. } | Written::IfElse { .. } => {
             tested(alloc, action, checker, first_fault)
         }
@@ -163,17 +157,13 @@ fn without_block(
     let scope = &checker.scope;
     match action {
         Written::Print { at, value } => print(alloc, scope, *at, value, first_fault),
-        Written::Assign { name, value } => {
-            assign(alloc, checker, name.at(), name, value, first_fault)
-        }
-        Written::AddVertex { set, vertex } => {
-            add_vertex(alloc, scope, set.at(), set, vertex, first_fault)
-        }
+        Written::Assign { name, value } => { assign(alloc, checker, name, value, first_fault) }
+        Written::AddVertex { set, vertex } => { add_vertex(alloc, scope, set, vertex, first_fault) }
         Written::Apply {
             target,
             ends,
             function,
-        } => Ok(apply(scope, target.at(), target, ends, function, first_fault)),
+        } => Ok(apply(scope, target, ends, function, first_fault)),
         change => reduction_or_entry(alloc, change, checker, first_fault),
     }
 }
@@ -195,38 +185,18 @@ fn reduction_or_entry(
             name,
             reduction,
             value,
-        } => reduce(
-            alloc,
-            scope,
-            name.at(),
-            name,
-            *reduction,
-            value,
-            first_fault,
-        ),
+        } => reduce(alloc, scope, name, *reduction, value, first_fault),
         Written::SetEntry {
             vector,
             index,
             value,
-        } => set_entry(alloc, scope, vector.at(), vector, index, value, first_fault),
+        } => set_entry(alloc, scope, vector, index, value, first_fault),
         Written::ReduceEntry {
             vector,
             index,
             reduction,
             value,
-        } => {
-            let at = vector.at();
-            reduce_entry(
-                alloc,
-                scope,
-                at,
-                vector,
-                index,
-                *reduction,
-                value,
-                first_fault,
-            )
-        }
+        } => { reduce_entry(alloc, scope, vector, index, *reduction, value, first_fault) }
         _ => unreachable!(),
     }
 }
@@ -235,20 +205,27 @@ fn reduction_or_entry(
 #[cycle(statements)]
 fn repeat(
     alloc: Global,
-    body: &[syntax::Statement],
-    at: usize,
-    name: &Name,
-    first: &Expression,
-    limit: &Expression,
+    action: &Written,
     checker: &mut Checker,
     first_fault: &mut Option<Fault>,
 ) -> Result<StatementKind, AllocError>
+    requires { IsFor action.now }
     ensures typed { ReportsFaults (λ a. (action_tree a, checker_of checker.new)) first_fault.old first_fault.new result
-        (for_typed (checker_of checker.old) at name.now first.now limit.now (λ d. statements_typed d Empty (source_block body.now))) }
+        (action_typed (checker_of checker.old) (source_action action.now)) }
     ensures kept { OnOk result (Keeps checker.old.scope checker.new.scope) }
 {
-    let first = integer(alloc, &checker.scope, at, first, first_fault)?;
-    let limit = integer(alloc, &checker.scope, at, limit, first_fault)?;
+    let Written::For {
+        at,
+        name,
+        first,
+        limit,
+        body,
+    } = action
+    else {
+        unreachable!();
+    };
+    let first = integer(alloc, &checker.scope, *at, first, first_fault)?;
+    let limit = integer(alloc, &checker.scope, *at, limit, first_fault)?;
     let mark = checker.scope.mark();
     let slot = checker.integer_slot();
     declare(

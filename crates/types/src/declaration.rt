@@ -25,7 +25,7 @@ use crate::reductions::Reductions;
 use crate::step::steps;
 use expression_types::{Entity, Fault, Inside, TypeRule, note};
 use std::alloc::{AllocError, Global};
-use syntax::{Declaration, DeclaredType, Initial, Name, Parameter};
+use syntax::{Declaration, DeclaredType, Initial, Name, Parameter, Statement};
 use typed_tree::{
     Endpoint, Function, FunctionStatement, InitialValue, MainStatement, ScheduleCall, Typed,
     VarRef, Vector,
@@ -102,6 +102,16 @@ pub(crate) enum FunctionKind {
     Other,
 }
 
+/// The parts of a function's declaration. `at` is the offset of its first token, `gives` its result.
+#[derive(Clone, Copy)]
+struct WrittenFunction<'a> {
+    at: usize,
+    name: &'a Name,
+    parameters: &'a [Parameter],
+    gives: &'a Option<Parameter>,
+    body: &'a [Statement],
+}
+
 /// All declarations, in the order of the text.
 pub(crate) fn declare_all(
     alloc: Global,
@@ -140,30 +150,18 @@ fn declare_one(
             result: gives,
             body,
         } => {
+            let written = WrittenFunction {
+                at: *at,
+                name,
+                parameters,
+                gives,
+                body,
+            };
             match kind_of(name.bytes(), parameters, gives) {
                 FunctionKind::Main(fits) => {
-                    main_function(
-                        alloc,
-                        fits,
-                        name,
-                        parameters,
-                        gives,
-                        body,
-                        declared,
-                        first_fault,
-                    )
+                    main_function(alloc, fits, written, declared, first_fault)
                 }
-                other => function(
-                    alloc,
-                    *at,
-                    other,
-                    name,
-                    parameters,
-                    gives,
-                    body,
-                    declared,
-                    first_fault,
-                ),
+                other => function(alloc, other, written, declared, first_fault),
             }
         }
     }
@@ -581,16 +579,13 @@ fn entity_of_result(checker: &Checker, kind: FunctionKind) -> Entity
 fn main_function(
     alloc: Global,
     fits: bool,
-    name: &Name,
-    parameters: &[Parameter],
-    gives: &Option<Parameter>,
-    body: &[syntax::Statement],
+    written: WrittenFunction<'_>,
     declared: &mut Declared,
     first_fault: &mut Option<Fault>,
 ) -> Result<(), AllocError>
     ensures { ReportsFaults (λ _. declared_of declared.new) first_fault.old first_fault.new result
-        (main_declared (declared_of declared.old) fits name.now (map parameter_tree parameters.now) (option_map parameter_tree gives.now)
-        (source_block body.now)) }
+        (main_declared (declared_of declared.old) fits written.entry.name.now (map parameter_tree written.entry.parameters.now)
+        (option_map parameter_tree written.entry.gives.now) (source_block written.entry.body.now)) }
 {
     let checker = &mut declared.checker;
     checker.statements = Vec::new(alloc);
@@ -598,14 +593,14 @@ fn main_function(
     open(
         alloc,
         FunctionKind::Main(fits),
-        parameters,
-        gives,
+        written.parameters,
+        written.gives,
         checker,
         first_fault,
     )?;
-    let body = statements(alloc, body, checker, first_fault)?;
+    let body = statements(alloc, written.body, checker, first_fault)?;
     checker.scope.leave(mark);
-    name_is(alloc, name, Entity::Main, declared, first_fault)?;
+    name_is(alloc, written.name, Entity::Main, declared, first_fault)?;
     keep_main(fits, body, declared);
     Ok(())
 }
@@ -622,26 +617,29 @@ fn keep_main(fits: bool, body: Vec<MainStatement>, declared: &mut Declared)
 /// A function of another kind, or of none.
 fn function(
     alloc: Global,
-    at: usize,
     kind: FunctionKind,
-    name: &Name,
-    parameters: &[Parameter],
-    gives: &Option<Parameter>,
-    body: &[syntax::Statement],
+    written: WrittenFunction<'_>,
     declared: &mut Declared,
     first_fault: &mut Option<Fault>,
 ) -> Result<(), AllocError>
     ensures { ReportsFaults (λ _. declared_of declared.new) first_fault.old first_fault.new result
-        (steps_declared (declared_of declared.old) at (function_kind_tree kind) name.now (map parameter_tree parameters.now)
-        (option_map parameter_tree gives.now) (source_block body.now)) }
+        (steps_declared (declared_of declared.old) written.entry.at (function_kind_tree kind) written.entry.name.now
+        (map parameter_tree written.entry.parameters.now) (option_map parameter_tree written.entry.gives.now) (source_block written.entry.body.now)) }
 {
-    want_kind(at, kind, first_fault);
+    want_kind(written.at, kind, first_fault);
     let checker = &mut declared.checker;
     let mark = checker.scope.mark();
-    open(alloc, kind, parameters, gives, checker, first_fault)?;
-    let steps = steps(alloc, body, checker, first_fault)?;
+    open(
+        alloc,
+        kind,
+        written.parameters,
+        written.gives,
+        checker,
+        first_fault,
+    )?;
+    let steps = steps(alloc, written.body, checker, first_fault)?;
     checker.scope.leave(mark);
-    function_is(alloc, kind, name, steps, declared, first_fault)
+    function_is(alloc, kind, written.name, steps, declared, first_fault)
 }
 
 /// Notes the fault where a function is of no kind.

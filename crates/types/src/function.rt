@@ -14,7 +14,7 @@ ghost use Rattle.types.specs.Step.{one_reduction, own_vertex, reduce_entry_step,
 ghost use Rattle.types.specs.inside.Variables.{step_variable_as};
 
 use crate::checker::{Checker, declare};
-use crate::initial::{Initializer, read_end, read_initial};
+use crate::initial::{Initializer, read_apply, read_initial};
 use crate::reductions::Reductions;
 use crate::wanted::{integer, integer_of};
 use apply_options::Reduction;
@@ -129,13 +129,14 @@ fn declaration(
 pub(crate) fn assign(
     alloc: Global,
     checker: &Checker,
-    at: usize,
     name: &Name,
     initial: &Initial,
     first_fault: &mut Option<Fault>,
 ) -> Result<FunctionStatement, AllocError>
-    ensures { ReportsFaults step_tree first_fault.old first_fault.new result (assign_step (checker_of checker.now) at name.now (initial_tree initial.now)) }
+    ensures { ReportsFaults step_tree first_fault.old first_fault.new result
+        (assign_step (checker_of checker.now) name.now.at name.now (initial_tree initial.now)) }
 {
+    let at = name.at();
     let entity = entity(&checker.scope, name, first_fault);
     let initializer = read_initial(alloc, checker, at, initial, first_fault)?;
     Ok(assign_initializer(alloc, at, initializer, entity, first_fault))
@@ -167,14 +168,14 @@ fn assign_initializer(
 pub(crate) fn reduce(
     alloc: Global,
     scope: &Scope,
-    at: usize,
     name: &Name,
     by: Reduction,
     value: &Expression,
     first_fault: &mut Option<Fault>,
 ) -> Result<FunctionStatement, AllocError>
-    ensures { ReportsFaults step_tree first_fault.old first_fault.new result (reduce_step scope.now at name.now by value.now) }
+    ensures { ReportsFaults step_tree first_fault.old first_fault.new result (reduce_step scope.now name.now.at name.now by value.now) }
 {
+    let at = name.at();
     let entity = entity(scope, name, first_fault);
     let value = type_expression(alloc, scope, at, value, first_fault)?;
     Ok(reduce_value(alloc, at, by, value, entity, first_fault))
@@ -268,14 +269,14 @@ fn may_set_entry(at: usize, inside: Inside, first_fault: &mut Option<Fault>) -> 
 pub(crate) fn set_entry(
     alloc: Global,
     scope: &Scope,
-    at: usize,
     name: &Name,
     index: &Expression,
     value: &Expression,
     first_fault: &mut Option<Fault>,
 ) -> Result<FunctionStatement, AllocError>
-    ensures { ReportsFaults step_tree first_fault.old first_fault.new result (set_entry_step scope.now at name.now index.now value.now) }
+    ensures { ReportsFaults step_tree first_fault.old first_fault.new result (set_entry_step scope.now name.now.at name.now index.now value.now) }
 {
+    let at = name.at();
     let may = may_set_entry(at, scope.inside(), first_fault);
     let vector = vector(scope, at, name, first_fault);
     let index = type_index(alloc, scope, at, index, first_fault)?;
@@ -353,7 +354,6 @@ fn reduce_once(
 pub(crate) fn reduce_entry(
     alloc: Global,
     checker: &mut Checker,
-    at: usize,
     name: &Name,
     index: &Expression,
     by: Reduction,
@@ -361,9 +361,10 @@ pub(crate) fn reduce_entry(
     first_fault: &mut Option<Fault>,
 ) -> Result<FunctionStatement, AllocError>
     ensures typed { ReportsFaults (λ s. (step_tree s, checker_of checker.new)) first_fault.old first_fault.new result
-        (reduce_entry_step (checker_of checker.old) at name.now index.now by value.now) }
+        (reduce_entry_step (checker_of checker.old) name.now.at name.now index.now by value.now) }
     ensures kept { checker.new.scope ≡ checker.old.scope }
 {
+    let at = name.at();
     let vector = vector(&checker.scope, at, name, first_fault);
     let inside = checker.scope.inside();
     let may = may_reduce_entry(at, inside, vector, by, &mut checker.writes, first_fault)?;
@@ -393,13 +394,13 @@ fn reducing(
 pub(crate) fn add_vertex(
     alloc: Global,
     scope: &Scope,
-    at: usize,
     set: &Name,
     vertex: &Expression,
     first_fault: &mut Option<Fault>,
 ) -> Result<FunctionStatement, AllocError>
-    ensures { ReportsFaults step_tree first_fault.old first_fault.new result (no_add scope.now at set.now vertex.now) }
+    ensures { ReportsFaults step_tree first_fault.old first_fault.new result (no_add scope.now set.now.at set.now vertex.now) }
 {
+    let at = set.at();
     let step = wrong(at, alloc, first_fault);
     let _set = entity(scope, set, first_fault);
     let _vertex = type_expression(alloc, scope, at, vertex, first_fault)?;
@@ -410,18 +411,15 @@ pub(crate) fn add_vertex(
 pub(crate) fn apply(
     alloc: Global,
     scope: &Scope,
-    at: usize,
     target: &Name,
     ends: &Ends,
     function: &Name,
     first_fault: &mut Option<Fault>,
 ) -> FunctionStatement
-    ensures { outcome first_fault.old (no_apply scope.now at target.now (ends_tree ends.now) function.now) ≡ (step_tree result, first_fault.new) }
+    ensures { outcome first_fault.old (no_apply scope.now target.now.at target.now (ends_tree ends.now) function.now) ≡ (step_tree result, first_fault.new) }
 {
+    let at = target.at();
     let step = wrong(at, alloc, first_fault);
-    let _target = entity(scope, target, first_fault);
-    let _from = read_end(scope, &ends.from, first_fault);
-    let _to = read_end(scope, &ends.to, first_fault);
-    let _function = entity(scope, function, first_fault);
+    let _apply = read_apply(scope, target, ends, function, first_fault);
     step
 }

@@ -1,15 +1,15 @@
 //! Initializers and the ends of applies: what variables, constants and sets get.
 ghost use Rattle.std.specs.Prelude.{◌≡◌, ◌||◌, Some};
-ghost use Rattle.syntax.specs.SourceTrees.{ApplyModified};
 ghost use Rattle.syntax.specs.SourceViews.{ends_tree, initial_tree};
 ghost use Rattle.typed_tree.specs.ConditionTree.{condition_tree};
 ghost use Rattle.typed_tree.specs.IntegerTree.{integer_tree};
 ghost use Rattle.expression_types.specs.WithFaults.{ReportsFaults, outcome};
 ghost use Rattle.types.specs.Checker.{checker_of};
 ghost use Rattle.types.specs.Initializer.{apply_end_tree, initializer_tree};
+ghost use Rattle.types.specs.inside.Applies.{apply_named, apply_tree};
 ghost use Rattle.expression_types.specs.Faults.{earlier};
 ghost use Rattle.types.specs.Initial.{ErrorInitializer, initializer_condition, edge_function, end_of, ends_given, filter_function, filter_named, filtered, initializer_of, given_filter, initializer_integer, is_all, is_degrees, is_edges};
-ghost use Rattle.types.specs.Initial.{is_loaded, is_sound, names_error, is_error_end, is_wrong, lacks_weights, loaded, initializer_members, modified, new_set, of_edges, reads_weight, vertex_function, writes_vector};
+ghost use Rattle.types.specs.Initial.{is_loaded, is_sound, names_error, is_error_end, is_wrong, lacks_weights, loaded, initializer_members, modified as vertices_modified, new_set, of_edges, reads_weight, vertex_function, writes_vector};
 
 use crate::checker::Checker;
 use crate::wanted::{condition_of, integer_of, members_of};
@@ -44,6 +44,16 @@ impl Drop for Initializer {
             | Initializer::Error => {}
         }
     }
+}
+
+/// What the names of an apply stand for.
+#[derive(Clone, Copy)]
+pub(crate) struct Apply {
+    /// What it is on: the edges, or a vertex set.
+    pub(crate) target: Entity,
+    pub(crate) from: ApplyEnd,
+    pub(crate) to: ApplyEnd,
+    pub(crate) function: Entity,
 }
 
 /// Which vertices an end lets through.
@@ -193,12 +203,26 @@ pub(crate) fn ends_of(from: ApplyEnd, to: ApplyEnd) -> ApplyEnds
     }
 }
 
-/// What an end lets through.
-pub(crate) fn read_end(
+/// What the names of an apply stand for: of its target, its ends and its function, in the order of the text.
+pub(crate) fn read_apply(
     scope: &Scope,
-    name: &Option<Name>,
+    target: &Name,
+    ends: &WrittenEnds,
+    function: &Name,
     first_fault: &mut Option<Fault>,
-) -> ApplyEnd
+) -> Apply
+    ensures { outcome first_fault.old (apply_named scope.now target.now (ends_tree ends.now) function.now) ≡ (apply_tree result, first_fault.new) }
+{
+    Apply {
+        target: entity(scope, target, first_fault),
+        from: read_end(scope, &ends.from, first_fault),
+        to: read_end(scope, &ends.to, first_fault),
+        function: entity(scope, function, first_fault),
+    }
+}
+
+/// What an end lets through.
+fn read_end(scope: &Scope, name: &Option<Name>, first_fault: &mut Option<Fault>) -> ApplyEnd
     ensures { outcome first_fault.old (end_of scope.now name.now) ≡ (apply_end_tree result, first_fault.new) }
 {
     match name {
@@ -333,7 +357,11 @@ pub(crate) fn read_initial(
             ends,
             function,
             vector,
-        } => Ok(apply_modified(checker, at, edges, ends, function, vector, first_fault)),
+        } => {
+            let apply = read_apply(scope, edges, ends, function, first_fault);
+            let vector = entity(scope, vector, first_fault);
+            Ok(modified(checker, at, apply, vector, first_fault))
+        }
         Initial::Value(expression) => {
             let value = type_expression(alloc, scope, at, expression, first_fault)?;
             Ok(Initializer::Typed(value))
@@ -393,40 +421,22 @@ fn filter(at: usize, set: Entity, test: Entity, first_fault: &mut Option<Fault>)
 }
 
 /// The vertices that an edge apply changes.
-fn apply_modified(
+fn modified(
     checker: &Checker,
     at: usize,
-    edges: &Name,
-    ends: &WrittenEnds,
-    function: &Name,
-    vector: &Name,
-    first_fault: &mut Option<Fault>,
-) -> Initializer
-    ensures { outcome first_fault.old (initializer_of (checker_of checker.now) at
-        (ApplyModified edges.now (ends_tree ends.now) function.now vector.now)) ≡ (initializer_tree result, first_fault.new) }
-{
-    let scope = &checker.scope;
-    let edges = entity(scope, edges, first_fault);
-    let from = read_end(scope, &ends.from, first_fault);
-    let to = read_end(scope, &ends.to, first_fault);
-    let function = entity(scope, function, first_fault);
-    let vector = entity(scope, vector, first_fault);
-    modified_between(checker, at, edges, from, to, function, vector, first_fault)
-}
-
-fn modified_between(
-    checker: &Checker,
-    at: usize,
-    edges: Entity,
-    from: ApplyEnd,
-    to: ApplyEnd,
-    function: Entity,
+    apply: Apply,
     vector: Entity,
     first_fault: &mut Option<Fault>,
 ) -> Initializer
-    ensures { outcome first_fault.old (modified (checker_of checker.now) at edges (apply_end_tree from) (apply_end_tree to) function vector)
-        ≡ (initializer_tree result, first_fault.new) }
+    ensures { outcome first_fault.old (vertices_modified (checker_of checker.now) at apply.target (apply_end_tree apply.from) (apply_end_tree apply.to)
+        apply.function vector) ≡ (initializer_tree result, first_fault.new) }
 {
+    let Apply {
+        target: edges,
+        from,
+        to,
+        function,
+    } = apply;
     let unclear = is_error_entity(edges)
         || from.is_error()
         || to.is_error()

@@ -17,8 +17,9 @@ ghost use Rattle.types.specs.inside.Variables.{variable_as};
 
 use crate::checker::{Checker, declare};
 use crate::initial::{
-    ApplyEnd, Initializer, are_weights_lacking, edge_function_named, ends_of, is_edges_entity,
-    is_error_entity, is_one_wrong, read_end, read_initial, vertex_function_named,
+    Apply, ApplyEnd, Initializer, are_weights_lacking, edge_function_named, ends_of,
+    is_edges_entity, is_error_entity, is_one_wrong, read_apply, read_initial,
+    vertex_function_named,
 };
 use crate::wanted::{index_of, integer, integer_of};
 use apply_options::Reduction;
@@ -120,13 +121,14 @@ fn declaration(
 pub(crate) fn assign(
     alloc: Global,
     checker: &Checker,
-    at: usize,
     name: &Name,
     initial: &Initial,
     first_fault: &mut Option<Fault>,
 ) -> Result<StatementKind, AllocError>
-    ensures { ReportsFaults action_tree first_fault.old first_fault.new result (assignment (checker_of checker.now) at name.now (initial_tree initial.now)) }
+    ensures { ReportsFaults action_tree first_fault.old first_fault.new result
+        (assignment (checker_of checker.now) name.now.at name.now (initial_tree initial.now)) }
 {
+    let at = name.at();
     let entity = entity(&checker.scope, name, first_fault);
     let initializer = read_initial(alloc, checker, at, initial, first_fault)?;
     Ok(assign_initializer(at, initializer, entity, first_fault))
@@ -161,14 +163,14 @@ fn assign_initializer(
 pub(crate) fn reduce(
     alloc: Global,
     scope: &Scope,
-    at: usize,
     name: &Name,
     by: Reduction,
     value: &Expression,
     first_fault: &mut Option<Fault>,
 ) -> Result<StatementKind, AllocError>
-    ensures { ReportsFaults action_tree first_fault.old first_fault.new result (reduction_statement scope.now at name.now by value.now) }
+    ensures { ReportsFaults action_tree first_fault.old first_fault.new result (reduction_statement scope.now name.now.at name.now by value.now) }
 {
+    let at = name.at();
     let entity = entity(scope, name, first_fault);
     let value = type_expression(alloc, scope, at, value, first_fault)?;
     Ok(reduce_value(at, by, value, entity, first_fault))
@@ -196,14 +198,14 @@ fn reduce_value(
 pub(crate) fn set_entry(
     alloc: Global,
     scope: &Scope,
-    at: usize,
     name: &Name,
     index: &Expression,
     value: &Expression,
     first_fault: &mut Option<Fault>,
 ) -> Result<StatementKind, AllocError>
-    ensures { ReportsFaults action_tree first_fault.old first_fault.new result (entry_setting scope.now at name.now index.now value.now) }
+    ensures { ReportsFaults action_tree first_fault.old first_fault.new result (entry_setting scope.now name.now.at name.now index.now value.now) }
 {
+    let at = name.at();
     let vector = vector(scope, at, name, first_fault);
     let index = type_expression(alloc, scope, at, index, first_fault)?;
     let index = index_of(at, index, first_fault);
@@ -228,15 +230,15 @@ fn setting(
 pub(crate) fn reduce_entry(
     alloc: Global,
     scope: &Scope,
-    at: usize,
     name: &Name,
     index: &Expression,
     by: Reduction,
     value: &Expression,
     first_fault: &mut Option<Fault>,
 ) -> Result<StatementKind, AllocError>
-    ensures { ReportsFaults action_tree first_fault.old first_fault.new result (entry_reduction scope.now at name.now index.now by value.now) }
+    ensures { ReportsFaults action_tree first_fault.old first_fault.new result (entry_reduction scope.now name.now.at name.now index.now by value.now) }
 {
+    let at = name.at();
     let vector = vector(scope, at, name, first_fault);
     let index = type_expression(alloc, scope, at, index, first_fault)?;
     let index = index_of(at, index, first_fault);
@@ -262,13 +264,13 @@ fn reducing(
 pub(crate) fn add_vertex(
     alloc: Global,
     scope: &Scope,
-    at: usize,
     set: &Name,
     vertex: &Expression,
     first_fault: &mut Option<Fault>,
 ) -> Result<StatementKind, AllocError>
-    ensures { ReportsFaults action_tree first_fault.old first_fault.new result (vertex_added scope.now at set.now vertex.now) }
+    ensures { ReportsFaults action_tree first_fault.old first_fault.new result (vertex_added scope.now set.now.at set.now vertex.now) }
 {
+    let at = set.at();
     let entity = entity(scope, set, first_fault);
     let value = type_expression(alloc, scope, at, vertex, first_fault)?;
     Ok(add_value(at, value, entity, first_fault))
@@ -327,19 +329,17 @@ fn print_value(at: usize, value: Value, first_fault: &mut Option<Fault>) -> Stat
 /// An apply of an edge function on the edges, or of a vertex function on a vertex set.
 pub(crate) fn apply(
     scope: &Scope,
-    at: usize,
     target: &Name,
     ends: &Ends,
     function: &Name,
     first_fault: &mut Option<Fault>,
 ) -> StatementKind
-    ensures { outcome first_fault.old (apply_statement scope.now at target.now (ends_tree ends.now) function.now) ≡ (action_tree result, first_fault.new) }
+    ensures { outcome first_fault.old (apply_statement scope.now target.now.at target.now (ends_tree ends.now) function.now)
+        ≡ (action_tree result, first_fault.new) }
 {
-    let on = entity(scope, target, first_fault);
-    let from = read_end(scope, &ends.from, first_fault);
-    let to = read_end(scope, &ends.to, first_fault);
-    let function = entity(scope, function, first_fault);
-    apply_to(at, on, from, to, has_ends(ends), function, first_fault)
+    let at = target.at();
+    let apply = read_apply(scope, target, ends, function, first_fault);
+    apply_to(at, apply, has_ends(ends), first_fault)
 }
 
 /// Whether an end is written.
@@ -351,15 +351,19 @@ fn has_ends(ends: &Ends) -> bool
 
 fn apply_to(
     at: usize,
-    target: Entity,
-    from: ApplyEnd,
-    to: ApplyEnd,
+    apply: Apply,
     has_ends: bool,
-    function: Entity,
     first_fault: &mut Option<Fault>,
 ) -> StatementKind
-    ensures { outcome first_fault.old (applied at target (apply_end_tree from) (apply_end_tree to) has_ends function) ≡ (action_tree result, first_fault.new) }
+    ensures { outcome first_fault.old (applied at apply.target (apply_end_tree apply.from) (apply_end_tree apply.to) has_ends apply.function)
+        ≡ (action_tree result, first_fault.new) }
 {
+    let Apply {
+        target,
+        from,
+        to,
+        function,
+    } = apply;
     if is_error_entity(target) {
         return nothing();
     }

@@ -6,8 +6,8 @@ ghost use Rattle.typed_tree.specs.StepTree.{NoStep, step_tree, steps_tree};
 ghost use Rattle.expression_types.specs.WithFaults.{ReportsFaults};
 ghost use Rattle.expression_types.specs.ScopeTree.{Keeps};
 ghost use Rattle.types.specs.Checker.{checker_of};
-ghost use Rattle.types.specs.inside.Plain.{DeclaresNothing, HasTest, ReducesOrSetsEntry};
-ghost use Rattle.types.specs.Step.{labelled_step, no_for, step_typed, steps_inside, steps_typed};
+ghost use Rattle.types.specs.inside.Plain.{DeclaresNothing, HasTest, IsFor, ReducesOrSetsEntry};
+ghost use Rattle.types.specs.Step.{labelled_step, step_typed, steps_inside, steps_typed};
 
 use crate::checker::{Checker, declare, label};
 use crate::function::{
@@ -16,7 +16,7 @@ use crate::function::{
 use crate::wanted::{condition, integer};
 use expression_types::{Entity, Fault};
 use std::alloc::{AllocError, Global};
-use syntax::{Action as Written, Expression, Name, Statement};
+use syntax::{Action as Written, Statement};
 use typed_tree::FunctionStatement;
 
 /// Statements in order. What they declare stays visible after them.
@@ -91,13 +91,7 @@ fn step(
             variable,
             initial,
         } => declare_variable(alloc, checker, *at, variable, initial, first_fault),
-        Written::For {
-            at,
-            name,
-            first,
-            limit,
-            body,
-        } => repeat(alloc, body, *at, name, first, limit, checker, first_fault),
+        Written::For { .. } => repeat(alloc, action, checker, first_fault),
         Written::While { .. } | Written::If { .. } | Written::IfElse { .. } => {
             tested(alloc, action, checker, first_fault)
         }
@@ -159,28 +153,15 @@ fn without_block(
 {
     match action {
         Written::Print { at, .. } => Ok(print(*at, alloc, first_fault)),
-        Written::Assign { name, value } => {
-            assign(alloc, checker, name.at(), name, value, first_fault)
-        }
+        Written::Assign { name, value } => { assign(alloc, checker, name, value, first_fault) }
         Written::AddVertex { set, vertex } => {
-            add_vertex(alloc, &checker.scope, set.at(), set, vertex, first_fault)
+            add_vertex(alloc, &checker.scope, set, vertex, first_fault)
         }
         Written::Apply {
             target,
             ends,
             function,
-        } => {
-            let at = target.at();
-            Ok(apply(
-                alloc,
-                &checker.scope,
-                at,
-                target,
-                ends,
-                function,
-                first_fault,
-            ))
-        }
+        } => { Ok(apply(alloc, &checker.scope, target, ends, function, first_fault)) }
         change => reduction_or_entry(alloc, change, checker, first_fault),
     }
 }
@@ -202,37 +183,21 @@ fn reduction_or_entry(
             name,
             reduction,
             value,
-        } => {
-            let at = name.at();
-            reduce(
-                alloc,
-                &checker.scope,
-                at,
-                name,
-                *reduction,
-                value,
-                first_fault,
-            )
-        }
+        } => { reduce(alloc, &checker.scope, name, *reduction, value, first_fault) }
         Written::SetEntry {
             vector,
             index,
             value,
-        } => {
-            let at = vector.at();
-            set_entry(alloc, &checker.scope, at, vector, index, value, first_fault)
-        }
+        } => { set_entry(alloc, &checker.scope, vector, index, value, first_fault) }
         Written::ReduceEntry {
             vector,
             index,
             reduction,
             value,
         } => {
-            let at = vector.at();
             reduce_entry(
                 alloc,
                 checker,
-                at,
                 vector,
                 index,
                 *reduction,
@@ -248,21 +213,28 @@ fn reduction_or_entry(
 #[cycle(steps)]
 fn repeat(
     alloc: Global,
-    body: &[Statement],
-    at: usize,
-    name: &Name,
-    first: &Expression,
-    limit: &Expression,
+    action: &Written,
     checker: &mut Checker,
     first_fault: &mut Option<Fault>,
 ) -> Result<FunctionStatement, AllocError>
+    requires { IsFor action.now }
     ensures typed { ReportsFaults (λ s. (step_tree s, checker_of checker.new)) first_fault.old first_fault.new result
-        (no_for (checker_of checker.old) at name.now first.now limit.now (λ d. steps_typed d NoStep (source_block body.now))) }
+        (step_typed (checker_of checker.old) (source_action action.now)) }
     ensures kept { OnOk result (Keeps checker.old.scope checker.new.scope) }
 {
-    let step = wrong(at, alloc, first_fault);
-    let _first = integer(alloc, &checker.scope, at, first, first_fault)?;
-    let _limit = integer(alloc, &checker.scope, at, limit, first_fault)?;
+    let Written::For {
+        at,
+        name,
+        first,
+        limit,
+        body,
+    } = action
+    else {
+        unreachable!();
+    };
+    let step = wrong(*at, alloc, first_fault);
+    let _first = integer(alloc, &checker.scope, *at, first, first_fault)?;
+    let _limit = integer(alloc, &checker.scope, *at, limit, first_fault)?;
     let mark = checker.scope.mark();
     let slot = checker.integer_slot();
     declare(

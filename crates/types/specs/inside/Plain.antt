@@ -24,3 +24,8 @@ HasTest (action.While' at test m body) = Unit {0}
 HasTest (action.If' at test m body) = Unit {0}
 HasTest (action.IfElse' at test m body n otherwise) = Unit {0}
 HasTest other = ⊥
+
+-- it is a `for`
+abbrev pub IsFor : Action → Type 0
+IsFor (action.For' at name first limit m body) = Unit {0}
+IsFor other = ⊥

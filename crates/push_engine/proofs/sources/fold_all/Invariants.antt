@@ -10,4 +10,4 @@ use Rattle.push_engine.proofs.sources.fold_all.Given as goal
 -- some of the vertices with edges are folded, and the rest is left
 abbrev pub invariant-sources : goal.invariant-sources
 invariant-sources l =
-    (ds : List (ℕ × ℕ)) × AreDegreesOf (λ u. destinations_of u l.flat.edges) ds × HasWalked l.context (rows_to (passes_words l.to) l.flat.edges) (firsts ds) (firsts l.source-iterator) l.fn.scratch l.scratch
+    (ds : List (ℕ × ℕ)) × AreDegreesOf (λ u. destinations_of u l.input.flat.now.edges) ds × HasWalked l.input.context (rows_to (passes_words l.input.to) l.input.flat.now.edges) (firsts ds) (firsts l.source-iterator) l.fn.scratch l.scratch

@@ -10,17 +10,17 @@ pub sources-preserved : goal.sources-preserved
 sources-preserved c =
     let us = c.args.sources.now in
     let i = c.sources.source-index in
-    let to = passes_words c.args.to in
-    let edges = c.args.flat.now.edges in
+    let to = passes_words c.args.input.to in
+    let edges = c.args.input.flat.now.edges in
     let inside : i < length us = c.sources-test.true in
-    λ m steps es are has. folded_along c.args.context m steps _ (es ++ rows_to to edges (take (i + 1) us)) c.fold_row.new.scratch (rows_next to edges es us i inside)
+    λ m steps es are has. folded_along c.args.input.context m steps _ (es ++ rows_to to edges (take (i + 1) us)) c.fold_row.new.scratch (rows_next to edges es us i inside)
     (c.in_ok-fold_row.ensures m steps (es ++ rows_to to edges (take i us)) are (c.sources.invariant m steps es are has))
 
 pub returns : goal.returns
 returns c m steps es are has =
     let us = c.args.sources.now in
     let i = c.sources.source-index in
-    let to = passes_words c.args.to in
-    let edges = c.args.flat.now.edges in
+    let to = passes_words c.args.input.to in
+    let edges = c.args.input.flat.now.edges in
     let all : length us ≤ i = c.sources-test.false in
-    folded_along c.args.context m steps (es ++ rows_to to edges (take i us)) (es ++ rows_to to edges us) c.sources.scratch (ap (λ ks. es ++ rows_to to edges ks) (take_all i us all)) (c.sources.invariant m steps es are has)
+    folded_along c.args.input.context m steps (es ++ rows_to to edges (take i us)) (es ++ rows_to to edges us) c.sources.scratch (ap (λ ks. es ++ rows_to to edges ks) (take_all i us all)) (c.sources.invariant m steps es are has)

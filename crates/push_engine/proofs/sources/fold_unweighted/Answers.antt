@@ -9,7 +9,7 @@ use Rattle.push_engine.proofs.sources.fold_unweighted.Goals as goal
 pub rounds-preserved : goal.rounds-preserved
 rounds-preserved g c =
     let a = c.args in
-    let to = passes_words a.to in
+    let to = passes_words a.input.to in
     let u = a.source in
     let n = c.fill-count.result in
     let coming = g.W.NeighbourWalk.coming c.rounds.walk in
@@ -17,7 +17,7 @@ rounds-preserved g c =
     let rest = g.W.NeighbourWalk.coming c.fill-count.new.self in
     let kept = take c.keep_members-kept.result c.keep_members-kept.new.block in
     let same = keys_kept to n coming c.fill-count.new.block kept c.fill-count.ensures.filled c.keep_members-kept.ensures.kept in
-    walk_more a.context (row_to to u) (g.W.NeighbourWalk.coming a.walk) coming part rest a.scratch.now c.rounds.scratch c.fold.new.self
+    walk_more a.input.context (row_to to u) (g.W.NeighbourWalk.coming a.walk) coming part rest a.scratch.now c.rounds.scratch c.fold.new.self
     (row_in_row to u) (parts_of n coming part rest refl c.fill-count.ensures.rest)
     (λ m steps es are has. c.in_ok-fold.ensures m steps es (filter (λ e. to e.0) part) same are has)
     c.rounds.invariant
@@ -26,10 +26,10 @@ pub returns : goal.returns
 returns g c =
     let a = c.args in
     let none = none_left (g.W.NeighbourWalk.coming c.rounds.walk) (omega (arith, c.rounds-test.false, c.len.ensures)) in
-    walk_done a.context (row_to (passes_words a.to) a.source) (g.W.NeighbourWalk.coming a.walk) (g.W.NeighbourWalk.coming c.rounds.walk) a.scratch.now c.rounds.scratch none c.rounds.invariant
+    walk_done a.input.context (row_to (passes_words a.input.to) a.source) (g.W.NeighbourWalk.coming a.walk) (g.W.NeighbourWalk.coming c.rounds.walk) a.scratch.now c.rounds.scratch none c.rounds.invariant
 
 pub rounds-init : goal.rounds-init
 rounds-init g c =
     let a = c.args in
     let all = g.W.NeighbourWalk.coming a.walk in
-    walk_begun a.context (row_to (passes_words a.to) a.source) all a.scratch.now refl
+    walk_begun a.input.context (row_to (passes_words a.input.to) a.source) all a.scratch.now refl

@@ -6,7 +6,7 @@ use Rattle.push_engine.proofs.sources.fold_weighted.Given as goal
 
 -- some neighbours are folded, and the rest is left
 abbrev pub invariant-rounds : goal.invariant-rounds
-invariant-rounds g l = HasWalked l.context (row_to (passes_words l.to) l.source) (g.W.NeighbourWalk.coming l.fn.walk) (g.W.NeighbourWalk.coming l.walk) l.fn.scratch l.scratch
+invariant-rounds g l = HasWalked l.input.context (row_to (passes_words l.input.to) l.source) (g.W.NeighbourWalk.coming l.fn.walk) (g.W.NeighbourWalk.coming l.walk) l.fn.scratch l.scratch
 
 abbrev pub decreases-rounds : goal.decreases-rounds
 decreases-rounds g l = length (g.W.NeighbourWalk.coming l.walk)

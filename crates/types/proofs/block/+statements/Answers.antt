@@ -6,7 +6,7 @@ use Rattle.typed_tree.specs.ConditionTree.{condition_tree}
 use Rattle.typed_tree.specs.IntegerTree.{integer_tree}
 use Rattle.typed_tree.proofs.Blocks.{action_tree-While, action_tree-If, action_tree-IfElse, action_tree-For}
 use Rattle.expression_types.specs.declared.scope.Entity.TheVariants as entity
-use Rattle.expression_types.specs.WithFaults.{ReportsFaults, outcome, sure, ◌>>=◌}
+use Rattle.expression_types.specs.WithFaults.{outcome, sure, ◌>>=◌}
 use Rattle.expression_types.specs.ScopeTree.{Keeps, left}
 use Rattle.expression_types.proofs.Steps.{outcome_then}
 use Rattle.types.specs.Block.{action_typed, closed, statements_typed}
@@ -41,19 +41,12 @@ tested-returns-in_ok-other-in-IfElse-clause-typed t c =
     ∙ ap (λ a. ((a, checker_of c.inner-in-IfElse-2.new.checker), c.inner-in-IfElse-2.new.first_fault))
     (sym (action_tree-IfElse c.in_ok-test-in-IfElse.test c.in_ok-body-in-IfElse.body c.in_ok-other-in-IfElse.other))
 
-pub action-returns-in-For-clause-typed : goal.action-returns-in-For-clause-typed
-action-returns-in-For-clause-typed t c =
-    subst (λ a. ReportsFaults (λ a. (action_tree a, checker_of c.repeat.new.checker)) c.args.first_fault.now c.repeat.new.first_fault c.repeat.result (action_typed (checker_of c.args.checker.now) a))
-    (sym (ap source_action c.in-For.is ∙ sources.action_tree-For c.in-For.at c.in-For.name c.in-For.first c.in-For.limit c.in-For.body
-    ∙ ap (λ xs. source.For c.in-For.at c.in-For.name c.in-For.first c.in-For.limit (source_block xs)) (sym c.deref.ensures.value)))
-    c.repeat.ensures.typed
-
 pub repeat-returns-clause-typed : goal.repeat-returns-clause-typed
 repeat-returns-clause-typed t c =
     let checker = checker_of c.args.checker.now in
     let scope = checker.scope in
-    let at = c.args.at in
-    let body = source_block c.args.body.now in
+    let at = c.in-For.at in
+    let body = source_block c.deref.result.now in
     let a = integer_tree c.in_ok-first.first in
     let z = integer_tree c.in_ok-limit.limit in
     let d = checker_of c.declare.new.checker in
@@ -62,15 +55,18 @@ repeat-returns-clause-typed t c =
     let new = c.statements.new.first_fault in
     let kept = keeps_on scope c.declare.new.checker.scope c.statements.new.checker.scope c.in_ok-declare.ensures.kept c.in_ok-body.ensures.kept in
     let again = c.leave.ensures ∙ ap (λ m. left m c.statements.new.checker.scope) c.mark-mark.ensures.mark ∙ left_again scope c.statements.new.checker.scope kept in
-    outcome_then c.args.first_fault.now c.integer.new.first_fault (integer_in scope at c.args.first.now) a
-    (λ a. integer_in scope at c.args.limit.now >>= λ z. declared_in checker c.args.name.now (entity.LoopVariable (integer_slot checker)) >>= λ d. statements_typed d Empty body >>= λ b.
+    ap (λ a. outcome c.args.first_fault.now (action_typed checker (source_action a))) c.in-For.is
+    ∙ ap (λ a. outcome c.args.first_fault.now (action_typed checker a)) (sources.action_tree-For at c.in-For.name c.in-For.first c.in-For.limit c.in-For.body
+    ∙ ap (λ xs. source.For at c.in-For.name c.in-For.first c.in-For.limit (source_block xs)) (sym c.deref.ensures.value))
+    ∙ outcome_then c.args.first_fault.now c.integer.new.first_fault (integer_in scope at c.in-For.first) a
+    (λ a. integer_in scope at c.in-For.limit >>= λ z. declared_in checker c.in-For.name (entity.LoopVariable (integer_slot checker)) >>= λ d. statements_typed d Empty body >>= λ b.
     sure (For (length checker.names) a z b.0, closed checker b.1)) c.in_ok-first.ensures
-    ∙ outcome_then c.integer.new.first_fault c.integer-2.new.first_fault (integer_in scope at c.args.limit.now) z
-    (λ z. declared_in checker c.args.name.now (entity.LoopVariable (integer_slot checker)) >>= λ d. statements_typed d Empty body >>= λ b.
+    ∙ outcome_then c.integer.new.first_fault c.integer-2.new.first_fault (integer_in scope at c.in-For.limit) z
+    (λ z. declared_in checker c.in-For.name (entity.LoopVariable (integer_slot checker)) >>= λ d. statements_typed d Empty body >>= λ b.
     sure (For (length checker.names) a z b.0, closed checker b.1)) c.in_ok-limit.ensures
-    ∙ outcome_then c.integer-2.new.first_fault c.declare.new.first_fault (declared_in checker c.args.name.now (entity.LoopVariable (integer_slot checker))) d
+    ∙ outcome_then c.integer-2.new.first_fault c.declare.new.first_fault (declared_in checker c.in-For.name (entity.LoopVariable (integer_slot checker))) d
     (λ d. statements_typed d Empty body >>= λ b. sure (For (length checker.names) a z b.0, closed checker b.1))
-    (subst (λ s. outcome c.integer-2.new.first_fault (declared_in checker c.args.name.now (entity.LoopVariable s)) ≡ (d, c.declare.new.first_fault)) c.integer_slot-slot.ensures c.in_ok-declare.ensures.declared)
+    (subst (λ s. outcome c.integer-2.new.first_fault (declared_in checker c.in-For.name (entity.LoopVariable s)) ≡ (d, c.declare.new.first_fault)) c.integer_slot-slot.ensures c.in_ok-declare.ensures.declared)
     ∙ outcome_then c.declare.new.first_fault new (statements_typed d Empty body) (b, last) (λ b. sure (For (length checker.names) a z b.0, closed checker b.1)) c.in_ok-body.ensures.typed
     ∙ (λ i. ((For (ap (λ s. s.name) (sym c.integer_slot-slot.ensures) i) a z b, with_scope last (sym again i)), new))
     ∙ ap (λ x. ((x, with_scope last c.leave.new.self), new)) (sym (action_tree-For c.integer_slot-slot.result.name c.in_ok-first.first c.in_ok-limit.limit c.in_ok-body.body))

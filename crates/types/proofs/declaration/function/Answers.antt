@@ -16,10 +16,10 @@ returns c =
     let d = declared_of c.args.declared.now in
     let scope = d.checker.scope in
     let kind = function_kind_tree c.args.kind in
-    let ps = map parameter_tree c.args.parameters.now in
-    let r = option_map parameter_tree c.args.gives.now in
-    let body = source_block c.args.body.now in
-    let fits = kind_fits c.args.at kind in
+    let ps = map parameter_tree c.args.written.parameters.now in
+    let r = option_map parameter_tree c.args.written.gives.now in
+    let body = source_block c.args.written.body.now in
+    let fits = kind_fits c.args.written.at kind in
     let inner = checker_of c.open.new.checker in
     let last = checker_of c.steps.new.checker in
     let b = steps_tree c.in_ok-steps.steps.items in
@@ -27,12 +27,12 @@ returns c =
     let kept = keeps_on scope c.open.new.checker.scope c.steps.new.checker.scope c.in_ok-open.ensures.kept c.in_ok-steps.ensures.kept in
     let again = c.leave.ensures ∙ ap (λ m. left m c.steps.new.checker.scope) c.mark-mark.ensures.mark ∙ left_again scope c.steps.new.checker.scope kept in
     reports_then (λ _. declared_of c.function_is.new.declared) c.args.first_fault.now c.want_kind.new.first_fault new fits fits.value
-    (λ f. opened d.checker kind ps r >>= λ k. steps_typed k NoStep body >>= λ b. function_declared (record d { checker = with_scope b.1 scope }) kind c.args.name.now b.0)
+    (λ f. opened d.checker kind ps r >>= λ k. steps_typed k NoStep body >>= λ b. function_declared (record d { checker = with_scope b.1 scope }) kind c.args.written.name.now b.0)
     c.function_is.result (λ i. (fits.value, c.want_kind.ensures i))
     (reports_then (λ _. declared_of c.function_is.new.declared) c.want_kind.new.first_fault c.open.new.first_fault new (opened d.checker kind ps r) inner
-    (λ k. steps_typed k NoStep body >>= λ b. function_declared (record d { checker = with_scope b.1 scope }) kind c.args.name.now b.0)
+    (λ k. steps_typed k NoStep body >>= λ b. function_declared (record d { checker = with_scope b.1 scope }) kind c.args.written.name.now b.0)
     c.function_is.result c.in_ok-open.ensures.opened
     (reports_then (λ _. declared_of c.function_is.new.declared) c.open.new.first_fault c.steps.new.first_fault new (steps_typed inner NoStep body) (b, last)
-    (λ b. function_declared (record d { checker = with_scope b.1 scope }) kind c.args.name.now b.0) c.function_is.result c.in_ok-steps.ensures.typed
-    (subst (λ s. ReportsFaults (λ _. declared_of c.function_is.new.declared) c.steps.new.first_fault new c.function_is.result (function_declared (record d { checker = with_scope last s }) kind c.args.name.now b))
+    (λ b. function_declared (record d { checker = with_scope b.1 scope }) kind c.args.written.name.now b.0) c.function_is.result c.in_ok-steps.ensures.typed
+    (subst (λ s. ReportsFaults (λ _. declared_of c.function_is.new.declared) c.steps.new.first_fault new c.function_is.result (function_declared (record d { checker = with_scope last s }) kind c.args.written.name.now b))
     again c.function_is.ensures)))

@@ -1,10 +1,12 @@
 use Rattle.std.proofs.Common.{ap, ◌∙◌}
-use Rattle.syntax.specs.SourceViews.{initial_tree}
+use Rattle.syntax.specs.SourceViews.{ends_tree, initial_tree}
 use Rattle.expression_types.specs.Expression.{used}
 use Rattle.expression_types.specs.WithFaults.{outcome, ◌>>=◌}
 use Rattle.expression_types.proofs.Steps.{outcome_then}
 use Rattle.types.specs.Checker.{checker_of}
-use Rattle.types.specs.Initial.{filtered, initializer_of}
+use Rattle.types.specs.Initial.{filtered, initializer_of, modified}
+use Rattle.types.specs.inside.Applies.{apply_tree}
+use Rattle.types.proofs.Applies.{apply_then}
 use Rattle.types.proofs.initial.read_initial.Goals as goal
 
 pub returns-in-Filter : goal.returns-in-Filter
@@ -16,3 +18,17 @@ returns-in-Filter c =
     ∙ outcome_then c.args.first_fault.now c.entity-set.new.first_fault (used checker.scope c.in-Filter.set) s (λ s. used checker.scope c.in-Filter.test >>= λ f. filtered at s f) c.entity-set.ensures
     ∙ outcome_then c.entity-set.new.first_fault c.entity-test.new.first_fault (used checker.scope c.in-Filter.test) c.entity-test.result (filtered at s) c.entity-test.ensures
     ∙ c.filter.ensures
+
+pub returns-in-ApplyModified : goal.returns-in-ApplyModified
+returns-in-ApplyModified c =
+    let checker = checker_of c.args.checker.now in
+    let scope = checker.scope in
+    let at = c.args.at in
+    let written = c.in-ApplyModified in
+    let apply = apply_tree c.read_apply-apply.result in
+    ap (λ i. outcome c.args.first_fault.now (initializer_of checker at (initial_tree i))) written.is
+    ∙ apply_then scope written.edges (ends_tree written.ends) written.function c.args.first_fault.now c.read_apply-apply.new.first_fault apply
+    (λ a. used scope written.vector >>= λ v. modified checker at a.target a.from a.to a.function v) c.read_apply-apply.ensures
+    ∙ outcome_then c.read_apply-apply.new.first_fault c.entity-vector.new.first_fault (used scope written.vector) c.entity-vector.result
+    (modified checker at apply.target apply.from apply.to apply.function) c.entity-vector.ensures
+    ∙ c.modified.ensures

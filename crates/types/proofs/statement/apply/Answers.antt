@@ -1,23 +1,19 @@
-use Rattle.std.proofs.Common.{ap, sym, ◌∙◌}
+use Rattle.std.proofs.Common.{◌≡◌, ap, subst, sym, ◌∙◌}
 use Rattle.syntax.specs.SourceViews.{ends_tree}
-use Rattle.expression_types.specs.Expression.{used}
-use Rattle.expression_types.specs.WithFaults.{outcome, ◌>>=◌}
-use Rattle.expression_types.proofs.Steps.{outcome_then}
-use Rattle.types.specs.Initializer.{apply_end_tree}
-use Rattle.types.specs.Initial.{end_of}
-use Rattle.types.specs.Statement.{applied, has_ends}
+use Rattle.typed_tree.specs.BlockTree.{action_tree}
+use Rattle.expression_types.specs.WithFaults.{outcome}
+use Rattle.types.specs.Statement.{applied, apply, has_ends}
+use Rattle.types.specs.inside.Applies.{apply_tree}
+use Rattle.types.proofs.Applies.{apply_then}
 use Rattle.types.proofs.statement.apply.Goals as goal
 
 pub returns : goal.returns
 returns c =
     let scope = c.args.scope.now in
-    let at = c.args.at in
-    let t = c.entity-on.result in
-    let a = apply_end_tree c.read_end-from.result in
-    let b = apply_end_tree c.read_end-to.result in
-    let f = c.entity-function.result in
-    outcome_then c.args.first_fault.now c.entity-on.new.first_fault (used scope c.args.target.now) t (λ t. end_of scope c.args.ends.now.from >>= λ a. end_of scope c.args.ends.now.to >>= λ b. used scope c.args.function.now >>= λ f. applied at t a b (has_ends (ends_tree c.args.ends.now)) f) c.entity-on.ensures
-    ∙ outcome_then c.entity-on.new.first_fault c.read_end-from.new.first_fault (end_of scope c.args.ends.now.from) a (λ a. end_of scope c.args.ends.now.to >>= λ b. used scope c.args.function.now >>= λ f. applied at t a b (has_ends (ends_tree c.args.ends.now)) f) c.read_end-from.ensures
-    ∙ outcome_then c.read_end-from.new.first_fault c.read_end-to.new.first_fault (end_of scope c.args.ends.now.to) b (λ b. used scope c.args.function.now >>= λ f. applied at t a b (has_ends (ends_tree c.args.ends.now)) f) c.read_end-to.ensures
-    ∙ outcome_then c.read_end-to.new.first_fault c.entity-function.new.first_fault (used scope c.args.function.now) f (λ f. applied at t a b (has_ends (ends_tree c.args.ends.now)) f) c.entity-function.ensures
-    ∙ ap (λ h. outcome c.entity-function.new.first_fault (applied at t a b h f)) (sym c.has_ends.ensures) ∙ c.apply_to.ensures
+    let at = c.at-at.result in
+    let ends = ends_tree c.args.ends.now in
+    let a = apply_tree c.read_apply-apply.result in
+    let new = c.read_apply-apply.new.first_fault in
+    subst (λ at. outcome c.args.first_fault.now (apply scope at c.args.target.now ends c.args.function.now) ≡ (action_tree c.apply_to.result, c.apply_to.new.first_fault)) c.at-at.ensures
+    (apply_then scope c.args.target.now ends c.args.function.now c.args.first_fault.now new a (λ a. applied at a.target a.from a.to (has_ends ends) a.function) c.read_apply-apply.ensures
+    ∙ ap (λ h. outcome new (applied at a.target a.from a.to h a.function)) (sym c.has_ends.ensures) ∙ c.apply_to.ensures)

@@ -1,13 +1,13 @@
 use Rattle.std.proofs.Common.{◌≡◌, ap, subst, sym, ◌∙◌, ◌+◌, drop}
 use Rattle.syntax.specs.SourceTrees as source
 use Rattle.syntax.specs.SourceViews.{action_tree as source_action, block_tree as source_block}
-use Rattle.typed_tree.specs.StepTree.{NoStep, step_tree, steps_tree}
+use Rattle.typed_tree.specs.StepTree.{NoStep, steps_tree}
 use Rattle.typed_tree.specs.ConditionTree.{condition_tree}
 use Rattle.typed_tree.specs.IntegerTree.{integer_tree}
 use Rattle.typed_tree.proofs.Steps.{step_tree-If, step_tree-IfElse}
 use Rattle.expression_types.specs.declared.fault.TypeRule.TheVariants as rule
 use Rattle.expression_types.specs.declared.scope.Entity.TheVariants as entity
-use Rattle.expression_types.specs.WithFaults.{ReportsFaults, fault_at, outcome, sure, ◌>>=◌}
+use Rattle.expression_types.specs.WithFaults.{fault_at, outcome, sure, ◌>>=◌}
 use Rattle.expression_types.specs.ScopeTree.{left}
 use Rattle.expression_types.proofs.Steps.{outcome_then}
 use Rattle.types.specs.Step.{no_step, step_typed, steps_behind, steps_typed}
@@ -42,19 +42,12 @@ tested-returns-in_ok-other-in-IfElse-clause-typed t c =
     ∙ ap (λ a. ((a, checker_of c.inner-in-IfElse-2.new.checker), c.inner-in-IfElse-2.new.first_fault))
     (sym (step_tree-IfElse c.in_ok-test-in-IfElse.test c.in_ok-body-in-IfElse.body c.in_ok-other-in-IfElse.other))
 
-pub step-returns-in-For-clause-typed : goal.step-returns-in-For-clause-typed
-step-returns-in-For-clause-typed t c =
-    subst (λ a. ReportsFaults (λ s. (step_tree s, checker_of c.repeat.new.checker)) c.args.first_fault.now c.repeat.new.first_fault c.repeat.result (step_typed (checker_of c.args.checker.now) a))
-    (sym (ap source_action c.in-For.is ∙ sources.action_tree-For c.in-For.at c.in-For.name c.in-For.first c.in-For.limit c.in-For.body
-    ∙ ap (λ xs. source.For c.in-For.at c.in-For.name c.in-For.first c.in-For.limit (source_block xs)) (sym c.deref.ensures.value)))
-    c.repeat.ensures.typed
-
 pub repeat-returns-clause-typed : goal.repeat-returns-clause-typed
 repeat-returns-clause-typed t c =
     let checker = checker_of c.args.checker.now in
     let scope = checker.scope in
-    let at = c.args.at in
-    let body = source_block c.args.body.now in
+    let at = c.in-For.at in
+    let body = source_block c.deref.result.now in
     let a = integer_tree c.in_ok-_first._first in
     let z = integer_tree c.in_ok-_limit._limit in
     let d = checker_of c.declare.new.checker in
@@ -63,18 +56,21 @@ repeat-returns-clause-typed t c =
     let new = c.steps.new.first_fault in
     let kept = keeps_on scope c.declare.new.checker.scope c.steps.new.checker.scope c.in_ok-declare.ensures.kept c.in_ok-_body.ensures.kept in
     let again = c.leave.ensures ∙ ap (λ m. left m c.steps.new.checker.scope) c.mark-mark.ensures.mark ∙ left_again scope c.steps.new.checker.scope kept in
-    outcome_then c.args.first_fault.now c.wrong-step.new.first_fault (fault_at at rule.WrongType no_step) no_step
-    (λ s. integer_in scope at c.args.first.now >>= λ a. integer_in scope at c.args.limit.now >>= λ z. declared_in checker c.args.name.now (entity.LoopVariable (integer_slot checker)) >>= λ d.
+    ap (λ a. outcome c.args.first_fault.now (step_typed checker (source_action a))) c.in-For.is
+    ∙ ap (λ a. outcome c.args.first_fault.now (step_typed checker a)) (sources.action_tree-For at c.in-For.name c.in-For.first c.in-For.limit c.in-For.body
+    ∙ ap (λ xs. source.For at c.in-For.name c.in-For.first c.in-For.limit (source_block xs)) (sym c.deref.ensures.value))
+    ∙ outcome_then c.args.first_fault.now c.wrong-step.new.first_fault (fault_at at rule.WrongType no_step) no_step
+    (λ s. integer_in scope at c.in-For.first >>= λ a. integer_in scope at c.in-For.limit >>= λ z. declared_in checker c.in-For.name (entity.LoopVariable (integer_slot checker)) >>= λ d.
     steps_typed d NoStep body >>= λ b. sure (s, steps_behind checker b.1)) (ap (λ n. (no_step, n)) (sym c.wrong-step.ensures.first_fault))
-    ∙ outcome_then c.wrong-step.new.first_fault c.integer.new.first_fault (integer_in scope at c.args.first.now) a
-    (λ a. integer_in scope at c.args.limit.now >>= λ z. declared_in checker c.args.name.now (entity.LoopVariable (integer_slot checker)) >>= λ d. steps_typed d NoStep body >>= λ b.
+    ∙ outcome_then c.wrong-step.new.first_fault c.integer.new.first_fault (integer_in scope at c.in-For.first) a
+    (λ a. integer_in scope at c.in-For.limit >>= λ z. declared_in checker c.in-For.name (entity.LoopVariable (integer_slot checker)) >>= λ d. steps_typed d NoStep body >>= λ b.
     sure (no_step, steps_behind checker b.1)) c.in_ok-_first.ensures
-    ∙ outcome_then c.integer.new.first_fault c.integer-2.new.first_fault (integer_in scope at c.args.limit.now) z
-    (λ z. declared_in checker c.args.name.now (entity.LoopVariable (integer_slot checker)) >>= λ d. steps_typed d NoStep body >>= λ b.
+    ∙ outcome_then c.integer.new.first_fault c.integer-2.new.first_fault (integer_in scope at c.in-For.limit) z
+    (λ z. declared_in checker c.in-For.name (entity.LoopVariable (integer_slot checker)) >>= λ d. steps_typed d NoStep body >>= λ b.
     sure (no_step, steps_behind checker b.1)) c.in_ok-_limit.ensures
-    ∙ outcome_then c.integer-2.new.first_fault c.declare.new.first_fault (declared_in checker c.args.name.now (entity.LoopVariable (integer_slot checker))) d
+    ∙ outcome_then c.integer-2.new.first_fault c.declare.new.first_fault (declared_in checker c.in-For.name (entity.LoopVariable (integer_slot checker))) d
     (λ d. steps_typed d NoStep body >>= λ b. sure (no_step, steps_behind checker b.1))
-    (subst (λ s. outcome c.integer-2.new.first_fault (declared_in checker c.args.name.now (entity.LoopVariable s)) ≡ (d, c.declare.new.first_fault)) c.integer_slot-slot.ensures c.in_ok-declare.ensures.declared)
+    (subst (λ s. outcome c.integer-2.new.first_fault (declared_in checker c.in-For.name (entity.LoopVariable s)) ≡ (d, c.declare.new.first_fault)) c.integer_slot-slot.ensures c.in_ok-declare.ensures.declared)
     ∙ outcome_then c.declare.new.first_fault new (steps_typed d NoStep body) (b, last) (λ b. sure (no_step, steps_behind checker b.1)) c.in_ok-_body.ensures.typed
     ∙ (λ i. ((sym c.wrong-step.ensures.step i, with_scope last (sym again i)), new))
 

@@ -6,7 +6,7 @@ use Rattle.shared_graph.specs.declared.entry.Entry.{Entry}
 use Rattle.shared_graph.specs.Histories.{steps_of, MayFollow}
 use Rattle.shared_graph.proofs.Adding.{adds_moves}
 use Rattle.shared_graph.proofs.Growing.{legal-push, next_few}
-use Rattle.shared_graph.proofs.front.Front.add.Goals as goal
+use Rattle.shared_graph.proofs.history_prefix.HistoryPrefix.add.Goals as goal
 
 pub overflow_add-next : goal.overflow_add-next
 overflow_add-next g c =

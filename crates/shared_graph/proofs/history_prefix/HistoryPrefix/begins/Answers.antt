@@ -3,7 +3,7 @@ use Rattle.std.proofs.lemmas.Bool.{cases_Bool, leb-true, leb-false}
 use mathlib.Core.List.{IsPrefix}
 use Rattle.shared_graph.specs.declared.entry.Entry.{Entry}
 use Rattle.shared_graph.proofs.Prefixes.{prefix_shorter}
-use Rattle.shared_graph.proofs.front.Front.begins.Goals as goal
+use Rattle.shared_graph.proofs.history_prefix.HistoryPrefix.begins.Goals as goal
 
 pub returns : goal.returns
 returns g c =

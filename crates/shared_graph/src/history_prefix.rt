@@ -16,15 +16,15 @@ use version_list::Done;
 
 /// A beginning of the shared history that was seen, of which the code keeps the length alone.
 /// Contracts see it as its entries.
-pub(crate) struct Front<J: Naming> {
+pub(crate) struct HistoryPrefix<J: Naming> {
     count: u64,
     seen: Seen<Entry, u64, Law>,
     of: PhantomData<J>,
 }
 
-impl<J: Naming> Drop for Front<J> {
+impl<J: Naming> Drop for HistoryPrefix<J> {
     fn drop(self) {
-        let Front {
+        let HistoryPrefix {
             count: _,
             seen: _,
             of: _,
@@ -32,7 +32,7 @@ impl<J: Naming> Drop for Front<J> {
     }
 }
 
-impl<J: Naming> Model for Front<J> {
+impl<J: Naming> Model for HistoryPrefix<J> {
     ghost use Rattle.std.specs.Prelude.{◌≡◌, List, length};
     ghost use Rattle.version_list.specs.Machine.{opened};
     ghost use Rattle.version_list.specs.Timeline.{IsLegal};
@@ -47,13 +47,13 @@ impl<J: Naming> Model for Front<J> {
         × IsLegal (opened J.vertices J.room) (steps_of f.seen.log) };
 }
 
-impl<J: Naming> Front<J> {
-    /// The front that has seen nothing.
-    pub(crate) fn first(seen: Seen<Entry, u64, Law>) -> Front<J>
+impl<J: Naming> HistoryPrefix<J> {
+    /// The prefix that has seen nothing.
+    pub(crate) fn first(seen: Seen<Entry, u64, Law>) -> HistoryPrefix<J>
         requires { (seen.book ≡ J.book) × (seen.log ≡ []) }
         ensures { result ≡ [] }
     {
-        Front {
+        HistoryPrefix {
             count: 0,
             seen,
             of: PhantomData,
@@ -61,13 +61,13 @@ impl<J: Naming> Front<J> {
     }
 
     /// What was seen of a legal history of so many entries.
-    pub(crate) fn of_seen(seen: Seen<Entry, u64, Law>, count: u64) -> Front<J>
+    pub(crate) fn of_seen(seen: Seen<Entry, u64, Law>, count: u64) -> HistoryPrefix<J>
         requires book { seen.book ≡ J.book }
         requires count { count ≡ length seen.log }
         requires legal { IsLegal (opened J.vertices J.room) (steps_of seen.log) }
         ensures { result ≡ seen.log }
     {
-        Front {
+        HistoryPrefix {
             count,
             seen,
             of: PhantomData,
@@ -83,10 +83,10 @@ impl<J: Naming> Front<J> {
     }
 
     /// A copy.
-    pub(crate) fn again(&self) -> Front<J>
+    pub(crate) fn again(&self) -> HistoryPrefix<J>
         ensures { result ≡ self.now }
     {
-        Front {
+        HistoryPrefix {
             count: self.count,
             seen: self.seen.again(),
             of: PhantomData,
@@ -101,8 +101,8 @@ impl<J: Naming> Front<J> {
         self.seen.again()
     }
 
-    /// Whether the other front begins with this one; else this one begins with the other.
-    pub(crate) fn begins(&self, other: &Front<J>) -> bool
+    /// Whether the other prefix begins with this one; else this one begins with the other.
+    pub(crate) fn begins(&self, other: &HistoryPrefix<J>) -> bool
         ensures { MatchBool result (IsPrefix self.now other.now) (IsPrefix other.now self.now) }
     {
         let mut both = self.seen.again();
@@ -110,8 +110,8 @@ impl<J: Naming> Front<J> {
         self.count <= other.count
     }
 
-    /// The longer of two fronts, which the other begins.
-    pub(crate) fn longer(&self, other: &Front<J>) -> Front<J>
+    /// The longer of two prefixes, which the other begins.
+    pub(crate) fn longer(&self, other: &HistoryPrefix<J>) -> HistoryPrefix<J>
         ensures this { IsPrefix self.now result }
         ensures that { IsPrefix other.now result }
         ensures legal { IsLegal (opened J.vertices J.room) (steps_of result) }

@@ -1,6 +1,6 @@
 use Rattle.std.proofs.Common.{◌≡◌, vec_len, vec_capacity}
 use Rattle.shared_graph.specs.Passes.{fresh_passes}
-use Rattle.shared_graph.proofs.ledger.fresh_readers.Given as goal
+use Rattle.shared_graph.proofs.published_log.fresh_readers.Given as goal
 
 abbrev pub invariant-loop-number : goal.invariant-loop-number
 invariant-loop-number g l = record {

@@ -15,8 +15,8 @@ ghost use Rattle.shared_graph.specs.Outcome.{Answers, AnswersRelease, Refuses};
 
 use crate::error::SharedError;
 use crate::held::{Held, Unreleased};
-use crate::ledger::Ledger;
 use crate::naming::Naming;
+use crate::published_log::PublishedLog;
 use crate::reader::Reader;
 use crate::snapshot::Snapshot;
 use std::alloc::Global;
@@ -32,23 +32,23 @@ const MANY_ENTRIES: usize = 4096;
 /// At how many levels such a batch goes by halves on two threads.
 const FORKS: u32 = 2;
 
-/// The history as the ledger has it, and the versions, which stand in its replay, and whose own
+/// The history as the log has it, and the versions, which stand in its replay, and whose own
 /// history has its last entries, those since the last trim. Contracts see it as the history.
-pub(crate) struct Desk<J: Naming, R: Wait + Drop> {
+pub(crate) struct LockedState<J: Naming, R: Wait + Drop> {
     versions: Versions,
-    ledger: Ledger<J, R>,
+    published_log: PublishedLog<J, R>,
 }
 
-impl<J: Naming, R: Wait + Drop> Drop for Desk<J, R> {
+impl<J: Naming, R: Wait + Drop> Drop for LockedState<J, R> {
     fn drop(self) {
-        let Desk {
+        let LockedState {
             versions: _,
-            ledger: _,
+            published_log: _,
         } = self;
     }
 }
 
-impl<J: Naming, R: Wait + Drop> Model for Desk<J, R> {
+impl<J: Naming, R: Wait + Drop> Model for LockedState<J, R> {
     ghost use Rattle.std.specs.Prelude.{List};
     ghost use Rattle.version_list.specs.Machine.{opened};
     ghost use Rattle.shared_graph.specs.declared.entry.Entry.{Entry};
@@ -56,18 +56,21 @@ impl<J: Naming, R: Wait + Drop> Model for Desk<J, R> {
 
     ghost Value = { List Entry };
 
-    ghost view = { λ d. d.ledger };
+    ghost view = { λ d. d.published_log };
 
-    ghost invariant = { λ d. IsTimelineOf (opened J.vertices J.room) d.ledger d.versions };
+    ghost invariant = { λ d. IsTimelineOf (opened J.vertices J.room) d.published_log d.versions };
 }
 
-impl<J: Naming, R: Wait + Drop> Desk<J, R> {
-    /// Versions that were just opened, and the ledger of no step.
-    pub(crate) fn new(versions: Versions, ledger: Ledger<J, R>) -> Desk<J, R>
+impl<J: Naming, R: Wait + Drop> LockedState<J, R> {
+    /// Versions that were just opened, and the log of no step.
+    pub(crate) fn new(versions: Versions, published_log: PublishedLog<J, R>) -> LockedState<J, R>
         requires versions { versions ≡ beginning (opened J.vertices J.room) }
-        requires ledger { ledger ≡ [] }
+        requires published_log { published_log ≡ [] }
     {
-        Desk { versions, ledger }
+        LockedState {
+            versions,
+            published_log,
+        }
     }
 
     /// Commits a batch in the name of a reader. All growth comes before the step.
@@ -84,13 +87,13 @@ impl<J: Naming, R: Wait + Drop> Desk<J, R> {
     {
         let (prepared, graph) = prepare_commit(
             &mut self.versions,
-            &self.ledger,
+            &self.published_log,
             rt,
             alloc,
             me,
             batch,
         )?;
-        self.ledger
+        self.published_log
             .record(rt, me, &prepared.done, prepared.number, graph);
         Ok(self.versions.finish(prepared))
     }
@@ -111,7 +114,7 @@ impl<J: Naming, R: Wait + Drop> Desk<J, R> {
     {
         let (prepared, newest, graph) = prepare_hold(
             &mut self.versions,
-            &self.ledger,
+            &self.published_log,
             rt,
             alloc,
             me,
@@ -121,11 +124,11 @@ impl<J: Naming, R: Wait + Drop> Desk<J, R> {
             step: Step::Acquire(which),
             reply: Reply::Ticket(prepared.ticket.number, prepared.version),
         };
-        self.ledger
+        self.published_log
             .record(rt, me, &done, newest.number, newest.graph);
         let number = prepared.version;
         let (ticket, _) = self.versions.finish_acquire(prepared);
-        Ok(Held::new(ticket, Snapshot { number, graph }, me.front()))
+        Ok(Held::new(ticket, Snapshot { number, graph }, me.history_prefix()))
     }
 
     /// Closes the ticket of a held version in the name of a reader. Memory runs out only for an open ticket.
@@ -142,10 +145,10 @@ impl<J: Naming, R: Wait + Drop> Desk<J, R> {
     {
         let ticket = held.ticket();
         if !self.versions.is_open(ticket) {
-            let error = self.ledger.refuse(rt, me, VersionError::NotHeld);
+            let error = self.published_log.refuse(rt, me, VersionError::NotHeld);
             return Err(Unreleased { error, held });
         }
-        let newest = match self.ledger.newest() {
+        let newest = match self.published_log.newest() {
             Ok(newest) => newest,
             Err(_) => {
                 let error = SharedError::NoMemory;
@@ -156,7 +159,7 @@ impl<J: Naming, R: Wait + Drop> Desk<J, R> {
             step: Step::Release(ticket.number),
             reply: Reply::Released,
         };
-        self.ledger
+        self.published_log
             .record(rt, me, &done, newest.number, newest.graph);
         self.versions.release(ticket).unwrap();
         held.into_snapshot();
@@ -172,14 +175,14 @@ impl<J: Naming, R: Wait + Drop> Desk<J, R> {
     {
         let prepared = match self.versions.prepare_trim() {
             Ok(prepared) => prepared,
-            Err(error) => return Err(self.ledger.refuse(rt, me, error)),
+            Err(error) => return Err(self.published_log.refuse(rt, me, error)),
         };
-        let Snapshot { number, graph } = self.ledger.newest()?;
+        let Snapshot { number, graph } = self.published_log.newest()?;
         let done = Done {
             step: Step::Trim,
             reply: Reply::Trimmed(prepared.count),
         };
-        self.ledger.record(rt, me, &done, number, graph);
+        self.published_log.record(rt, me, &done, number, graph);
         Ok(self.versions.finish_trim(prepared))
     }
 }
@@ -187,14 +190,14 @@ impl<J: Naming, R: Wait + Drop> Desk<J, R> {
 // Prepares the commit of a batch, and its graph to be published. A refusal is shown to the reader.
 fn prepare_commit<J: Naming, R: Wait + Drop, T: Threads + Wait + Sync>(
     versions: &mut Versions,
-    ledger: &Ledger<J, R>,
+    published_log: &PublishedLog<J, R>,
     rt: &T,
     alloc: Global,
     me: &mut Reader<J>,
     batch: Batch,
 ) -> Result<(Prepared, Arc<Graph>), SharedError>
-    requires { IsTimelineOf (opened J.vertices J.room) ledger.now versions.old }
-    ensures timeline { IsTimelineOf (opened J.vertices J.room) ledger.now versions.new }
+    requires { IsTimelineOf (opened J.vertices J.room) published_log.now versions.old }
+    ensures timeline { IsTimelineOf (opened J.vertices J.room) published_log.now versions.new }
     ensures prepared { IfOk result (λ r. IsPrepared versions.new batch r.0) }
     ensures graph { IfOk result (λ r. arc_value r.1 ≡ r.0.graph) }
     ensures same { IfOk result (λ _. me.new ≡ me.old) }
@@ -207,7 +210,7 @@ fn prepare_commit<J: Naming, R: Wait + Drop, T: Threads + Wait + Sync>(
     };
     let prepared = match versions.prepare(rt, alloc, batch, forks) {
         Ok(prepared) => prepared,
-        Err(error) => return Err(ledger.refuse(rt, me, error)),
+        Err(error) => return Err(published_log.refuse(rt, me, error)),
     };
     let graph = Arc::new(alloc, prepared.graph.clone()?)?;
     Ok((prepared, graph))
@@ -217,24 +220,24 @@ fn prepare_commit<J: Naming, R: Wait + Drop, T: Threads + Wait + Sync>(
 // more. A refusal is shown to the reader.
 fn prepare_hold<J: Naming, R: Wait + Drop, T: Wait>(
     versions: &mut Versions,
-    ledger: &Ledger<J, R>,
+    published_log: &PublishedLog<J, R>,
     rt: &T,
     alloc: Global,
     me: &mut Reader<J>,
     which: Which,
 ) -> Result<(PreparedAcquire, Snapshot, Arc<Graph>), SharedError>
-    requires { IsTimelineOf (opened J.vertices J.room) ledger.now versions.old }
-    ensures timeline { IsTimelineOf (opened J.vertices J.room) ledger.now versions.new }
+    requires { IsTimelineOf (opened J.vertices J.room) published_log.now versions.old }
+    ensures timeline { IsTimelineOf (opened J.vertices J.room) published_log.now versions.new }
     ensures prepared { IfOk result (λ r. IsPreparedAcquire versions.new which r.0) }
-    ensures newest { IfOk result (λ r. IsNewest (state_at (opened J.vertices J.room) ledger.now) r.1.number (arc_value r.1.graph)) }
+    ensures newest { IfOk result (λ r. IsNewest (state_at (opened J.vertices J.room) published_log.now) r.1.number (arc_value r.1.graph)) }
     ensures graph { IfOk result (λ r. arc_value r.2 ≡ r.0.graph) }
     ensures same { IfOk result (λ _. me.new ≡ me.old) }
     ensures err { IfErr result (λ e. Refuses (opened J.vertices J.room) me.old (Acquire which) e me.new) }
 {
     let prepared = match versions.prepare_acquire(which) {
         Ok(prepared) => prepared,
-        Err(error) => return Err(ledger.refuse(rt, me, error)),
+        Err(error) => return Err(published_log.refuse(rt, me, error)),
     };
-    let (newest, graph) = ledger.before_hold(alloc, &prepared.graph)?;
+    let (newest, graph) = published_log.before_hold(alloc, &prepared.graph)?;
     Ok((prepared, newest, graph))
 }

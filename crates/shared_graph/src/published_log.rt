@@ -12,7 +12,7 @@ ghost use Rattle.shared_graph.specs.Refusal.{from_version};
 
 use crate::book::{Book, Opening};
 use crate::error::SharedError;
-use crate::front::Front;
+use crate::history_prefix::HistoryPrefix;
 use crate::naming::Naming;
 use crate::publisher::Publisher;
 use crate::reader::Reader;
@@ -26,29 +26,29 @@ use version_list::{Done, VersionError};
 
 /// The shared history, which is the one that was published, and how many of its entries each reader
 /// made. Contracts see it as the history.
-pub(crate) struct Ledger<J: Naming, R: Wait + Drop> {
+pub(crate) struct PublishedLog<J: Naming, R: Wait + Drop> {
     vertices: u32,
     room: u64,
     book: Book<J>,
-    front: Front<J>,
+    history_prefix: HistoryPrefix<J>,
     counts: Vec<u64>,
     publisher: Publisher<R>,
 }
 
-impl<J: Naming, R: Wait + Drop> Drop for Ledger<J, R> {
+impl<J: Naming, R: Wait + Drop> Drop for PublishedLog<J, R> {
     fn drop(self) {
-        let Ledger {
+        let PublishedLog {
             vertices: _,
             room: _,
             book: _,
-            front: _,
+            history_prefix: _,
             counts: _,
             publisher: _,
         } = self;
     }
 }
 
-impl<J: Naming, R: Wait + Drop> Model for Ledger<J, R> {
+impl<J: Naming, R: Wait + Drop> Model for PublishedLog<J, R> {
     ghost use Rattle.std.specs.Prelude.{◌≡◌, List};
     ghost use Rattle.version_list.specs.Machine.{opened};
     ghost use Rattle.shared_graph.specs.declared.entry.Entry.{Entry};
@@ -56,14 +56,14 @@ impl<J: Naming, R: Wait + Drop> Model for Ledger<J, R> {
 
     ghost Value = { List Entry };
 
-    ghost view = { λ l. l.front };
+    ghost view = { λ l. l.history_prefix };
 
-    ghost invariant = { λ l. (opened J.vertices J.room ≡ opened l.vertices l.room) × AreCounts l.front l.counts.items
-        × (l.publisher ≡ record { book = J.book; base = opened J.vertices J.room; log = l.front }) };
+    ghost invariant = { λ l. (opened J.vertices J.room ≡ opened l.vertices l.room) × AreCounts l.history_prefix l.counts.items
+        × (l.publisher ≡ record { book = J.book; base = opened J.vertices J.room; log = l.history_prefix }) };
 }
 
-impl<J: Naming, R: Wait + Drop> Ledger<J, R> {
-    /// The ledger of a history that has not begun, with its readers, 1 to 64, to whom version 0 is
+impl<J: Naming, R: Wait + Drop> PublishedLog<J, R> {
+    /// The log of a history that has not begun, with its readers, 1 to 64, to whom version 0 is
     /// published.
     ///
     /// Errors: `AllocError` where there is no memory, or no place for a reader.
@@ -75,28 +75,28 @@ impl<J: Naming, R: Wait + Drop> Ledger<J, R> {
         room: u64,
         graph: Arc<Graph>,
         readers: usize,
-    ) -> Result<(Ledger<J, R>, Vec<Reader<J>>), AllocError>
+    ) -> Result<(PublishedLog<J, R>, Vec<Reader<J>>), AllocError>
         requires book { opening ≡ J.book }
         requires base { opened J.vertices J.room ≡ opened vertices room }
         requires newest { IsNewest (state_at (opened J.vertices J.room) []) 0 (arc_value graph) }
         requires readers { (0 < readers) × (readers ≤ 64) }
-        ensures ledger { IfOk result (λ r. r.0 ≡ []) }
+        ensures published_log { IfOk result (λ r. r.0 ≡ []) }
         ensures readers { IfOk result (λ r. r.1.items ≡ fresh_passes readers) }
     {
-        let (book, front) = opening.named::<J>();
-        let shown = Shown::new(vertices, room, 0, graph, &front);
+        let (book, history_prefix) = opening.named::<J>();
+        let shown = Shown::new(vertices, room, 0, graph, &history_prefix);
         let mut publisher = Publisher::new(alloc, rt, shown, readers)?;
-        let passes = fresh_readers(alloc, &mut publisher, &front, readers)?;
+        let passes = fresh_readers(alloc, &mut publisher, &history_prefix, readers)?;
         let counts = Vec::from_elem(alloc, 0, readers)?;
-        let ledger = Ledger {
+        let published_log = PublishedLog {
             vertices,
             room,
             book,
-            front,
+            history_prefix,
             counts,
             publisher,
         };
-        Ok((ledger, passes))
+        Ok((published_log, passes))
     }
 
     /// The newest version, which is the one that is published.
@@ -140,10 +140,23 @@ impl<J: Naming, R: Wait + Drop> Ledger<J, R> {
         ensures made { HasMade (opened J.vertices J.room) me.old done.now.step done.now.reply me.new }
         ensures shown { me.new.shown ≡ self.new }
     {
-        make_step(rt, &self.book, &mut self.front, &mut self.counts, me, done);
-        let shown = Shown::new(self.vertices, self.room, number, graph, &self.front);
+        make_step(
+            rt,
+            &self.book,
+            &mut self.history_prefix,
+            &mut self.counts,
+            me,
+            done,
+        );
+        let shown = Shown::new(
+            self.vertices,
+            self.room,
+            number,
+            graph,
+            &self.history_prefix,
+        );
         self.publisher.publish(shown);
-        me.has_made(&self.front);
+        me.has_made(&self.history_prefix);
     }
 
     /// Why the versions refused a reader's step, at the end of the history that the reader then shows.
@@ -158,8 +171,8 @@ impl<J: Naming, R: Wait + Drop> Ledger<J, R> {
         ensures shown { ShowsRefusal (opened J.vertices J.room) error me.old self.now me.new }
     {
         if error != VersionError::NoMemory {
-            meet(rt, &self.front, &self.counts, me);
-            me.show(&self.front);
+            meet(rt, &self.history_prefix, &self.counts, me);
+            me.show(&self.history_prefix);
         }
         SharedError::from(error)
     }
@@ -169,23 +182,26 @@ impl<J: Naming, R: Wait + Drop> Ledger<J, R> {
 // nothing but beginnings of this history. It is; were it not, the call would not return.
 fn meet<J: Naming, T: Wait>(
     rt: &T,
-    front: &Front<J>,
+    history_prefix: &HistoryPrefix<J>,
     counts: &[u64],
     me: &Reader<J>,
 ) -> (usize, u64)
-    requires { AreCounts front.now counts.now }
+    requires { AreCounts history_prefix.now counts.now }
     ensures place { (result.0 ≡ me.now.number) × (result.0 < length counts.now) }
-    ensures steps { (result.1 ≡ length (own me.now.number front.now)) × (result.1 ≡ slice_index counts.now result.0) }
-    ensures begins { IsPrefix me.now.shown front.now }
-    ensures own { own me.now.number front.now ≡ own me.now.number me.now.last }
-    ensures legal { IsLegal (opened J.vertices J.room) (steps_of front.now) }
+    ensures steps { (result.1 ≡ length (own me.now.number history_prefix.now)) × (result.1 ≡ slice_index counts.now result.0) }
+    ensures begins { IsPrefix me.now.shown history_prefix.now }
+    ensures own { own me.now.number history_prefix.now ≡ own me.now.number me.now.last }
+    ensures legal { IsLegal (opened J.vertices J.room) (steps_of history_prefix.now) }
 {
     let (number, steps) = me.account();
     let place = number as usize;
-    if place >= counts.len() || counts[place] != steps || !me.front().begins(front) {
+    if place >= counts.len()
+        || counts[place] != steps
+        || !me.history_prefix().begins(history_prefix)
+    {
         never(rt);
     }
-    front.len();
+    history_prefix.len();
     (place, steps)
 }
 
@@ -193,19 +209,19 @@ fn meet<J: Naming, T: Wait>(
 fn make_step<J: Naming, T: Wait>(
     rt: &T,
     book: &Book<J>,
-    front: &mut Front<J>,
+    history_prefix: &mut HistoryPrefix<J>,
     counts: &mut Vec<u64>,
     me: &Reader<J>,
     done: &Done,
 )
-    requires follows { MayFollow (opened J.vertices J.room) front.old done.now }
-    requires counts { AreCounts front.old counts.old.items }
-    ensures front { front.new ≡ front.old ++ record { by = me.now.number; done = done.now } ∷ [] }
-    ensures counts { AreCounts front.new counts.new.items }
-    ensures made { HasMade (opened J.vertices J.room) me.now done.now.step done.now.reply (record me.now { shown = front.new; last = front.new }) }
+    requires follows { MayFollow (opened J.vertices J.room) history_prefix.old done.now }
+    requires counts { AreCounts history_prefix.old counts.old.items }
+    ensures history_prefix { history_prefix.new ≡ history_prefix.old ++ record { by = me.now.number; done = done.now } ∷ [] }
+    ensures counts { AreCounts history_prefix.new counts.new.items }
+    ensures made { HasMade (opened J.vertices J.room) me.now done.now.step done.now.reply (record me.now { shown = history_prefix.new; last = history_prefix.new }) }
 {
-    let (place, steps) = meet(rt, front, counts, me);
-    extend(rt, book, front, place, done);
+    let (place, steps) = meet(rt, history_prefix, counts, me);
+    extend(rt, book, history_prefix, place, done);
     counts[place] = steps + 1;
 }
 
@@ -214,14 +230,14 @@ fn make_step<J: Naming, T: Wait>(
 fn extend<J: Naming, T: Wait>(
     rt: &T,
     book: &Book<J>,
-    front: &mut Front<J>,
+    history_prefix: &mut HistoryPrefix<J>,
     reader: usize,
     done: &Done,
 )
-    requires follows { MayFollow (opened J.vertices J.room) front.old done.now }
-    ensures { front.new ≡ front.old ++ record { by = reader; done = done.now } ∷ [] }
+    requires follows { MayFollow (opened J.vertices J.room) history_prefix.old done.now }
+    ensures { history_prefix.new ≡ history_prefix.old ++ record { by = reader; done = done.now } ∷ [] }
 {
-    if !front.add(book, reader as u64, done) {
+    if !history_prefix.add(book, reader as u64, done) {
         never(rt);
     }
 }
@@ -238,7 +254,7 @@ fn never<T: Wait>(rt: &T)
 fn fresh_readers<J: Naming, R: Wait + Drop>(
     alloc: Global,
     publisher: &mut Publisher<R>,
-    first: &Front<J>,
+    first: &HistoryPrefix<J>,
     readers: usize,
 ) -> Result<Vec<Reader<J>>, AllocError>
     requires first { first.now ≡ [] }

@@ -5,12 +5,12 @@ use Rattle.version_list.specs.Machine.{State, opened, is_open, reply_to}
 use Rattle.shared_graph.specs.declared.entry.Entry.{Entry}
 use Rattle.shared_graph.specs.inside.Locked.{IsTimelineOf}
 use Rattle.shared_graph.proofs.Steps.{release_accepted, timeline_push}
-use Rattle.shared_graph.proofs.desk.Desk.release.Goals as goal
+use Rattle.shared_graph.proofs.locked_state.LockedState.release.Goals as goal
 
 pub invariant_of-self : goal.invariant_of-self
 invariant_of-self g c =
     let base : State = opened g.J.Naming.vertices g.J.Naming.room in
-    let log : List Entry = c.self.inside.ledger in
+    let log : List Entry = c.self.inside.published_log in
     let number = c.ticket-ticket.result.number in
     let old = c.self.inside.versions in
     let e : Entry = record { by = c.args.me.now.number; done = record { step = Release number; reply = Released } } in

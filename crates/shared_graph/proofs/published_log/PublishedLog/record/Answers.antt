@@ -5,20 +5,20 @@ use Rattle.shared_graph.specs.Histories.{state_at, IsNewest}
 use Rattle.shared_graph.specs.inside.Publishing.{Published}
 use Rattle.std.specs.Arc.{arc_value}
 use Rattle.shared_graph.proofs.Growing.{state_at-push, length-own, legal_few}
-use Rattle.shared_graph.proofs.ledger.Ledger.record.Goals as goal
+use Rattle.shared_graph.proofs.published_log.PublishedLog.record.Goals as goal
 
 pub new-shown-requires-clause-newest : goal.new-shown-requires-clause-newest
 new-shown-requires-clause-newest g c =
     let base : State = opened g.J.Naming.vertices g.J.Naming.room in
-    let log : List Entry = c.self.inside.front in
+    let log : List Entry = c.self.inside.history_prefix in
     let e : Entry = record { by = c.args.me.now.number; done = c.args.done.now } in
-    let after : state_at base c.make_step.new.front ≡ state_after (state_at base log) e.done.step = ap (state_at base) c.make_step.ensures.front ∙ state_at-push base log e in
+    let after : state_at base c.make_step.new.history_prefix ≡ state_after (state_at base log) e.done.step = ap (state_at base) c.make_step.ensures.history_prefix ∙ state_at-push base log e in
     let before : state_after (state_at base log) e.done.step ≡ state_after (state_at base c.args.self.now) e.done.step = ap (λ (l : List Entry). state_after (state_at base l) e.done.step) c.self.view_is in
     subst (λ (s : State). IsNewest s c.args.number (arc_value c.args.graph)) (sym (after ∙ before)) c.requires.newest
 
 pub has_made-requires-clause-few : goal.has_made-requires-clause-few
 has_made-requires-clause-few g c =
-    omega (arith, length-own c.args.me.now.number c.make_step.new.front, legal_few g.J.Naming.vertices g.J.Naming.room c.make_step.new.front c.make_step.ensures.made.legal)
+    omega (arith, length-own c.args.me.now.number c.make_step.new.history_prefix, legal_few g.J.Naming.vertices g.J.Naming.room c.make_step.new.history_prefix c.make_step.ensures.made.legal)
 
 pub publish-requires : goal.publish-requires
 publish-requires g c =
@@ -28,5 +28,5 @@ publish-requires g c =
     record {
       book = ap (λ (p : Published). p.book) now ∙ sym (ap (λ (p : Published). p.book) was);
       base = ap (λ (p : Published). p.base) now ∙ sym (ap (λ (p : Published). p.base) was);
-      log = (e ∷ [], ap (λ (p : Published). p.log ++ e ∷ []) was ∙ sym c.make_step.ensures.front ∙ sym (ap (λ (p : Published). p.log) now));
+      log = (e ∷ [], ap (λ (p : Published). p.log ++ e ∷ []) was ∙ sym c.make_step.ensures.history_prefix ∙ sym (ap (λ (p : Published). p.log) now));
     }

@@ -1,0 +1,25 @@
+-- What the names of an apply stand for.
+use Rattle.syntax.specs.Terminals.{Identifier}
+use Rattle.syntax.specs.SourceTrees.{EndsTree}
+use Rattle.expression_types.specs.declared.scope.Entity.{Entity}
+use Rattle.expression_types.specs.Expression.{used}
+use Rattle.expression_types.specs.WithFaults.{WithFaults, sure, ◌>>=◌}
+use Rattle.expression_types.specs.ScopeTree.{ScopeTree}
+use Rattle.types.specs.declared.initial.Apply.{Apply}
+use Rattle.types.specs.Initial.{ApplyEndTree, end_of}
+use Rattle.types.specs.Initializer.{apply_end_tree}
+
+-- an apply with its target, its ends and its function
+pub record ApplyTree : Type 0 where
+  pub target : Entity
+  pub from : ApplyEndTree
+  pub to : ApplyEndTree
+  pub function : Entity
+
+abbrev pub apply_tree : Apply → ApplyTree
+apply_tree a = record { target = a.target; from = apply_end_tree a.from; to = apply_end_tree a.to; function = a.function }
+
+abbrev pub apply_named : ScopeTree → Identifier → EndsTree → Identifier → WithFaults ApplyTree
+apply_named scope target ends function =
+    used scope target >>= λ t. end_of scope ends.from >>= λ a. end_of scope ends.to >>= λ b. used scope function >>= λ f.
+    sure (record { target = t; from = a; to = b; function = f })
