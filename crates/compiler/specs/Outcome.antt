@@ -1,4 +1,4 @@
--- What compiling a text answers.
+-- Answers to compiling a text: its plan, or the first refusal.
 use Rattle.std.specs.Prelude.{◌≡◌, ℕ, ◌≤◌, List, length, Result, Ok, Err, IfSome}
 use Rattle.parser.specs.SourceTrees.{SourceTree}
 use Rattle.schedule.specs.ProgramTree.{ProgramTree}

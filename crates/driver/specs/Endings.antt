@@ -1,4 +1,4 @@
--- How a request ends, as an error and as an exit status.
+-- Ends of a request, as an error and as an exit status.
 use Rattle.std.specs.Prelude.{ℕ, Bool, true, false, List, Result, Ok, Err}
 use Rattle.compiler.specs.Refusal.{number_of as compile_number}
 use Rattle.std.specs.Borrow.{Bor}

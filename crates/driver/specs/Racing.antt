@@ -1,4 +1,4 @@
--- What serving a race comes to.
+-- Outcomes of serving a race.
 use Rattle.std.specs.Prelude.{◌≡◌, ℕ, ◌<◌, Bool, List, ◌++◌, ◌⊎◌, Result, Ok, Err, Some, length, map}
 use Rattle.std.specs.Borrow.{Bor}
 use Rattle.std.specs.declared.io.Error.{Error}

@@ -1,4 +1,4 @@
--- What doing a command line comes to.
+-- Outcomes of doing a command line.
 use Rattle.std.specs.Prelude.{◌≡◌, ℕ, List, [], ◌⊎◌}
 use Rattle.std.specs.declared.io.Error.{Error}
 use Rattle.clap.specs.Words.{fault_of}

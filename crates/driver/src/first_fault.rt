@@ -1,4 +1,4 @@
-//! Where the first of a request's runs that ended by a fault did so.
+//! The first of a request's runs that ended by a fault, and the place of the fault.
 
 use algorithm_meaning::End;
 use std::cell::Cell;

@@ -1,4 +1,4 @@
-//! What the program does for a request.
+//! Requests served: scripts, checks, plans and races.
 
 ghost use Rattle.std.specs.Prelude.{◌≡◌, map, IfOk};
 ghost use Rattle.crew.specs.Outcome.{AreWorkers};

@@ -1,4 +1,4 @@
-//! What standard error is told of a request that is not done, and of a run that ends by a fault.
+//! Standard error: the text on a request that is not done, and on a run that ends by a fault.
 
 ghost use Rattle.std.specs.Prelude.{◌≡◌, ◌++◌};
 ghost use Rattle.driver.specs.Endings.{status_of_end};

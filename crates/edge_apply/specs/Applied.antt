@@ -1,4 +1,4 @@
--- What an apply of edge functions changes.
+-- Changes of an apply of edge functions, in the words of the meaning.
 use Rattle.std.specs.Prelude.{◌≡◌, ℕ, ◌≤◌, Bool, List, [], length, slice_index_or}
 use Rattle.edge_lists.specs.Edge.{Edge}
 use Rattle.apply_options.specs.declared.reduction.Reduction.{Reduction}

@@ -1,4 +1,4 @@
--- What the functions of an apply read.
+-- Contexts of an apply: the vectors and sizes of sets that its functions read.
 use Rattle.std.specs.Prelude.{◌≡◌, List}
 use Rattle.kernels.specs.Cells.{HasSizes}
 use Rattle.kernels.specs.State.{StateValue}

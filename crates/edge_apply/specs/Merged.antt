@@ -1,4 +1,4 @@
--- What is put together of the pieces of an apply, range by range.
+-- Merges of the pieces of an apply, range by range.
 use Rattle.std.specs.Prelude.{◌≡◌, ℕ, ◌-◌, ◌≤◌, List, [], ◌∷◌, ◌++◌, length, slice_index_or}
 use Rattle.std.specs.List.{flat_map}
 use Rattle.edge_lists.specs.Edge.{Edge}

@@ -1,4 +1,4 @@
--- What pieces of an apply have found.
+-- Findings of the pieces of an apply, and the edges of which they are.
 use Rattle.std.specs.Prelude.{ℕ, List, [], ◌∷◌}
 use Rattle.edge_lists.specs.Edge.{Edge}
 use Rattle.kernels.specs.StepTree.{StepsTree}

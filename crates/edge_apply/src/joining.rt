@@ -1,4 +1,4 @@
-//! What the pieces of an apply have found, put together.
+//! The merge of what the pieces of an apply have found.
 ghost use Rattle.std.specs.Prelude.{◌≡◌, ℕ, ◌≤◌, List, [], length, slice_range, OnOk};
 ghost use Rattle.std.specs.List.{filter, flat_map};
 ghost use Rattle.edge_lists.specs.Edge.{Edge};

@@ -1,4 +1,4 @@
--- What new entries are folded from.
+-- Starts of folds: what new entries begin with, the old entry or nothing.
 use Rattle.std.specs.Prelude.{ℕ, ℤ}
 use Rattle.apply_options.specs.declared.reduction.Reduction.{Reduction}
 use Rattle.algorithm_meaning.specs.Arithmetic.{reduced}

@@ -1,4 +1,4 @@
--- What a scratch has folded.
+-- Folds of a scratch: the edges that it has folded, and the entries that it has of them.
 use Rattle.std.specs.Prelude.{◌≡◌, ◌||◌, ℕ, ◌<◌, ℤ, Bool, false, if◌then◌else◌, Option, Some, None, List, [], ◌∷◌, take}
 use Rattle.std.specs.Borrow.{Bor}
 use Rattle.edge_lists.specs.Edge.{Edge}

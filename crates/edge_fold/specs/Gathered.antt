@@ -1,4 +1,4 @@
--- What a piece of an apply gives.
+-- Gathered numbers: what a piece of an apply gives vertices, before it meets the old entries.
 use Rattle.std.specs.Prelude.{◌≡◌, ℕ, ◌<◌, ℤ, pos, ◌==◌, ◌&&◌, nat_le, nat_lt, Bool, if◌then◌else◌, List, [], ◌∷◌, ◌++◌, slice_index_or}
 use Rattle.std.specs.List.Sorted.{IsNonDecreasingBy}
 use Rattle.edge_lists.specs.Edge.{Edge}

@@ -1,4 +1,4 @@
--- What edge functions give vertices, and entries reduced with it.
+-- Contributions of edges to vertices, and entries reduced with them.
 use Rattle.std.specs.Prelude.{◌≡◌, ℕ, ◌+◌, ℤ, ◌==◌, if◌then◌else◌, List, [], ◌∷◌, ◌++◌, map}
 use Rattle.edge_lists.specs.Edge.{Edge, unit_weight}
 use Rattle.apply_options.specs.declared.reduction.Reduction.{Reduction}

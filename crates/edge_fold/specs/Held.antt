@@ -1,4 +1,4 @@
--- What an accumulator has.
+-- Accumulators: the entries that one has for marked vertices, and how a number changes them.
 use Rattle.std.specs.Prelude.{◌≡◌, ℕ, ℤ, pos, true, Contains, if◌then◌else◌, List, slice_index_or}
 use Rattle.apply_options.specs.declared.reduction.Reduction.{Reduction}
 use Rattle.vertex_marks.specs.Marks.{is_marked, room as marks_room}

@@ -1,4 +1,4 @@
--- What several sources give a destination.
+-- Reduced contributions: what several sources give a destination, as one number.
 use Rattle.std.specs.Prelude.{◌≡◌, ℕ, ℤ, List, [], ◌∷◌}
 use Rattle.edge_lists.specs.Edge.{Edge}
 use Rattle.apply_options.specs.declared.reduction.Reduction.{Reduction}

@@ -1,4 +1,4 @@
--- What slots have.
+-- Accumulators of several vectors, one for each vector that is written.
 use Rattle.std.specs.Prelude.{◌≡◌, ℕ, suc, ℤ, ◌==◌, if◌then◌else◌, List, [], ◌∷◌, take}
 use Rattle.apply_options.specs.declared.reduction.Reduction.{Reduction}
 use Rattle.edge_fold.specs.declared.apply_context.ApplyContext.{ApplyContext}

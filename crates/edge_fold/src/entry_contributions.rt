@@ -1,4 +1,4 @@
-//! What an edge function gives, where it depends on an entry of the source and on the weight.
+//! Contributions of an edge function that depends on an entry of the source and on the weight.
 ghost use Rattle.std.specs.Prelude.{◌≡◌, ◌∷◌, [], List, IfSome, length};
 ghost use Rattle.edge_lists.specs.Edge.{Edge};
 ghost use Rattle.typed_tree.specs.StepTree.{StepsTree};

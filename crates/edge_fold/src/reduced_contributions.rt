@@ -1,4 +1,4 @@
-//! What an edge function gives from several sources, where it depends on the source alone.
+//! Contributions of several sources, reduced to one number, of an edge function that depends on the source alone.
 ghost use Rattle.std.specs.Prelude.{◌≡◌, List, IfSome};
 ghost use Rattle.typed_tree.specs.StepTree.{StepsTree};
 ghost use Rattle.algorithm_meaning.specs.State.{StateValue};

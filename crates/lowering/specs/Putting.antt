@@ -1,4 +1,4 @@
--- What lowering puts after the instructions that are there.
+-- Instructions that lowering puts after the ones that are there.
 use Rattle.std.specs.Prelude.{◌≡◌, ℕ, List, [], ◌∷◌, ◌++◌, length, slice_set}
 use Rattle.typed_tree.specs.ProgramTree.{ProgramTree}
 use Rattle.plans.specs.Instruction.{InstructionTree}

@@ -1,4 +1,4 @@
--- What is visible at a statement.
+-- Variables and sets that are visible at a statement.
 use Rattle.std.specs.Prelude.{vec_len}
 use Rattle.algorithm_meaning.specs.declared.state.Depth.{Depth}
 use Rattle.lowering.specs.declared.visible.Visible.{Visible}

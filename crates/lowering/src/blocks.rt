@@ -10,11 +10,12 @@ ghost use Rattle.lowering.specs.Putting.{Puts};
 ghost use Rattle.lowering.specs.Visible.{depth_of};
 
 use crate::fusing::pair_at;
+use crate::leaves::{ForRange, InstructionHead};
 use crate::visible::Visible;
 use plans::Instruction;
 use schedule::Schedule;
 use std::alloc::{AllocError, Global};
-use typed_tree::{BoolExpression, IntExpression, MainStatement, StatementKind, Typed};
+use typed_tree::{BoolExpression, MainStatement, StatementKind, Typed};
 
 /// Lowers the statements of a program under a schedule.
 #[derive(Clone, Copy)]
@@ -22,6 +23,13 @@ pub(crate) struct Lowering<'a> {
     pub(crate) alloc: Global,
     pub(crate) program: &'a Typed,
     pub(crate) schedule: &'a Schedule,
+}
+
+/// The blocks of a choice: that which is done where its test holds, and that which is done where it fails.
+#[derive(Clone, Copy)]
+pub(crate) struct Branches<'a> {
+    pub(crate) body: &'a [MainStatement],
+    pub(crate) other: &'a [MainStatement],
 }
 
 impl Lowering<'_> {
@@ -108,12 +116,18 @@ impl Lowering<'_> {
         let number = statement.number;
         match &statement.action {
             StatementKind::If(c, body) => self.put_if(number, c, body, visible, code),
-            StatementKind::IfElse(c, body, other) => self.put_choice(
-                number, c, body, other, visible, code,
-            ),
+            StatementKind::IfElse(c, body, other) => {
+                let branches = Branches { body, other };
+                self.put_choice(number, c, branches, visible, code)
+            }
             StatementKind::While(c, body) => self.put_while(number, c, body, visible, code),
             StatementKind::For(name, first, end, body) => {
-                self.put_for(number, *name, first, end, body, visible, code)
+                let range = ForRange {
+                    name: *name,
+                    first,
+                    end,
+                };
+                self.put_for(number, range, body, visible, code)
             }
             action => {
                 self.put_simple(statement, visible.depth(), code)?;
@@ -138,9 +152,14 @@ impl Lowering<'_> {
         ensures visible { OnOk result (depth_of visible.new ≡ depth_of visible.old) }
     {
         let depth = visible.depth();
-        let test = self.keep_place(number, depth, code)?;
+        let head = InstructionHead {
+            number,
+            keep: depth,
+            shown: depth,
+        };
+        let test = self.keep_place(head, code)?;
         self.put_inside(body, visible, code)?;
-        self.fill_unless(number, depth, c, code.len(), test, code)
+        self.fill_unless(head, c, code.len(), test, code)
     }
 
     /// `if` and `else`: between the two blocks stands a jump after the second.
@@ -149,23 +168,27 @@ impl Lowering<'_> {
         self,
         number: u64,
         c: &BoolExpression,
-        body: &[MainStatement],
-        other: &[MainStatement],
+        branches: Branches<'_>,
         visible: &mut Visible,
         code: &mut Vec<Instruction>,
     ) -> Result<(), AllocError>
         ensures code { (label : Option ℕ) → OnOk result (Puts (program_tree self.entry.program.now) code.old.items code.new.items
             (plan (program_tree self.entry.program.now) self.entry.schedule.now (length code.old.items) (depth_of visible.old) number label
-            (IfElse (condition_tree c.now) (block_tree body.now) (block_tree other.now)))) }
+            (IfElse (condition_tree c.now) (block_tree branches.entry.body.now) (block_tree branches.entry.other.now)))) }
         ensures visible { OnOk result (depth_of visible.new ≡ depth_of visible.old) }
     {
         let depth = visible.depth();
-        let test = self.keep_place(number, depth, code)?;
-        self.put_inside(body, visible, code)?;
-        self.fill_unless(number, depth, c, code.len() + 1, test, code)?;
-        let jump = self.keep_place(number, depth, code)?;
-        self.put_inside(other, visible, code)?;
-        self.fill_jump(number, depth, jump, code)
+        let head = InstructionHead {
+            number,
+            keep: depth,
+            shown: depth,
+        };
+        let test = self.keep_place(head, code)?;
+        self.put_inside(branches.body, visible, code)?;
+        self.fill_unless(head, c, code.len() + 1, test, code)?;
+        let jump = self.keep_place(head, code)?;
+        self.put_inside(branches.other, visible, code)?;
+        self.fill_jump(head, jump, code)
     }
 
     /// `while`: a test, a turn, the body, and a jump back.
@@ -184,10 +207,15 @@ impl Lowering<'_> {
         ensures visible { OnOk result (depth_of visible.new ≡ depth_of visible.old) }
     {
         let depth = visible.depth();
-        let test = self.begin_loop(number, depth, depth, code)?;
+        let head = InstructionHead {
+            number,
+            keep: depth,
+            shown: depth,
+        };
+        let test = self.begin_loop(head, code)?;
         self.put_inside(body, visible, code)?;
-        self.put_jump(number, depth, depth, test, code)?;
-        self.fill_unless(number, depth, c, code.len(), test, code)
+        self.put_jump(head, test, code)?;
+        self.fill_unless(head, c, code.len(), test, code)
     }
 
     /// `for`: the name and the bound get their values; then a test, a turn, the body, the next value and a jump back.
@@ -195,25 +223,28 @@ impl Lowering<'_> {
     fn put_for(
         self,
         number: u64,
-        name: usize,
-        first: &IntExpression,
-        end: &IntExpression,
+        range: ForRange<'_>,
         body: &[MainStatement],
         visible: &mut Visible,
         code: &mut Vec<Instruction>,
     ) -> Result<(), AllocError>
         ensures code { (label : Option ℕ) → OnOk result (Puts (program_tree self.entry.program.now) code.old.items code.new.items
             (plan (program_tree self.entry.program.now) self.entry.schedule.now (length code.old.items) (depth_of visible.old) number label
-            (For name (integer_tree first.now) (integer_tree end.now) (block_tree body.now)))) }
+            (For range.entry.name (integer_tree range.entry.first.now) (integer_tree range.entry.end.now) (block_tree body.now)))) }
         ensures visible { OnOk result (depth_of visible.new ≡ depth_of visible.old) }
     {
         let depth = visible.depth();
-        self.put_bounds(number, name, first, end, visible, code)?;
+        self.put_bounds(number, range, visible, code)?;
         let inside = visible.depth();
-        let test = self.begin_loop(number, inside, depth, code)?;
+        let head = InstructionHead {
+            number,
+            keep: inside,
+            shown: depth,
+        };
+        let test = self.begin_loop(head, code)?;
         self.put_inside(body, visible, code)?;
-        self.put_back(number, inside, depth, name, test, code)?;
-        self.fill_unless_below(number, inside, depth, name, test, code)?;
+        self.put_back(head, range.name, test, code)?;
+        self.fill_unless_below(head, range.name, test, code)?;
         visible.cut(depth);
         Ok(())
     }

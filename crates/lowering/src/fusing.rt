@@ -1,4 +1,4 @@
-//! Which two applies of a program are done together.
+//! Fusing: which two applies of a program are done together.
 //!
 //! Two applies that stand one after the other, and that the schedule fuses, are done together where they fit. Two edge
 //! applies fit if they have the same ends and neither can see what the other does; two vertex applies fit if they are to

@@ -25,6 +25,22 @@ use plans::{EdgePart, FusedPair, Instruction, PartResult, PlanOperation};
 use std::alloc::AllocError;
 use typed_tree::{BoolExpression, IntExpression, MainStatement, StatementKind};
 
+/// The head of an instruction: the statement that it comes from, what stays visible, and what a run shows that ends there.
+#[derive(Clone, Copy)]
+pub(crate) struct InstructionHead {
+    pub(crate) number: u64,
+    pub(crate) keep: Depth,
+    pub(crate) shown: Depth,
+}
+
+/// What a `for` goes over: its name, its first value, and the bound that it stays below.
+#[derive(Clone, Copy)]
+pub(crate) struct ForRange<'a> {
+    pub(crate) name: usize,
+    pub(crate) first: &'a IntExpression,
+    pub(crate) end: &'a IntExpression,
+}
+
 /// An instruction at what is visible.
 pub(crate) fn plain(
     number: u64,
@@ -39,10 +55,27 @@ pub(crate) fn plain(
     ensures choice { result.choice ≡ no_choice }
     ensures words { result.words ≡ words }
 {
-    Instruction {
+    let head = InstructionHead {
         number,
         keep: depth,
         shown: depth,
+    };
+    instruction_of(head, operation, words)
+}
+
+/// An instruction of which a schedule says nothing.
+fn instruction_of(head: InstructionHead, operation: PlanOperation, words: Vec<u8>) -> Instruction
+    ensures operation { result.operation ≡ operation }
+    ensures number { result.number ≡ head.number }
+    ensures keep { result.keep ≡ head.keep }
+    ensures shown { result.shown ≡ head.shown }
+    ensures choice { result.choice ≡ no_choice }
+    ensures words { result.words ≡ words }
+{
+    Instruction {
+        number: head.number,
+        keep: head.keep,
+        shown: head.shown,
         choice: ApplySchedule::none(),
         operation,
         words,
@@ -62,58 +95,38 @@ impl Lowering<'_> {
     /// `unless [c] X`
     fn unless(
         self,
-        number: u64,
-        depth: Depth,
+        head: InstructionHead,
         c: &BoolExpression,
         to: usize,
     ) -> Result<Instruction, AllocError>
-        ensures { IfOk result (λ i. IsWritten (program_tree self.entry.program.now) i (plain_tree number depth (Unless (condition_tree c.now) to))) }
+        ensures { IfOk result (λ i. IsWritten (program_tree self.entry.program.now) i
+            (loop_step head.number head.keep head.shown (Unless (condition_tree c.now) to))) }
     {
         let mut words = Vec::new(self.alloc);
         Lines {
             program: self.program,
         }
         .put_unless(&mut words, c)?;
-        let test = condition_kernel(self.alloc, c, depth)?;
-        Ok(plain(number, depth, PlanOperation::Unless { test, to }, words))
+        let test = condition_kernel(self.alloc, c, head.keep)?;
+        Ok(instruction_of(head, PlanOperation::Unless { test, to }, words))
     }
 
     /// `turn`
-    fn turn(self, number: u64, keep: Depth, shown: Depth) -> Result<Instruction, AllocError>
-        ensures { IfOk result (λ i. IsWritten (program_tree self.entry.program.now) i (loop_step number keep shown Turn)) }
+    fn turn(self, head: InstructionHead) -> Result<Instruction, AllocError>
+        ensures { IfOk result (λ i. IsWritten (program_tree self.entry.program.now) i (loop_step head.number head.keep head.shown Turn)) }
     {
         let mut words = Vec::new(self.alloc);
         words.extend_from_slice(b"turn ")?;
-        Ok(Instruction {
-            number,
-            keep,
-            shown,
-            choice: ApplySchedule::none(),
-            operation: PlanOperation::Turn,
-            words,
-        })
+        Ok(instruction_of(head, PlanOperation::Turn, words))
     }
 
     /// `jump X`
-    fn jump(
-        self,
-        number: u64,
-        keep: Depth,
-        shown: Depth,
-        to: usize,
-    ) -> Result<Instruction, AllocError>
-        ensures { IfOk result (λ i. IsWritten (program_tree self.entry.program.now) i (loop_step number keep shown (Jump to))) }
+    fn jump(self, head: InstructionHead, to: usize) -> Result<Instruction, AllocError>
+        ensures { IfOk result (λ i. IsWritten (program_tree self.entry.program.now) i (loop_step head.number head.keep head.shown (Jump to))) }
     {
         let mut words = Vec::new(self.alloc);
         words.extend_from_slice(b"jump ")?;
-        Ok(Instruction {
-            number,
-            keep,
-            shown,
-            choice: ApplySchedule::none(),
-            operation: PlanOperation::Jump { to },
-            words,
-        })
+        Ok(instruction_of(head, PlanOperation::Jump { to }, words))
     }
 
     /// `set i [i 1 +]`
@@ -131,27 +144,18 @@ impl Lowering<'_> {
     /// `unless [i i.end <] X`
     fn unless_below(
         self,
-        number: u64,
-        keep: Depth,
-        shown: Depth,
+        head: InstructionHead,
         name: usize,
         to: usize,
     ) -> Result<Instruction, AllocError>
-        ensures { IfOk result (λ i. IsWritten (program_tree self.entry.program.now) i (loop_step number keep shown (UnlessBelow name to))) }
+        ensures { IfOk result (λ i. IsWritten (program_tree self.entry.program.now) i (loop_step head.number head.keep head.shown (UnlessBelow name to))) }
     {
         let mut words = Vec::new(self.alloc);
         Lines {
             program: self.program,
         }
         .put_below(&mut words, name)?;
-        Ok(Instruction {
-            number,
-            keep,
-            shown,
-            choice: ApplySchedule::none(),
-            operation: PlanOperation::UnlessBelow { name, to },
-            words,
-        })
+        Ok(instruction_of(head, PlanOperation::UnlessBelow { name, to }, words))
     }
 
     /// Puts that a `for`'s name gets its first value.
@@ -198,123 +202,111 @@ impl Lowering<'_> {
     /// Puts that a `for`'s bound gets its value.
     fn put_enter(
         self,
-        number: u64,
-        keep: Depth,
-        shown: Depth,
+        head: InstructionHead,
         name: usize,
         e: &IntExpression,
         code: &mut Vec<Instruction>,
     ) -> Result<(), AllocError>
         ensures { OnOk result (Puts (program_tree self.entry.program.now) code.old.items code.new.items
-            (loop_step number keep shown (Enter name (integer_tree e.now)) ∷ [])) }
+            (loop_step head.number head.keep head.shown (Enter name (integer_tree e.now)) ∷ [])) }
     {
-        code.push(self.enter(number, keep, shown, name, e)?)?;
+        code.push(self.enter(head, name, e)?)?;
         Ok(())
     }
 
     /// `set i.end [b]`
     fn enter(
         self,
-        number: u64,
-        keep: Depth,
-        shown: Depth,
+        head: InstructionHead,
         name: usize,
         e: &IntExpression,
     ) -> Result<Instruction, AllocError>
-        ensures { IfOk result (λ i. IsWritten (program_tree self.entry.program.now) i (loop_step number keep shown (Enter name (integer_tree e.now)))) }
+        ensures { IfOk result (λ i. IsWritten (program_tree self.entry.program.now) i
+            (loop_step head.number head.keep head.shown (Enter name (integer_tree e.now)))) }
     {
         let mut words = Vec::new(self.alloc);
         Lines {
             program: self.program,
         }
         .put_bound(&mut words, name, e)?;
-        let end = integer_kernel(self.alloc, e, shown)?;
-        Ok(Instruction {
-            number,
-            keep,
-            shown,
-            choice: ApplySchedule::none(),
-            operation: PlanOperation::Enter { name, end },
-            words,
-        })
+        let end = integer_kernel(self.alloc, e, head.shown)?;
+        Ok(instruction_of(head, PlanOperation::Enter { name, end }, words))
     }
 
     /// Keeps a place for an instruction that is known when the block after it stands. Answers the place.
     pub(crate) fn keep_place(
         self,
-        number: u64,
-        depth: Depth,
+        head: InstructionHead,
         code: &mut Vec<Instruction>,
     ) -> Result<usize, AllocError>
         ensures { IfOk result (λ place. KeepsPlace code.old.items code.new.items place) }
     {
         let place = code.len();
-        code.push(plain(number, depth, PlanOperation::End, Vec::new(self.alloc)))?;
+        code.push(plain(
+            head.number,
+            head.shown,
+            PlanOperation::End,
+            Vec::new(self.alloc),
+        ))?;
         Ok(place)
     }
 
     /// Keeps a place for the test of a loop, and puts the turn. Answers the place.
     pub(crate) fn begin_loop(
         self,
-        number: u64,
-        keep: Depth,
-        shown: Depth,
+        head: InstructionHead,
         code: &mut Vec<Instruction>,
     ) -> Result<usize, AllocError>
         ensures { IfOk result (λ place. BeginsLoop (program_tree self.entry.program.now) code.old.items code.new.items place
-            (loop_step number keep shown Turn)) }
+            (loop_step head.number head.keep head.shown Turn)) }
     {
-        let place = self.keep_place(number, shown, code)?;
-        code.push(self.turn(number, keep, shown)?)?;
+        let place = self.keep_place(head, code)?;
+        code.push(self.turn(head)?)?;
         Ok(place)
     }
 
     /// Puts a jump.
     pub(crate) fn put_jump(
         self,
-        number: u64,
-        keep: Depth,
-        shown: Depth,
+        head: InstructionHead,
         to: usize,
         code: &mut Vec<Instruction>,
     ) -> Result<(), AllocError>
-        ensures { OnOk result (Puts (program_tree self.entry.program.now) code.old.items code.new.items (loop_step number keep shown (Jump to) ∷ [])) }
+        ensures { OnOk result (Puts (program_tree self.entry.program.now) code.old.items code.new.items
+            (loop_step head.number head.keep head.shown (Jump to) ∷ [])) }
     {
-        code.push(self.jump(number, keep, shown, to)?)?;
+        code.push(self.jump(head, to)?)?;
         Ok(())
     }
 
     /// Puts that the name of a `for` gets its next value, and the jump to the test.
     pub(crate) fn put_back(
         self,
-        number: u64,
-        keep: Depth,
-        shown: Depth,
+        head: InstructionHead,
         name: usize,
         test: usize,
         code: &mut Vec<Instruction>,
     ) -> Result<(), AllocError>
-        ensures { OnOk result (Puts (program_tree self.entry.program.now) code.old.items code.new.items (plain_tree number shown (Advance name)
-            ∷ loop_step number keep shown (Jump test) ∷ [])) }
+        ensures { OnOk result (Puts (program_tree self.entry.program.now) code.old.items code.new.items
+            (plain_tree head.number head.shown (Advance name) ∷ loop_step head.number head.keep head.shown (Jump test) ∷ [])) }
     {
-        code.push(self.advance(number, shown, name)?)?;
-        self.put_jump(number, keep, shown, test, code)
+        code.push(self.advance(head.number, head.shown, name)?)?;
+        self.put_jump(head, test, code)
     }
 
     /// Puts a test into the place that was kept for it.
     pub(crate) fn fill_unless(
         self,
-        number: u64,
-        depth: Depth,
+        head: InstructionHead,
         c: &BoolExpression,
         to: usize,
         place: usize,
         code: &mut Vec<Instruction>,
     ) -> Result<(), AllocError>
         ensures { OnOk result (Fills (program_tree self.entry.program.now) code.old.items code.new.items place
-            (plain_tree number depth (Unless (condition_tree c.now) to))) }
+            (loop_step head.number head.keep head.shown (Unless (condition_tree c.now) to))) }
     {
-        let unless = self.unless(number, depth, c, to)?;
+        let unless = self.unless(head, c, to)?;
         replace(code, place, unless);
         Ok(())
     }
@@ -322,17 +314,15 @@ impl Lowering<'_> {
     /// Puts the test of a `for`, which goes after the code, into the place that was kept for it.
     pub(crate) fn fill_unless_below(
         self,
-        number: u64,
-        keep: Depth,
-        shown: Depth,
+        head: InstructionHead,
         name: usize,
         place: usize,
         code: &mut Vec<Instruction>,
     ) -> Result<(), AllocError>
         ensures { OnOk result (Fills (program_tree self.entry.program.now) code.old.items code.new.items place
-            (loop_step number keep shown (UnlessBelow name (length code.old.items)))) }
+            (loop_step head.number head.keep head.shown (UnlessBelow name (length code.old.items)))) }
     {
-        let below = self.unless_below(number, keep, shown, name, code.len())?;
+        let below = self.unless_below(head, name, code.len())?;
         replace(code, place, below);
         Ok(())
     }
@@ -340,15 +330,14 @@ impl Lowering<'_> {
     /// Puts a jump after the code into the place that was kept for it.
     pub(crate) fn fill_jump(
         self,
-        number: u64,
-        depth: Depth,
+        head: InstructionHead,
         place: usize,
         code: &mut Vec<Instruction>,
     ) -> Result<(), AllocError>
         ensures { OnOk result (Fills (program_tree self.entry.program.now) code.old.items code.new.items place
-            (loop_step number depth depth (Jump (length code.old.items)))) }
+            (loop_step head.number head.keep head.shown (Jump (length code.old.items)))) }
     {
-        let jump = self.jump(number, depth, depth, code.len())?;
+        let jump = self.jump(head, code.len())?;
         replace(code, place, jump);
         Ok(())
     }
@@ -357,21 +346,25 @@ impl Lowering<'_> {
     pub(crate) fn put_bounds(
         self,
         number: u64,
-        name: usize,
-        first: &IntExpression,
-        end: &IntExpression,
+        range: ForRange<'_>,
         visible: &mut Visible,
         code: &mut Vec<Instruction>,
     ) -> Result<(), AllocError>
         ensures code { OnOk result (Puts (program_tree self.entry.program.now) code.old.items code.new.items
-            (plain_tree number (depth_of visible.old) (Do (DeclareInteger name (integer_tree first.now)))
-            ∷ loop_step number (with_integer (depth_of visible.old)) (depth_of visible.old) (Enter name (integer_tree end.now)) ∷ [])) }
+            (plain_tree number (depth_of visible.old) (Do (DeclareInteger range.entry.name (integer_tree range.entry.first.now)))
+            ∷ loop_step number (with_integer (depth_of visible.old)) (depth_of visible.old) (Enter range.entry.name (integer_tree range.entry.end.now)) ∷ [])) }
         ensures visible { OnOk result (depth_of visible.new ≡ in_loop (depth_of visible.old)) }
     {
+        let ForRange { name, first, end } = range;
         let depth = visible.depth();
         self.put_first(number, depth, name, first, code)?;
         visible.declare_integer(name)?;
-        self.put_enter(number, visible.depth(), depth, name, end, code)?;
+        let head = InstructionHead {
+            number,
+            keep: visible.depth(),
+            shown: depth,
+        };
+        self.put_enter(head, name, end, code)?;
         visible.declare_integer(name)
     }
 

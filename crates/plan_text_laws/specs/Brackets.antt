@@ -1,4 +1,4 @@
--- How an expression in brackets is read.
+-- Expressions in brackets, read by hand.
 use Rattle.std.specs.Prelude.{◌≢◌, ℕ, ℤ, ◌==◌, ◌&&◌, if◌then◌else◌, List, [], ◌∷◌, Option, Some, None, codes, option_and_then}
 use Rattle.std.specs.List.{AllByRecursion}
 use Rattle.std.specs.Map.{lookup}

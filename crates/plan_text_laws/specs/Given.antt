@@ -1,4 +1,4 @@
--- That the machine knows what an expression of `main` speaks of.
+-- Facts of what the machine knows: all that an expression of `main` speaks of.
 use Rattle.std.specs.Prelude.{◌≡◌, ◌≢◌, ℕ, pos, FitsSigned, false, List, length, None, slice_get, slice_index_or}
 use Rattle.std.specs.Int.{cast_signed, w64}
 use Rattle.std.specs.List.{AllByRecursion}

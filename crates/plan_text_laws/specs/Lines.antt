@@ -1,4 +1,4 @@
--- How the text of a plan is cut into lines, and a line into words.
+-- Lines of the text of a plan, and the words of a line.
 use Rattle.std.specs.Prelude.{◌≡◌, ℕ, ◌+◌, ◌==◌, ◌&&◌, Bool, true, false, not, if◌then◌else◌, List, [], ◌∷◌, ◌++◌, codes, decimal, map}
 use Rattle.std.specs.List.{AllByRecursion}
 use Rattle.typed_tree.specs.ProgramTree.{ProgramTree}

@@ -1,4 +1,4 @@
--- How the words of an expression are read by hand: from left to right, with a stack of values.
+-- Words of an expression, read by hand: from left to right, with a stack of values.
 use Rattle.std.specs.Prelude.{ℕ, ℤ, Bool, true, false, not, if◌then◌else◌, ◌==◌, List, [], ◌∷◌, Option, Some, None, codes, option_and_then}
 use Rattle.std.specs.Map.{lookup}
 use Rattle.std.specs.Str.{bytes_eq}

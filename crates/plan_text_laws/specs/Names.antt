@@ -1,4 +1,4 @@
--- What an instruction works on, by the names in its words and by its operation.
+-- Names of what an instruction works on, by its words and by its operation.
 use Rattle.std.specs.Prelude.{◌≢◌, ℕ, if◌then◌else◌, List, [], ◌∷◌, Option, Some, None, codes, slice_index_or}
 use Rattle.std.specs.List.{AllByRecursion}
 use Rattle.std.specs.Map.{lookup}

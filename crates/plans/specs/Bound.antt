@@ -1,4 +1,4 @@
--- How many steps a run takes at most.
+-- The bound on the steps of a run.
 use Rattle.std.specs.Prelude.{ℕ, ◌+◌, ◌*◌, ◌-◌, Bool, true, false, List, length, slice_get, Option, Some, None}
 use Rattle.plans.specs.Instruction.{OperationTree, Unless, UnlessBelow, Turn, InstructionTree}
 use Rattle.plans.specs.Machine.{Configuration, At, Ended}

@@ -1,4 +1,4 @@
--- What holds of two applies that a plan does together.
+-- Facts of two applies that a plan does together.
 use Rattle.std.specs.Prelude.{◌≡◌, ℕ, ℤ, true, List, slice_get, Some}
 use Rattle.std.specs.List.Sorted.{IsStrictlyIncreasing}
 use Rattle.typed_tree.specs.StepTree.{StepsTree}

@@ -1,4 +1,4 @@
--- Which parts a plan may have.
+-- Parts that a plan may have.
 use Rattle.std.specs.Prelude.{◌≡◌, ℕ, List}
 use Rattle.typed_tree.specs.declared.program.Vector.{Vector}
 use Rattle.typed_tree.specs.ProgramTree.{ProgramTree}

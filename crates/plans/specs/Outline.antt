@@ -1,4 +1,4 @@
--- How many steps a run of instructions takes at most.
+-- The bound on the steps of a run, read off its instructions.
 use Rattle.std.specs.Prelude.{ℕ, true, List, map}
 use Rattle.typed_tree.specs.ConditionTree.{Literal}
 use Rattle.plans.specs.Instruction.{OperationTree, Unless, UnlessBelow, Turn, End, InstructionTree}

@@ -1,4 +1,4 @@
--- What holds of plans.
+-- Facts of runs of plans.
 use Rattle.std.specs.Prelude.{◌≡◌, ℕ, ◌<◌, ◌≤◌, List, length}
 use Rattle.typed_tree.specs.ProgramTree.{ProgramTree}
 use Rattle.algorithm_meaning.specs.declared.outcome.Outcome.{Outcome}

@@ -1,4 +1,4 @@
--- What a vertex set gets.
+-- Expressions of vertex sets: the value that a set gets.
 use Rattle.typed_tree.specs.declared.statement.SetValue.{SetValue}
 use Rattle.typed_tree.specs.declared.statement.SetValue.TheVariants as set
 use Rattle.plans.specs.declared.set_expression.SetExpression.{SetExpression}

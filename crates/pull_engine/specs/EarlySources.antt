@@ -1,4 +1,4 @@
--- What one of several sources comes to, where it decides alone.
+-- Early sources: the value of several sources where one decides alone.
 use Rattle.std.specs.Prelude.{◌≢◌, ℕ, ℤ, Option, Some, None, List, [], ◌∷◌}
 use Rattle.kernels.specs.Arithmetic.{reduced}
 use Rattle.apply_options.specs.declared.reduction.Reduction.{Reduction}

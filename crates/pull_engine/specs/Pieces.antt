@@ -1,4 +1,4 @@
--- What the pieces of an apply answer.
+-- Answers of the pieces of a pull.
 use Rattle.std.specs.Prelude.{◌≡◌, ℕ, ◌-◌, Bool, Option, Some, None, List}
 use Rattle.std.specs.List.{filter}
 use Rattle.edge_lists.specs.Edge.{Edge}

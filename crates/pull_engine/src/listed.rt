@@ -1,4 +1,4 @@
-//! Where an apply is cut, and its sources as bits.
+//! Cuts of an apply by pull into pieces, and its sources as bits.
 ghost use Rattle.std.specs.Prelude.{◌≡◌, ℕ, ◌<◌, Bool, length, map, IfOk, IfSome};
 ghost use Rattle.kernels.specs.State.{StateValue};
 ghost use Rattle.apply_options.specs.declared.apply_schedule.Parallelization.TheVariants.{EdgeAwareDynamicVertex};

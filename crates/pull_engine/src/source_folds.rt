@@ -1,4 +1,4 @@
-//! What the sources of a vertex and the weights of their edges give its entry, by one function.
+//! Folds of the sources of a vertex, with the weights of their edges, into its entry, by one function.
 ghost use Rattle.std.specs.Prelude.{◌≡◌, ℕ, ℤ, pos, length};
 ghost use Rattle.apply_options.specs.declared.reduction.Reduction.{Reduction as Reducing};
 ghost use Rattle.apply_options.specs.declared.reduction.Reduction.TheVariants.{Min, Max};

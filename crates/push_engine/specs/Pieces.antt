@@ -1,4 +1,4 @@
--- What the pieces of an apply answer.
+-- Answers of the pieces of a push.
 use Rattle.std.specs.Prelude.{◌≡◌, ℕ, Bool, List}
 use Rattle.std.specs.List.{filter}
 use Rattle.edge_lists.specs.Edge.{Edge}

@@ -1,4 +1,4 @@
--- What going over the edges from some vertices costs.
+-- The work of a push: vertices gone over, and the edges from them.
 use Rattle.std.specs.Prelude.{ℕ, ◌+◌, List, [], ◌∷◌, length}
 use Rattle.edge_lists.specs.Edge.{Edge}
 use Rattle.flat_snapshot.specs.Neighbours.{destinations_of}

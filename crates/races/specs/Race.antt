@@ -1,4 +1,4 @@
--- What a race of a script and programs is: commits of one history, and runs on versions of it.
+-- Races of a script and programs: commits of one history, and runs on versions of it.
 use Rattle.std.specs.Prelude.{◌≡◌, ℕ, Bool, ◌||◌, List, [], ◌∷◌, ◌++◌, length}
 use Rattle.std.specs.List.{list_any}
 use mathlib.Core.List.{IsPrefix}

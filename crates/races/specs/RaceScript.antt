@@ -1,4 +1,4 @@
--- What a text is as the script of a race.
+-- Scripts of races: a text as the opening and the batches of one.
 use Rattle.std.specs.Prelude.{◌≡◌, ℕ, List, [], ◌∷◌, ◌++◌, Option, Some, None, Result, Ok, Err}
 use Rattle.std.specs.Option.{option_map}
 use Rattle.tree_batch.specs.declared.batch.Entry.{Entry}

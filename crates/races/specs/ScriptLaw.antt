@@ -1,4 +1,4 @@
--- That race scripts are scripts.
+-- The law that race scripts are scripts.
 use Rattle.std.specs.Prelude.{◌≡◌, ℕ, true, List, [], ◌∷◌, ◌++◌, Some, None, codes}
 use Rattle.std.specs.Option.{option_map}
 use Rattle.algorithm_meaning.specs.ProgramTree.{ProgramTree}

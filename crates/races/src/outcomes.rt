@@ -1,4 +1,4 @@
-//! What a race gives.
+//! Outcomes of a race: the replies to its batches, and two runs of each program.
 ghost use Rattle.std.specs.Prelude.{◌≡◌};
 ghost use Rattle.races.specs.Race.{has_faulted, runs_fault};
 

@@ -1,4 +1,4 @@
--- What a run lends, in the words of the meaning.
+-- The view of a run that an edge apply is lent, in the words of the meaning.
 use Rattle.std.specs.Prelude.{◌≡◌, ℕ, ◌<◌, ◌≤◌, ℤ, List, [], length, slice_get, slice_index_or, Option, Some, None}
 use Rattle.typed_tree.specs.ProgramTree.{ProgramTree}
 use Rattle.algorithm_meaning.specs.State.{GraphValue, StateValue}

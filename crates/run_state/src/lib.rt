@@ -1,4 +1,4 @@
-//! What a run of a plan keeps.
+//! The state of a run of a plan: vectors, vertex sets, variables, printed text and turns left.
 //!
 //! A [`State`] has the vectors of a run, its vertex sets with their names, the visible variables, what was printed, and
 //! the turns that are left. A contract sees the state of `main` as `algorithm_meaning` has it, and the number of vertices

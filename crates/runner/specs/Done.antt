@@ -1,4 +1,4 @@
--- What an instruction of a run does.
+-- Instructions of a run, each as a change of its state.
 use Rattle.std.specs.Prelude.{◌≡◌, ℕ, ◌+◌, List}
 use Rattle.typed_tree.specs.ProgramTree.{ProgramTree}
 use Rattle.algorithm_meaning.specs.State.{GraphValue, StateValue}

@@ -1,4 +1,4 @@
--- What an edge apply changes, as a whole.
+-- Edge applies of a plan as a whole: their changes, in the words of the meaning.
 use Rattle.std.specs.Prelude.{◌≡◌, ℕ, ◌<◌, ℤ, List, length}
 use Rattle.typed_tree.specs.ProgramTree.{ProgramTree}
 use Rattle.algorithm_meaning.specs.EdgeApply.{after_edge_apply, passes}

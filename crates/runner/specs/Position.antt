@@ -1,4 +1,4 @@
--- Where a run stands, in the words of the machine.
+-- Positions of a run, in the words of the machine.
 use Rattle.std.specs.Prelude.{◌≡◌, ℕ, List, Option, Some, None, reverse, slice_get}
 use Rattle.algorithm_meaning.specs.declared.outcome.End.{End}
 use Rattle.algorithm_meaning.specs.State.{GraphValue, StateValue}

@@ -1,4 +1,4 @@
--- Where a job rests, and what a job is.
+-- Jobs, and the configuration at which one rests between two steps.
 use Rattle.std.specs.Prelude.{ℕ, List, Option, Some, None, slice_get}
 use Rattle.algorithm_meaning.specs.State.{StateValue}
 use Rattle.algorithm_meaning.specs.declared.state.LoopCounter.{LoopCounter}

@@ -1,4 +1,4 @@
--- What a run does with the vertices at which an edge apply changed a vector.
+-- Results of an edge apply: the vertex set that a run makes of the vertices at which a vector changed.
 use Rattle.std.specs.Prelude.{◌≡◌, ℕ, ℤ, List, Option, Some, None}
 use Rattle.algorithm_meaning.specs.Entries.{with_vectors}
 use Rattle.algorithm_meaning.specs.State.{StateValue}

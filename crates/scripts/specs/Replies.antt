@@ -1,4 +1,4 @@
--- What a script replies: its lines, one after another, at first with no graph open.
+-- Replies to the lines of a script, one after another, at first with no graph open.
 use Rattle.std.specs.Prelude.{ℕ, zero, suc, nat_lt, Bool, false, not, ◌||◌, ◌&&◌, Option, Some, None, if◌then◌else◌, List, [], ◌∷◌, ◌++◌, codes}
 use Rattle.std.specs.List.{slice_get}
 use Rattle.algorithm_meaning.specs.ProgramTree.{ProgramTree}

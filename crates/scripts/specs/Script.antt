@@ -1,4 +1,4 @@
--- What a run of a script did to its reader and its writer.
+-- Runs of a script, as changes of its reader and its writer.
 use Rattle.std.specs.Prelude.{◌≡◌, ℕ, ◌<◌, Bool, true, List, [], ◌++◌, Result, Ok, Err}
 use Rattle.algorithm_meaning.specs.ProgramTree.{ProgramTree}
 use Rattle.scripts.specs.declared.error.ScriptError.{ScriptError}

@@ -1,4 +1,4 @@
--- What a run of a script that is a text did to its writer.
+-- Runs of a script that is a text at hand, as changes of its writer.
 use Rattle.std.specs.Prelude.{◌≡◌, ℕ, ◌<◌, Bool, List, ◌++◌, Result, Ok, Err}
 use Rattle.algorithm_meaning.specs.ProgramTree.{ProgramTree}
 use Rattle.scripts.specs.declared.error.ScriptError.{ScriptError}

@@ -1,4 +1,4 @@
-//! What a script has once a graph is open, and the commands on it.
+//! The state of a script once a graph is open, and the commands on it.
 ghost use Rattle.std.specs.Prelude.{◌≡◌, ◌<◌, [], false, IfErr, IfOk, IfSome, MatchOption, None, OnOk, Some, length};
 ghost use Rattle.std.specs.List.{slice_get};
 ghost use Rattle.std.specs.Option.{option_map};

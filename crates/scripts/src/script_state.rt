@@ -1,4 +1,4 @@
-//! What a script has opened, and its lines, whose bytes come in pieces.
+//! The state of a script, and its lines, whose bytes come in pieces.
 ghost use Rattle.std.specs.Prelude.{◌≡◌, [], ◌++◌, None, OnOk};
 ghost use Rattle.scripts.specs.Pieces.{HasNone};
 ghost use Rattle.scripts.specs.inside.Progress.{at_start, reading_after, replies_within};

@@ -1,4 +1,4 @@
--- What a session is to a contract, and how it stands where a world stands.
+-- Sessions as contracts see them, and the world at which one stands.
 use Rattle.std.specs.Prelude.{◌≡◌, ℕ, ◌<◌, true, false, List, [], length, take, Result, Ok, Err}
 use Rattle.plans.specs.declared.plan.Plan.{Plan}
 use Rattle.plans.specs.Kernels.{ArePairwise}

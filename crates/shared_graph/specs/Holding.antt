@@ -1,4 +1,4 @@
--- What is held.
+-- Held versions, and the history at whose end each was held.
 use Rattle.std.specs.Prelude.{ℕ, ◌≡◌, ◌≤◌, List}
 use Rattle.tree_batch.specs.Digraph.{Digraph}
 use Rattle.version_list.specs.declared.step.Which.{Which}

@@ -1,4 +1,4 @@
--- What a reader shows, and how a step changes it.
+-- Histories that a reader shows, and how a step changes them.
 use Rattle.std.specs.Prelude.{◌≡◌, ℕ, zero, suc, List, [], ◌∷◌, ◌++◌}
 use mathlib.Core.List.{IsPrefix}
 use Rattle.version_list.specs.declared.step.Step.{Step}

@@ -1,4 +1,4 @@
-//! What lies under the lock.
+//! The state under the lock: the versions and the log.
 
 ghost use Rattle.std.specs.Prelude.{◌≡◌, [], IfOk, IfErr, true};
 ghost use Rattle.version_list.specs.declared.step.Step.TheVariants.{Commit, Acquire, Release, Trim};

@@ -1,4 +1,4 @@
-//! What is published.
+//! Published values: the newest version, and the history that made it.
 
 ghost use Rattle.std.specs.Prelude.{◌≡◌, IfOk, IfErr};
 ghost use Rattle.std.specs.Arc.{arc_value};

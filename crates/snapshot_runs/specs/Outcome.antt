@@ -1,4 +1,4 @@
--- What a run on a version of a graph shows, and what is left of the reader where it is refused.
+-- Outcomes of runs on a version of a graph, and the reader where one is refused.
 use Rattle.std.specs.Prelude.{◌≡◌, ℕ}
 use Rattle.algorithm_meaning.specs.declared.outcome.Outcome.{Outcome}
 use Rattle.algorithm_meaning.specs.Shown.{meaning}

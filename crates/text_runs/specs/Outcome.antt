@@ -1,4 +1,4 @@
--- What a run of a text on a version of a graph shows, and what is left of the reader where it gives nothing.
+-- Outcomes of runs of a text on a version of a graph, and the reader where one gives nothing.
 use Rattle.std.specs.Prelude.{◌≡◌, ℕ, List}
 use Rattle.typed_tree.specs.ProgramTree.{ProgramTree}
 use Rattle.algorithm_meaning.specs.declared.outcome.Outcome.{Outcome}

@@ -1,4 +1,4 @@
--- Which vectors the values of vertex sets ask for.
+-- Vectors for which the values of vertex sets ask.
 use Rattle.std.specs.List.{Contains}
 use Rattle.typed_tree.specs.declared.statement.SetValue.{SetValue}
 use Rattle.typed_tree.specs.declared.statement.SetValue.TheVariants as set

@@ -157,8 +157,8 @@ fn without_block(
     let scope = &checker.scope;
     match action {
         Written::Print { at, value } => print(alloc, scope, *at, value, first_fault),
-        Written::Assign { name, value } => { assign(alloc, checker, name, value, first_fault) }
-        Written::AddVertex { set, vertex } => { add_vertex(alloc, scope, set, vertex, first_fault) }
+        Written::Assign { name, value } => assign(alloc, checker, name, value, first_fault),
+        Written::AddVertex { set, vertex } => add_vertex(alloc, scope, set, vertex, first_fault),
         Written::Apply {
             target,
             ends,
@@ -196,7 +196,7 @@ fn reduction_or_entry(
             index,
             reduction,
             value,
-        } => { reduce_entry(alloc, scope, vector, index, *reduction, value, first_fault) }
+        } => reduce_entry(alloc, scope, vector, index, *reduction, value, first_fault),
         _ => unreachable!(),
     }
 }

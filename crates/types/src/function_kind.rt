@@ -1,4 +1,4 @@
-//! What a function is: by its name, its parameters and its result.
+//! Kinds of functions: by name, parameters and result.
 ghost use Rattle.std.specs.Prelude.{◌≡◌, ◌∷◌, [], None, map, option_map};
 ghost use Rattle.syntax.specs.SourceTrees.{ParameterTree};
 ghost use Rattle.syntax.specs.SourceViews.{parameter_tree};

@@ -153,7 +153,7 @@ fn without_block(
 {
     match action {
         Written::Print { at, .. } => Ok(print(*at, alloc, first_fault)),
-        Written::Assign { name, value } => { assign(alloc, checker, name, value, first_fault) }
+        Written::Assign { name, value } => assign(alloc, checker, name, value, first_fault),
         Written::AddVertex { set, vertex } => {
             add_vertex(alloc, &checker.scope, set, vertex, first_fault)
         }
@@ -161,7 +161,7 @@ fn without_block(
             target,
             ends,
             function,
-        } => { Ok(apply(alloc, &checker.scope, target, ends, function, first_fault)) }
+        } => Ok(apply(alloc, &checker.scope, target, ends, function, first_fault)),
         change => reduction_or_entry(alloc, change, checker, first_fault),
     }
 }
@@ -183,12 +183,12 @@ fn reduction_or_entry(
             name,
             reduction,
             value,
-        } => { reduce(alloc, &checker.scope, name, *reduction, value, first_fault) }
+        } => reduce(alloc, &checker.scope, name, *reduction, value, first_fault),
         Written::SetEntry {
             vector,
             index,
             value,
-        } => { set_entry(alloc, &checker.scope, vector, index, value, first_fault) }
+        } => set_entry(alloc, &checker.scope, vector, index, value, first_fault),
         Written::ReduceEntry {
             vector,
             index,

@@ -1,4 +1,4 @@
--- That an edge apply does not depend on a vertex set, looked at as the code does.
+-- Independence of an edge apply from a vertex set, looked at as the code does.
 use Rattle.std.specs.Prelude.{ℕ, Bool, ◌&&◌, List, [], ◌∷◌, Option, Some, None}
 use Rattle.typed_tree.specs.Access.{are_apart}
 use Rattle.typed_tree.specs.ProgramTree.{ProgramTree}

@@ -1,4 +1,4 @@
--- Where operations may go, as words.
+-- Targets of operations, the places where a run may go on, as words.
 use Rattle.std.specs.Prelude.{ℕ, List, [], ◌∷◌, decimal}
 use Rattle.plans.specs.declared.operation.PlanOperation.{PlanOperation}
 use Rattle.plans.specs.declared.operation.PlanOperation.TheVariants.{Unless, UnlessBelow, Jump}

@@ -1,4 +1,4 @@
-//! Whether two applies fit.
+//! The test whether two applies fit, so that they may be done together.
 ghost use Rattle.std.specs.Prelude.{◌≡◌, map, IfOk};
 ghost use Rattle.typed_tree.specs.ProgramTree.{program_tree};
 ghost use Rattle.typed_tree.specs.StepTree.{function_tree};

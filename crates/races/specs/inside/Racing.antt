@@ -1,4 +1,4 @@
--- How far a race has come.
+-- Progress of a race: the commits made, and the runs.
 use Rattle.std.specs.Prelude.{◌≡◌, ℕ, List, map, Result, Ok, Err, IfErr, IfOk, alloc_error}
 use Rattle.std.specs.declared.alloc.AllocError.{AllocError}
 use Rattle.std.specs.Global.{Vec}

@@ -1,4 +1,4 @@
--- What a block lets through, and ascending lists.
+-- Vertices of a block that a filter lets through, and ascending lists.
 use Rattle.std.specs.Prelude.{ℕ, ◌+◌, List, [], ◌∷◌, if◌then◌else◌}
 use Rattle.kernels.specs.declared.block.Block.{Block}
 use Rattle.kernels.specs.Kernels.{passes_at}

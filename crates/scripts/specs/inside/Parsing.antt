@@ -1,4 +1,4 @@
--- What the steps of the reader of lines say of bytes and words.
+-- Steps of the reader of lines, in bytes and words.
 use Rattle.std.specs.Prelude.{◌≡◌, ℕ, ℤ, List, [], ◌∷◌, ◌++◌, Option, Some, None, MatchOption}
 use Rattle.std.specs.Borrow.{Bor}
 use Rattle.std.specs.Option.{option_map}

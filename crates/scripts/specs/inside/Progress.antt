@@ -1,4 +1,4 @@
--- How far a script has been read.
+-- Progress of a script: how far it has been read.
 use Rattle.std.specs.Prelude.{ℕ, Option, None, List, [], ◌++◌}
 use Rattle.algorithm_meaning.specs.ProgramTree.{ProgramTree}
 use Rattle.scripts.specs.Pieces.{ended_lines, unended_line}

@@ -1,4 +1,4 @@
--- What lies under the lock.
+-- The state under the lock: the versions and the log.
 use Rattle.std.specs.Prelude.{ℕ, ◌≡◌, ◌<◌, List, ◌++◌, length, slice_index}
 use Rattle.version_list.specs.Machine.{State}
 use Rattle.version_list.specs.Timeline.{Timeline}

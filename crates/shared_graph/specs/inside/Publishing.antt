@@ -1,4 +1,4 @@
--- What the writer publishes, and the rule that it keeps.
+-- Published values, and the rule that the writer keeps.
 use Rattle.std.specs.Prelude.{ℕ, ◌≡◌, Option, Some, None, List}
 use mathlib.Core.List.{IsPrefix}
 use mathlib.Core.Option.{some}

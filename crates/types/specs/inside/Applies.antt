@@ -1,4 +1,4 @@
--- What the names of an apply stand for.
+-- Names of an apply, and the entities for which they stand.
 use Rattle.syntax.specs.Terminals.{Identifier}
 use Rattle.syntax.specs.SourceTrees.{EndsTree}
 use Rattle.expression_types.specs.declared.scope.Entity.{Entity}

@@ -1,4 +1,4 @@
--- What a declared variable is, and the statement that declares it.
+-- Declared variables, and the statements that declare them.
 use Rattle.std.specs.Prelude.{ℕ, length}
 use Rattle.syntax.specs.declared.declaration.DeclaredType.{DeclaredType}
 use Rattle.syntax.specs.declared.declaration.DeclaredType.TheVariants as declared

@@ -127,8 +127,8 @@ put_choice-returns-clause-code t c label =
     let g = c.put_inside-2.new.code.items in
     let h = c.fill_jump.new.code.items in
     let d = c.depth-depth.result in
-    let body = block_tree c.args.body.now in
-    let other = block_tree c.args.other.now in
+    let body = block_tree c.args.branches.body.now in
+    let other = block_tree c.args.branches.other.now in
     let put : Puts p b k (plan_all p s (length b) d false body) = subst (λ x. Puts p b k (plan_all p s (length b) x false body)) (sym c.depth-depth.ensures) c.in_ok-put_inside.ensures.code in
     let put_other : Puts p m g (plan_all p s (length m) d false other) = subst (λ x. Puts p m g (plan_all p s (length m) x false other)) (c.in_ok-put_inside.ensures.visible ∙ sym c.depth-depth.ensures) c.in_ok-put_inside-2.ensures.code in
     let otherwise = ap (λ n. n + 1) (c.len.ensures ∙ c.put_inside.new.code.ok.0) in
@@ -175,7 +175,7 @@ put_for-returns-clause-code t c label =
     let e = c.fill_unless_below.new.code.items in
     let d = depth_of c.args.visible.now in
     let n = c.args.number in
-    let name = c.args.name in
+    let name = c.args.range.name in
     let test = c.in_ok-test.test in
     let body = block_tree c.args.body.now in
     let inside : c.depth-inside.result ≡ in_loop d = c.depth-inside.ensures ∙ c.in_ok-put_bounds.ensures.visible in
@@ -189,7 +189,7 @@ put_for-returns-clause-code t c label =
     let fills : Fills p g e test (loop_step n (in_loop d) d (UnlessBelow name (length g))) =
     subst (λ x. Fills p g e test (loop_step n (in_loop d) x (UnlessBelow name (length g)))) shown
     (subst (λ x. Fills p g e test (loop_step n x c.depth-depth.result (UnlessBelow name (length g)))) inside c.in_ok-fill_unless_below.ensures) in
-    puts_for p s a f b k g e test d n label name (integer_tree c.args.first.now) (integer_tree c.args.end.now) body c.in_ok-put_bounds.ensures.code begins put back fills
+    puts_for p s a f b k g e test d n label name (integer_tree c.args.range.first.now) (integer_tree c.args.range.end.now) body c.in_ok-put_bounds.ensures.code begins put back fills
 
 pub put_all-statements-init : goal.put_all-statements-init
 put_all-statements-init t c = record {

@@ -12,5 +12,5 @@ returns c =
     record {
       instruction = c.in_ok-jump.jump;
       is = c.replace.ensures;
-      written = subst (λ n. IsWritten p c.in_ok-jump.jump (loop_step c.args.number c.args.depth c.args.depth (Jump n))) to c.in_ok-jump.ensures;
+      written = subst (λ n. IsWritten p c.in_ok-jump.jump (loop_step c.args.head.number c.args.head.keep c.args.head.shown (Jump n))) to c.in_ok-jump.ensures;
     }

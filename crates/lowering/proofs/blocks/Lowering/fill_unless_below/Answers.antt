@@ -12,5 +12,5 @@ returns c =
     record {
       instruction = c.in_ok-below.below;
       is = c.replace.ensures;
-      written = subst (λ n. IsWritten p c.in_ok-below.below (loop_step c.args.number c.args.keep c.args.shown (UnlessBelow c.args.name n))) to c.in_ok-below.ensures;
+      written = subst (λ n. IsWritten p c.in_ok-below.below (loop_step c.args.head.number c.args.head.keep c.args.head.shown (UnlessBelow c.args.name n))) to c.in_ok-below.ensures;
     }
