@@ -38,6 +38,7 @@ mod listed;
 mod pieces;
 mod ranges;
 mod shapes;
+mod source_block;
 mod source_folds;
 mod work;
 

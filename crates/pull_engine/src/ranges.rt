@@ -1,5 +1,5 @@
 //! Pulls of a range of destinations, where one function gives each of them by its sources and the weights of their edges.
-ghost use Rattle.std.specs.Prelude.{◌≡◌, ℕ, ◌≤◌, ◌++◌, Bool, length, IfOk, IfSome, OnOk};
+ghost use Rattle.std.specs.Prelude.{◌≡◌, ℕ, ◌≤◌, ◌++◌, Bool, IfOk, IfSome, OnOk};
 ghost use Rattle.std.specs.List.{filter};
 ghost use Rattle.kernels.specs.State.{StateValue};
 ghost use Rattle.kernels.specs.Cells.{HasSizes};
@@ -12,6 +12,7 @@ ghost use Rattle.pull_engine.specs.Pulls.{IsRangePulled, IsWholeTo};
 ghost use Rattle.pull_engine.specs.Ranges.{changes_at, pulled};
 
 use crate::entry_tests::{EntryTest, entry_test};
+use crate::source_block::SourceBlock;
 use crate::source_folds::SourceFold;
 use edge_apply::number_between;
 use edge_fold::{ApplyContext, Scratch, push_change};
@@ -85,21 +86,11 @@ fn pull_tested<F: SourceFold>(
     ensures { IfOk result (λ cs. IsRangePulled range.entry vector (F.reduction fold.now) (F.number fold.now) cs.items) }
 {
     let old = range.context.vectors.lane(vector);
-    let mut block = [0u32; PAIRS];
-    let mut weights = [0i64; PAIRS];
+    let mut block = SourceBlock::new();
     let mut changes = Vec::new(alloc);
     'vertices: for vertex in range.low..range.high {
         if test.passes(vertex) {
-            pull_one(
-                range.flat,
-                fold,
-                range.from,
-                old,
-                vertex,
-                &mut block,
-                &mut weights,
-                &mut changes,
-            )?;
+            pull_one(range, fold, old, vertex, &mut block, &mut changes)?;
         }
     }
     Ok(changes)
@@ -117,20 +108,10 @@ fn pull_members<F: SourceFold>(
     ensures { IfOk result (λ cs. IsRangePulled range.entry vector (F.reduction fold.now) (F.number fold.now) cs.items) }
 {
     let old = range.context.vectors.lane(vector);
-    let mut block = [0u32; PAIRS];
-    let mut weights = [0i64; PAIRS];
+    let mut block = SourceBlock::new();
     let mut changes = Vec::new(alloc);
     'members: for member in set.iter() {
-        pull_one(
-            range.flat,
-            fold,
-            range.from,
-            old,
-            member,
-            &mut block,
-            &mut weights,
-            &mut changes,
-        )?;
+        pull_one(range, fold, old, member, &mut block, &mut changes)?;
     }
     Ok(changes)
 }
@@ -155,7 +136,7 @@ fn pull_vertices<F: SourceFold>(
         let stop = next + (range.high - next).min(PAIRS as u32);
         number_between(next, stop, &mut part)?;
         keep_destinations(range, &part, &mut kept, scratch)?;
-        pull_listed(range.flat, fold, range.from, old, &kept, &mut changes)?;
+        pull_listed(range, fold, old, &kept, &mut changes)?;
         next = stop;
     }
     Ok(changes)
@@ -187,30 +168,19 @@ fn keep_destinations(
 
 /// Adds what the edges to these destinations change.
 fn pull_listed<F: SourceFold>(
-    flat: &Flat,
+    range: PullRange<'_>,
     fold: &F,
-    from: Option<&[u64]>,
     old: Lane<'_>,
     destinations: &[u32],
     changes: &mut Vec<EntryChange>,
 ) -> Result<(), AllocError>
     ensures { OnOk result (changes.new.items ≡ changes.old.items
-        ++ changes_at (lane_entry old.entry) (pulled (F.reduction fold.now) (F.number fold.now) (lane_entry old.entry) (passes_words from.entry)
-        flat.now.edges) destinations.now) }
+        ++ changes_at (lane_entry old.entry) (pulled (F.reduction fold.now) (F.number fold.now) (lane_entry old.entry) (passes_words range.entry.from)
+        range.entry.flat.now.edges) destinations.now) }
 {
-    let mut block = [0u32; PAIRS];
-    let mut weights = [0i64; PAIRS];
+    let mut block = SourceBlock::new();
     'destinations: for destination in destinations {
-        pull_one(
-            flat,
-            fold,
-            from,
-            old,
-            *destination,
-            &mut block,
-            &mut weights,
-            changes,
-        )?;
+        pull_one(range, fold, old, *destination, &mut block, changes)?;
     }
     Ok(())
 }
@@ -218,24 +188,19 @@ fn pull_listed<F: SourceFold>(
 /// The same of one destination.
 #[inline(always)]
 fn pull_one<F: SourceFold>(
-    flat: &Flat,
+    range: PullRange<'_>,
     fold: &F,
-    from: Option<&[u64]>,
     old: Lane<'_>,
     destination: u32,
-    block: &mut [u32],
-    weights: &mut [i64],
+    block: &mut SourceBlock,
     changes: &mut Vec<EntryChange>,
 ) -> Result<(), AllocError>
-    requires block { length block.old ≡ 128 }
-    requires weights { length weights.old ≡ 128 }
-    ensures room { length block.new ≡ 128 }
-    ensures weights { length weights.new ≡ 128 }
-    ensures change { OnOk result (changes.new.items ≡ changes.old.items
-        ++ change_at (lane_entry old.entry) (pulled (F.reduction fold.now) (F.number fold.now) (lane_entry old.entry) (passes_words from.entry)
-        flat.now.edges) destination) }
+    ensures { OnOk result (changes.new.items ≡ changes.old.items
+        ++ change_at (lane_entry old.entry) (pulled (F.reduction fold.now) (F.number fold.now) (lane_entry old.entry) (passes_words range.entry.from)
+        range.entry.flat.now.edges) destination) }
 {
     let before = old.get(destination as usize);
-    let number = fold.fold(before, flat.in_set(destination), from, block, weights);
+    let sources = range.flat.in_set(destination);
+    let number = fold.fold(before, sources, range.from, block);
     push_change(destination, before, number, changes)
 }

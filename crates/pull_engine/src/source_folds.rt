@@ -9,6 +9,7 @@ ghost use Rattle.pull_engine.specs.EarlySources.{CountsOnce};
 
 use crate::chosen_sources::fold_chosen;
 use crate::early_sources::{first_passing, last_passing};
+use crate::source_block::SourceBlock;
 use algorithm_meaning::reduce;
 use apply_options::Reduction;
 use edge_apply::{keep_members, keep_members_weighted};
@@ -21,20 +22,15 @@ pub(crate) trait SourceFold {
 
     ghost number: { Self → ℕ → ℤ → ℤ };
 
-    /// The entry reduced with the numbers of those sources whose bits are set. The blocks are lent.
+    /// The entry reduced with the numbers of those sources whose bits are set. The block is lent.
     fn fold(
         &self,
         old: i64,
         sources: NeighbourSet<'_>,
         from: Option<&[u64]>,
-        block: &mut [u32],
-        weights: &mut [i64],
+        block: &mut SourceBlock,
     ) -> i64
-        requires block { length block.old ≡ 128 }
-        requires weights { length weights.old ≡ 128 }
-        ensures room { length block.new ≡ 128 }
-        ensures weights { length weights.new ≡ 128 }
-        ensures number { result ≡ reduced_over (reduction self.now) (number self.now) old (passing (passes_words from.entry) sources.entry) };
+        ensures { result ≡ reduced_over (reduction self.now) (number self.now) old (passing (passes_words from.entry) sources.entry) };
 }
 
 /// The greatest source: the walk goes downward, and ends at the first that passes.
@@ -79,13 +75,12 @@ impl SourceFold for GreatestSource {
         old: i64,
         sources: NeighbourSet<'_>,
         from: Option<&[u64]>,
-        block: &mut [u32],
-        _weights: &mut [i64],
+        block: &mut SourceBlock,
     ) -> i64 {
         if sources.len() == 0 {
             return old;
         }
-        match last_passing(sources, from, block) {
+        match last_passing(sources, from, &mut block.sources) {
             Some(source) => reduce(Reduction::Max, old, i64::from(source)),
             None => old,
         }
@@ -103,8 +98,7 @@ impl SourceFold for LeastSource {
         old: i64,
         sources: NeighbourSet<'_>,
         from: Option<&[u64]>,
-        _block: &mut [u32],
-        _weights: &mut [i64],
+        _block: &mut SourceBlock,
     ) -> i64 {
         if sources.len() == 0 {
             return old;
@@ -127,8 +121,7 @@ impl SourceFold for OneForAny {
         old: i64,
         sources: NeighbourSet<'_>,
         from: Option<&[u64]>,
-        _block: &mut [u32],
-        _weights: &mut [i64],
+        _block: &mut SourceBlock,
     ) -> i64 {
         match first_passing(sources, from) {
             Some(_) => reduce(self.reduction, old, self.number),
@@ -148,8 +141,7 @@ impl<N: SourceNumbers> SourceFold for AllSources<N> {
         old: i64,
         sources: NeighbourSet<'_>,
         from: Option<&[u64]>,
-        block: &mut [u32],
-        _weights: &mut [i64],
+        block: &mut SourceBlock,
     ) -> i64 {
         match sources.into_form() {
             NeighbourForm::Packed(list) => {
@@ -159,7 +151,7 @@ impl<N: SourceNumbers> SourceFold for AllSources<N> {
                     old,
                     list.ascending(),
                     from,
-                    block,
+                    &mut block.sources,
                 )
             }
             NeighbourForm::Chunked(set) => {
@@ -169,7 +161,7 @@ impl<N: SourceNumbers> SourceFold for AllSources<N> {
                     old,
                     SetWalk::new(set),
                     from,
-                    block,
+                    &mut block.sources,
                 )
             }
         }
@@ -187,31 +179,15 @@ impl SourceFold for WeightedSources<'_> {
         old: i64,
         sources: NeighbourSet<'_>,
         from: Option<&[u64]>,
-        block: &mut [u32],
-        weights: &mut [i64],
+        block: &mut SourceBlock,
     ) -> i64 {
         match sources.into_form() {
             NeighbourForm::Packed(list) => {
-                fold_weighted_list(
-                    self.reduction,
-                    self.numbers,
-                    old,
-                    list,
-                    from,
-                    block,
-                    weights,
-                )
+                fold_weighted_list(self.reduction, self.numbers, old, list, from, block)
             }
             NeighbourForm::Chunked(set) => {
-                fold_weighted_walk(
-                    self.reduction,
-                    self.numbers,
-                    old,
-                    SetWalk::new(set),
-                    from,
-                    block,
-                    weights,
-                )
+                let walk = SetWalk::new(set);
+                fold_weighted_walk(self.reduction, self.numbers, old, walk, from, block)
             }
         }
     }
@@ -249,20 +225,15 @@ fn fold_weighted_list(
     old: i64,
     list: Neighbours<'_>,
     from: Option<&[u64]>,
-    block: &mut [u32],
-    weights: &mut [i64],
+    block: &mut SourceBlock,
 ) -> i64
-    requires block { length block.old ≡ 128 }
-    requires weights { length weights.old ≡ 128 }
-    ensures room { length block.new ≡ 128 }
-    ensures weights { length weights.new ≡ 128 }
-    ensures number { result ≡ reduced_over reduction (entry_with numbers.entry) old (passing (passes_words from.entry) list.entry) }
+    ensures { result ≡ reduced_over reduction (entry_with numbers.entry) old (passing (passes_words from.entry) list.entry) }
 {
     match from {
-        Some(words) => fold_chosen(reduction, numbers, old, &list, words, block),
+        Some(words) => fold_chosen(reduction, numbers, old, &list, words, &mut block.sources),
         None => {
             let walk = list.ascending();
-            fold_weighted_walk(reduction, numbers, old, walk, None, block, weights)
+            fold_weighted_walk(reduction, numbers, old, walk, None, block)
         }
     }
 }
@@ -275,21 +246,16 @@ fn fold_weighted_walk<W: NeighbourWalk + Drop>(
     old: i64,
     mut sources: W,
     from: Option<&[u64]>,
-    block: &mut [u32],
-    weights: &mut [i64],
+    block: &mut SourceBlock,
 ) -> i64
-    requires block { length block.old ≡ 128 }
-    requires weights { length weights.old ≡ 128 }
-    ensures room { length block.new ≡ 128 }
-    ensures weights { length weights.new ≡ 128 }
-    ensures number { result ≡ reduced_over reduction (entry_with numbers.entry) old (passing (passes_words from.entry) (W.coming sources)) }
+    ensures { result ≡ reduced_over reduction (entry_with numbers.entry) old (passing (passes_words from.entry) (W.coming sources)) }
 {
     let mut number = old;
     'rounds: while sources.len() > 0 {
-        let count = sources.fill_weighted(block, weights);
-        let kept = keep_members_weighted(from, block, weights, count);
-        let lent = &weights[..kept];
-        number = reduce_columns(reduction, numbers, number, &block[..kept], lent);
+        let count = sources.fill_weighted(&mut block.sources, &mut block.weights);
+        let kept = keep_members_weighted(from, &mut block.sources, &mut block.weights, count);
+        let weights = &block.weights[..kept];
+        number = reduce_columns(reduction, numbers, number, &block.sources[..kept], weights);
     }
     number
 }

@@ -1,4 +1,4 @@
-use Rattle.std.proofs.Common.{◌≡◌, ◌++◌, length, drop}
+use Rattle.std.proofs.Common.{◌≡◌, ◌++◌, drop}
 use Rattle.edge_apply.specs.Words.{passes_words}
 use Rattle.pull_engine.specs.Ranges.{changes_at, pulled}
 use Rattle.vectors.specs.Lanes.{lane_entry}
@@ -8,9 +8,5 @@ use Rattle.pull_engine.proofs.ranges.pull_listed.Given as goal
 abbrev pub invariant-destinations : goal.invariant-destinations
 invariant-destinations g l =
     let old = lane_entry l.old in
-    let new = pulled (g.F.SourceFold.reduction l.fold) (g.F.SourceFold.number l.fold) old (passes_words l.from) (l.flat.edges) in
-    record {
-      room : length l.block ≡ 128;
-      weights : length l.weights ≡ 128;
-      told : l.changes.items ++ changes_at old new (drop l.destination-index l.destinations) ≡ l.fn.changes.items ++ changes_at old new l.destinations;
-    }
+    let new = pulled (g.F.SourceFold.reduction l.fold) (g.F.SourceFold.number l.fold) old (passes_words l.range.from) l.range.flat.now.edges in
+    l.changes.items ++ changes_at old new (drop l.destination-index l.destinations) ≡ l.fn.changes.items ++ changes_at old new l.destinations

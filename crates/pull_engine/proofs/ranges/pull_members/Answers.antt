@@ -1,4 +1,4 @@
-use Rattle.std.proofs.Common.{rules, ◌≡◌, ◌-◌, ◌++◌, ℕ, ℤ, Bool, List, [], Option, append_assoc, sym, ap, ◌∙◌, subst, arith}
+use Rattle.std.proofs.Common.{◌≡◌, ◌-◌, ◌++◌, ℕ, ℤ, Bool, List, [], Option, append_assoc, sym, ap, ◌∙◌, subst, arith}
 use Rattle.std.proofs.lemmas.List.{append-nil}
 use Rattle.kernels.specs.Value.{entry}
 use Rattle.kernels.specs.declared.endpoint_filter.EndpointFilter.{EndpointFilter}
@@ -17,11 +17,7 @@ members-init g c =
     let old = lane_entry c.lane-old.result in
     let new = pulled (g.F.SourceFold.reduction a.fold.now) (g.F.SourceFold.number a.fold.now) old (passes_words a.range.from) a.range.flat.now.edges in
     let all = c.into_iter-member-iterator.ensures.into_iter_gives ∙ c.iter-member-items.ensures.members in
-    record {
-      room = search rules;
-      weights = search rules;
-      told = ap (λ cs. cs ++ changes_at old new c.into_iter-member-iterator.result) c.new-changes.ensures.items ∙ ap (λ us. changes_at old new us) all;
-    }
+    ap (λ cs. cs ++ changes_at old new c.into_iter-member-iterator.result) c.new-changes.ensures.items ∙ ap (λ us. changes_at old new us) all
 
 pub members-preserved : goal.members-preserved
 members-preserved g c =
@@ -29,14 +25,10 @@ members-preserved g c =
     let old = lane_entry c.lane-old.result in
     let new = pulled (g.F.SourceFold.reduction a.fold.now) (g.F.SourceFold.number a.fold.now) old (passes_words a.range.from) a.range.flat.now.edges in
     let rest = changes_at old new c.next.new.self in
-    record {
-      room = search rules;
-      weights = search rules;
-      told = ap (λ cs. cs ++ rest) c.in_ok-pull_one.ensures.change
-          ∙ append_assoc c.members.changes.items (change_at old new c.in-Some.member) rest
-          ∙ ap (λ us. c.members.changes.items ++ changes_at old new us) (sym c.in-Some.ensures.steps)
-          ∙ c.members.invariant.told;
-    }
+    ap (λ cs. cs ++ rest) c.in_ok-pull_one.ensures
+    ∙ append_assoc c.members.changes.items (change_at old new c.in-Some.member) rest
+    ∙ ap (λ us. c.members.changes.items ++ changes_at old new us) (sym c.in-Some.ensures.steps)
+    ∙ c.members.invariant
 
 pub returns : goal.returns
 returns g c m test vectors sizes is =
@@ -52,7 +44,7 @@ returns g c m test vectors sizes is =
     let low = whole.low in
     let high = whole.high in
     let count : p.flat.now.vertices ≡ p.high - p.low = omega (arith, low, high) in
-    let told = sym (append-nil c.members.changes.items) ∙ ap (λ us. c.members.changes.items ++ changes_at lane new us) (sym c.in-None.ensures.steps.0) ∙ c.members.invariant.told in
+    let told = sym (append-nil c.members.changes.items) ∙ ap (λ us. c.members.changes.items ++ changes_at lane new us) (sym c.in-None.ensures.steps.0) ∙ c.members.invariant in
     members_told p.flat.now r number lane old (passes_words p.from) test a.set.now.members c.members.changes.items whole.graph (rises a.set.now.vertices a.set.now.members c.iter-member-items.ensures.valid)
     (subst (λ (o : Option EndpointFilter). IsEndTest o m test) whole.to is) (λ v. c.lane-old.ensures v ∙ ap (λ (vs : List (List ℤ)). entry vs a.vector v) vectors) told
     ∙ ap (λ n. changed_from old after 0 n) count

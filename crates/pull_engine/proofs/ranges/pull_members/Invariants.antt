@@ -1,4 +1,4 @@
-use Rattle.std.proofs.Common.{◌≡◌, ◌++◌, length}
+use Rattle.std.proofs.Common.{◌≡◌, ◌++◌}
 use Rattle.edge_apply.specs.Words.{passes_words}
 use Rattle.vectors.specs.Lanes.{lane_entry}
 use Rattle.pull_engine.specs.Ranges.{changes_at, pulled}
@@ -9,8 +9,4 @@ abbrev pub invariant-members : goal.invariant-members
 invariant-members g l =
     let old = lane_entry l.old in
     let new = pulled (g.F.SourceFold.reduction l.fold) (g.F.SourceFold.number l.fold) old (passes_words l.range.from) l.range.flat.now.edges in
-    record {
-      room : length l.block ≡ 128;
-      weights : length l.weights ≡ 128;
-      told : l.changes.items ++ changes_at old new l.member-iterator ≡ changes_at old new l.set.members;
-    }
+    l.changes.items ++ changes_at old new l.member-iterator ≡ changes_at old new l.set.members

@@ -1,4 +1,4 @@
-use Rattle.std.proofs.Common.{rules, ◌≡◌, ◌≤◌, ℕ, ℤ, List, length, refl, sym, ap, ◌∙◌, arith}
+use Rattle.std.proofs.Common.{◌≡◌, ◌≤◌, ℕ, ℤ, List, sym, ap, ◌∙◌, arith}
 use Rattle.kernels.specs.Value.{entry}
 use Rattle.vectors.specs.Lanes.{lane_entry}
 use Rattle.edge_apply.specs.Words.{passes_words}
@@ -10,8 +10,6 @@ use Rattle.pull_engine.proofs.ranges.pull_tested.Goals.{then-passes+in_ok-pull_o
 
 pub vertices-init : goal.vertices-init
 vertices-init g c = record {
-  room = refl;
-  weights = refl;
   begun = omega arith;
   told = λ m test vectors sizes is.
       c.new-changes.ensures.items
@@ -33,20 +31,16 @@ vertices-preserved g c =
     elim c.if-passes.branch [
       | then-passes+in_ok-pull_one w ↦
           (record {
-            room = ap length w.block-is ∙ w.pull_one.ensures.room;
-            weights = ap length w.weights-is ∙ w.pull_one.ensures.weights;
             begun = omega (arith, begun);
             told = λ m test vectors sizes is.
                 passed_more r number lane (entry m.vectors a.vector) from test edges a.range.low v c.vertices.changes.items c.if-passes.changes.items begun
                 (λ u. c.lane-old.ensures u ∙ ap (λ (vs : List (List ℤ)). entry vs a.vector u) vectors)
                 (c.requires.test m test vectors sizes is v ∙ sym c.passes.ensures ∙ w.if-passes.true)
-                (ap (λ x. x.items) w.changes-is ∙ w.in_ok-pull_one.ensures.change)
+                (ap (λ x. x.items) w.changes-is ∙ w.in_ok-pull_one.ensures)
                 (was.told m test vectors sizes is);
           })
       | else-passes w ↦
           (record {
-            room = ap length w.block-is ∙ was.room;
-            weights = ap length w.weights-is ∙ was.weights;
             begun = omega (arith, begun);
             told = λ m test vectors sizes is.
                 ap (λ x. x.items) w.changes-is

@@ -1,4 +1,4 @@
-use Rattle.std.proofs.Common.{◌≡◌, ◌≤◌, ◌-◌, ℕ, Bool, length}
+use Rattle.std.proofs.Common.{◌≡◌, ◌≤◌, ◌-◌, ℕ, Bool}
 use Rattle.kernels.specs.State.{StateValue}
 use Rattle.kernels.specs.Cells.{HasSizes}
 use Rattle.kernels.specs.Value.{entry}
@@ -11,8 +11,6 @@ use Rattle.pull_engine.proofs.ranges.pull_tested.Given as goal
 -- the changes below the next vertex are told
 abbrev pub invariant-vertices : goal.invariant-vertices
 invariant-vertices g l = record {
-  room : length l.block ≡ 128;
-  weights : length l.weights ≡ 128;
   begun : l.range.low ≤ l.vertex;
   told : (m : StateValue) (test : ℕ → Bool) → l.range.context.vectors.now.vectors ≡ m.vectors → HasSizes l.range.context.sizes.now m → IsEndTest l.range.to m test
       → l.changes.items ≡ changed_from (entry m.vectors l.vector)

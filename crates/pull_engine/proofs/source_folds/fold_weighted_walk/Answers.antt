@@ -20,10 +20,6 @@ rounds-preserved g c =
     let rest = g.W.NeighbourWalk.coming filled.new.self in
     let lent = entries_of (take kept.result kept.new.block) (take kept.result kept.new.weights) in
     let same = kept_entries p all filled.new.keys filled.new.weights filled.result lent filled.ensures.keys filled.ensures.weights kept.ensures.kept in
-    record {
-      room = search rules;
-      weights = search rules;
-      folded = entries_of_round p a.reduction number _ (to_z w64 (of_z w64 came)) all rest lent filled.result filled.ensures.rest same
-          (to_z-of_z w64 came fits ∙ c.reduce_columns-number.ensures)
-          ∙ c.rounds.invariant.folded;
-    }
+    entries_of_round p a.reduction number _ (to_z w64 (of_z w64 came)) all rest lent filled.result filled.ensures.rest same
+    (to_z-of_z w64 came fits ∙ c.reduce_columns-number.ensures)
+    ∙ c.rounds.invariant

@@ -6,12 +6,9 @@ use Rattle.pull_engine.proofs.source_folds.fold_weighted_walk.Given as goal
 
 -- the numbers of those that are left, with the number so far, come to the whole
 abbrev pub invariant-rounds : goal.invariant-rounds
-invariant-rounds g l = record {
-  room : length l.block ≡ 128;
-  weights : length l.weights ≡ 128;
-  folded : reduced_over l.reduction (entry_with l.numbers) l.number (passing (passes_words l.from) (g.W.NeighbourWalk.coming l.sources))
-      ≡ reduced_over l.reduction (entry_with l.numbers) l.fn.old (passing (passes_words l.from) (g.W.NeighbourWalk.coming l.fn.sources));
-}
+invariant-rounds g l =
+    reduced_over l.reduction (entry_with l.numbers) l.number (passing (passes_words l.from) (g.W.NeighbourWalk.coming l.sources))
+    ≡ reduced_over l.reduction (entry_with l.numbers) l.fn.old (passing (passes_words l.from) (g.W.NeighbourWalk.coming l.fn.sources))
 
 abbrev pub decreases-rounds : goal.decreases-rounds
 decreases-rounds g l = length (g.W.NeighbourWalk.coming l.sources)

@@ -10,8 +10,8 @@ use Rattle.pull_engine.proofs.Deciding.{ascends_filter, greatest}
 use Rattle.pull_engine.proofs.EntryFolds.{over_passing}
 use Rattle.pull_engine.proofs.source_folds.GreatestSourceSourceFold.fold.Goals as goal
 
-pub returns-in-Some-clause-number : goal.returns-in-Some-clause-number
-returns-in-Some-clause-number c =
+pub returns-in-Some : goal.returns-in-Some
+returns-in-Some c =
     let p = passes_words c.args.from in
     let sources = keys_of c.args.sources in
     let old = c.args.old in
@@ -26,8 +26,8 @@ returns-in-Some-clause-number c =
     ∙ sym decided
     ∙ sym (over_passing Max (λ s. pos s) c.args.old p c.args.sources)
 
-pub returns-in-None-clause-number : goal.returns-in-None-clause-number
-returns-in-None-clause-number c =
+pub returns-in-None : goal.returns-in-None
+returns-in-None c =
     let p = passes_words c.args.from in
     let sources = keys_of c.args.sources in
     let fits : FitsSigned w64 c.args.old = search rules in

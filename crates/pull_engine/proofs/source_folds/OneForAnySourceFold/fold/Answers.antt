@@ -9,8 +9,8 @@ use Rattle.pull_engine.proofs.Deciding.{one_number}
 use Rattle.pull_engine.proofs.EntryFolds.{over_passing}
 use Rattle.pull_engine.proofs.source_folds.OneForAnySourceFold.fold.Goals as goal
 
-pub returns-in-Some-clause-number : goal.returns-in-Some-clause-number
-returns-in-Some-clause-number c =
+pub returns-in-Some : goal.returns-in-Some
+returns-in-Some c =
     let p = passes_words c.args.from in
     let old = c.args.old in
     let f = c.args.self.now in
@@ -24,8 +24,8 @@ returns-in-Some-clause-number c =
     ∙ sym (one_number f.reduction f.once f.number old (filter p (keys_of c.args.sources)))
     ∙ sym (over_passing f.reduction (λ s. f.number) old p c.args.sources)
 
-pub returns-in-None-clause-number : goal.returns-in-None-clause-number
-returns-in-None-clause-number c =
+pub returns-in-None : goal.returns-in-None
+returns-in-None c =
     let p = passes_words c.args.from in
     let old = c.args.old in
     let f = c.args.self.now in
