@@ -31,6 +31,16 @@ const NO_PROGRAM: u16 = 412;
 /// The refusal of a number of workers that is not 1 to 64.
 const BAD_WORKERS: u16 = 411;
 
+/// A run that a line asks for: of the program at a place, within a bound of turns, by so many workers, on the version that
+/// a ticket holds, or on the newest.
+#[derive(Clone, Copy)]
+struct RunOrder {
+    place: usize,
+    turns: u64,
+    workers: u64,
+    ticket: Option<u64>,
+}
+
 /// The versions of a graph with the flats of kept ones that were run on, the entries that the next
 /// commit takes, and whether some run on it has ended by a fault.
 pub(crate) struct OpenGraph {
@@ -133,7 +143,15 @@ impl OpenGraph {
                 ticket,
             } => match place_of(host.programs, program) {
                 None => replies.send_line(LineReply::Refused(NO_PROGRAM)),
-                Some(place) => self.run(host, place, turns, workers, ticket, replies),
+                Some(place) => {
+                    let order = RunOrder {
+                        place,
+                        turns,
+                        workers,
+                        ticket,
+                    };
+                    self.run(host, order, replies)
+                }
             },
         }
     }
@@ -209,46 +227,45 @@ impl OpenGraph {
         }
     }
 
-    /// Runs the program at a place on the newest version, or on the one that a ticket holds, and writes what
-    /// the run shows: no reply is kept after it.
+    /// Runs a program as is ordered, and writes what the run shows: no reply is kept after it.
     fn run<P: Programs, W: Drain>(
         &mut self,
         host: &Host<'_, P>,
-        place: usize,
-        turns: u64,
-        workers: u64,
-        ticket: Option<u64>,
+        order: RunOrder,
         replies: &mut ReplyWriter<'_, W>,
     ) -> Result<(), SendError>
         requires ready { P.are_ready host.now.programs.now }
-        requires place { place < length (P.trees host.now.programs.now) }
-        ensures emits { Emits replies.old replies.new (running self.old turns workers
-            (slice_get (P.trees host.now.programs.now) place) (graph_of self.old.versions ticket)).text result }
-        ensures state { OnOk result (self.new ≡ (running self.old turns workers
-            (slice_get (P.trees host.now.programs.now) place) (graph_of self.old.versions ticket)).state) }
+        requires place { order.place < length (P.trees host.now.programs.now) }
+        ensures emits { Emits replies.old replies.new (running self.old order.turns order.workers
+            (slice_get (P.trees host.now.programs.now) order.place) (graph_of self.old.versions order.ticket)).text result }
+        ensures state { OnOk result (self.new ≡ (running self.old order.turns order.workers
+            (slice_get (P.trees host.now.programs.now) order.place) (graph_of self.old.versions order.ticket)).state) }
         ensures written { OnOk result (replies.new.kept ≡ []) }
     {
-        self.send_run(host, place, turns, workers, ticket, replies)?;
+        self.send_run(host, order, replies)?;
         replies.flush()
     }
 
-    /// Runs the program at a place, and sends what the run shows.
+    /// Runs a program as is ordered, and sends what the run shows.
     fn send_run<P: Programs, W: Drain>(
         &mut self,
         host: &Host<'_, P>,
-        place: usize,
-        turns: u64,
-        workers: u64,
-        ticket: Option<u64>,
+        order: RunOrder,
         replies: &mut ReplyWriter<'_, W>,
     ) -> Result<(), SendError>
         requires ready { P.are_ready host.now.programs.now }
-        requires place { place < length (P.trees host.now.programs.now) }
-        ensures emits { Emits replies.old replies.new (running self.old turns workers
-            (slice_get (P.trees host.now.programs.now) place) (graph_of self.old.versions ticket)).text result }
-        ensures state { OnOk result (self.new ≡ (running self.old turns workers
-            (slice_get (P.trees host.now.programs.now) place) (graph_of self.old.versions ticket)).state) }
+        requires place { order.place < length (P.trees host.now.programs.now) }
+        ensures emits { Emits replies.old replies.new (running self.old order.turns order.workers
+            (slice_get (P.trees host.now.programs.now) order.place) (graph_of self.old.versions order.ticket)).text result }
+        ensures state { OnOk result (self.new ≡ (running self.old order.turns order.workers
+            (slice_get (P.trees host.now.programs.now) order.place) (graph_of self.old.versions order.ticket)).state) }
     {
+        let RunOrder {
+            place,
+            turns,
+            workers,
+            ticket,
+        } = order;
         let Some((version, graph)) = version_of(&self.versions, ticket) else {
             return replies.send_line(LineReply::Refused(VersionError::NotHeld.number()));
         };
