@@ -26,7 +26,7 @@ use Rattle.shared_graph.specs.contracts.book.Law as law
 use Rattle.shared_graph.specs.contracts.book.LawRuleEntryU64.TheImpl as law_rule
 use Rattle.shared_graph.proofs.book.Book.TheSendSync as book_the
 use Rattle.shared_graph.specs.contracts.locked_state.LockedState as locked_state
-use Rattle.shared_graph.specs.contracts.locked_state.LockedState.TheInside as desk_inside
+use Rattle.shared_graph.specs.contracts.locked_state.LockedState.TheInside as locked_state_inside
 use Rattle.shared_graph.specs.contracts.published_log.PublishedLog as published_log
 use Rattle.shared_graph.specs.contracts.published_log.PublishedLog.TheInside as published_log_inside
 use Rattle.shared_graph.specs.contracts.publisher.Publisher as publisher
@@ -111,7 +111,7 @@ module _ (J R : RattleType) (g : naming.Ghosts J.Denot) (r : IsSend R) where
       (small_send, (number_send, (book_the.the_send J g, (history_prefix_send J g, (Vec-send u64 number_send, (publisher_send R r, tt)))))))
 
   locked_state_send : IsSend (locked_state.the_row J R g)
-  locked_state_send = view_send _ _ _ _ _ (declared_send (desk_inside.the_type J R g) (versions_send, (published_log_send, tt)))
+  locked_state_send = view_send _ _ _ _ _ (declared_send (locked_state_inside.the_type J R g) (versions_send, (published_log_send, tt)))
 
   pub graph_shared : IsSync (shared.the_row J R g)
   graph_shared =

@@ -69,9 +69,9 @@ impl<R: Wait + Drop> Model for Publisher<R> {
 
     ghost Value = { Published };
 
-    ghost view = { λ p. p.writer.locked_state.shown.value };
+    ghost view = { λ p. p.writer.desk.shown.value };
 
-    ghost invariant = { λ p. view_of p.writer.locked_state.place ≡ Some p.writer.locked_state.shown.value };
+    ghost invariant = { λ p. view_of p.writer.desk.place ≡ Some p.writer.desk.shown.value };
 }
 
 impl<R: Wait + Drop> Drop for Publisher<R> {
@@ -135,8 +135,8 @@ impl<R: Wait + Drop> Publisher<R> {
 
 // Appends a value as the last one that is pending, which is retried where there is no memory.
 fn append<R: Wait>(writer: &mut ShownWriter, rt: &R, next: Shown)
-    ensures locked_state { writer.new.locked_state ≡ writer.old.locked_state }
-    ensures last { fold latest writer.new.locked_state.shown.value (drop writer.new.behind writer.new.log.items) ≡ next }
+    ensures desk { writer.new.desk ≡ writer.old.desk }
+    ensures last { fold latest writer.new.desk.shown.value (drop writer.new.behind writer.new.log.items) ≡ next }
 {
     let mut next = next;
     for _ in rt.forever() {
@@ -150,11 +150,11 @@ fn append<R: Wait>(writer: &mut ShownWriter, rt: &R, next: Shown)
 
 // Publishes what is pending, which is retried where it could not be shared once more.
 fn publish<R: Wait>(writer: &mut ShownWriter, rt: &R)
-    requires { GoesOn writer.old.locked_state.shown.value
-        (fold latest writer.old.locked_state.shown.value (drop writer.old.behind writer.old.log.items)) }
-    ensures value { writer.new.locked_state.shown.value
-        ≡ fold latest writer.old.locked_state.shown.value (drop writer.old.behind writer.old.log.items) }
-    ensures seen { view_of writer.new.locked_state.place ≡ Some writer.new.locked_state.shown.value }
+    requires { GoesOn writer.old.desk.shown.value
+        (fold latest writer.old.desk.shown.value (drop writer.old.behind writer.old.log.items)) }
+    ensures value { writer.new.desk.shown.value
+        ≡ fold latest writer.old.desk.shown.value (drop writer.old.behind writer.old.log.items) }
+    ensures seen { view_of writer.new.desk.place ≡ Some writer.new.desk.shown.value }
 {
     for _ in rt.forever() {
         if publish_once(writer, rt) {
@@ -166,24 +166,24 @@ fn publish<R: Wait>(writer: &mut ShownWriter, rt: &R)
 
 // Publishes what is pending, and says whether it did.
 fn publish_once<R: Wait>(writer: &mut ShownWriter, rt: &R) -> bool
-    requires { GoesOn writer.old.locked_state.shown.value
-        (fold latest writer.old.locked_state.shown.value (drop writer.old.behind writer.old.log.items)) }
+    requires { GoesOn writer.old.desk.shown.value
+        (fold latest writer.old.desk.shown.value (drop writer.old.behind writer.old.log.items)) }
     ensures { MatchBool result
-        ((writer.new.locked_state.shown.value ≡ fold latest writer.old.locked_state.shown.value (drop writer.old.behind writer.old.log.items))
-        × (view_of writer.new.locked_state.place ≡ Some writer.new.locked_state.shown.value))
-        ((writer.new.locked_state.shown.value ≡ writer.old.locked_state.shown.value)
+        ((writer.new.desk.shown.value ≡ fold latest writer.old.desk.shown.value (drop writer.old.behind writer.old.log.items))
+        × (view_of writer.new.desk.place ≡ Some writer.new.desk.shown.value))
+        ((writer.new.desk.shown.value ≡ writer.old.desk.shown.value)
         × (drop writer.new.behind writer.new.log.items ≡ drop writer.old.behind writer.old.log.items)) }
 {
     replace_with(
         writer,
         rt,
         |writer: ShownWriter, rt: &R| -> (ShownWriter, Result<(), AllocError>)
-            requires { GoesOn writer.locked_state.shown.value
-                (fold latest writer.locked_state.shown.value (drop writer.behind writer.log.items)) }
+            requires { GoesOn writer.desk.shown.value
+                (fold latest writer.desk.shown.value (drop writer.behind writer.log.items)) }
             ensures { MatchResult result.1
-                (λ _. (result.0.locked_state.shown.value ≡ fold latest writer.locked_state.shown.value (drop writer.behind writer.log.items))
-                × (view_of result.0.locked_state.place ≡ Some result.0.locked_state.shown.value))
-                (λ _. (result.0.locked_state.shown.value ≡ writer.locked_state.shown.value)
+                (λ _. (result.0.desk.shown.value ≡ fold latest writer.desk.shown.value (drop writer.behind writer.log.items))
+                × (view_of result.0.desk.place ≡ Some result.0.desk.shown.value))
+                (λ _. (result.0.desk.shown.value ≡ writer.desk.shown.value)
                 × (drop result.0.behind result.0.log.items ≡ drop writer.behind writer.log.items)) }
         { writer.publish_as::<Seeing, R>(rt) },
     )

@@ -7,4 +7,4 @@ pub returns-in-Ok-clause-last : goal.returns-in-Ok-clause-last
 returns-in-Ok-clause-last g c =
     let w = c.append.new.self in
     let before = drop c.loop.writer.behind c.loop.writer.log.items in
-    ap (fold latest w.locked_state.shown.value) c.in-Ok.ensures.pending ∙ last_pending w.locked_state.shown.value c.loop.next before ∙ c.loop.invariant.value
+    ap (fold latest w.desk.shown.value) c.in-Ok.ensures.pending ∙ last_pending w.desk.shown.value c.loop.next before ∙ c.loop.invariant.value

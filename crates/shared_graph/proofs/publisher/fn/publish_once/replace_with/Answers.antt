@@ -7,4 +7,4 @@ use Rattle.shared_graph.proofs.publisher.fn.publish_once.replace_with.Goals as g
 pub publish_as-requires : goal.publish_as-requires
 publish_as-requires g c =
     let w = c.args.writer in
-    λ next is. publishes w.locked_state.place.id (view_of w.locked_state.place) w.locked_state.shown.value next (subst (GoesOn w.locked_state.shown.value) (sym is) c.requires)
+    λ next is. publishes w.desk.place.id (view_of w.desk.place) w.desk.shown.value next (subst (GoesOn w.desk.shown.value) (sym is) c.requires)
