@@ -22,7 +22,7 @@ is_member v members = list_any (λ m. m == v) members
 -- whether an end of an edge lets a vertex through, over the vectors before the apply; one that is not given lets all through
 abbrev pub passes : List FunctionTree → StateValue → Option VertexFilter → ℕ → Bool
 passes filters s None v = true
-passes filters s (Some (end.Members slot)) v = is_member v (members_of (slice_get s.sets slot.place))
+passes filters s (Some (end.Members slot)) v = is_member v (members_of (slice_get s.sets slot.index))
 passes filters s (Some (end.Function function)) v = lets_through filters function s.sets s.vectors v
 
 -- the same of a vertex of the graph
@@ -53,10 +53,10 @@ after_edges functions sets before [] vectors = vectors
 after_edges functions sets before (edge ∷ edges) vectors =
     after_edges functions sets before edges (with_given edge.1 (all_give functions sets before edge) vectors)
 
--- the vectors after the functions at these places were applied to the edges between the ends
+-- the vectors after the functions at these indices were applied to the edges between the ends
 abbrev pub after_edge_apply : (filters functions : List FunctionTree) → GraphValue → ApplyEnds → List ℕ → StateValue → List (List ℤ)
-after_edge_apply filters functions g ends places s =
-    after_edges (map (λ place. steps_of (slice_get functions place)) places) s.sets s.vectors (matching filters g s ends) s.vectors
+after_edge_apply filters functions g ends indices s =
+    after_edges (map (λ index. steps_of (slice_get functions index)) indices) s.sets s.vectors (matching filters g s ends) s.vectors
 
 -- the entry of a vector at a vertex differs
 abbrev pub is_modified : (vector : ℕ) → (before after : List (List ℤ)) → ℕ → Bool

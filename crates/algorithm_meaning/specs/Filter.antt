@@ -11,7 +11,7 @@ use Rattle.algorithm_meaning.specs.Function.{first_work, after_steps, steps_of}
 abbrev pub result_of : StepsTree → List SetBinding → List (List ℤ) → ℕ → Bool
 result_of steps sets vectors v = slice_index_or (after_steps Collected sets steps (first_work vectors (filter_scope v))).scope.conditions 0 false
 
--- whether the filter at a place lets a vertex through
+-- whether the filter at an index lets a vertex through
 abbrev pub lets_through : List FunctionTree → (function : ℕ) → List SetBinding → List (List ℤ) → ℕ → Bool
 lets_through filters function sets vectors v = result_of (steps_of (slice_get filters function)) sets vectors v
 

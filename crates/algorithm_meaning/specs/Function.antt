@@ -40,10 +40,10 @@ abbrev mutual
   pub after_step : Writing → List SetBinding → StepTree → WorkValue → WorkValue
   after_step writing sets (DeclareInteger name e) w = record w { scope = new_integer w.scope (value w.vectors sets w.scope e) }
   after_step writing sets (DeclareCondition name c) w = record w { scope = new_condition w.scope (truth w.vectors sets w.scope c) }
-  after_step writing sets (SetInteger slot e) w = record w { scope = set_integer w.scope slot.place (value w.vectors sets w.scope e) }
-  after_step writing sets (SetCondition slot c) w = record w { scope = set_condition w.scope slot.place (truth w.vectors sets w.scope c) }
+  after_step writing sets (SetInteger slot e) w = record w { scope = set_integer w.scope slot.index (value w.vectors sets w.scope e) }
+  after_step writing sets (SetCondition slot c) w = record w { scope = set_condition w.scope slot.index (truth w.vectors sets w.scope c) }
   after_step writing sets (ReduceInteger slot reduction e) w =
-      record w { scope = reduce_integer w.scope slot.place reduction (value w.vectors sets w.scope e) }
+      record w { scope = reduce_integer w.scope slot.index reduction (value w.vectors sets w.scope e) }
   after_step writing sets (SetEntry vector e) w = after_set writing vector (value w.vectors sets w.scope e) w
   after_step writing sets (ReduceEntry vector reduction e) w = after_reduce writing vector reduction (value w.vectors sets w.scope e) w
   after_step writing sets (If c body) w =

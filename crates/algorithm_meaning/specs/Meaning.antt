@@ -22,17 +22,17 @@ abbrev mutual
   pub after : ProgramTree → GraphValue → ℕ → ActionTree → StateValue → Stand
   after p g number (DeclareInteger name e) s = after_declare_integer g.vertices number e s
   after p g number (DeclareCondition name c) s = after_declare_condition g.vertices number c s
-  after p g number (SetInteger slot e) s = after_set_integer g.vertices number slot.place e s
-  after p g number (SetCondition slot c) s = after_set_condition g.vertices number slot.place c s
-  after p g number (ReduceInteger slot reduction e) s = after_reduce_integer g.vertices number slot.place reduction e s
-  after p g number (SetEntry vector index e) s = after_set_entry g.vertices number vector index e s
-  after p g number (ReduceEntry vector index reduction e) s = after_reduce_entry g.vertices number vector index reduction e s
+  after p g number (SetInteger slot e) s = after_set_integer g.vertices number slot.index e s
+  after p g number (SetCondition slot c) s = after_set_condition g.vertices number slot.index c s
+  after p g number (ReduceInteger slot reduction e) s = after_reduce_integer g.vertices number slot.index reduction e s
+  after p g number (SetEntry vector subscript e) s = after_set_entry g.vertices number vector subscript e s
+  after p g number (ReduceEntry vector subscript reduction e) s = after_reduce_entry g.vertices number vector subscript reduction e s
   after p g number (DeclareSet name set) s = Live (after_declare_set p g name set s)
-  after p g number (AssignSet slot set) s = Live (after_assign_set p g slot.place set s)
-  after p g number (AddVertex slot e) s = after_add_vertex g.vertices number slot.place e s
+  after p g number (AssignSet slot set) s = Live (after_assign_set p g slot.index set s)
+  after p g number (AddVertex slot e) s = after_add_vertex g.vertices number slot.index e s
   after p g number (PrintInteger e) s = after_print_integer g.vertices number e s
   after p g number (PrintCondition c) s = after_print_condition g.vertices number c s
-  after p g number (ApplyVertex set function) s = Live (after_apply_vertex p.vertex_functions set.place function s)
+  after p g number (ApplyVertex set function) s = Live (after_apply_vertex p.vertex_functions set.index function s)
   after p g number (ApplyEdges ends function) s =
       Live (with_vectors s (after_edge_apply p.filters p.edge_functions g ends (function ∷ []) s))
   after p g number (If c body) s =

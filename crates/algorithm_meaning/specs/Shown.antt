@@ -12,9 +12,9 @@ use Rattle.algorithm_meaning.specs.State.{GraphValue, StateValue}
 use Rattle.algorithm_meaning.specs.Stand.{Stand, Live, Over}
 use Rattle.algorithm_meaning.specs.Meaning.{after_all, opening}
 
--- the name at a place
+-- the name at an index
 abbrev pub name_at : List (List ℕ) → ℕ → List ℕ
-name_at names place = slice_index_or names place []
+name_at names index = slice_index_or names index []
 
 -- each vector's name and entries, in declared order
 abbrev pub named_vectors : List (List ℕ) → List Vector → List (List ℤ) → List NamedVector

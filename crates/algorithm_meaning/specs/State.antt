@@ -8,7 +8,7 @@ pub record GraphValue : Type 0 where
   pub vertices : ℕ
   pub edges : List Edge
 
--- the variables that are visible, by their places, and the vertices and the weight that a function works on
+-- the variables that are visible, by their indices, and the vertices and the weight that a function works on
 pub record ScopeValue : Type 0 where
   pub integers : List ℤ
   pub conditions : List Bool
@@ -16,7 +16,7 @@ pub record ScopeValue : Type 0 where
   pub destination : ℕ
   pub weight : ℤ
 
--- vectors and vertex sets by their places, a vector with an entry for each vertex; what was printed; how many turns are left
+-- vectors and vertex sets by their indices, a vector with an entry for each vertex; what was printed; how many turns are left
 pub record StateValue : Type 0 where
   pub vectors : List (List ℤ)
   pub sets : List SetBinding

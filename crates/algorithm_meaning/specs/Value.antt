@@ -48,12 +48,12 @@ is_vertex vertices (negsuc n) = false
 abbrev pub value : List (List ℤ) → List SetBinding → ScopeValue → IntegerTree → ℤ
 value vectors sets scope (integer.Number n) = n
 value vectors sets scope (integer.Constant name n) = n
-value vectors sets scope (integer.Variable slot) = slice_index_or scope.integers slot.place (pos 0)
+value vectors sets scope (integer.Variable slot) = slice_index_or scope.integers slot.index (pos 0)
 value vectors sets scope (integer.Parameter at) = pos (vertex_at scope at)
 value vectors sets scope integer.Weight = scope.weight
 value vectors sets scope (integer.EntryAt vector at) = entry vectors vector (vertex_at scope at)
 value vectors sets scope (integer.Entry vector index) = entry_at vectors vector (value vectors sets scope index)
-value vectors sets scope (integer.SetSize slot) = cast_signed w64 (length (members_of (slice_get sets slot.place)))
+value vectors sets scope (integer.SetSize slot) = cast_signed w64 (length (members_of (slice_get sets slot.index)))
 value vectors sets scope (integer.Negative e) = negative (value vectors sets scope e)
 value vectors sets scope (integer.Arithmetic o a b) = arithmetic o (value vectors sets scope a) (value vectors sets scope b)
 
@@ -61,7 +61,7 @@ value vectors sets scope (integer.Arithmetic o a b) = arithmetic o (value vector
 abbrev pub truth : List (List ℤ) → List SetBinding → ScopeValue → ConditionTree → Bool
 truth vectors sets scope (condition.Literal b) = b
 truth vectors sets scope (condition.Constant name b) = b
-truth vectors sets scope (condition.Variable slot) = slice_index_or scope.conditions slot.place false
+truth vectors sets scope (condition.Variable slot) = slice_index_or scope.conditions slot.index false
 truth vectors sets scope (condition.Not c) = not (truth vectors sets scope c)
 truth vectors sets scope (condition.Compare o a b) = compared o (value vectors sets scope a) (value vectors sets scope b)
 truth vectors sets scope (condition.Connect o a b) = connected o (truth vectors sets scope a) (truth vectors sets scope b)

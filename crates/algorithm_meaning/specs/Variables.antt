@@ -16,14 +16,14 @@ new_condition scope b = record scope { conditions = scope.conditions ++ b ∷ []
 
 -- the visible variables with another value of one
 abbrev pub set_integer : ScopeValue → ℕ → ℤ → ScopeValue
-set_integer scope place n = record scope { integers = slice_set scope.integers place n }
+set_integer scope index n = record scope { integers = slice_set scope.integers index n }
 
 abbrev pub set_condition : ScopeValue → ℕ → Bool → ScopeValue
-set_condition scope place b = record scope { conditions = slice_set scope.conditions place b }
+set_condition scope index b = record scope { conditions = slice_set scope.conditions index b }
 
--- the variable at a place reduced with a number
+-- the variable at an index reduced with a number
 abbrev pub reduce_integer : ScopeValue → ℕ → Reduction → ℤ → ScopeValue
-reduce_integer scope place reduction n = set_integer scope place (reduced reduction (slice_index_or scope.integers place (pos 0)) n)
+reduce_integer scope index reduction n = set_integer scope index (reduced reduction (slice_index_or scope.integers index (pos 0)) n)
 
 -- the variables of the second that were visible in the first already
 abbrev pub forget_new : ScopeValue → ScopeValue → ScopeValue
@@ -45,14 +45,14 @@ abbrev pub after_declare_condition : (vertices number : ℕ) → ConditionTree �
 after_declare_condition vertices number c s =
     with_value (choice_in vertices c s) number s (λ b. Live (with_scope s (new_condition s.scope b)))
 
-abbrev pub after_set_integer : (vertices number place : ℕ) → IntegerTree → StateValue → Stand
-after_set_integer vertices number place e s =
-    with_value (number_in vertices e s) number s (λ n. Live (with_scope s (set_integer s.scope place n)))
+abbrev pub after_set_integer : (vertices number index : ℕ) → IntegerTree → StateValue → Stand
+after_set_integer vertices number index e s =
+    with_value (number_in vertices e s) number s (λ n. Live (with_scope s (set_integer s.scope index n)))
 
-abbrev pub after_set_condition : (vertices number place : ℕ) → ConditionTree → StateValue → Stand
-after_set_condition vertices number place c s =
-    with_value (choice_in vertices c s) number s (λ b. Live (with_scope s (set_condition s.scope place b)))
+abbrev pub after_set_condition : (vertices number index : ℕ) → ConditionTree → StateValue → Stand
+after_set_condition vertices number index c s =
+    with_value (choice_in vertices c s) number s (λ b. Live (with_scope s (set_condition s.scope index b)))
 
-abbrev pub after_reduce_integer : (vertices number place : ℕ) → Reduction → IntegerTree → StateValue → Stand
-after_reduce_integer vertices number place reduction e s =
-    with_value (number_in vertices e s) number s (λ n. Live (with_scope s (reduce_integer s.scope place reduction n)))
+abbrev pub after_reduce_integer : (vertices number index : ℕ) → Reduction → IntegerTree → StateValue → Stand
+after_reduce_integer vertices number index reduction e s =
+    with_value (number_in vertices e s) number s (λ n. Live (with_scope s (reduce_integer s.scope index reduction n)))

@@ -29,29 +29,29 @@ vectors_after p g (set.Modified ends function vector) s = after_edge_apply p.fil
 abbrev pub members_for : ProgramTree → GraphValue → SetValue → StateValue → List ℕ
 members_for p g set.Empty s = []
 members_for p g set.All s = all_below g.vertices
-members_for p g (set.Copy slot) s = members_of (slice_get s.sets slot.place)
-members_for p g (set.Filter slot function) s = filtered p.filters function s.sets s.vectors (members_of (slice_get s.sets slot.place))
+members_for p g (set.Copy slot) s = members_of (slice_get s.sets slot.index)
+members_for p g (set.Filter slot function) s = filtered p.filters function s.sets s.vectors (members_of (slice_get s.sets slot.index))
 members_for p g (set.Modified ends function vector) s =
     modified g.vertices vector s.vectors (after_edge_apply p.filters p.edge_functions g ends (function ∷ []) s)
 
 abbrev pub with_new_set : StateValue → ℕ → List ℕ → StateValue
 with_new_set s name members = record s { sets = s.sets ++ record { name = name; members = members } ∷ [] }
 
--- the set at a place with other members
+-- the set at an index with other members
 abbrev pub set_members : List SetBinding → ℕ → List ℕ → List SetBinding
-set_members [] place members = []
+set_members [] index members = []
 set_members (set ∷ sets) zero members = record { name = set.name; members = members } ∷ sets
-set_members (set ∷ sets) (suc place) members = set ∷ set_members sets place members
+set_members (set ∷ sets) (suc index) members = set ∷ set_members sets index members
 
 abbrev pub with_members : StateValue → ℕ → List ℕ → StateValue
-with_members s place members = record s { sets = set_members s.sets place members }
+with_members s index members = record s { sets = set_members s.sets index members }
 
 -- a new set variable, and one that is assigned
 abbrev pub after_declare_set : ProgramTree → GraphValue → (name : ℕ) → SetValue → StateValue → StateValue
 after_declare_set p g name set s = with_new_set (with_vectors s (vectors_after p g set s)) name (members_for p g set s)
 
-abbrev pub after_assign_set : ProgramTree → GraphValue → (place : ℕ) → SetValue → StateValue → StateValue
-after_assign_set p g place set s = with_members (with_vectors s (vectors_after p g set s)) place (members_for p g set s)
+abbrev pub after_assign_set : ProgramTree → GraphValue → (index : ℕ) → SetValue → StateValue → StateValue
+after_assign_set p g index set s = with_members (with_vectors s (vectors_after p g set s)) index (members_for p g set s)
 
 -- an ascending list with one more number, once
 abbrev pub inserted : ℕ → List ℕ → List ℕ
@@ -59,6 +59,6 @@ inserted v [] = v ∷ []
 inserted v (x ∷ xs) = if nat_lt v x then v ∷ x ∷ xs else (if v == x then x ∷ xs else x ∷ inserted v xs)
 
 -- a set gets a vertex, which must be one
-abbrev pub after_add_vertex : (vertices number place : ℕ) → IntegerTree → StateValue → Stand
-after_add_vertex vertices number place e s =
-    with_value (vertex_in vertices e s) number s (λ v. Live (with_members s place (inserted v (members_of (slice_get s.sets place)))))
+abbrev pub after_add_vertex : (vertices number index : ℕ) → IntegerTree → StateValue → Stand
+after_add_vertex vertices number index e s =
+    with_value (vertex_in vertices e s) number s (λ v. Live (with_members s index (inserted v (members_of (slice_get s.sets index)))))

@@ -13,7 +13,7 @@ pub enum Writing {
 /// What an edge function gives the entry of a vector at the destination.
 #[derive(Clone, Copy, Debug)]
 pub struct Contribution {
-    /// The place of the vector.
+    /// The index of the vector.
     pub vector: usize,
     pub reduction: Reduction,
     pub number: i64,

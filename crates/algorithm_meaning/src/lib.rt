@@ -5,7 +5,7 @@
 //! `main` has one (`Stand`), variables (`Variables`), entries of vectors (`Entries`), statements of
 //! functions (`Function`), applies (`VertexApply`, `EdgeApply`), filters (`Filter`), vertex sets
 //! (`VertexSets`), `print` (`Print`), loops with their turns (`Loop`), statements of `main` in order
-//! (`Meaning`), and what a run shows in the end (`Shown`). They are total on all trees: a place outside a
+//! (`Meaning`), and what a run shows in the end (`Shown`). They are total on all trees: an index outside a
 //! list reads as 0, as false or as the empty list, and a write there changes nothing. So no run needs
 //! a premise on types.
 //!

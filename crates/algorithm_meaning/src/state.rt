@@ -1,7 +1,7 @@
 //! State of `main`: what a run keeps, as data that the definitions speak of.
 use typed_tree::Sequence;
 
-/// A vertex set of `main`: the place of its name in the program's names, and its members, ascending.
+/// A vertex set of `main`: the index of its name in the program's names, and its members, ascending.
 #[derive(Drop)]
 pub struct SetBinding {
     pub name: usize,

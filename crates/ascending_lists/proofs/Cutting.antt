@@ -165,7 +165,7 @@ module _ (j k : ℕ) (r : List ℕ) where
       let ne : x ≢ j = omega (arith, before_it k r (x + 1) l s.2) in
       rw (ne_eqb x j ne) (has_after (x + 1) l s.2 lt)
 
--- elements that ascend stand in the order of their places
+-- elements that ascend stand in the order of their indices
 above_low : (low : ℕ) (xs : List ℕ) → AscendsFrom low xs → (i : ℕ) → i < length xs → low ≤ get_or xs i 0
 above_low low [] s i lt = absurd (omega arith)
 above_low low (x ∷ xs) s zero lt = s.0
@@ -178,19 +178,19 @@ rises low (x ∷ xs) s zero (suc j) le lt = omega (arith, above_low (x + 1) xs s
 rises low (x ∷ xs) s (suc i) zero le lt = absurd (omega arith)
 rises low (x ∷ xs) s (suc i) (suc j) le lt = rises (x + 1) xs s.2 i j (omega arith) (omega arith)
 
--- what a list has on either side of a number that stands at a place, or that would
-pub cut_found : (k place : ℕ) (xs : List ℕ) → AscendsFrom 0 xs → place < length xs → get_or xs place 0 ≡ k → Cuts k xs (take place xs) true (drop (place + 1) xs)
-cut_found k place xs s within is =
-    let whole : xs ≡ take place xs ++ k ∷ drop (place + 1) xs =
-    sym (take-append-drop place xs) ∙ ap (λ v. take place xs ++ v) (drop_more xs place 0 within ∙ ap (λ v. v ∷ drop (place + 1) xs) is) in
-    let up : AscendsFrom 0 (take place xs ++ k ∷ drop (place + 1) xs) = rw (← whole) s in
+-- what a list has on either side of a number that stands at an index, or that would
+pub cut_found : (k index : ℕ) (xs : List ℕ) → AscendsFrom 0 xs → index < length xs → get_or xs index 0 ≡ k → Cuts k xs (take index xs) true (drop (index + 1) xs)
+cut_found k index xs s within is =
+    let whole : xs ≡ take index xs ++ k ∷ drop (index + 1) xs =
+    sym (take-append-drop index xs) ∙ ap (λ v. take index xs ++ v) (drop_more xs index 0 within ∙ ap (λ v. v ∷ drop (index + 1) xs) is) in
+    let up : AscendsFrom 0 (take index xs ++ k ∷ drop (index + 1) xs) = rw (← whole) s in
     record {
-      front = sym (ap (below k) whole ∙ below_it k (drop (place + 1) xs) 0 (take place xs) up);
-      there = sym (ap (has k) whole ∙ has_it k (drop (place + 1) xs) (take place xs));
-      back = sym (ap (above k) whole ∙ above_it k (drop (place + 1) xs) 0 (take place xs) up);
+      front = sym (ap (below k) whole ∙ below_it k (drop (index + 1) xs) 0 (take index xs) up);
+      there = sym (ap (has k) whole ∙ has_it k (drop (index + 1) xs) (take index xs));
+      back = sym (ap (above k) whole ∙ above_it k (drop (index + 1) xs) 0 (take index xs) up);
     }
 
-pub cut_missed : (k low place : ℕ) (xs : List ℕ) → AscendsFrom low xs → place ≤ length xs → ((i : ℕ) → i < place → get_or xs i 0 < k) → ((i : ℕ) → place ≤ i → i < length xs → k < get_or xs i 0) → Cuts k xs (take place xs) false (drop place xs)
+pub cut_missed : (k low index : ℕ) (xs : List ℕ) → AscendsFrom low xs → index ≤ length xs → ((i : ℕ) → i < index → get_or xs i 0 < k) → ((i : ℕ) → index ≤ i → i < length xs → k < get_or xs i 0) → Cuts k xs (take index xs) false (drop index xs)
 cut_missed k low zero [] s le under over = record { front = refl; there = refl; back = refl }
 cut_missed k low zero (x ∷ xs) s le under over =
     let lt : k < x = over 0 (omega arith) (omega arith) in
@@ -200,10 +200,10 @@ cut_missed k low zero (x ∷ xs) s le under over =
       there = sym (has_none k (k + 1) (x ∷ xs) (omega arith) up);
       back = sym (above_all k (k + 1) (x ∷ xs) (omega arith) up);
     }
-cut_missed k low (suc place) [] s le under over = absurd (omega arith)
-cut_missed k low (suc place) (x ∷ xs) s le under over =
+cut_missed k low (suc index) [] s le under over = absurd (omega arith)
+cut_missed k low (suc index) (x ∷ xs) s le under over =
     let lt : x < k = under 0 (omega arith) in
-    let rest = cut_missed k (x + 1) place xs s.2 (omega arith) (λ i small. under (suc i) (omega arith)) (λ i from small. over (suc i) (omega arith) (omega arith)) in
+    let rest = cut_missed k (x + 1) index xs s.2 (omega arith) (λ i small. under (suc i) (omega arith)) (λ i from small. over (suc i) (omega arith) (omega arith)) in
     record {
       front = rw (lt-ltb x k lt) (ap (λ v. x ∷ v) rest.front);
       there = rw (ne_eqb x k (omega (arith, lt))) rest.there;

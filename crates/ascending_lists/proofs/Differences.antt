@@ -1,4 +1,4 @@
--- Differences of ascending lists, by the places where they are cut.
+-- Differences of ascending lists, by the indices where they are cut.
 use Rattle.std.proofs.Common.{◌≡◌, ◌≢◌, ℕ, ◌+◌, ◌<◌, ◌≤◌, Bool, if◌then◌else◌, inl, inr, List, [], ◌∷◌, ◌++◌, refl, sym, ◌∙◌, ap, arith}
 use Rattle.std.proofs.lemmas.Bool.{cases_lt, cases_eq, cases_order, cases_Bool, lt-ltb, le-ltb, eq-eqb, ne_eqb}
 use Rattle.ascending_lists.specs.Ascending.{AscendsFrom}

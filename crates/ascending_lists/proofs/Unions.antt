@@ -1,4 +1,4 @@
--- Unions of ascending lists, by the places where they are cut.
+-- Unions of ascending lists, by the indices where they are cut.
 use Rattle.std.proofs.Common.{◌≡◌, ℕ, ◌+◌, ◌<◌, ◌≤◌, inl, inr, List, [], ◌∷◌, ◌++◌, refl, sym, ◌∙◌, ap, append_assoc, arith}
 use Rattle.std.proofs.lemmas.Bool.{cases_order, lt-ltb, le-ltb}
 use Rattle.ascending_lists.specs.Ascending.{AscendsFrom}

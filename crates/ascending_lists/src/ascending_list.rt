@@ -38,7 +38,7 @@ pub fn cut_list(elements: &[u32], key: u32) -> (&[u32], bool, &[u32])
     ensures { Cuts key elements.now result.0.now result.1 result.2.now }
 {
     match elements.binary_search(&key) {
-        Ok(place) => (&elements[..place], true, &elements[place + 1..]),
-        Err(place) => (&elements[..place], false, &elements[place..]),
+        Ok(position) => (&elements[..position], true, &elements[position + 1..]),
+        Err(position) => (&elements[..position], false, &elements[position..]),
     }
 }

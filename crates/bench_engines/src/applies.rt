@@ -325,28 +325,28 @@ impl<'a> Trial<'a> {
 
 // Whether a set has these members, ascending.
 fn has_members(set: &VertexSet, members: &[u32]) -> bool {
-    let mut place = 0usize;
+    let mut index = 0usize;
     for vertex in set.iter() {
-        match members.get(place) {
-            Some(member) if *member == vertex => place = place.wrapping_add(1),
+        match members.get(index) {
+            Some(member) if *member == vertex => index = index.wrapping_add(1),
             _ => return false,
         }
     }
-    place == members.len()
+    index == members.len()
 }
 
 // Whether each vector has the entries that the slow run shows.
 fn has_entries(vectors: &Vectors, wanted: &[NamedVector]) -> bool {
-    for (place, vector) in wanted.iter().enumerate() {
-        if !is_lane(vectors, place, vector.entries.as_slice()) {
+    for (index, vector) in wanted.iter().enumerate() {
+        if !is_lane(vectors, index, vector.entries.as_slice()) {
             return false;
         }
     }
     true
 }
 
-fn is_lane(vectors: &Vectors, place: usize, entries: &[i64]) -> bool {
-    let lane = vectors.lane(place);
+fn is_lane(vectors: &Vectors, index: usize, entries: &[i64]) -> bool {
+    let lane = vectors.lane(index);
     for (vertex, entry) in entries.iter().enumerate() {
         if lane.get(vertex) != *entry {
             return false;

@@ -65,7 +65,7 @@ impl Side {
     }
 }
 
-/// The place of the vector that a function writes first.
+/// The index of the vector that a function writes first.
 pub fn vector_of(body: &str) -> usize {
     usize::from(body.starts_with("y"))
 }

@@ -33,8 +33,8 @@ enum Kind {
 }
 
 impl Kind {
-    // Its place among the edge functions of the program.
-    fn place(self) -> usize {
+    // Its index among the edge functions of the program.
+    fn index(self) -> usize {
         match self {
             Kind::MinEntry => 0,
             Kind::AddOne => 1,
@@ -140,7 +140,7 @@ impl KernelBenchmark {
     fn new(alloc: Global, kind: Kind) -> io::Result<KernelBenchmark> {
         let mut work = KernelBenchmark {
             kind,
-            kernel: edge_kernel(alloc, PROGRAM, kind.place())?,
+            kernel: edge_kernel(alloc, PROGRAM, kind.index())?,
             sources: Vec::new(alloc),
             destinations: Vec::new(alloc),
             first: Vec::new(alloc),
@@ -306,8 +306,8 @@ fn run_block(
         weights: &[],
     };
     kernel.run(around, block);
-    for place in 0..kernel.contributions() {
-        join(kernel.contribution(place, block), destinations, new);
+    for index in 0..kernel.contributions() {
+        join(kernel.contribution(index, block), destinations, new);
     }
     Ok(())
 }

@@ -15,10 +15,10 @@ pub fn compiled(alloc: Global, text: &str) -> io::Result<Typed> {
     }
 }
 
-/// The kernel of the edge function at a place of a program, counted from 0.
-pub fn edge_kernel(alloc: Global, text: &str, place: usize) -> io::Result<EdgeKernel> {
+/// The kernel of the edge function at an index of a program, counted from 0.
+pub fn edge_kernel(alloc: Global, text: &str, index: usize) -> io::Result<EdgeKernel> {
     let program = compiled(alloc, text)?;
-    match program.edge_functions.get(place) {
+    match program.edge_functions.get(index) {
         Some(function) => Ok(EdgeKernel::of_function(alloc, function)?),
         None => Err(Error::other("a program has no such function")),
     }

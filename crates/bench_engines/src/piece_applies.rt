@@ -66,8 +66,8 @@ fn pushed_pieces(
     scratch: &mut Scratch,
 ) -> Result<Vec<Found<Gathered>>, AllocError> {
     let mut found = Vec::new(alloc);
-    for place in 0..work.pieces() {
-        let piece = place + 1;
+    for index in 0..work.pieces() {
+        let piece = index + 1;
         let out = work.piece(alloc, scratch, piece)?;
         found.push(Found { piece, out })?;
     }
@@ -81,8 +81,8 @@ fn pulled_pieces(
     scratch: &mut Scratch,
 ) -> Result<Vec<Found<Gathered>>, AllocError> {
     let mut found = Vec::new(alloc);
-    for place in 0..work.pieces() {
-        let piece = place + 1;
+    for index in 0..work.pieces() {
+        let piece = index + 1;
         let out = work.piece(alloc, scratch, piece)?;
         found.push(Found { piece, out })?;
     }

@@ -75,8 +75,8 @@ impl Reads<'_> {
 
 // One of some words.
 fn pick(random: &mut Random, words: &[&'static str]) -> &'static str {
-    let place = random.below(words.len().max(1) as u64) as usize;
-    words.get(place).copied().unwrap_or("")
+    let index = random.below(words.len().max(1) as u64) as usize;
+    words.get(index).copied().unwrap_or("")
 }
 
 // An edge function that reduces one vector in one way, or two under a test.

@@ -61,11 +61,11 @@ impl RandomBatches {
         let mut there: Vec<Option<i64>> = vec![in alloc; None; (VERTICES * VERTICES) as usize]?;
         for entry in self.entries.iter().take(count) {
             if let Some((from, to)) = entry.ends()
-                && let Some(place) = there.get_mut(
+                && let Some(index) = there.get_mut(
                     from as usize * VERTICES as usize + to as usize,
                 )
             {
-                *place = match entry {
+                *index = match entry {
                     Entry::Add(_, _, weight) => Some(*weight),
                     Entry::Remove(..) | Entry::Grow(_) => None,
                 };
@@ -86,9 +86,9 @@ fn batch_of(alloc: Global, entries: &[Entry]) -> io::Result<Batch> {
 // The pairs that are there, each with its weight.
 fn edges_of(alloc: Global, there: &[Option<i64>]) -> Result<Vec<(u32, u32, i64)>, AllocError> {
     let mut edges = Vec::new(alloc);
-    for (place, weight) in (0..VERTICES * VERTICES).zip(there) {
+    for (index, weight) in (0..VERTICES * VERTICES).zip(there) {
         if let Some(weight) = weight {
-            edges.push((place / VERTICES, place % VERTICES, *weight))?;
+            edges.push((index / VERTICES, index % VERTICES, *weight))?;
         }
     }
     Ok(edges)

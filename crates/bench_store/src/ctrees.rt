@@ -188,9 +188,9 @@ fn push_all_marked(list: &mut Vec<(u32, i64)>, words: &[u64]) -> Result<(), Allo
 
 // Adds the elements that a word marks from the first on.
 fn push_marked(list: &mut Vec<(u32, i64)>, first: u32, word: u64) -> Result<(), AllocError> {
-    for place in 0..64u32 {
-        if word >> place & 1 == 1 {
-            list.push((first.wrapping_add(place), 1))?;
+    for index in 0..64u32 {
+        if word >> index & 1 == 1 {
+            list.push((first.wrapping_add(index), 1))?;
         }
     }
     Ok(())

@@ -209,8 +209,8 @@ fn with_ones(alloc: Global, numbers: &[u32]) -> Result<Vec<(u32, i64)>, AllocErr
 fn ascending(alloc: Global, random: &mut Random, size: u64) -> Result<Vec<u32>, AllocError> {
     let gap = 4_000_000_000 / size.max(1);
     let mut list = Vec::new(alloc);
-    for place in 0..size {
-        let element = place
+    for index in 0..size {
+        let element = index
             .wrapping_mul(gap)
             .wrapping_add(random.below(gap.max(1)));
         list.push(u32::try_from(element).unwrap_or(u32::MAX))?;
@@ -238,7 +238,7 @@ fn merged(alloc: Global, xs: &[u32], ys: &[u32]) -> Result<Vec<u32>, AllocError>
 // Above each number of a list.
 const END: u64 = 1 << 32;
 
-// The number at a place, `END` behind the last.
-fn number_at(list: &[u32], place: usize) -> u64 {
-    list.get(place).map_or(END, |number| u64::from(*number))
+// The number at an index, `END` behind the last.
+fn number_at(list: &[u32], index: usize) -> u64 {
+    list.get(index).map_or(END, |number| u64::from(*number))
 }

@@ -125,7 +125,7 @@ impl Benchmark for TailBenchmark {
     }
 }
 
-// The lists of tails, each above its own place.
+// The lists of tails, each above its own index.
 fn lists(alloc: Global, gaps: Gaps) -> Result<Vec<Vec<(u32, i64)>>, AllocError> {
     let mut random = Random::new(SEED);
     let mut lists = Vec::new(alloc);

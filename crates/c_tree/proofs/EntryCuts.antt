@@ -4,7 +4,7 @@ use Rattle.std.specs.Map.{keys_of}
 use Rattle.std.proofs.lemmas.Bool.{cases_lt, lt-ltb, le-ltb}
 use Rattle.ascending_lists.specs.Ascending.{AscendsFrom}
 use Rattle.ascending_lists.specs.MapOperations.{entries_below, entries_above}
-use Rattle.tail_codec.proofs.MapPlaces.{entries_below_none, entries_above_all}
+use Rattle.tail_codec.proofs.MapPositions.{entries_below_none, entries_above_all}
 
 module _ {V : Type 0} (k : ℕ) (v : V) (r : List (ℕ × V)) where
   -- what stands before an entry is below it

@@ -83,17 +83,17 @@ fn split_at_head<'a>(chunk_size: ChunkSize, entries: &Entries<'a>) -> (Entries<'
     ensures front { result.0 ≡ before_head chunk_size entries.now }
     ensures rest { result.1 ≡ from_head chunk_size entries.now }
 {
-    let place = head_place(chunk_size, entries);
-    (entries.up_to(place), entries.from(place))
+    let index = head_index(chunk_size, entries);
+    (entries.up_to(index), entries.from(index))
 }
 
 /// How many entries stand before the first head.
-fn head_place(chunk_size: ChunkSize, entries: &Entries<'_>) -> usize
+fn head_index(chunk_size: ChunkSize, entries: &Entries<'_>) -> usize
     ensures { result ≡ length (before_head chunk_size entries.now) }
 {
-    for (place, key) in entries.keys().iter().enumerate() {
+    for (index, key) in entries.keys().iter().enumerate() {
         if chunk_size.is_head(*key) {
-            return place;
+            return index;
         }
     }
     entries.len()

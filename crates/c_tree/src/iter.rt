@@ -87,14 +87,14 @@ impl<'a> Iter<'a> {
     }
 }
 
-/// Reads the keys of the next entries of a tail into a block from a place on, as many as fit and are
-/// left, and gives the place after them.
+/// Reads the keys of the next entries of a tail into a block from an index on, as many as fit and are
+/// left, and gives the index after them.
 #[inline]
-fn fill_from(tail: &mut TailIter<'_>, block: &mut [u32], place: usize) -> usize
-    requires { place ≤ length block.old }
-    ensures { IsRead (λ e. e.0) place tail.old block.old result tail.new block.new }
+fn fill_from(tail: &mut TailIter<'_>, block: &mut [u32], index: usize) -> usize
+    requires { index ≤ length block.old }
+    ensures { IsRead (λ e. e.0) index tail.old block.old result tail.new block.new }
 {
-    place + tail.fill(&mut block[place..])
+    index + tail.fill(&mut block[index..])
 }
 
 /// As `fill_from`, with the weights into a second block.
@@ -103,14 +103,14 @@ fn fill_weighted_from(
     tail: &mut TailIter<'_>,
     keys: &mut [u32],
     weights: &mut [i64],
-    place: usize,
+    index: usize,
 ) -> usize
     requires columns { length weights.old ≡ length keys.old }
-    requires room { place ≤ length keys.old }
-    ensures keys { IsRead (λ e. e.0) place tail.old keys.old result tail.new keys.new }
-    ensures weights { IsRead (λ e. e.1) place tail.old weights.old result tail.new weights.new }
+    requires room { index ≤ length keys.old }
+    ensures keys { IsRead (λ e. e.0) index tail.old keys.old result tail.new keys.new }
+    ensures weights { IsRead (λ e. e.1) index tail.old weights.old result tail.new weights.new }
 {
-    place + tail.fill_weighted(&mut keys[place..], &mut weights[place..])
+    index + tail.fill_weighted(&mut keys[index..], &mut weights[index..])
 }
 
 impl<'a> Iterator for Iter<'a> {

@@ -104,9 +104,9 @@ either_decided P Q (inl some) h = inl (some.0, inl some.1)
 either_decided P Q (inr none) (inl some) = inl (some.0, inr some.1)
 either_decided P Q (inr none) (inr no_other) = inr (λ by h. elim h [ inl is ↦ none by is | inr is ↦ no_other by is ])
 
-entry_decided : (place vector : ℕ) (other : Reduction) (b : Bool) → (place == vector) ≡ b → IsDecided (λ by. (place ≡ vector) × (other ≡ by))
-entry_decided place vector other true e = inl (other, (same_number place vector e, refl))
-entry_decided place vector other false e = inr (λ by h. false≢true (sym e ∙ equal_test place vector h.0))
+entry_decided : (index vector : ℕ) (other : Reduction) (b : Bool) → (index == vector) ≡ b → IsDecided (λ by. (index ≡ vector) × (other ≡ by))
+entry_decided index vector other true e = inl (other, (same_number index vector e, refl))
+entry_decided index vector other false e = inr (λ by h. false≢true (sym e ∙ equal_test index vector h.0))
 
 mutual
   -- a vector is reduced in some way, or in none
@@ -116,8 +116,8 @@ mutual
   step_decided vector (SetInteger slot e) = inr (λ by h. h)
   step_decided vector (SetCondition slot c) = inr (λ by h. h)
   step_decided vector (ReduceInteger slot other e) = inr (λ by h. h)
-  step_decided vector (SetEntry place e) = inr (λ by h. h)
-  step_decided vector (ReduceEntry place other e) = entry_decided place vector other (place == vector) refl
+  step_decided vector (SetEntry index e) = inr (λ by h. h)
+  step_decided vector (ReduceEntry index other e) = entry_decided index vector other (index == vector) refl
   step_decided vector (If c body) = steps_decided vector body
   step_decided vector (IfElse c body other) = either_decided (λ by. StepsReduce vector by body) (λ by. StepsReduce vector by other) (steps_decided vector body) (steps_decided vector other)
 
@@ -133,8 +133,8 @@ mutual
   step_writes_it P vector by (SetInteger slot e) is all = absurd is
   step_writes_it P vector by (SetCondition slot c) is all = absurd is
   step_writes_it P vector by (ReduceInteger slot other e) is all = absurd is
-  step_writes_it P vector by (SetEntry place e) is all = absurd is
-  step_writes_it P vector by (ReduceEntry place other e) is all = subst (λ (n : ℕ). P n ≡ true) is.0 (and_parts (P place) true all).0
+  step_writes_it P vector by (SetEntry index e) is all = absurd is
+  step_writes_it P vector by (ReduceEntry index other e) is all = subst (λ (n : ℕ). P n ≡ true) is.0 (and_parts (P index) true all).0
   step_writes_it P vector by (If c body) is all = steps_write_it P vector by body is all
   step_writes_it P vector by (IfElse c body other) is all =
       let both = both_parts P (steps_write body) (steps_write other) all in
@@ -199,12 +199,12 @@ two_reduce f g one other apart m vector =
           (given_append Q second [] (gives_alone g vector way.0 way.1.1 m.sets m.vectors edge) tt));
     }
 
--- the function at each place reduces a vector in one way
+-- the function at each index reduces a vector in one way
 abbrev EachReducesInOneWay : List FunctionTree → Type 0
-EachReducesInOneWay fs = (place : ℕ) → ReducesInOneWay (steps_of (slice_get fs place))
+EachReducesInOneWay fs = (index : ℕ) → ReducesInOneWay (steps_of (slice_get fs index))
 
 each_one_way : (fs : List FunctionTree) → AllByRecursion (λ f. ReducesInOneWay f.steps × SetsNoEntry f.steps) fs → EachReducesInOneWay fs
-each_one_way [] all place = λ vector a b is also. absurd is
+each_one_way [] all index = λ vector a b is also. absurd is
 each_one_way (f ∷ fs) all zero = all.0.0
 each_one_way (f ∷ fs) all (suc n) = each_one_way fs all.1 n
 
@@ -225,7 +225,7 @@ operation_reduces p End each fit = tt
 
 -- a checked program reduces in one way in each apply of its plan
 pub applies_reduce : (source : SourceTree) (length : ℕ) (p : ProgramTree) (s : ScheduleTree) → Checks source length (Ok p) → AppliesReduce p (plan_of p s)
-applies_reduce source length p s checked place i at =
+applies_reduce source length p s checked index i at =
     let each = subst (λ (q : ProgramTree). EachReducesInOneWay q.edge_functions) checked.1
     (each_one_way (program_of source length).value.edge_functions (edge_functions_write_well source length)) in
-    operation_reduces p i.operation each (fused_fit p s place i at)
+    operation_reduces p i.operation each (fused_fit p s index i at)

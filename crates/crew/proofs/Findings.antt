@@ -32,7 +32,7 @@ times-cond : (b : Bool) (n j k : ℕ) (rest ks : List ℕ) → ltb k n ≡ b →
 times-cond true n j k rest ks is below e = let t = same_test j k in omega arith
 times-cond false n j k rest ks is below e = let past = ltb-false k n is in let t = other_test j k n below past in omega arith
 
--- a place below the number of pieces stands for its piece
+-- an index below the number of pieces stands for its piece
 pub times-pieces_at : (n j : ℕ) (ks : List ℕ) → j < n → times (j + 1) (pieces_at n ks) ≡ times j ks
 times-pieces_at n j [] below = refl
 times-pieces_at n j (k ∷ ks) below = times-cond (ltb k n) n j k (pieces_at n ks) ks refl below (times-pieces_at n j ks below)
@@ -87,8 +87,8 @@ module _ {T : Type 0} (answers : ℕ → T → Type 0) where
   pub pieces_of-added : (piece : ℕ) (old new : List (Found T)) → HasAdded answers piece old new → pieces_of new ≡ pieces_of old ++ piece ∷ []
   pieces_of-added piece old new h = ap (λ (l : List (Found T)). pieces_of l) h.1 ∙ (map-append (λ (f : Found T). f.piece) old (h.0 ∷ []) ∙ ap (λ (p : ℕ). pieces_of old ++ p ∷ []) h.2)
 
-  pub answered_more : (pieces place : ℕ) (old new : List (Found T)) → place < pieces → All (IsAnswered answers pieces) old → HasAdded answers (place + 1) old new → All (IsAnswered answers pieces) new
-  answered_more pieces place old new below all h =
+  pub answered_more : (pieces index : ℕ) (old new : List (Found T)) → index < pieces → All (IsAnswered answers pieces) old → HasAdded answers (index + 1) old new → All (IsAnswered answers pieces) new
+  answered_more pieces index old new below all h =
       let is = h.2 in
       subst (λ (l : List (Found T)). All (IsAnswered answers pieces) l) (sym h.1)
       (All-push (IsAnswered answers pieces) old h.0 all (omega arith, omega arith, subst (λ (p : ℕ). answers p h.0.out) (sym is) h.3))

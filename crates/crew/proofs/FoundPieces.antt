@@ -7,7 +7,7 @@ use Rattle.crew.specs.declared.piece_results.Found.{Found}
 use Rattle.crew.specs.Pieces.{AreAnswers, AreFound, pieces_of}
 
 module _ {T : Type 0} (answers : ℕ → T → Type 0) where
-  -- at place j stands piece k + j + 1, with an answer for it
+  -- at index j stands piece k + j + 1, with an answer for it
   abbrev StandFrom : ℕ → List (Found T) → Type 0
   StandFrom k found = (j : ℕ) → j < length found → (f : Found T) × (slice_get found j ≡ Some f) × (f.piece ≡ k + j + 1) × answers (k + j + 1) f.out
 

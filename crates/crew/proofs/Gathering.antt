@@ -9,26 +9,26 @@ use Rattle.crew.specs.ClaimWord.{claim_view, times, once_below, all_rights, Clai
 use Rattle.crew.specs.inside.Claims.{worker_rights, pieces_at}
 use Rattle.crew.proofs.Findings.{pieces_at-append, times-pieces_at}
 
-piece_at : (pieces place : ℕ) → place < pieces → pieces_at pieces (place ∷ []) ≡ (place + 1) ∷ []
-piece_at pieces place below = ap (λ b. cond {A = List ℕ} b ((place + 1) ∷ []) []) (lt-ltb place pieces below)
+piece_at : (pieces index : ℕ) → index < pieces → pieces_at pieces (index ∷ []) ≡ (index + 1) ∷ []
+piece_at pieces index below = ap (λ b. cond {A = List ℕ} b ((index + 1) ∷ []) []) (lt-ltb index pieces below)
 
--- what a worker has claimed, of which the last number is place, and what it found
-pub record IsClaiming (pieces place : ℕ) (v : ClaimView) (found : List ℕ) : Type 0 where
+-- what a worker has claimed, of which the last number is index, and what it found
+pub record IsClaiming (pieces index : ℕ) (v : ClaimView) (found : List ℕ) : Type 0 where
   pub rights : v.rights ≡ worker_rights
-  pub next : v.next ≡ place + 1
-  pub below_next : length v.claimed ≤ place + 1
+  pub next : v.next ≡ index + 1
+  pub below_next : length v.claimed ≤ index + 1
   pub few : length v.claimed ≤ pieces + 1
-  pub claimed : found ++ pieces_at pieces (place ∷ []) ≡ pieces_at pieces v.claimed
+  pub claimed : found ++ pieces_at pieces (index ∷ []) ≡ pieces_at pieces v.claimed
 
-pub claims_more : (pieces place k : ℕ) (v w : ClaimView) (old new : List ℕ) → IsClaiming pieces place v old → place < pieces → new ≡ old ++ (place + 1) ∷ [] → Claims v k w → IsClaiming pieces k w new
-claims_more pieces place k v w old new h below more claims =
+pub claims_more : (pieces index k : ℕ) (v w : ClaimView) (old new : List ℕ) → IsClaiming pieces index v old → index < pieces → new ≡ old ++ (index + 1) ∷ [] → Claims v k w → IsClaiming pieces k w new
+claims_more pieces index k v w old new h below more claims =
     let z : ClaimView = claim_view v.rights (v.claimed ++ k ∷ []) (k + 1) in
     let longer = length-append v.claimed (k ∷ []) in
     let low = claims.0 in
     let next = h.next in
     let a = h.below_next in
     let rights = h.rights in
-    let before : new ≡ pieces_at pieces v.claimed = more ∙ ap (λ (l : List ℕ). old ++ l) (sym (piece_at pieces place below)) ∙ h.claimed in
+    let before : new ≡ pieces_at pieces v.claimed = more ∙ ap (λ (l : List ℕ). old ++ l) (sym (piece_at pieces index below)) ∙ h.claimed in
     subst (λ (u : ClaimView). IsClaiming pieces k u new) (sym claims.1) (record {
       rights = rights;
       next = refl;

@@ -33,24 +33,24 @@ module _ {X : Type 0} (P : ℕ → X → Type 0) where
       let longer = length-append new (x ∷ []) in
       whole (length new) x (omega arith) (sym (get_or_push new x x (length new) refl))
 
-pub next_turn : (place workers worker : ℕ) → place % workers + 1 ≡ worker → (place + workers) % workers + 1 ≡ worker
-next_turn place workers worker is = ap (λ (m : ℕ). m + 1) (add-mod_right place workers) ∙ is
+pub next_turn : (index workers worker : ℕ) → index % workers + 1 ≡ worker → (index + workers) % workers + 1 ≡ worker
+next_turn index workers worker is = ap (λ (m : ℕ). m + 1) (add-mod_right index workers) ∙ is
 
 one_there : (j : ℕ) → 0 < times (j + 1) ((j + 1) ∷ [])
 one_there j = grind (arith, nat_tests)
 
 -- one piece more of a worker, and then no other of it up to its next
-pub every_more : (place workers worker pieces : ℕ) (old new : List ℕ) → place % workers + 1 ≡ worker → new ≡ old ++ (place + 1) ∷ []
-    → ((j : ℕ) → j < place → j < pieces → j % workers + 1 ≡ worker → 0 < times (j + 1) old)
-    → (j : ℕ) → j < place + workers → j < pieces → j % workers + 1 ≡ worker → 0 < times (j + 1) new
-every_more place workers worker pieces old new turn more every j below within is =
+pub every_more : (index workers worker pieces : ℕ) (old new : List ℕ) → index % workers + 1 ≡ worker → new ≡ old ++ (index + 1) ∷ []
+    → ((j : ℕ) → j < index → j < pieces → j % workers + 1 ≡ worker → 0 < times (j + 1) old)
+    → (j : ℕ) → j < index + workers → j < pieces → j % workers + 1 ≡ worker → 0 < times (j + 1) new
+every_more index workers worker pieces old new turn more every j below within is =
     let sum = ap (λ (l : List ℕ). times (j + 1) l) more in
-    let parts = times-append (j + 1) old ((place + 1) ∷ []) in
-    dite (dec_lt j place)
+    let parts = times-append (j + 1) old ((index + 1) ∷ []) in
+    dite (dec_lt j index)
     (λ lt. let before = every j lt within is in omega arith)
     (λ not_lt.
-    let same : place ≡ j = one_turn place j workers (omega arith) below (omega arith) in
-    let there : 0 < times (j + 1) ((place + 1) ∷ []) = subst (λ (p : ℕ). 0 < times (j + 1) ((p + 1) ∷ [])) (sym same) (one_there j) in
+    let same : index ≡ j = one_turn index j workers (omega arith) below (omega arith) in
+    let there : 0 < times (j + 1) ((index + 1) ∷ []) = subst (λ (p : ℕ). 0 < times (j + 1) ((p + 1) ∷ [])) (sym same) (one_there j) in
     omega arith)
 
 -- the pieces of one worker more, where so many are still out

@@ -1,8 +1,8 @@
--- The pieces of a list at boundaries, the places where they end.
+-- The pieces of a list at boundaries, the indices where they end.
 use Rattle.std.specs.Prelude.{◌≡◌, ℕ, ◌-◌, ◌<◌, List, [], ◌∷◌, length, slice_index_or, slice_range}
 use Rattle.std.specs.List.{flat_map, range_with_len}
 
--- the ends ascend from a place to the end of a list: each piece has an element, and each element is in one piece
+-- the ends ascend from an index to the end of a list: each piece has an element, and each element is in one piece
 abbrev pub AreEnds : (start length : ℕ) → (ends : List ℕ) → Type 0
 AreEnds start length [] = start ≡ length
 AreEnds start length (e ∷ es) = (start < e) × AreEnds e length es

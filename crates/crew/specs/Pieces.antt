@@ -3,7 +3,7 @@ use Rattle.std.specs.Prelude.{◌≡◌, ℕ, ◌+◌, ◌<◌, Some, List, [], 
 use Rattle.crew.specs.declared.piece_results.Found.{Found}
 
 module _ {T : Type 0} (answers : ℕ → T → Type 0) where
-  -- at place j stands piece j + 1, with an answer for it
+  -- at index j stands piece j + 1, with an answer for it
   abbrev pub IsFoundAt : List (Found T) → ℕ → Type 0
   IsFoundAt found j = (f : Found T) × (slice_get found j ≡ Some f) × (f.piece ≡ j + 1) × answers (j + 1) f.out
 

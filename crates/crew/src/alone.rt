@@ -47,10 +47,10 @@ fn do_pieces<G: Gate, W: Work>(
     ensures state { IfOk result (λ _. W.keeps work.now state.new) }
 {
     let mut found = Vec::with_capacity(alloc, pieces)?;
-    for place in 0..pieces {
+    for index in 0..pieces {
         let next = NextPiece {
             worker: 1,
-            place,
+            index,
             pieces,
         };
         do_piece(alloc, gate, work, next, state, &mut found)?;

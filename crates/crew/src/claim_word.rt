@@ -1,4 +1,4 @@
-//! The claim word: a counter from which the workers of a run draw the places of their pieces.
+//! The claim word: a counter from which the workers of a run draw the indices of their pieces.
 //!
 //! It has one kind of step, a `fetch_add` of 1. A claim is a seat at its table: a value of no bytes with
 //! a view, which says what its worker knows of the word. `specs/ClaimWord.antt` has the rule.

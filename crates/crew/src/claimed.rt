@@ -122,15 +122,15 @@ fn claim_pieces<G: Gate, W: Work>(
     } = job;
     let mut state = state_or_new(alloc, work, state)?;
     let mut found = Vec::new(alloc);
-    let mut place = draw(word, &mut turn) as usize;
-    while place < pieces {
+    let mut index = draw(word, &mut turn) as usize;
+    while index < pieces {
         let next = NextPiece {
             worker,
-            place,
+            index,
             pieces,
         };
         do_piece(alloc, gate, work, next, &mut state, &mut found)?;
-        place = draw(word, &mut turn) as usize;
+        index = draw(word, &mut turn) as usize;
     }
     Ok(FinishedWorker { turn, state, found })
 }

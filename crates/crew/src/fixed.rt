@@ -94,15 +94,15 @@ fn fixed_pieces<G: Gate, W: Work>(
     } = job;
     let mut state = state_or_new(alloc, work, state)?;
     let mut found = Vec::new(alloc);
-    let mut place = worker - 1;
-    while place < pieces {
+    let mut index = worker - 1;
+    while index < pieces {
         let next = NextPiece {
             worker,
-            place,
+            index,
             pieces,
         };
         do_piece(alloc, gate, work, next, &mut state, &mut found)?;
-        place += workers;
+        index += workers;
     }
     Ok(FinishedWorker {
         turn: (),

@@ -6,14 +6,14 @@
 //! however the pieces fall to the workers. A worker keeps a state from piece to piece, so that it takes
 //! its memory once; the states of all come back to the caller, for the next run.
 //!
-//! By [`PieceAssignment::Claimed`] the workers draw the places of their pieces from one word, the claim word, by
+//! By [`PieceAssignment::Claimed`] the workers draw the indices of their pieces from one word, the claim word, by
 //! steps of one kind, a `fetch_add` of 1. `specs/ClaimWord.antt` has its rule: every number below the
 //! word was claimed by one worker, once, and by no other. Each worker has a part of the rights to claim;
 //! once all parts are back with the caller, it knows that no number was left out. By [`PieceAssignment::Fixed`]
 //! the pieces go round the workers in turn.
 //!
 //! The starts go by halves, each half on a thread of its own, and where no thread can be started its half
-//! is done by the thread that wanted it. What the workers found is put at the places of the pieces
+//! is done by the thread that wanted it. What the workers found is put into the slots of the pieces
 //! afterwards, in time `O(n)`. A [`Gate`] is told of each piece before it is done. [`workers_for`] says
 //! how many workers are worth their threads, where nobody watches the gate.
 //!

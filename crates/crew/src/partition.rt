@@ -57,7 +57,7 @@ impl Partition {
         self.ends.len()
     }
 
-    /// The places of a piece in the list. Pieces are numbered from 1.
+    /// The indices of a piece in the list. Pieces are numbered from 1.
     pub fn piece(&self, number: usize) -> Range<usize>
         requires some { 0 < number }
         requires inside { number ≤ length self.now }
@@ -146,7 +146,7 @@ fn push_runs(
     ensures last { IfOk result (λ e. e ≡ start + runs * run) }
 {
     let mut end = start;
-    'runs: for _place in 0..runs {
+    'runs: for _index in 0..runs {
         end += run;
         ends.push(end)?;
     }
@@ -183,10 +183,10 @@ fn push_limited(ends: &mut Vec<usize>, limit: usize, degrees: &[u32]) -> Result<
     ensures { OnOk result (ends.new.items ≡ ends.old.items ++ limited_ends limit 0 0 degrees.now) }
 {
     let mut reached = 0usize;
-    'degrees: for (place, degree) in degrees.iter().enumerate() {
+    'degrees: for (index, degree) in degrees.iter().enumerate() {
         reached += *degree as usize + 1;
         if limit <= reached {
-            ends.push(place + 1)?;
+            ends.push(index + 1)?;
             reached = 0;
         }
     }

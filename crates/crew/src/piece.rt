@@ -23,11 +23,11 @@ pub(crate) fn state_or_new<W: Work>(
     }
 }
 
-/// The piece that a worker does next: its place, counted from 0, among all pieces.
+/// The piece that a worker does next: its index, counted from 0, among all pieces.
 #[derive(Clone, Copy)]
 pub(crate) struct NextPiece {
     pub(crate) worker: usize,
-    pub(crate) place: usize,
+    pub(crate) index: usize,
     pub(crate) pieces: usize,
 }
 
@@ -40,12 +40,12 @@ pub(crate) fn do_piece<G: Gate, W: Work>(
     state: &mut W::State,
     found: &mut Vec<Found<W::Out>>,
 ) -> Result<(), AllocError>
-    requires place { (next.place < next.pieces) × (next.pieces ≤ W.pieces work.now) }
+    requires index { (next.index < next.pieces) × (next.pieces ≤ W.pieces work.now) }
     requires state { W.keeps work.now state.old }
     ensures state { IfOk result (λ _. W.keeps work.now state.new) }
-    ensures found { IfOk result (λ _. HasAdded (W.answers work.now) (next.place + 1) found.old.items found.new.items) }
+    ensures found { IfOk result (λ _. HasAdded (W.answers work.now) (next.index + 1) found.old.items found.new.items) }
 {
-    let piece = next.place + 1;
+    let piece = next.index + 1;
     gate.enter(next.worker, piece, next.pieces);
     let out = work.piece(alloc, state, piece)?;
     found.push(Found { piece, out })?;

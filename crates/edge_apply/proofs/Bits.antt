@@ -31,7 +31,7 @@ both_parts : (v a stop : ℕ) (t : Bool) → a ≤ stop → (t && nat_lt v a) ||
 both_parts v a stop true l = grind (arith, nat_tests)
 both_parts v a stop false l = grind (arith, nat_tests)
 
--- those that pass among the numbers below a place, and from it on up to another
+-- those that pass among the numbers below an index, and from it on up to another
 pub passing_more : (test : ℕ → Bool) (v a stop : ℕ) → a ≤ stop → (test v && nat_lt v a) || is_member v (filter test (range_with_len a (stop - a))) ≡ test v && nat_lt v stop
 passing_more test v a stop l =
     let whole : a + (stop - a) ≡ stop = omega (arith, l) in

@@ -20,7 +20,7 @@ one_more p xs ys k i x n false at l is here counts stays =
       long = length-set ys k x ∙ passed.long;
     })
 
--- the entries of two columns, place by place
+-- the entries of two columns, index by index
 pub entries-take : (n : ℕ) (ks : List ℕ) (ws : List ℤ) → length ws ≡ length ks → entries_of (take n ks) (take n ws) ≡ take n (entries_of ks ws)
 entries-take zero ks ws same = refl
 entries-take (suc n) [] ws same = refl

@@ -84,11 +84,11 @@ parts_from x k told (f ∷ fs) all =
     let is : first.0 ≡ f = grind arith in
     let here : k + 0 + 1 ≡ k + 1 = omega arith in
     let own = ap (λ (g : Found Changes). changes_of x g.out.vectors.items) (sym is) ∙ first.2 ∙ ap told here in
-    let rest = parts_from x (k + 1) told fs (λ j l. let next = all (suc j) (omega (arith, l)) in let place : k + suc j + 1 ≡ k + 1 + j + 1 = omega arith in (next.0, next.1, next.2 ∙ ap told place)) in
+    let rest = parts_from x (k + 1) told fs (λ j l. let next = all (suc j) (omega (arith, l)) in let index : k + suc j + 1 ≡ k + 1 + j + 1 = omega arith in (next.0, next.1, next.2 ∙ ap told index)) in
     ap₂ (λ (cs ds : List EntryChange). cs ++ ds) own rest
 
 pub parts_in_order : (x pieces : ℕ) (told : ℕ → List EntryChange) (fs : List (Found Changes)) → length fs ≡ pieces
     → ((j : ℕ) → j < pieces → (f : Found Changes) × (slice_get fs j ≡ Some f) × (changes_of x f.out.vectors.items ≡ told (j + 1))) → changes_in_parts x fs ≡ flat_map told (range_with_len 1 pieces)
 parts_in_order x pieces told fs long all =
-    parts_from x 0 told fs (λ j l. let at = all j (omega (arith, l, long)) in let place : j + 1 ≡ 0 + j + 1 = omega arith in (at.0, at.1, at.2 ∙ ap told place))
+    parts_from x 0 told fs (λ j l. let at = all j (omega (arith, l, long)) in let index : j + 1 ≡ 0 + j + 1 = omega arith in (at.0, at.1, at.2 ∙ ap told index))
     ∙ ap (λ n. flat_map told (range_with_len 1 n)) long

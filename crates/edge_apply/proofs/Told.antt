@@ -40,11 +40,11 @@ told_from old new ends n j s (e ∷ es) at are =
     let low = are.0 in
     let high = last_end e n es are.1 in
     let whole : e - s + (n - e) ≡ n - s = omega (arith, low, high) in
-    let place : e ≡ s + (e - s) = omega (arith, low) in
+    let index : e ≡ s + (e - s) = omega (arith, low) in
     ap (λ cs. cs ++ flat_map (told_in_piece old new ends) (range_with_len (j + 1 + 1) (length es)))
     (ap (λ k. changed_from old new k (end_of ends (j + 1) - k)) start ∙ ap (λ k. changed_from old new s (k - s)) end)
     ∙ ap (λ cs. changed_from old new s (e - s) ++ cs) (told_from old new ends n (j + 1) e es next are.1)
-    ∙ ap (λ k. changed_from old new s (e - s) ++ changed_from old new k (n - e)) place
+    ∙ ap (λ k. changed_from old new s (e - s) ++ changed_from old new k (n - e)) index
     ∙ sym (changed_from-append old new s (e - s) (n - e))
     ∙ ap (λ k. changed_from old new s k) whole
 

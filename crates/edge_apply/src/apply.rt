@@ -13,7 +13,7 @@ use kernels::{EdgeKernel, EndpointFilter};
 use vectors::Vectors;
 
 /// An apply of one or two edge functions to the edges of a graph between two ends, and the values that its schedule has for
-/// it. The functions read the vectors and the sizes of the vertex sets, by their places. An end that is not given lets all
+/// it. The functions read the vectors and the sizes of the vertex sets, by their indices. An end that is not given lets all
 /// vertices through.
 #[derive(Clone, Copy)]
 pub struct Apply<'a> {

@@ -13,7 +13,7 @@ use crew::Found;
 use edge_fold::{ApplyContext, Gathered, Scratch};
 use std::alloc::{AllocError, Global};
 
-/// A part of a list, from one place on up to another.
+/// A part of a list, from one index on up to another.
 pub fn part_between(vertices: &[u32], start: usize, end: usize) -> &[u32]
     requires order { start ≤ end }
     requires inside { end ≤ length vertices.now }

@@ -38,8 +38,8 @@ fn keep_set(words: &[u64], block: &mut [u32], count: usize) -> usize
     ensures kept { take result block.new ≡ filter (is_set words.now) (take count block.old) }
 {
     let mut kept = 0usize;
-    'places: for place in 0..count {
-        let vertex = block[place];
+    'positions: for position in 0..count {
+        let vertex = block[position];
         block[kept] = vertex;
         kept += usize::from(is_set(words, vertex));
     }

@@ -14,7 +14,7 @@ pub fn take_part(vertices: &mut Degrees<'_>, part: &mut Vec<u32>) -> Result<(), 
     ensures fewer { OnOk result (length vertices.new + vec_len part.new ≡ length vertices.old) }
 {
     part.clear();
-    'places: for _place in 0..PAIRS {
+    'indices: for _index in 0..PAIRS {
         let Some((vertex, _)) = vertices.next() else {
             return Ok(());
         };

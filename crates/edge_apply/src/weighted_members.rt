@@ -41,10 +41,10 @@ fn keep_set_weighted(words: &[u64], block: &mut [u32], weights: &mut [i64], coun
         ≡ filter (λ e. is_set words.now e.0) (entries_of (take count block.old) (take count weights.old)) }
 {
     let mut kept = 0usize;
-    'places: for place in 0..count {
-        let vertex = block[place];
+    'positions: for position in 0..count {
+        let vertex = block[position];
         block[kept] = vertex;
-        weights[kept] = weights[place];
+        weights[kept] = weights[position];
         kept += usize::from(is_set(words, vertex));
     }
     kept

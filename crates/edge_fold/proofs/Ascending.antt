@@ -29,8 +29,8 @@ no_numbers next (c ∷ cs) none = absurd (let long = ap length none in omega (ar
 last_below : (v : ℕ) (y : EntryChange) (cs : List EntryChange) (d : EntryChange) → y.vertex ≡ v → (get_or (cs ++ y ∷ []) (length (cs ++ y ∷ []) - 1) d).vertex < v + 1
 last_below v y cs d own =
     let long = length-append cs (y ∷ []) in
-    let place : length (cs ++ y ∷ []) - 1 ≡ length cs = omega (arith, long) in
-    let at = ap (λ (c : EntryChange). c.vertex) (ap (λ k. get_or (cs ++ y ∷ []) k d) place ∙ get_or-append_seam cs y [] d) in
+    let index : length (cs ++ y ∷ []) - 1 ≡ length cs = omega (arith, long) in
+    let at = ap (λ (c : EntryChange). c.vertex) (ap (λ k. get_or (cs ++ y ∷ []) k d) index ∙ get_or-append_seam cs y [] d) in
     omega (arith, at, own)
 
 ascends_at : (b : Bool) (next v : ℕ) (n : ℤ) (cs : List EntryChange) → next ≤ v → AscendBelow next cs → AscendBelow (v + 1) (cs ++ cond b (record { vertex = v; number = n } ∷ []) [])

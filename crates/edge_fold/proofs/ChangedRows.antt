@@ -19,8 +19,8 @@ either : {A B : Type 0} → A ⊎ B → (A → ⊥) → (B → ⊥) → ⊥
 either (inl a) f g = f a
 either (inr b) f g = g b
 
-next_place : (v n : ℕ) → v + 1 + n ≡ v + suc n
-next_place v n = omega arith
+next_index : (v n : ℕ) → v + 1 + n ≡ v + suc n
+next_index v n = omega arith
 
 zero_first : (n : ℕ) → 0 + n ≡ n
 zero_first n = omega arith
@@ -38,7 +38,7 @@ changed_from-append old new v (suc m) n =
     ap (λ k. changed_from old new v k) (suc_first m n)
     ∙ ap (λ cs. change_at old new v ++ cs) (changed_from-append old new (v + 1) m n)
     ∙ sym (append_assoc (change_at old new v) (changed_from old new (v + 1) m) (changed_from old new (v + 1 + m) n))
-    ∙ ap (λ k. (change_at old new v ++ changed_from old new (v + 1) m) ++ changed_from old new k n) (next_place v m)
+    ∙ ap (λ k. (change_at old new v ++ changed_from old new (v + 1) m) ++ changed_from old new k n) (next_index v m)
 
 pub equal_itself : (x : ℤ) → int_equal x x ≡ true
 equal_itself x = grind (arith, ints, nat_tests)
@@ -62,10 +62,10 @@ pub changed_more : (old new : ℕ → ℤ) (next v : ℕ) → next ≤ v → ((u
     → changed_from old new 0 next ++ change_at old new v ≡ changed_from old new 0 (v + 1)
 changed_more old new next v l same =
     let m = v - next in
-    let place : next + m ≡ v = omega (arith, l) in
+    let index : next + m ≡ v = omega (arith, l) in
     let whole : v + 1 ≡ next + (m + 1) = omega (arith, l) in
     let quiet = nothing_changed old new next m (λ u a b. same u a (omega (arith, l, b))) in
-    let last = ap (λ k. changed_from old new k 1) place ∙ one_change old new v ∙ append-nil (change_at old new v) in
+    let last = ap (λ k. changed_from old new k 1) index ∙ one_change old new v ∙ append-nil (change_at old new v) in
     sym (ap (λ k. changed_from old new 0 k) whole
     ∙ changed_from-append old new 0 next (m + 1)
     ∙ ap (λ k. changed_from old new 0 next ++ changed_from old new k (m + 1)) (zero_first next)

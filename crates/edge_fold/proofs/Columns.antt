@@ -74,7 +74,7 @@ pairs-column d [] ws = refl
 pairs-column d (s ∷ ss) [] = ap (λ es. (s, d, unit_weight) ∷ es) (pairs-column d ss [])
 pairs-column d (s ∷ ss) (w ∷ ws) = ap (λ es. (s, d, w) ∷ es) (pairs-column d ss ws)
 
--- the first places of lists after more were written after them
+-- the first indices of lists after more were written after them
 pub waiting_into : (d n k : ℕ) (ss ts ys zs us : List ℕ) → n ≤ length ss → n ≤ length ts → length zs ≡ length us → zs ≡ replicate (length us) d → ys ≡ us
     → pairs (take (n + length us) (put_mid n k ss ys)) (take (n + length us) (put_mid n k ts zs)) [] ≡ pairs (take n ss) (take n ts) [] ++ column d (entries_of us [])
 waiting_into d n k ss ts ys zs us l m long filled copied =

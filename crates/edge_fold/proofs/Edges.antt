@@ -15,11 +15,11 @@ use Rattle.edge_fold.specs.Given.{each_given, entries_of, for_vector, given_from
 use Rattle.edge_fold.proofs.Folds.{for_vector-append, given_on-append, reduced_at-append, reduced_at-swap}
 
 -- what a block's pairs are given, by the pairs
-first_place : (k : ℕ) → k + 0 ≡ k
-first_place k = omega arith
+first_index : (k : ℕ) → k + 0 ≡ k
+first_index k = omega arith
 
-next_place : (k i : ℕ) → k + 1 + i ≡ k + suc i
-next_place k i = omega arith
+next_index : (k i : ℕ) → k + 1 + i ≡ k + suc i
+next_index k i = omega arith
 
 pub paired : (x : ℕ) (gives : ℕ → List (ℕ × Reduction × ℤ)) (g : Edge → List (ℕ × Reduction × ℤ)) (k : ℕ) (ss ds : List ℕ) (ws : List ℤ) → length ds ≡ length ss
     → ((i : ℕ) → i < length ss → gives (k + i) ≡ g (get_or ss i 0, get_or ds i 0, get_or ws i unit_weight)) → given_from x gives k ds ≡ given_on x g (pairs ss ds ws)
@@ -27,12 +27,12 @@ paired x gives g k [] [] ws same at = refl
 paired x gives g k [] (d ∷ ds) ws same at = absurd (omega (arith, same))
 paired x gives g k (s ∷ ss) [] ws same at = absurd (omega (arith, same))
 paired x gives g k (s ∷ ss) (d ∷ ds) [] same at =
-    ap (λ (gs : List (ℕ × Reduction × ℤ)). for_vector x d gs ++ given_from x gives (k + 1) ds) (ap gives (sym (first_place k)) ∙ at 0 (omega arith))
+    ap (λ (gs : List (ℕ × Reduction × ℤ)). for_vector x d gs ++ given_from x gives (k + 1) ds) (ap gives (sym (first_index k)) ∙ at 0 (omega arith))
     ∙ ap (λ (gs : List (ℕ × ℤ)). for_vector x d (g (s, d, unit_weight)) ++ gs)
-    (paired x gives g (k + 1) ss ds [] (omega (arith, same)) (λ i l. ap gives (next_place k i) ∙ at (suc i) (omega (arith, l))))
+    (paired x gives g (k + 1) ss ds [] (omega (arith, same)) (λ i l. ap gives (next_index k i) ∙ at (suc i) (omega (arith, l))))
 paired x gives g k (s ∷ ss) (d ∷ ds) (w ∷ ws) same at =
-    ap (λ (gs : List (ℕ × Reduction × ℤ)). for_vector x d gs ++ given_from x gives (k + 1) ds) (ap gives (sym (first_place k)) ∙ at 0 (omega arith))
-    ∙ ap (λ (gs : List (ℕ × ℤ)). for_vector x d (g (s, d, w)) ++ gs) (paired x gives g (k + 1) ss ds ws (omega (arith, same)) (λ i l. ap gives (next_place k i) ∙ at (suc i) (omega (arith, l))))
+    ap (λ (gs : List (ℕ × Reduction × ℤ)). for_vector x d gs ++ given_from x gives (k + 1) ds) (ap gives (sym (first_index k)) ∙ at 0 (omega arith))
+    ∙ ap (λ (gs : List (ℕ × ℤ)). for_vector x d (g (s, d, w)) ++ gs) (paired x gives g (k + 1) ss ds ws (omega (arith, same)) (λ i l. ap gives (next_index k i) ∙ at (suc i) (omega (arith, l))))
 
 -- what two functions give may be given in two rounds
 pub on_in_rounds : (r : Reduction) (v x : ℕ) (n : ℤ) (a b : Edge → List (ℕ × Reduction × ℤ)) (es : List Edge)
@@ -152,7 +152,7 @@ row_parts s first rest all es whole =
     append_assoc es (row s first) (row s rest)
     ∙ ap (λ fs. es ++ fs) (sym (map-append (λ e. (s, e.0, e.1)) first rest) ∙ ap (row s) whole)
 
--- the first places of lists after more were written after them
+-- the first indices of lists after more were written after them
 pub waiting_more : (s n k : ℕ) (ss ts ys zs ds : List ℕ) → n ≤ length ss → n ≤ length ts → length ys ≡ length ds → ys ≡ replicate (length ds) s → zs ≡ ds
     → pairs (take (n + length ds) (put_mid n k ss ys)) (take (n + length ds) (put_mid n k ts zs)) [] ≡ pairs (take n ss) (take n ts) [] ++ row s (entries_of ds [])
 waiting_more s n k ss ts ys zs ds l m long filled copied =

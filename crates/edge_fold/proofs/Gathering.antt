@@ -15,7 +15,7 @@ use Rattle.edge_fold.specs.Gathered.{IsGatheredBy, gathered_for, number_at, numb
 use Rattle.edge_fold.specs.Given.{reduced_at}
 use Rattle.edge_fold.specs.Held.{held_with}
 use Rattle.edge_fold.specs.FoldStarts.{combined}
-use Rattle.edge_fold.specs.VectorAccumulators.{held_in_with, of_slot, place_in, reduction_in}
+use Rattle.edge_fold.specs.VectorAccumulators.{held_in_with, of_slot, index_in, reduction_in}
 use Rattle.edge_fold.proofs.Folds.{reduced_at-append}
 use Rattle.edge_fold.proofs.SlotRows.{of_slot-none, of_slot-push, of_slot-there, same_test}
 
@@ -91,33 +91,33 @@ is_gathered_by-push r x [] g all own = (own, tt)
 is_gathered_by-push r x (f ∷ fs) g all own = (all.0, is_gathered_by-push r x fs g all.1 own)
 
 -- a slot whose vector has one before it
-hidden_at : {A : Type 0} (of : VectorAccumulator → A) (ss : List VectorAccumulator) (s : VectorAccumulator) (x : ℕ) (d : A) (q : Bool) → (s.vector == x) ≡ q → place_in s.vector ss < length ss → of_slot of ss x (cond q (of s) d) ≡ of_slot of ss x d
-hidden_at of ss s x d true e l = of_slot-there of ss x (of s) d (let own = same s.vector x e in subst (λ (k : ℕ). place_in k ss < length ss) own l)
+hidden_at : {A : Type 0} (of : VectorAccumulator → A) (ss : List VectorAccumulator) (s : VectorAccumulator) (x : ℕ) (d : A) (q : Bool) → (s.vector == x) ≡ q → index_in s.vector ss < length ss → of_slot of ss x (cond q (of s) d) ≡ of_slot of ss x d
+hidden_at of ss s x d true e l = of_slot-there of ss x (of s) d (let own = same s.vector x e in subst (λ (k : ℕ). index_in k ss < length ss) own l)
 hidden_at of ss s x d false e l = refl
 
-pub hidden_slot : {A : Type 0} (of : VectorAccumulator → A) (ss : List VectorAccumulator) (s : VectorAccumulator) (x : ℕ) (d : A) → place_in s.vector ss < length ss → of_slot of (ss ++ s ∷ []) x d ≡ of_slot of ss x d
+pub hidden_slot : {A : Type 0} (of : VectorAccumulator → A) (ss : List VectorAccumulator) (s : VectorAccumulator) (x : ℕ) (d : A) → index_in s.vector ss < length ss → of_slot of (ss ++ s ∷ []) x d ≡ of_slot of ss x d
 hidden_slot of ss s x d l = of_slot-push of ss s x d ∙ hidden_at of ss s x d (s.vector == x) refl l
 
 -- a slot that is the first of its vector
-pub first_slot : {A : Type 0} (of : VectorAccumulator → A) (ss : List VectorAccumulator) (s : VectorAccumulator) (x : ℕ) (d : A) (q : Bool) → (s.vector == x) ≡ q → length ss ≤ place_in s.vector ss → of_slot of ss x (cond q (of s) d) ≡ cond q (of s) (of_slot of ss x d)
-first_slot of ss s x d true e l = of_slot-none of ss x (of s) (let own = same s.vector x e in subst (λ (k : ℕ). length ss ≤ place_in k ss) own l)
+pub first_slot : {A : Type 0} (of : VectorAccumulator → A) (ss : List VectorAccumulator) (s : VectorAccumulator) (x : ℕ) (d : A) (q : Bool) → (s.vector == x) ≡ q → length ss ≤ index_in s.vector ss → of_slot of ss x (cond q (of s) d) ≡ cond q (of s) (of_slot of ss x d)
+first_slot of ss s x d true e l = of_slot-none of ss x (of s) (let own = same s.vector x e in subst (λ (k : ℕ). length ss ≤ index_in k ss) own l)
 first_slot of ss s x d false e l = refl
 
 alike : (t : Bool) (h : ℤ) → cond t h h ≡ h
 alike true h = refl
 alike false h = refl
 
-gathered_at : (r : Reduction) (x v : ℕ) (h y : ℤ) (t : Bool) (ss : List VectorAccumulator) (s : VectorAccumulator) (ns : List (ℕ × ℤ)) (q : Bool) → (s.vector == x) ≡ q → length ss ≤ place_in s.vector ss
+gathered_at : (r : Reduction) (x v : ℕ) (h y : ℤ) (t : Bool) (ss : List VectorAccumulator) (s : VectorAccumulator) (ns : List (ℕ × ℤ)) (q : Bool) → (s.vector == x) ≡ q → length ss ≤ index_in s.vector ss
     → y ≡ cond t (held_in_with (combined start.Unit r) ss x v h) h
     → ((n : ℤ) → reduced_at r v n ns ≡ cond t (onto r s.entries v n) n)
     → reduced_at r v y (cond q ns []) ≡ cond t (cond q (onto r s.entries v h) (held_in_with (combined start.Unit r) ss x v h)) h
 gathered_at r x v h y t ss s ns true e l was numbers =
     let own = same s.vector x e in
-    let none = of_slot-none (λ (s : VectorAccumulator). onto r s.entries v h) ss x h (subst (λ (k : ℕ). length ss ≤ place_in k ss) own l) in
+    let none = of_slot-none (λ (s : VectorAccumulator). onto r s.entries v h) ss x h (subst (λ (k : ℕ). length ss ≤ index_in k ss) own l) in
     ap (λ (n : ℤ). reduced_at r v n ns) (was ∙ ap (λ (n : ℤ). cond t n h) none ∙ alike t h) ∙ numbers h
 gathered_at r x v h y t ss s ns false e l was numbers = was
 
-pub gathered_more : (r : Reduction) (x v : ℕ) (h : ℤ) (t : Bool) (ss : List VectorAccumulator) (s : VectorAccumulator) (gs : List GatheredIn) (g : GatheredIn) → g.vector ≡ s.vector → length ss ≤ place_in s.vector ss
+pub gathered_more : (r : Reduction) (x v : ℕ) (h : ℤ) (t : Bool) (ss : List VectorAccumulator) (s : VectorAccumulator) (gs : List GatheredIn) (g : GatheredIn) → g.vector ≡ s.vector → length ss ≤ index_in s.vector ss
     → reduced_at r v h (gathered_for x gs) ≡ cond t (held_in_with (combined start.Unit r) ss x v h) h
     → ((n : ℤ) → reduced_at r v n (numbers_of g.numbers.items) ≡ cond t (onto r s.entries v n) n)
     → reduced_at r v h (gathered_for x (gs ++ g ∷ [])) ≡ cond t (held_in_with (combined start.Unit r) (ss ++ s ∷ []) x v h) h
@@ -133,15 +133,15 @@ gathered_more r x v h t ss s gs g own l was numbers =
 apart : (m n : ℕ) → (m == n) ≡ false → m ≡ n → ⊥
 apart m n h e = absurd (false≢true (sym h ∙ ap (λ k. k == n) e ∙ same_test n))
 
-gathered_by_at : (r : Reduction) (x : ℕ) (ss : List VectorAccumulator) (s : VectorAccumulator) (gs : List GatheredIn) (g : GatheredIn) (q : Bool) → (s.vector == x) ≡ q → g.vector ≡ s.vector → g.reduction ≡ s.reduction → length ss ≤ place_in s.vector ss
+gathered_by_at : (r : Reduction) (x : ℕ) (ss : List VectorAccumulator) (s : VectorAccumulator) (gs : List GatheredIn) (g : GatheredIn) (q : Bool) → (s.vector == x) ≡ q → g.vector ≡ s.vector → g.reduction ≡ s.reduction → length ss ≤ index_in s.vector ss
     → (reduction_in ss x r ≡ r → IsGatheredBy r x gs) → cond q s.reduction (reduction_in ss x r) ≡ r → IsGatheredBy r x (gs ++ g ∷ [])
 gathered_by_at r x ss s gs g true e own by l was now =
     let at = same s.vector x e in
-    let none = of_slot-none (λ (s : VectorAccumulator). s.reduction) ss x r (subst (λ (k : ℕ). length ss ≤ place_in k ss) at l) in
+    let none = of_slot-none (λ (s : VectorAccumulator). s.reduction) ss x r (subst (λ (k : ℕ). length ss ≤ index_in k ss) at l) in
     is_gathered_by-push r x gs g (was none) (λ _. by ∙ now)
 gathered_by_at r x ss s gs g false e own by l was now = is_gathered_by-push r x gs g (was now) (λ i. absurd (apart s.vector x e (sym own ∙ i)))
 
-pub gathered_by_more : (r : Reduction) (x : ℕ) (ss : List VectorAccumulator) (s : VectorAccumulator) (gs : List GatheredIn) (g : GatheredIn) → g.vector ≡ s.vector → g.reduction ≡ s.reduction → length ss ≤ place_in s.vector ss
+pub gathered_by_more : (r : Reduction) (x : ℕ) (ss : List VectorAccumulator) (s : VectorAccumulator) (gs : List GatheredIn) (g : GatheredIn) → g.vector ≡ s.vector → g.reduction ≡ s.reduction → length ss ≤ index_in s.vector ss
     → (reduction_in ss x r ≡ r → IsGatheredBy r x gs) → reduction_in (ss ++ s ∷ []) x r ≡ r → IsGatheredBy r x (gs ++ g ∷ [])
 gathered_by_more r x ss s gs g own by l was now =
     let of = λ (s : VectorAccumulator). s.reduction in

@@ -19,7 +19,7 @@ use Rattle.edge_fold.specs.Folded.{HasFoldedFor, waiting}
 use Rattle.edge_fold.specs.Given.{all_given, given_on, reduced_at}
 use Rattle.edge_fold.specs.Held.{held_with}
 use Rattle.edge_fold.specs.FoldStarts.{combined, first_entry, seed}
-use Rattle.edge_fold.specs.VectorAccumulators.{HaveJoined, active, held_in, held_in_with, place_in, reduction_in}
+use Rattle.edge_fold.specs.VectorAccumulators.{HaveJoined, active, held_in, held_in_with, index_in, reduction_in}
 use Rattle.edge_fold.proofs.Edges.{fold_before, fold_more}
 use Rattle.edge_fold.proofs.Folds.{reduced_at-append}
 use Rattle.edge_fold.proofs.SlotRows.{first_vector, of_slot-change}
@@ -66,27 +66,27 @@ same_number : (r : Reduction) (v : ℕ) (n : ℤ) (gs : List (ℕ × ℤ)) → g
 same_number r v n gs none = ap (λ (hs : List (ℕ × ℤ)). reduced_at r v n hs) none
 
 pub joined_slot : (f : ApplyContext) (x y p : ℕ) (r : Reduction) (before now after : VectorAccumulators) (was t : VectorAccumulator) (gs : List (ℕ × ℤ)) → active after ≡ take now.used (set now.slots.items p t)
-    → p ≡ place_in y (active now) → p < now.used → now.used ≤ length now.slots.items → was ≡ get_or now.slots.items p was → t.vector ≡ was.vector → t.reduction ≡ was.reduction
+    → p ≡ index_in y (active now) → p < now.used → now.used ≤ length now.slots.items → was ≡ get_or now.slots.items p was → t.vector ≡ was.vector → t.reduction ≡ was.reduction
     → ((combine : ℤ → ℤ → ℤ) (x v : ℕ) (h : ℤ) → held_in_with combine (active now) x v h ≡ held_in_with combine (active before) x v h)
     → (reduction_in (active before) x r ≡ r → reduction_in (active now) x r ≡ r)
     → ((v : ℕ) (h : ℤ) → (y == x) ≡ true → held_with (combined f.start r) t.entries v (first_entry f x v h) ≡ reduced_at r v (held_with (combined f.start r) was.entries v (first_entry f x v h)) gs)
     → ((y == x) ≡ false → gs ≡ [])
     → HaveJoined f x r before after gs
-joined_slot f x y p r before now after was t gs is place inside few slot vector reduction held kept here others =
-    let own = vector ∙ ap (λ (s : VectorAccumulator). s.vector) slot ∙ first_vector now.slots.items y now.used p was place inside few in
+joined_slot f x y p r before now after was t gs is index inside few slot vector reduction held kept here others =
+    let own = vector ∙ ap (λ (s : VectorAccumulator). s.vector) slot ∙ first_vector now.slots.items y now.used p was index inside few in
     record {
       entries = λ v h.
           let o = first_entry f x v h in
           let combine = combined f.start r in
           let F = λ (z : ℤ). reduced_at r v z gs in
           ap (λ (ss : List VectorAccumulator). held_in_with combine ss x v o) is
-          ∙ of_slot-change (λ s. held_with combine s.entries v o) F o y x now.used p now.slots.items t was place inside few own
+          ∙ of_slot-change (λ s. held_with combine s.entries v o) F o y x now.used p now.slots.items t was index inside few own
           (λ at. here v h at ∙ ap (λ (s : VectorAccumulator). F (held_with combine s.entries v o)) slot)
           (λ off z. same_number r v z gs (others off))
           ∙ ap F (held combine x v o);
       reduction = λ has.
           ap (λ (ss : List VectorAccumulator). reduction_in ss x r) is
-          ∙ of_slot-change (λ s. s.reduction) (λ q. q) r y x now.used p now.slots.items t was place inside few own
+          ∙ of_slot-change (λ s. s.reduction) (λ q. q) r y x now.used p now.slots.items t was index inside few own
           (λ at. reduction ∙ ap (λ (s : VectorAccumulator). s.reduction) slot)
           (λ off z. refl)
           ∙ kept has;

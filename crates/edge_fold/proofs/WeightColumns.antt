@@ -37,7 +37,7 @@ entries_parts (suc n) [] (w ∷ ws) same = absurd (omega (arith, same))
 entries_parts (suc n) (k ∷ ks) [] same = absurd (omega (arith, same))
 entries_parts (suc n) (k ∷ ks) (w ∷ ws) same = ap (λ es. (k, w) ∷ es) (entries_parts n ks ws (omega (arith, same)))
 
--- the entries of two columns, place by place
+-- the entries of two columns, index by index
 pub entries-length : (ks : List ℕ) (ws : List ℤ) → length (entries_of ks ws) ≡ length ks
 entries-length [] ws = refl
 entries-length (k ∷ ks) [] = ap suc (entries-length ks [])

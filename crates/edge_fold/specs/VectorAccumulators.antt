@@ -25,10 +25,10 @@ held_in ss x v old = held_in_with (λ h y. y) ss x v old
 abbrev pub reduction_in : List VectorAccumulator → (vector : ℕ) → Reduction → Reduction
 reduction_in ss x r = of_slot (λ s. s.reduction) ss x r
 
--- the place of the first slot of a vector, or how many slots there are
-abbrev pub place_in : (vector : ℕ) → List VectorAccumulator → ℕ
-place_in x [] = 0
-place_in x (s ∷ ss) = if s.vector == x then 0 else suc (place_in x ss)
+-- the index of the first slot of a vector, or how many slots there are
+abbrev pub index_in : (vector : ℕ) → List VectorAccumulator → ℕ
+index_in x [] = 0
+index_in x (s ∷ ss) = if s.vector == x then 0 else suc (index_in x ss)
 
 -- those in use
 abbrev pub active : VectorAccumulators → List VectorAccumulator

@@ -86,8 +86,8 @@ fn found_in_slots(
         (λ v. if test v then held_in (active slots.now) x v (entry m.vectors x v) else entry m.vectors x v)) }
 {
     let mut vectors = Vec::new(alloc);
-    'slots: for place in 0..slots.used {
-        let found = found_in_slot(alloc, context, to, &slots.slots[place], block)?;
+    'slots: for position in 0..slots.used {
+        let found = found_in_slot(alloc, context, to, &slots.slots[position], block)?;
         push_once(found, &mut vectors)?;
     }
     Ok(Changes { vectors })

@@ -22,7 +22,7 @@ pub enum FoldStart {
 }
 
 /// One edge function, or two that are applied together, and what they read: the vectors, the sizes of the vertex sets
-/// by their places, and how many vertices there are. `start` says what new entries begin with, and `weighted` whether
+/// by their indices, and how many vertices there are. `start` says what new entries begin with, and `weighted` whether
 /// the weights of edges count, as [`reads_weights`] tells.
 #[derive(Clone, Copy)]
 pub struct ApplyContext<'a> {
@@ -62,7 +62,7 @@ pub fn reads_weights(first: &EdgeKernel, second: Option<&EdgeKernel>) -> bool
     }
 }
 
-/// What is given on every edge from a source: the place of a vector, the reduction and the number.
+/// What is given on every edge from a source: the index of a vector, the reduction and the number.
 #[derive(Clone, Copy)]
 pub(crate) struct SourceContribution {
     pub(crate) vector: usize,
@@ -71,7 +71,7 @@ pub(crate) struct SourceContribution {
 }
 
 /// What is given on every edge, where it is the source's entry of a vector and the weight with an operator between them: the
-/// place of the vector that is given something, the reduction, the place of the vector that is read, and the operator.
+/// index of the vector that is given something, the reduction, the index of the vector that is read, and the operator.
 #[derive(Clone, Copy)]
 pub(crate) struct EntryContribution {
     pub(crate) vector: usize,

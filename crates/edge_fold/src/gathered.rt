@@ -27,7 +27,7 @@ use kernels::{Block, EndpointFilter};
 use std::alloc::{AllocError, Global};
 use vectors::EntryChange;
 
-/// What edges give one vector, by its place: the reduction, and numbers for vertices. A number that is reduced with those
+/// What edges give one vector, by its index: the reduction, and numbers for vertices. A number that is reduced with those
 /// of a vertex is reduced with all that the edges give it.
 #[derive(Drop)]
 pub struct GatheredIn {
@@ -100,9 +100,9 @@ fn gathered_in_slots(
         ≡ (if test v then held_in_with (combined FromUnit r) (active slots.now) x v h else h)) }
 {
     let mut vectors = Vec::new(alloc);
-    'slots: for place in 0..slots.used {
-        let slot = &slots.slots[place];
-        if find(&slots.slots[..place], slot.vector) < place {
+    'slots: for position in 0..slots.used {
+        let slot = &slots.slots[position];
+        if find(&slots.slots[..position], slot.vector) < position {
             continue;
         }
         let numbers = numbers_in_slot(alloc, context, to, slot, block)?;

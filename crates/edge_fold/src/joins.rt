@@ -95,15 +95,15 @@ impl Accumulator {
         reduction: Reduction,
         opening: InitialEntries<'_>,
         contribution: ContributionColumn<'_>,
-        place: usize,
+        index: usize,
         vertex: u32,
     ) -> Result<(), AllocError>
-        requires { place < length contribution.numbers.now }
+        requires { index < length contribution.numbers.now }
         ensures { OnOk result (AreJoined opening.entry reduction self.old self.new
-            (for_vector contribution.entry.vector vertex (contribution_at contribution.entry place))) }
+            (for_vector contribution.entry.vector vertex (contribution_at contribution.entry index))) }
     {
-        if is_given(contribution, place) {
-            self.join(reduction, opening, vertex, contribution.numbers[place])?;
+        if is_given(contribution, index) {
+            self.join(reduction, opening, vertex, contribution.numbers[index])?;
         }
         Ok(())
     }
@@ -294,12 +294,12 @@ impl Accumulator {
         requires { vertex < room self.old }
         ensures { AreJoined opening.entry reduction self.old self.new ((vertex, number) ∷ []) }
     {
-        let place = vertex as usize;
+        let index = vertex as usize;
         if self.marks.contains(vertex) {
-            self.values[place] = reduce(reduction, self.values[place], number);
+            self.values[index] = reduce(reduction, self.values[index], number);
             return;
         }
-        self.values[place] = opening.first(reduction, place, number);
+        self.values[index] = opening.first(reduction, index, number);
         self.marks.insert(vertex);
     }
 
@@ -340,12 +340,12 @@ fn lengthen(numbers: &mut Vec<i64>, count: usize) -> Result<(), AllocError>
 
 /// Whether a column gives a pair something.
 #[inline(always)]
-fn is_given(contribution: ContributionColumn<'_>, place: usize) -> bool
-    ensures { result ≡ truth_at contribution.entry.when place }
+fn is_given(contribution: ContributionColumn<'_>, index: usize) -> bool
+    ensures { result ≡ truth_at contribution.entry.when index }
 {
     match contribution.when {
         None => true,
-        Some(when) => match when.get(place) {
+        Some(when) => match when.get(index) {
             Some(n) => *n != 0,
             None => false,
         },

@@ -46,9 +46,9 @@ impl VectorAccumulators {
     ) -> Result<(), AllocError>
         ensures { OnOk result ((x : ℕ) (r : Reducing) → (sent.vector ≡ x → sent.reduction ≡ r) → HaveJoined context.entry x r self.old self.new []) }
     {
-        let place = self.place(alloc, sent.vector, sent.reduction, context.vertices)?;
+        let position = self.position(alloc, sent.vector, sent.reduction, context.vertices)?;
         let opening = context.opening(sent.vector);
-        self.slots[place].entries.fill(opening, context.vertices);
+        self.slots[position].entries.fill(opening, context.vertices);
         Ok(())
     }
 }
@@ -85,8 +85,8 @@ impl Accumulator {
         if self.marks.contains(vertex) {
             return;
         }
-        let place = vertex as usize;
-        self.values[place] = old.get(place);
+        let index = vertex as usize;
+        self.values[index] = old.get(index);
         self.marks.insert(vertex);
     }
 }

@@ -137,8 +137,8 @@ fn keep_all_where(block: &Block, part: &[u32], kept: &mut Vec<u32>) -> Result<()
     ensures { OnOk result ((test : ℕ → Bool) → ((i : ℕ) → i < length part.now → passes_at block.now i ≡ test (slice_index_or part.now i 0))
         → kept.new.items ≡ kept.old.items ++ filter test part.now) }
 {
-    'places: for (place, vertex) in part.iter().enumerate() {
-        keep_where(block.passes(place), *vertex, kept)?;
+    'indices: for (index, vertex) in part.iter().enumerate() {
+        keep_where(block.passes(index), *vertex, kept)?;
     }
     Ok(())
 }

@@ -4,7 +4,7 @@ ghost use Rattle.std.specs.Prelude.{◌≤◌, vec_len};
 use crate::accumulator::Accumulator;
 use apply_options::Reduction;
 
-/// A vector that an apply writes, by its place, the reduction by which it was first given something, and its new entries.
+/// A vector that an apply writes, by its index, the reduction by which it was first given something, and its new entries.
 #[derive(Drop)]
 pub(crate) struct VectorAccumulator {
     pub(crate) vector: usize,

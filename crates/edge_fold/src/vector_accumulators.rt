@@ -1,4 +1,4 @@
-//! The vectors that an apply writes, found by their places.
+//! The vectors that an apply writes, found by their indices.
 ghost use Rattle.std.specs.Prelude.{◌≡◌, ℕ, ℤ, ◌==◌, if◌then◌else◌, ◌<◌, ◌≤◌, [], length, vec_len, IfOk, OnOk};
 ghost use Rattle.edge_fold.specs.Gathered.{IsGatheredBy, gathered_for, numbers_of};
 ghost use Rattle.algorithm_meaning.specs.Arithmetic.{arithmetic};
@@ -6,7 +6,7 @@ ghost use Rattle.algorithm_meaning.specs.Value.{entry};
 ghost use Rattle.edge_fold.specs.EntryNumbers.{each_weighed};
 ghost use Rattle.edge_fold.specs.Given.{IsBy, each_given, entries_of, given_from};
 ghost use Rattle.edge_fold.specs.Held.{held_with};
-ghost use Rattle.edge_fold.specs.VectorAccumulators.{HaveJoined, active, held_in_with, place_in, reduction_in};
+ghost use Rattle.edge_fold.specs.VectorAccumulators.{HaveJoined, active, held_in_with, index_in, reduction_in};
 ghost use Rattle.kernels.specs.ContributionColumns.{contribution_at};
 ghost use Rattle.kernels.specs.Kernels.{HasCells, given_at};
 ghost use Rattle.apply_options.specs.declared.reduction.Reduction.{Reduction};
@@ -32,23 +32,23 @@ impl VectorAccumulators {
         }
     }
 
-    /// The place of a vector's slot. One that is new has this reduction, and no entry yet. The only error is out of
+    /// The index of a vector's slot. One that is new has this reduction, and no entry yet. The only error is out of
     /// memory, after which the entries are as they were.
-    pub(crate) fn place(
+    pub(crate) fn position(
         &mut self,
         alloc: Global,
         vector: usize,
         reduction: Reduction,
         vertices: u32,
     ) -> Result<usize, AllocError>
-        ensures place { IfOk result (λ p. (p ≡ place_in vector (active self.new)) × (p < self.new.used)) }
+        ensures position { IfOk result (λ p. (p ≡ index_in vector (active self.new)) × (p < self.new.used)) }
         ensures held { (combine : ℤ → ℤ → ℤ) (x v : ℕ) (h : ℤ) → held_in_with combine (active self.new) x v h ≡ held_in_with combine (active self.old) x v h }
         ensures reduction { (x : ℕ) (r : Reduction) → (vector ≡ x → reduction ≡ r) → reduction_in (active self.old) x r ≡ r
             → reduction_in (active self.new) x r ≡ r }
     {
-        let place = find(&self.slots[..self.used], vector);
-        if place < self.used {
-            return Ok(place);
+        let position = find(&self.slots[..self.used], vector);
+        if position < self.used {
+            return Ok(position);
         }
         self.add(alloc, vector, reduction, vertices)
     }
@@ -61,8 +61,8 @@ impl VectorAccumulators {
         reduction: Reduction,
         vertices: u32,
     ) -> Result<usize, AllocError>
-        requires { self.old.used ≤ place_in vector (active self.old) }
-        ensures place { IfOk result (λ p. (p ≡ place_in vector (active self.new)) × (p < self.new.used)) }
+        requires { self.old.used ≤ index_in vector (active self.old) }
+        ensures index { IfOk result (λ p. (p ≡ index_in vector (active self.new)) × (p < self.new.used)) }
         ensures held { (combine : ℤ → ℤ → ℤ) (x v : ℕ) (h : ℤ) → held_in_with combine (active self.new) x v h ≡ held_in_with combine (active self.old) x v h }
         ensures reduction { (x : ℕ) (r : Reduction) → (vector ≡ x → reduction ≡ r) → reduction_in (active self.old) x r ≡ r
             → reduction_in (active self.new) x r ≡ r }
@@ -81,16 +81,16 @@ impl VectorAccumulators {
         vertices: u32,
     ) -> Result<usize, AllocError>
         requires inside { self.old.used < vec_len self.old.slots }
-        requires none { self.old.used ≤ place_in vector (active self.old) }
-        ensures place { IfOk result (λ p. (p ≡ place_in vector (active self.new)) × (p < self.new.used)) }
+        requires none { self.old.used ≤ index_in vector (active self.old) }
+        ensures position { IfOk result (λ p. (p ≡ index_in vector (active self.new)) × (p < self.new.used)) }
         ensures held { (combine : ℤ → ℤ → ℤ) (x v : ℕ) (h : ℤ) → held_in_with combine (active self.new) x v h ≡ held_in_with combine (active self.old) x v h }
         ensures reduction { (x : ℕ) (r : Reduction) → (vector ≡ x → reduction ≡ r) → reduction_in (active self.old) x r ≡ r
             → reduction_in (active self.new) x r ≡ r }
     {
-        let place = self.used;
-        self.slots[place].begin(vector, reduction, vertices)?;
-        self.used = place + 1;
-        Ok(place)
+        let position = self.used;
+        self.slots[position].begin(vector, reduction, vertices)?;
+        self.used = position + 1;
+        Ok(position)
     }
 
     /// One more than there are.
@@ -102,8 +102,8 @@ impl VectorAccumulators {
         vertices: u32,
     ) -> Result<usize, AllocError>
         requires all { self.old.used ≡ vec_len self.old.slots }
-        requires none { self.old.used ≤ place_in vector (active self.old) }
-        ensures place { IfOk result (λ p. (p ≡ place_in vector (active self.new)) × (p < self.new.used)) }
+        requires none { self.old.used ≤ index_in vector (active self.old) }
+        ensures index { IfOk result (λ p. (p ≡ index_in vector (active self.new)) × (p < self.new.used)) }
         ensures held { (combine : ℤ → ℤ → ℤ) (x v : ℕ) (h : ℤ) → held_in_with combine (active self.new) x v h ≡ held_in_with combine (active self.old) x v h }
         ensures reduction { (x : ℕ) (r : Reduction) → (vector ≡ x → reduction ≡ r) → reduction_in (active self.old) x r ≡ r
             → reduction_in (active self.new) x r ≡ r }
@@ -115,9 +115,9 @@ impl VectorAccumulators {
             reduction,
             entries,
         })?;
-        let place = self.used;
-        self.used = place + 1;
-        Ok(place)
+        let index = self.used;
+        self.used = index + 1;
+        Ok(index)
     }
 
     /// Reduces the entries at the destinations of pairs with a column of what is given to them. A column that gives
@@ -136,14 +136,14 @@ impl VectorAccumulators {
         if !gives_some(contribution, destinations.len()) {
             return Ok(());
         }
-        let place = self.place(
+        let position = self.position(
             alloc,
             contribution.vector,
             contribution.reduction,
             context.vertices,
         )?;
         let opening = context.opening(contribution.vector);
-        self.slots[place]
+        self.slots[position]
             .entries
             .join_column(opening, contribution, destinations)?;
         Ok(())
@@ -161,9 +161,9 @@ impl VectorAccumulators {
         ensures { OnOk result ((x : ℕ) (r : Reduction) → (sent.vector ≡ x → sent.reduction ≡ r)
             → HaveJoined context.entry x r self.old self.new (if sent.vector == x then each_given sent.number destinations.now else [])) }
     {
-        let place = self.place(alloc, sent.vector, sent.reduction, context.vertices)?;
+        let position = self.position(alloc, sent.vector, sent.reduction, context.vertices)?;
         let opening = context.opening(sent.vector);
-        let entries = &mut self.slots[place].entries;
+        let entries = &mut self.slots[position].entries;
         entries.join_number(sent.reduction, opening, sent.number, destinations)?;
         Ok(())
     }
@@ -185,13 +185,13 @@ impl VectorAccumulators {
             (if given.vector == x then each_weighed (arithmetic given.operator (entry context.entry.vectors.now.vectors given.from source))
             (entries_of destinations.now weights.now) else [])) }
     {
-        let place = self.place(alloc, given.vector, given.reduction, context.vertices)?;
+        let position = self.position(alloc, given.vector, given.reduction, context.vertices)?;
         let opening = context.opening(given.vector);
         let numbers = NumberWith {
             number: context.vectors.lane(given.from).get(source as usize),
             operator: given.operator,
         };
-        let entries = &mut self.slots[place].entries;
+        let entries = &mut self.slots[position].entries;
         entries.join_weights(given.reduction, opening, numbers, destinations, weights)?;
         Ok(())
     }
@@ -225,9 +225,9 @@ impl VectorAccumulators {
     {
         let vector = of_vector.vector;
         let reduction = of_vector.reduction;
-        let place = self.place(alloc, vector, reduction, context.vertices)?;
+        let position = self.position(alloc, vector, reduction, context.vertices)?;
         let opening = context.opening(vector);
-        let entries = &mut self.slots[place].entries;
+        let entries = &mut self.slots[position].entries;
         entries.join_changes(reduction, opening, &of_vector.numbers)?;
         Ok(())
     }
@@ -247,11 +247,11 @@ impl VectorAccumulators {
         ensures { OnOk result ((x : ℕ) (r : Reduction) → ((i : ℕ) → i < length destinations.now → IsBy r x (given_at kernel.now block.now i))
             → HaveJoined context.entry x r self.old self.new (given_from x (given_at kernel.now block.now) 0 destinations.now)) }
     {
-        'contributions: for place in 0..kernel.contributions() {
+        'contributions: for index in 0..kernel.contributions() {
             self.join_contribution(
                 alloc,
                 context,
-                kernel.contribution(place, block),
+                kernel.contribution(index, block),
                 destinations,
             )?;
         }
@@ -277,16 +277,16 @@ impl VectorAccumulator {
     }
 }
 
-/// The place of the first slot of a vector, or how many there are.
+/// The index of the first slot of a vector, or how many there are.
 pub(crate) fn find(slots: &[VectorAccumulator], vector: usize) -> usize
-    ensures { result ≡ place_in vector slots.now }
+    ensures { result ≡ index_in vector slots.now }
 {
-    let mut place = 0;
+    let mut position = 0;
     'slots: for slot in slots {
         if slot.vector == vector {
-            return place;
+            return position;
         }
-        place += 1;
+        position += 1;
     }
-    place
+    position
 }

@@ -30,7 +30,7 @@ times e (u ∷ us) = if names u e then times e us + 1 else times e us
 abbrev pub NamesOnce : List EdgeUpdate → Type 0
 NamesOnce us = (e : Edge) → times e us ≤ 1
 
--- the one stands before the other, or at its place
+-- the one stands before the other, or at its index
 abbrev pub IsNotAfter : EdgeUpdate → EdgeUpdate → Type 0
 IsNotAfter a b = (vertex_of a ≤ vertex_of b) × (vertex_of a ≡ vertex_of b → neighbour_of a ≤ neighbour_of b)
 

@@ -19,7 +19,7 @@ use Rattle.expression_types.specs.declared.scope.Entity.{Entity}
 use Rattle.expression_types.specs.declared.scope.Entity.TheVariants as entity
 use Rattle.expression_types.specs.declared.scope.Inside.{Inside}
 use Rattle.expression_types.specs.declared.scope.Inside.TheVariants as inside
-use Rattle.expression_types.specs.Expression.{as_size, as_vector, comparison_value, conjunction_value, conjuncts, disjuncts, factors, index_as, index_lacks_value, index_value, name_value, no_vertex, primary_value, size_of, size_value, sum_value, summands, term_value, unary_value, used, used_as, value_of, vector_at, vector_place}
+use Rattle.expression_types.specs.Expression.{as_size, as_vector, comparison_value, conjunction_value, conjuncts, disjuncts, factors, index_as, index_lacks_value, index_value, name_value, no_vertex, primary_value, size_of, size_value, sum_value, summands, term_value, unary_value, used, used_as, value_of, vector_at, vector_index}
 use Rattle.expression_types.specs.Names.{found}
 use Rattle.expression_types.specs.WithFaults.{WithFaults, fault_at, sure}
 use Rattle.expression_types.specs.Operators.{IntegersTree, Integers, MixedIntegers, ErrorIntegers, ConditionsTree, Conditions, MixedConditions, ErrorConditions, condition_index, entry_value, first_condition, first_integer, function_entry, given, grouped_conditions, grouped_integers, integer_index, main_entry, related_value, signed_value}
@@ -73,13 +73,13 @@ name_stands P scope at name here there =
 
 vector_at_stands : (P : ℕ → Type 0) (at : ℕ) (o : Option ℕ) → P at → FaultsStand P (vector_at at o)
 vector_at_stands P at None here = (here, tt)
-vector_at_stands P at (Some place) here = tt
+vector_at_stands P at (Some index) here = tt
 
 as_vector_stands : (P : ℕ → Type 0) (at : ℕ) (e : Entity) → P at → FaultsStand P (as_vector at e)
 as_vector_stands P at entity.Error here = tt
 as_vector_stands P at e here = vector_at_stands P at (named_vector e) here
 
-pub vector_stands : (P : ℕ → Type 0) (scope : ScopeTree) (at : ℕ) (name : Identifier) → P at → P name.at → FaultsStand P (vector_place scope at name)
+pub vector_stands : (P : ℕ → Type 0) (scope : ScopeTree) (at : ℕ) (name : Identifier) → P at → P name.at → FaultsStand P (vector_index scope at name)
 vector_stands P scope at name here there =
     let e = used scope name in both_stand P e.faults _ (used_stands P scope name there) (as_vector_stands P at e.value here)
 
@@ -230,7 +230,7 @@ mutual
   primary_stands P scope at (tree.Truth b) here all = tt
   primary_stands P scope at (tree.Variable name) here all = name_stands P scope at name here all.0
   primary_stands P scope at (tree.Entry name index) here all =
-      let vector = vector_place scope at name in
+      let vector = vector_index scope at name in
       let v = index_value scope at index in
       both_stand P vector.faults _ (vector_stands P scope at name here all.0)
       (both_stand P v.faults _ (index_stands P scope index (value_of scope at index) (value_stands P scope at index here (before P (expression_terminals index) _ _ all.1.1)))

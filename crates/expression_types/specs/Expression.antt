@@ -33,17 +33,17 @@ used scope name = used_as name (found name.bytes scope.visible)
 abbrev pub name_value : ScopeTree → ℕ → Identifier → WithFaults ValueTree
 name_value scope at name = used scope name >>= λ e. given at rule.WrongType (named_value e)
 
--- the place of a vector, none where the name is faulty or no vector
+-- the index of a vector, none where the name is faulty or no vector
 abbrev pub vector_at : ℕ → Option ℕ → WithFaults (Option ℕ)
 vector_at at None = fault_at at rule.WrongType None
-vector_at at (Some place) = sure (Some place)
+vector_at at (Some index) = sure (Some index)
 
 abbrev pub as_vector : ℕ → Entity → WithFaults (Option ℕ)
 as_vector at entity.Error = sure None
 as_vector at e = vector_at at (named_vector e)
 
-abbrev pub vector_place : ScopeTree → ℕ → Identifier → WithFaults (Option ℕ)
-vector_place scope at name = used scope name >>= as_vector at
+abbrev pub vector_index : ScopeTree → ℕ → Identifier → WithFaults (Option ℕ)
+vector_index scope at name = used scope name >>= as_vector at
 
 -- how many members a vertex set has
 abbrev pub size_of : ℕ → Option VarRef → WithFaults ValueTree
@@ -140,7 +140,7 @@ abbrev mutual
   primary_value scope at (Truth b) = sure (Condition (condition.Literal b))
   primary_value scope at (Variable name) = name_value scope at name
   primary_value scope at (Entry name index) =
-      vector_place scope at name >>= λ vector. index_as scope index (value_of scope at index) >>= λ v. entry_value scope.inside at vector v
+      vector_index scope at name >>= λ vector. index_as scope index (value_of scope at index) >>= λ v. entry_value scope.inside at vector v
   primary_value scope at (Size name) = size_value scope at name
   primary_value scope at (Parentheses inside) = value_of scope at inside
 

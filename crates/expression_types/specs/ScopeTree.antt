@@ -10,8 +10,8 @@ use Rattle.expression_types.specs.declared.scope.Mark.{Mark}
 use Rattle.expression_types.specs.Names.{found}
 use Rattle.expression_types.specs.WithFaults.{WithFaults, sure, fault_at}
 
--- Names with what they are, in the order in which they became visible; where expressions stand; and how many places of visible
--- integers, conditions and vertex sets are taken. The constant sets of the whole program have the first places of sets.
+-- Names with what they are, in the order in which they became visible; where expressions stand; and how many indices of visible
+-- integers, conditions and vertex sets are taken. The constant sets of the whole program have the first indices of sets.
 pub record ScopeTree : Type 0 where
   pub visible : List (List ℕ × Entity)
   pub inside : Inside
@@ -23,10 +23,10 @@ pub record ScopeTree : Type 0 where
 abbrev pub empty_scope : ℕ → ScopeTree
 empty_scope sets = record { visible = []; inside = inside.Main; integers = 0; conditions = 0; sets = sets }
 
--- how many places of integers it takes; a `for` has its bound after its name
+-- how many indices of integers it takes; a `for` has its bound after its name
 abbrev pub integers_of : Entity → ℕ
 integers_of (entity.Edges weights) = 0
-integers_of (entity.Vector place) = 0
+integers_of (entity.Vector index) = 0
 integers_of (entity.ConstantSet slot) = 0
 integers_of (entity.IntegerConstant name n) = 0
 integers_of (entity.ConditionConstant name b) = 0
@@ -36,16 +36,16 @@ integers_of (entity.SetVariable slot) = 0
 integers_of (entity.LoopVariable slot) = 2
 integers_of (entity.Parameter at) = 0
 integers_of entity.Weight = 0
-integers_of (entity.EdgeFunction place weighted) = 0
-integers_of (entity.VertexFunction place) = 0
-integers_of (entity.Filter place) = 0
+integers_of (entity.EdgeFunction index weighted) = 0
+integers_of (entity.VertexFunction index) = 0
+integers_of (entity.Filter index) = 0
 integers_of entity.Main = 0
 integers_of entity.Error = 0
 
--- how many places of conditions
+-- how many indices of conditions
 abbrev pub conditions_of : Entity → ℕ
 conditions_of (entity.Edges weights) = 0
-conditions_of (entity.Vector place) = 0
+conditions_of (entity.Vector index) = 0
 conditions_of (entity.ConstantSet slot) = 0
 conditions_of (entity.IntegerConstant name n) = 0
 conditions_of (entity.ConditionConstant name b) = 0
@@ -55,16 +55,16 @@ conditions_of (entity.SetVariable slot) = 0
 conditions_of (entity.LoopVariable slot) = 0
 conditions_of (entity.Parameter at) = 0
 conditions_of entity.Weight = 0
-conditions_of (entity.EdgeFunction place weighted) = 0
-conditions_of (entity.VertexFunction place) = 0
-conditions_of (entity.Filter place) = 0
+conditions_of (entity.EdgeFunction index weighted) = 0
+conditions_of (entity.VertexFunction index) = 0
+conditions_of (entity.Filter index) = 0
 conditions_of entity.Main = 0
 conditions_of entity.Error = 0
 
--- how many places of vertex sets, of which the constant ones were taken at the beginning
+-- how many indices of vertex sets, of which the constant ones were taken at the beginning
 abbrev pub sets_of : Entity → ℕ
 sets_of (entity.Edges weights) = 0
-sets_of (entity.Vector place) = 0
+sets_of (entity.Vector index) = 0
 sets_of (entity.ConstantSet slot) = 0
 sets_of (entity.IntegerConstant name n) = 0
 sets_of (entity.ConditionConstant name b) = 0
@@ -74,9 +74,9 @@ sets_of (entity.SetVariable slot) = 1
 sets_of (entity.LoopVariable slot) = 0
 sets_of (entity.Parameter at) = 0
 sets_of entity.Weight = 0
-sets_of (entity.EdgeFunction place weighted) = 0
-sets_of (entity.VertexFunction place) = 0
-sets_of (entity.Filter place) = 0
+sets_of (entity.EdgeFunction index weighted) = 0
+sets_of (entity.VertexFunction index) = 0
+sets_of (entity.Filter index) = 0
 sets_of entity.Main = 0
 sets_of entity.Error = 0
 

@@ -61,7 +61,7 @@ as_set ErrorValue = None
 -- the value that a name has alone, where it has one
 abbrev pub named_value : Entity → Option ValueTree
 named_value (entity.Edges weights) = None
-named_value (entity.Vector place) = None
+named_value (entity.Vector index) = None
 named_value (entity.ConstantSet slot) = Some (Set slot)
 named_value (entity.IntegerConstant name n) = Some (Integer (integer.Constant name n))
 named_value (entity.ConditionConstant name b) = Some (Condition (condition.Constant name b))
@@ -71,16 +71,16 @@ named_value (entity.SetVariable slot) = Some (Set slot)
 named_value (entity.LoopVariable slot) = Some (Integer (integer.Variable slot))
 named_value (entity.Parameter at) = Some (Vertex at)
 named_value entity.Weight = Some (Integer integer.Weight)
-named_value (entity.EdgeFunction place weighted) = None
-named_value (entity.VertexFunction place) = None
-named_value (entity.Filter place) = None
+named_value (entity.EdgeFunction index weighted) = None
+named_value (entity.VertexFunction index) = None
+named_value (entity.Filter index) = None
 named_value entity.Main = None
 named_value entity.Error = Some ErrorValue
 
 -- the vector that a name is
 abbrev pub named_vector : Entity → Option ℕ
 named_vector (entity.Edges weights) = None
-named_vector (entity.Vector place) = Some place
+named_vector (entity.Vector index) = Some index
 named_vector (entity.ConstantSet slot) = None
 named_vector (entity.IntegerConstant name n) = None
 named_vector (entity.ConditionConstant name b) = None
@@ -90,16 +90,16 @@ named_vector (entity.SetVariable slot) = None
 named_vector (entity.LoopVariable slot) = None
 named_vector (entity.Parameter at) = None
 named_vector entity.Weight = None
-named_vector (entity.EdgeFunction place weighted) = None
-named_vector (entity.VertexFunction place) = None
-named_vector (entity.Filter place) = None
+named_vector (entity.EdgeFunction index weighted) = None
+named_vector (entity.VertexFunction index) = None
+named_vector (entity.Filter index) = None
 named_vector entity.Main = None
 named_vector entity.Error = None
 
 -- the vertex set that a name is
 abbrev pub named_set : Entity → Option VarRef
 named_set (entity.Edges weights) = None
-named_set (entity.Vector place) = None
+named_set (entity.Vector index) = None
 named_set (entity.ConstantSet slot) = Some slot
 named_set (entity.IntegerConstant name n) = None
 named_set (entity.ConditionConstant name b) = None
@@ -109,9 +109,9 @@ named_set (entity.SetVariable slot) = Some slot
 named_set (entity.LoopVariable slot) = None
 named_set (entity.Parameter at) = None
 named_set entity.Weight = None
-named_set (entity.EdgeFunction place weighted) = None
-named_set (entity.VertexFunction place) = None
-named_set (entity.Filter place) = None
+named_set (entity.EdgeFunction index weighted) = None
+named_set (entity.VertexFunction index) = None
+named_set (entity.Filter index) = None
 named_set entity.Main = None
 named_set entity.Error = None
 

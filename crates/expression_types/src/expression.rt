@@ -2,7 +2,7 @@
 ghost use Rattle.std.specs.Prelude.{◌≡◌};
 ghost use Rattle.syntax.specs.ExpressionViews.{comparison_of, conjunction_of, primary_of, sum_of, term_of, unary_of};
 ghost use Rattle.expression_types.specs.Expression.{as_size, as_vector, comparison_value, conjunction_value, index_lacks_value, index_value, lacks_value, name_value};
-ghost use Rattle.expression_types.specs.Expression.{no_vertex, primary_value, size_value, sum_value, term_value, unary_value, used, value_of, vector_place};
+ghost use Rattle.expression_types.specs.Expression.{no_vertex, primary_value, size_value, sum_value, term_value, unary_value, used, value_of, vector_index};
 ghost use Rattle.expression_types.specs.WithFaults.{ReportsFaults, outcome};
 ghost use Rattle.expression_types.specs.ValueTree.{value_tree};
 
@@ -244,31 +244,31 @@ fn variable(scope: &Scope, at: usize, name: &Name, first_fault: &mut Option<Faul
     }
 }
 
-/// The place of a vector, or `None` where the name is none or its declaration is faulty.
+/// The index of a vector, or `None` where the name is none or its declaration is faulty.
 pub fn vector(
     scope: &Scope,
     at: usize,
     name: &Name,
     first_fault: &mut Option<Fault>,
 ) -> Option<usize>
-    ensures { outcome first_fault.old (vector_place scope.now at name.now) ≡ (result, first_fault.new) }
+    ensures { outcome first_fault.old (vector_index scope.now at name.now) ≡ (result, first_fault.new) }
 {
     let entity = entity(scope, name, first_fault);
     vector_of(entity, at, first_fault)
 }
 
-/// The place of the vector that an entity is.
+/// The index of the vector that an entity is.
 fn vector_of(entity: Entity, at: usize, first_fault: &mut Option<Fault>) -> Option<usize>
     ensures { outcome first_fault.old (as_vector at entity) ≡ (result, first_fault.new) }
 {
     if entity == Entity::Error {
         return None;
     }
-    let place = vector_named(entity);
-    if place.is_none() {
+    let index = vector_named(entity);
+    if index.is_none() {
         note(first_fault, at, TypeRule::WrongType);
     }
-    place
+    index
 }
 
 /// How many members a vertex set has.

@@ -2,7 +2,7 @@
 //! there, and its faults.
 //!
 //! A contract sees a [`Scope`] as a `ScopeTree`: the visible names in the order in which they became visible,
-//! each with the [`Entity`] that it stands for, and how many places of integers, conditions and vertex sets are
+//! each with the [`Entity`] that it stands for, and how many indices of integers, conditions and vertex sets are
 //! taken. [`type_expression`] looks each name up there and gives the [`Value`] of an expression: a tree of
 //! `typed_tree` for an integer or a condition, a vertex, a set, or `Error` where a part of it breaks a rule.
 //!

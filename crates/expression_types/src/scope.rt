@@ -16,11 +16,11 @@ use typed_tree::{Endpoint, VarRef};
 pub enum Entity {
     /// The constant edgeset, and whether the weights of its edges are seen.
     Edges(bool),
-    /// The constant vector at this place.
+    /// The constant vector at this index.
     Vector(usize),
     /// A constant vertex set.
     ConstantSet(VarRef),
-    /// A constant int: the place of its name in the program's names, and its value.
+    /// A constant int: the index of its name in the program's names, and its value.
     IntegerConstant(usize, i64),
     /// A constant bool, in the same way.
     ConditionConstant(usize, bool),
@@ -36,11 +36,11 @@ pub enum Entity {
     Parameter(Endpoint),
     /// The third parameter of an edge function: the weight of the edge that it works on.
     Weight,
-    /// The edge function at this place, and whether it has the weight as its third parameter.
+    /// The edge function at this index, and whether it has the weight as its third parameter.
     EdgeFunction(usize, bool),
-    /// The vertex function at this place.
+    /// The vertex function at this index.
     VertexFunction(usize),
-    /// The filter at this place.
+    /// The filter at this index.
     Filter(usize),
     /// The function that is run.
     Main,
@@ -107,9 +107,9 @@ pub struct Mark {
 }
 
 impl Entity {
-    /// How many places of integers it takes; a `for` has its bound after its name.
+    /// How many indices of integers it takes; a `for` has its bound after its name.
     fn integers(self) -> usize
-        ensures places { result ≡ integers_of self }
+        ensures indices { result ≡ integers_of self }
         ensures few { result ≤ 2 }
     {
         match self {
@@ -119,9 +119,9 @@ impl Entity {
         }
     }
 
-    /// How many places of conditions it takes.
+    /// How many indices of conditions it takes.
     fn conditions(self) -> usize
-        ensures places { result ≡ conditions_of self }
+        ensures indices { result ≡ conditions_of self }
         ensures few { result ≤ 1 }
     {
         match self {
@@ -130,9 +130,9 @@ impl Entity {
         }
     }
 
-    /// How many places of vertex sets it takes.
+    /// How many indices of vertex sets it takes.
     fn sets(self) -> usize
-        ensures places { result ≡ sets_of self }
+        ensures indices { result ≡ sets_of self }
         ensures few { result ≤ 1 }
     {
         match self {
@@ -171,21 +171,21 @@ impl Scope {
         self.inside
     }
 
-    /// How many places of integers are taken: the place of the next integer.
+    /// How many indices of integers are taken: the index of the next integer.
     pub fn integers(&self) -> usize
         ensures { result ≡ self.now.integers }
     {
         self.integers
     }
 
-    /// How many places of conditions are taken.
+    /// How many indices of conditions are taken.
     pub fn conditions(&self) -> usize
         ensures { result ≡ self.now.conditions }
     {
         self.conditions
     }
 
-    /// How many places of vertex sets are taken, those of all constant ones among them.
+    /// How many indices of vertex sets are taken, those of all constant ones among them.
     pub fn sets(&self) -> usize
         ensures { result ≡ self.now.sets }
     {

@@ -134,7 +134,7 @@ pub fn vector_named(entity: Entity) -> Option<usize>
     ensures { result ≡ named_vector entity }
 {
     match entity {
-        Entity::Vector(place) => Some(place),
+        Entity::Vector(index) => Some(index),
         _ => None,
     }
 }

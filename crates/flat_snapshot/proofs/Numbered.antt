@@ -107,6 +107,6 @@ few_at u (e ∷ es) few = elim (cases_eq e.0 u) [
   | inr other ↦ rw (ne_eqb e.0 u other) (few_at u es few.1)
 ]
 
--- a place without a block
+-- a slot without a block
 pub none_is_a_block : IsBlock []
 none_is_a_block = record { map = omega arith; lists = tt }

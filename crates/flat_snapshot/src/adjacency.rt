@@ -7,7 +7,7 @@ ghost use Rattle.pages.specs.Vertices.{neighbours_of};
 ghost use Rattle.vertex_blocks.specs.Blocks.{lists_of, AreBlocks, vertices_at, vertices_from};
 ghost use Rattle.tree_batch.specs.VertexBlocks.{HaveFew};
 ghost use Rattle.flat_snapshot.specs.Lists.{degrees_of};
-ghost use Rattle.flat_snapshot.specs.inside.Places.{IsPadded, IsPut};
+ghost use Rattle.flat_snapshot.specs.inside.Slots.{IsPadded, IsPut};
 
 use crate::degrees::Degrees;
 use shared_tree::Share;
@@ -55,12 +55,12 @@ impl Adjacency {
         requires few { HaveFew (lists_of blocks) }
         ensures { IfOk result (λ a. a ≡ lists_of blocks.entry) }
     {
-        let mut places = Vec::with_capacity(alloc, (vertices / 64) as usize + 1)?;
+        let mut slots = Vec::with_capacity(alloc, (vertices / 64) as usize + 1)?;
         let mut blocks = blocks;
         while let Some((number, block)) = blocks.next() {
-            push(&mut places, number, block)?;
+            push(&mut slots, number, block)?;
         }
-        Ok(Adjacency { blocks: places })
+        Ok(Adjacency { blocks: slots })
     }
 
     /// The block of a vertex, if one of its vertices has neighbours.
@@ -132,25 +132,25 @@ impl Adjacency {
 
 /// Adds a block at its number, which is behind all others. The only error is out of memory.
 fn push(
-    places: &mut Vec<Option<VertexBlock>>,
+    slots: &mut Vec<Option<VertexBlock>>,
     number: u32,
     block: &VertexBlock,
 ) -> Result<(), AllocError>
-    requires { length places.old.items ≤ number }
-    ensures { IfOk result (λ _. IsPut places.old.items number block.now places.new.items) }
+    requires { length slots.old.items ≤ number }
+    ensures { IfOk result (λ _. IsPut slots.old.items number block.now slots.new.items) }
 {
-    pad(places, number)?;
-    places.push(Some(block.share()?))?;
+    pad(slots, number)?;
+    slots.push(Some(block.share()?))?;
     Ok(())
 }
 
-/// Adds places without a block up to a number. The only error is out of memory.
-fn pad(places: &mut Vec<Option<VertexBlock>>, number: u32) -> Result<(), AllocError>
-    requires { length places.old.items ≤ number }
-    ensures { IfOk result (λ _. IsPadded places.old.items number places.new.items) }
+/// Adds slots without a block up to a number. The only error is out of memory.
+fn pad(slots: &mut Vec<Option<VertexBlock>>, number: u32) -> Result<(), AllocError>
+    requires { length slots.old.items ≤ number }
+    ensures { IfOk result (λ _. IsPadded slots.old.items number slots.new.items) }
 {
-    while places.len() < number as usize {
-        places.push(None)?;
+    while slots.len() < number as usize {
+        slots.push(None)?;
     }
     Ok(())
 }

@@ -1,8 +1,8 @@
 //! State of `main`: what its expressions read.
 use vectors::Vectors;
 
-/// What an expression of `main` reads: the vectors, the sizes of the vertex sets by their places, how many vertices
-/// there are, and the visible variables by their places.
+/// What an expression of `main` reads: the vectors, the sizes of the vertex sets by their indices, how many vertices
+/// there are, and the visible variables by their indices.
 #[derive(Clone, Copy)]
 pub struct MainState<'a> {
     pub vectors: &'a Vectors,

@@ -10,7 +10,7 @@ use Rattle.plans.specs.declared.instruction.Instruction.{Instruction}
 use Rattle.plans.specs.declared.operation.PlanOperation.{PlanOperation}
 use Rattle.plans.specs.declared.operation.PlanOperation.TheVariants as op
 use Rattle.plans.specs.Operation.{AreInstructions, IsOperation}
-use Rattle.lowering.specs.inside.Targets.{places_of}
+use Rattle.lowering.specs.inside.Targets.{indices_of}
 use Rattle.lowering.specs.Text.{AreWritten, IsWritten, instruction_line, instruction_lines, operation_words, target_words}
 
 -- instructions that keep their words are instructions
@@ -21,7 +21,7 @@ written_instructions p (i ∷ is) [] all = absurd all
 written_instructions p (i ∷ is) (t ∷ ts) all = (all.0.instruction, written_instructions p is ts all.1)
 
 -- an operation goes where its tree does
-pub target_words_of : (keep shown : Depth) (operation : PlanOperation) (o : OperationTree) → IsOperation keep shown operation o → places_of operation ≡ target_words o
+pub target_words_of : (keep shown : Depth) (operation : PlanOperation) (o : OperationTree) → IsOperation keep shown operation o → indices_of operation ≡ target_words o
 target_words_of keep shown (op.DeclareInteger name k) o h = ap target_words (sym h.is)
 target_words_of keep shown (op.DeclareCondition name k) o h = ap target_words (sym h.is)
 target_words_of keep shown (op.SetInteger slot k) o h = ap target_words (sym h.is)
@@ -50,55 +50,55 @@ regroup : (old number words target : List ℕ) → (((old ++ number) ++ 32 ∷ [
 regroup old number words target = simp append_assoc
 
 -- a number, the words of an instruction, and where it may go
-pub words_of_line : (p : ProgramTree) (place : ℕ) (i : Instruction) (t : InstructionTree) (old a b d e : List ℕ) → IsWritten p i t
-    → a ≡ old ++ decimal place → b ≡ a ++ 32 ∷ [] → d ≡ b ++ i.words.items → e ≡ d ++ spaced (places_of i.operation)
-    → e ≡ old ++ spaced (decimal place ∷ (operation_words p t.choice t.operation ++ target_words t.operation))
-words_of_line p place i t old a b d e written number space words target =
+pub words_of_line : (p : ProgramTree) (index : ℕ) (i : Instruction) (t : InstructionTree) (old a b d e : List ℕ) → IsWritten p i t
+    → a ≡ old ++ decimal index → b ≡ a ++ 32 ∷ [] → d ≡ b ++ i.words.items → e ≡ d ++ spaced (indices_of i.operation)
+    → e ≡ old ++ spaced (decimal index ∷ (operation_words p t.choice t.operation ++ target_words t.operation))
+words_of_line p index i t old a b d e written number space words target =
     let ws = operation_words p t.choice t.operation in
     let vs = target_words t.operation in
-    let behind : spaced (places_of i.operation) ≡ spaced vs = ap spaced (target_words_of i.keep i.shown i.operation t.operation written.instruction.operation) in
+    let behind : spaced (indices_of i.operation) ≡ spaced vs = ap spaced (target_words_of i.keep i.shown i.operation t.operation written.instruction.operation) in
     target
-    ∙ ap (λ x. x ++ spaced (places_of i.operation)) (words ∙ ap (λ x. x ++ i.words.items) (space ∙ ap (λ x. x ++ 32 ∷ []) number))
-    ∙ ap (λ x. (((old ++ decimal place) ++ 32 ∷ []) ++ x) ++ spaced (places_of i.operation)) written.words
-    ∙ ap (λ x. (((old ++ decimal place) ++ 32 ∷ []) ++ spaced ws) ++ x) behind
-    ∙ regroup old (decimal place) (spaced ws) (spaced vs)
-    ∙ ap (λ x. old ++ (decimal place ++ 32 ∷ x)) (sym (spaced_append ws vs))
+    ∙ ap (λ x. x ++ spaced (indices_of i.operation)) (words ∙ ap (λ x. x ++ i.words.items) (space ∙ ap (λ x. x ++ 32 ∷ []) number))
+    ∙ ap (λ x. (((old ++ decimal index) ++ 32 ∷ []) ++ x) ++ spaced (indices_of i.operation)) written.words
+    ∙ ap (λ x. (((old ++ decimal index) ++ 32 ∷ []) ++ spaced ws) ++ x) behind
+    ∙ regroup old (decimal index) (spaced ws) (spaced vs)
+    ∙ ap (λ x. old ++ (decimal index ++ 32 ∷ x)) (sym (spaced_append ws vs))
 
 -- that line is written when it is ended
-pub line_written : (p : ProgramTree) (place : ℕ) (i : Instruction) (t : InstructionTree) (old a b d e new : List ℕ) → IsWritten p i t
-    → a ≡ old ++ decimal place → b ≡ a ++ 32 ∷ [] → d ≡ b ++ i.words.items → e ≡ d ++ spaced (places_of i.operation)
+pub line_written : (p : ProgramTree) (index : ℕ) (i : Instruction) (t : InstructionTree) (old a b d e new : List ℕ) → IsWritten p i t
+    → a ≡ old ++ decimal index → b ≡ a ++ 32 ∷ [] → d ≡ b ++ i.words.items → e ≡ d ++ spaced (indices_of i.operation)
     → ((before : List ℕ) (ws : List (List ℕ)) → ws ≢ [] → e ≡ before ++ spaced ws → new ≡ before ++ (joined ws ++ 10 ∷ []))
-    → new ≡ old ++ instruction_line p place t
-line_written p place i t old a b d e new written number space words target ends =
-    ends old (decimal place ∷ (operation_words p t.choice t.operation ++ target_words t.operation)) (absurd_cons _ _)
-    (words_of_line p place i t old a b d e written number space words target)
+    → new ≡ old ++ instruction_line p index t
+line_written p index i t old a b d e new written number space words target ends =
+    ends old (decimal index ∷ (operation_words p t.choice t.operation ++ target_words t.operation)) (absurd_cons _ _)
+    (words_of_line p index i t old a b d e written number space words target)
 
--- after a beginning of a text there are the lines of the instructions before a place; with those of the others it is the whole
-pub record Writes (p : ProgramTree) (instructions : List Instruction) (place : ℕ) (text whole : List ℕ) : Type 0 where
+-- after a beginning of a text there are the lines of the instructions before an index; with those of the others it is the whole
+pub record Writes (p : ProgramTree) (instructions : List Instruction) (index : ℕ) (text whole : List ℕ) : Type 0 where
   pub left : List InstructionTree
-  pub are : AreWritten p (drop place instructions) left
-  pub is : text ++ instruction_lines p place left ≡ whole
+  pub are : AreWritten p (drop index instructions) left
+  pub is : text ++ instruction_lines p index left ≡ whole
 
-one_line : (p : ProgramTree) (i : Instruction) (is : List Instruction) (place : ℕ) (text new whole : List ℕ) (left : List InstructionTree)
-    → AreWritten p (i ∷ is) left → text ++ instruction_lines p place left ≡ whole
-    → ((t : InstructionTree) → IsWritten p i t → new ≡ text ++ instruction_line p place t)
-    → (rest : List InstructionTree) × (AreWritten p is rest × (new ++ instruction_lines p (place + 1) rest ≡ whole))
-one_line p i is place text new whole [] are all puts = absurd are
-one_line p i is place text new whole (t ∷ rest) are all puts =
-    (rest, (are.1, ap (λ x. x ++ instruction_lines p (place + 1) rest) (puts t are.0) ∙ append_assoc text (instruction_line p place t) (instruction_lines p (place + 1) rest) ∙ all))
+one_line : (p : ProgramTree) (i : Instruction) (is : List Instruction) (index : ℕ) (text new whole : List ℕ) (left : List InstructionTree)
+    → AreWritten p (i ∷ is) left → text ++ instruction_lines p index left ≡ whole
+    → ((t : InstructionTree) → IsWritten p i t → new ≡ text ++ instruction_line p index t)
+    → (rest : List InstructionTree) × (AreWritten p is rest × (new ++ instruction_lines p (index + 1) rest ≡ whole))
+one_line p i is index text new whole [] are all puts = absurd are
+one_line p i is index text new whole (t ∷ rest) are all puts =
+    (rest, (are.1, ap (λ x. x ++ instruction_lines p (index + 1) rest) (puts t are.0) ∙ append_assoc text (instruction_line p index t) (instruction_lines p (index + 1) rest) ∙ all))
 
-pub writes_next : (p : ProgramTree) (instructions : List Instruction) (place : ℕ) (text new whole : List ℕ) (i : Instruction) → place < length instructions → i ≡ get_or instructions place i
-    → Writes p instructions place text whole → ((t : InstructionTree) → IsWritten p i t → new ≡ text ++ instruction_line p place t)
-    → Writes p instructions (place + 1) new whole
-writes_next p instructions place text new whole i inside is before puts =
-    let here : drop place instructions ≡ i ∷ drop (place + 1) instructions = drop_more instructions place i inside ∙ ap (λ x. x ∷ drop (place + 1) instructions) (sym is) in
-    let more = one_line p i (drop (place + 1) instructions) place text new whole before.left (subst (λ xs. AreWritten p xs before.left) here before.are) before.is puts in
+pub writes_next : (p : ProgramTree) (instructions : List Instruction) (index : ℕ) (text new whole : List ℕ) (i : Instruction) → index < length instructions → i ≡ get_or instructions index i
+    → Writes p instructions index text whole → ((t : InstructionTree) → IsWritten p i t → new ≡ text ++ instruction_line p index t)
+    → Writes p instructions (index + 1) new whole
+writes_next p instructions index text new whole i inside is before puts =
+    let here : drop index instructions ≡ i ∷ drop (index + 1) instructions = drop_more instructions index i inside ∙ ap (λ x. x ∷ drop (index + 1) instructions) (sym is) in
+    let more = one_line p i (drop (index + 1) instructions) index text new whole before.left (subst (λ xs. AreWritten p xs before.left) here before.are) before.is puts in
     record { left = more.0; are = more.1.0; is = more.1.1 }
 
-none_left : (p : ProgramTree) (place : ℕ) (text whole : List ℕ) (left : List InstructionTree) → AreWritten p [] left → text ++ instruction_lines p place left ≡ whole → text ≡ whole
-none_left p place text whole [] are all = sym (append-nil text) ∙ all
-none_left p place text whole (t ∷ left) are all = absurd are
+none_left : (p : ProgramTree) (index : ℕ) (text whole : List ℕ) (left : List InstructionTree) → AreWritten p [] left → text ++ instruction_lines p index left ≡ whole → text ≡ whole
+none_left p index text whole [] are all = sym (append-nil text) ∙ all
+none_left p index text whole (t ∷ left) are all = absurd are
 
-pub writes_all : (p : ProgramTree) (instructions : List Instruction) (place : ℕ) (text whole : List ℕ) → length instructions ≤ place → Writes p instructions place text whole → text ≡ whole
-writes_all p instructions place text whole past writes =
-    none_left p place text whole writes.left (subst (λ xs. AreWritten p xs writes.left) (drop_all place instructions past) writes.are) writes.is
+pub writes_all : (p : ProgramTree) (instructions : List Instruction) (index : ℕ) (text whole : List ℕ) → length instructions ≤ index → Writes p instructions index text whole → text ≡ whole
+writes_all p instructions index text whole past writes =
+    none_left p index text whole writes.left (subst (λ xs. AreWritten p xs writes.left) (drop_all index instructions past) writes.are) writes.is

@@ -5,7 +5,7 @@ use Rattle.typed_tree.specs.ProgramTree.{ProgramTree}
 use Rattle.plans.specs.Instruction.{InstructionTree}
 use Rattle.plans.specs.declared.instruction.Instruction.{Instruction}
 use Rattle.plans.proofs.Pairwise.{pairwise_append}
-use Rattle.lowering.specs.Putting.{Fills, KeepsPlace, Puts}
+use Rattle.lowering.specs.Putting.{Fills, KeepsIndex, Puts}
 use Rattle.lowering.specs.Text.{AreWritten, IsWritten}
 
 pub puts_nothing : (p : ProgramTree) (a : List Instruction) → Puts p a a []
@@ -45,11 +45,11 @@ puts_patched p a b c x i t ts n e puts at is = record {
   are = (is, puts.are);
 }
 
--- an instruction that fills the place that was kept before them
+-- an instruction that fills the index that was kept before them
 pub puts_filled : (p : ProgramTree) (a b c e : List Instruction) (n : ℕ) (t : InstructionTree) (ts : List InstructionTree)
-    → KeepsPlace a b n → Puts p b c ts → Fills p c e n t → Puts p a e (t ∷ ts)
+    → KeepsIndex a b n → Puts p b c ts → Fills p c e n t → Puts p a e (t ∷ ts)
 puts_filled p a b c e n t ts keeps puts fills =
     subst (λ xs. Puts p a xs (t ∷ ts)) (sym fills.is) (puts_patched p a b c keeps.kept fills.instruction t ts n keeps.is puts keeps.at fills.written)
 
-pub place_length : (a b : List Instruction) (n : ℕ) → KeepsPlace a b n → length b ≡ length a + 1
-place_length a b n keeps = ap length keeps.is ∙ length-append a (keeps.kept ∷ [])
+pub index_length : (a b : List Instruction) (n : ℕ) → KeepsIndex a b n → length b ≡ length a + 1
+index_length a b n keeps = ap length keeps.is ∙ length-append a (keeps.kept ∷ [])

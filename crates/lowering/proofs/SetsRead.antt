@@ -16,9 +16,9 @@ pub apart_of_none : (xs : List ℕ) → true ≡ are_apart xs []
 apart_of_none [] = refl
 apart_of_none (x ∷ xs) = apart_of_none xs
 
-pub function_is_apart : (sets : List ℕ) (functions : List FunctionTree) (place : ℕ)
-    → function_fold (all_pass (λ access. are_apart (set_of access) sets)) functions place ≡ are_apart (function_sizes functions place) sets
-function_is_apart sets functions place = function_gathered (λ access. are_apart (set_of access) sets) set_of (λ v. is_none_of v sets) (λ access. refl) functions place
+pub function_is_apart : (sets : List ℕ) (functions : List FunctionTree) (index : ℕ)
+    → function_fold (all_pass (λ access. are_apart (set_of access) sets)) functions index ≡ are_apart (function_sizes functions index) sets
+function_is_apart sets functions index = function_gathered (λ access. are_apart (set_of access) sets) set_of (λ v. is_none_of v sets) (λ access. refl) functions index
 
 pub end_is_apart : (sets : List ℕ) (filters : List FunctionTree) (end : Option VertexFilter)
     → end_fold (all_pass (λ access. are_apart (set_of access) sets)) filters end ≡ are_apart (end_sets filters end) sets

@@ -10,12 +10,12 @@ use Rattle.algorithm_meaning.specs.declared.state.Depth.{Depth}
 use Rattle.plans.specs.Instruction.{InstructionTree, Do, Unless, Enter, UnlessBelow, Advance, Turn, Jump, End}
 use Rattle.plans.specs.Fusing.{fusion_role_of, takes_next}
 use Rattle.plans.specs.Plan.{behind, behind_all, in_loop, main_depth, plan_of, with_integer, plain, loop_step, plan_in, size_in, size, size_all, plan, plan_all}
-use Rattle.plans.proofs.Places.{length_in, length-plan, length-plan_all}
+use Rattle.plans.proofs.Indices.{length_in, length-plan, length-plan_all}
 use Rattle.plans.specs.declared.instruction.Instruction.{Instruction}
 use Rattle.plans.proofs.Pairwise.{pairwise_append}
-use Rattle.lowering.specs.Putting.{BeginsLoop, Fills, KeepsPlace, Puts}
+use Rattle.lowering.specs.Putting.{BeginsLoop, Fills, KeepsIndex, Puts}
 use Rattle.lowering.specs.Text.{AreWritten, IsWritten}
-use Rattle.lowering.proofs.Putting.{place_length, puts_both, puts_filled, puts_length, puts_nothing}
+use Rattle.lowering.proofs.Putting.{index_length, puts_both, puts_filled, puts_length, puts_nothing}
 
 module _ (p : ProgramTree) (s : ScheduleTree) where
   -- of instructions to be put, these are put, and those of the statements that are left come after them
@@ -54,24 +54,24 @@ module _ (p : ProgramTree) (s : ScheduleTree) where
   ends_at b c d body puts = puts_length p b c (plan_all p s (length b) d false body) puts ∙ ap (λ n. length b + n) (length-plan_all p s body (length b) d false)
 
   pub puts_if : (a b c e : List Instruction) (n to : ℕ) (d : Depth) (number : ℕ) (label : Option ℕ) (t : ConditionTree) (body : BlockTree)
-      → KeepsPlace a b n → Puts p b c (plan_all p s (length b) d false body) → to ≡ length c → Fills p c e n (plain number d (Unless t to))
+      → KeepsIndex a b n → Puts p b c (plan_all p s (length b) d false body) → to ≡ length c → Fills p c e n (plain number d (Unless t to))
       → Puts p a e (plan p s (length a) d number label (If t body))
   puts_if a b c e n to d number label t body keeps puts behind fills =
-      let one = place_length a b n keeps in
-      let place : to ≡ length a + 1 + size_all p s d false body = behind ∙ ends_at b c d body puts ∙ ap (λ m. m + size_all p s d false body) one in
-      puts_filled p a b c e n _ _ keeps (subst (λ m. Puts p b c (plan_all p s m d false body)) one puts) (subst (λ m. Fills p c e n (plain number d (Unless t m))) place fills)
+      let one = index_length a b n keeps in
+      let index : to ≡ length a + 1 + size_all p s d false body = behind ∙ ends_at b c d body puts ∙ ap (λ m. m + size_all p s d false body) one in
+      puts_filled p a b c e n _ _ keeps (subst (λ m. Puts p b c (plan_all p s m d false body)) one puts) (subst (λ m. Fills p c e n (plain number d (Unless t m))) index fills)
 
   pub puts_choice : (a b c e k g h : List Instruction) (n to m : ℕ) (d : Depth) (number : ℕ) (label : Option ℕ) (t : ConditionTree) (body other : BlockTree)
-      → KeepsPlace a b n → Puts p b c (plan_all p s (length b) d false body) → to ≡ length c + 1 → Fills p c e n (plain number d (Unless t to))
-      → KeepsPlace e k m → Puts p k g (plan_all p s (length k) d false other) → Fills p g h m (loop_step number d d (Jump (length g)))
+      → KeepsIndex a b n → Puts p b c (plan_all p s (length b) d false body) → to ≡ length c + 1 → Fills p c e n (plain number d (Unless t to))
+      → KeepsIndex e k m → Puts p k g (plan_all p s (length k) d false other) → Fills p g h m (loop_step number d d (Jump (length g)))
       → Puts p a h (plan p s (length a) d number label (IfElse t body other))
   puts_choice a b c e k g h n to m d number label t body other keeps puts otherwise fills keeps_jump more jump =
-      let one = place_length a b n keeps in
+      let one = index_length a b n keeps in
       let inside : length c ≡ length a + 1 + size_all p s d false body = ends_at b c d body puts ∙ ap (λ q. q + size_all p s d false body) one in
-      let place : to ≡ length a + 1 + size_all p s d false body + 1 = otherwise ∙ ap (λ q. q + 1) inside in
-      let first = puts_filled p a b c e n _ _ keeps (subst (λ q. Puts p b c (plan_all p s q d false body)) one puts) (subst (λ q. Fills p c e n (plain number d (Unless t q))) place fills) in
+      let index : to ≡ length a + 1 + size_all p s d false body + 1 = otherwise ∙ ap (λ q. q + 1) inside in
+      let first = puts_filled p a b c e n _ _ keeps (subst (λ q. Puts p b c (plan_all p s q d false body)) one puts) (subst (λ q. Fills p c e n (plain number d (Unless t q))) index fills) in
       let long : length e ≡ length a + 1 + size_all p s d false body = puts_length p a e _ first ∙ omega (arith, length-plan_all p s body (length a + 1) d false) in
-      let second : length k ≡ length a + 1 + size_all p s d false body + 1 = place_length e k m keeps_jump ∙ ap (λ q. q + 1) long in
+      let second : length k ≡ length a + 1 + size_all p s d false body + 1 = index_length e k m keeps_jump ∙ ap (λ q. q + 1) long in
       let end : length g ≡ length a + 1 + size_all p s d false body + 1 + size_all p s d false other = ends_at k g d other more ∙ ap (λ q. q + size_all p s d false other) second in
       puts_both p a e h _ _ first
       (puts_filled p e k g h m _ _ keeps_jump (subst (λ q. Puts p k g (plan_all p s q d false other)) second more) (subst (λ q. Fills p g h m (loop_step number d d (Jump q))) end jump))
@@ -81,14 +81,14 @@ module _ (p : ProgramTree) (s : ScheduleTree) where
       → Puts p c g (loop_step number d d (Jump n) ∷ []) → to ≡ length g → Fills p g e n (plain number d (Unless t to))
       → Puts p a e (plan p s (length a) d number label (While t body))
   puts_while a b c g e n to d number label t body begins puts jump behind fills =
-      let one = place_length a begins.test n begins.keeps in
+      let one = index_length a begins.test n begins.keeps in
       let two : length b ≡ length a + 2 = puts_length p begins.test b _ begins.turns ∙ omega (arith, one) in
-      let place : to ≡ length a + 2 + size_all p s d false body + 1 = behind ∙ puts_length p c g _ jump ∙ omega (arith, ends_at b c d body puts, two) in
+      let index : to ≡ length a + 2 + size_all p s d false body + 1 = behind ∙ puts_length p c g _ jump ∙ omega (arith, ends_at b c d body puts, two) in
       puts_filled p a begins.test g e n _ _ begins.keeps
       (puts_both p begins.test b g _ _ begins.turns
       (puts_both p b c g _ _ (subst (λ q. Puts p b c (plan_all p s q d false body)) two puts)
       (subst (λ q. Puts p c g (loop_step number d d (Jump q) ∷ [])) begins.keeps.at jump)))
-      (subst (λ q. Fills p g e n (plain number d (Unless t q))) place fills)
+      (subst (λ q. Fills p g e n (plain number d (Unless t q))) index fills)
 
   pub puts_for : (a f b c g e : List Instruction) (n : ℕ) (d : Depth) (number : ℕ) (label : Option ℕ) (name : ℕ) (first end : IntegerTree) (body : BlockTree)
       → Puts p a f (plain number d (Do (DeclareInteger name first)) ∷ loop_step number (with_integer d) d (Enter name end) ∷ [])
@@ -97,15 +97,15 @@ module _ (p : ProgramTree) (s : ScheduleTree) where
       → Puts p a e (plan p s (length a) d number label (For name first end body))
   puts_for a f b c g e n d number label name first end body bounds begins puts back fills =
       let head : length f ≡ length a + 2 = puts_length p a f _ bounds in
-      let one = place_length f begins.test n begins.keeps in
+      let one = index_length f begins.test n begins.keeps in
       let two : length b ≡ length a + 4 = puts_length p begins.test b _ begins.turns ∙ omega (arith, one, head) in
       let to : length g ≡ length a + 4 + size_all p s (in_loop d) false body + 2 = puts_length p c g _ back ∙ omega (arith, ends_at b c (in_loop d) body puts, two) in
-      let place : n ≡ length a + 2 = begins.keeps.at ∙ head in
+      let index : n ≡ length a + 2 = begins.keeps.at ∙ head in
       puts_both p a f e _ _ bounds
       (puts_filled p f begins.test g e n _ _ begins.keeps
       (puts_both p begins.test b g _ _ begins.turns
       (puts_both p b c g _ _ (subst (λ q. Puts p b c (plan_all p s q (in_loop d) false body)) two puts)
-      (subst (λ q. Puts p c g (plain number d (Advance name) ∷ loop_step number (in_loop d) d (Jump q) ∷ [])) place back)))
+      (subst (λ q. Puts p c g (plain number d (Advance name) ∷ loop_step number (in_loop d) d (Jump q) ∷ [])) index back)))
       (subst (λ q. Fills p g e n (loop_step number (in_loop d) d (UnlessBelow name q))) to fills))
 
 -- nothing is declared where no statement is left

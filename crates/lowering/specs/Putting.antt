@@ -12,19 +12,19 @@ pub record Puts (p : ProgramTree) (old new : List Instruction) (trees : List Ins
   pub are : AreWritten p more trees
 
 -- the code has grown by an instruction in whose place another is to come
-pub record KeepsPlace (old new : List Instruction) (place : ℕ) : Type 0 where
+pub record KeepsIndex (old new : List Instruction) (index : ℕ) : Type 0 where
   pub kept : Instruction
   pub is : new ≡ old ++ kept ∷ []
-  pub at : place ≡ length old
+  pub at : index ≡ length old
 
--- an instruction of a program has come into a place
-pub record Fills (p : ProgramTree) (old new : List Instruction) (place : ℕ) (tree : InstructionTree) : Type 0 where
+-- an instruction of a program has come to stand at an index
+pub record Fills (p : ProgramTree) (old new : List Instruction) (index : ℕ) (tree : InstructionTree) : Type 0 where
   pub instruction : Instruction
-  pub is : new ≡ slice_set old place instruction
+  pub is : new ≡ slice_set old index instruction
   pub written : IsWritten p instruction tree
 
--- a loop has begun: a place is kept for its test, and its turn stands after that
-pub record BeginsLoop (p : ProgramTree) (old new : List Instruction) (place : ℕ) (turn : InstructionTree) : Type 0 where
+-- a loop has begun: an index is kept for its test, and its turn stands after that
+pub record BeginsLoop (p : ProgramTree) (old new : List Instruction) (index : ℕ) (turn : InstructionTree) : Type 0 where
   pub test : List Instruction
-  pub keeps : KeepsPlace old test place
+  pub keeps : KeepsIndex old test index
   pub turns : Puts p test new (turn ∷ [])

@@ -23,7 +23,7 @@ changed_set (Assigned slot vector) = Some (record { name = slot.name; vector = v
 abbrev pub shown_part : EdgePartTree → AppliedFunction
 shown_part part = record { function = part.function; changed = changed_set part.result }
 
--- the words of an operation, before the place that it may go to; an apply is done as the schedule says
+-- the words of an operation, before the index that it may go to; an apply is done as the schedule says
 abbrev pub operation_words : ProgramTree → ApplySchedule → OperationTree → List (List ℕ)
 operation_words p choice (Do action) = statement_words p action choice
 operation_words p choice (ApplyEdgesTogether ends first second) = edges_words p ends (shown_part first) (Some (shown_part second)) choice
@@ -54,12 +54,12 @@ abbrev pub line_of : List (List ℕ) → List ℕ
 line_of ws = joined ws ++ 10 ∷ []
 
 -- an instruction with its number; those from this number on
-abbrev pub instruction_line : ProgramTree → (place : ℕ) → InstructionTree → List ℕ
-instruction_line p place i = line_of (decimal place ∷ operation_words p i.choice i.operation ++ target_words i.operation)
+abbrev pub instruction_line : ProgramTree → (index : ℕ) → InstructionTree → List ℕ
+instruction_line p index i = line_of (decimal index ∷ operation_words p i.choice i.operation ++ target_words i.operation)
 
-abbrev pub instruction_lines : ProgramTree → (place : ℕ) → List InstructionTree → List ℕ
-instruction_lines p place [] = []
-instruction_lines p place (i ∷ is) = instruction_line p place i ++ instruction_lines p (place + 1) is
+abbrev pub instruction_lines : ProgramTree → (index : ℕ) → List InstructionTree → List ℕ
+instruction_lines p index [] = []
+instruction_lines p index (i ∷ is) = instruction_line p index i ++ instruction_lines p (index + 1) is
 
 -- groups of vectors that are kept side by side
 abbrev pub group_lines : ProgramTree → List (List ℕ) → List ℕ

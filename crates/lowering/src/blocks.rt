@@ -136,7 +136,7 @@ impl Lowering<'_> {
         }
     }
 
-    /// `if`: a test, the body, and after it the place that the test goes to.
+    /// `if`: a test, the body, and after it the index that the test goes to.
     #[cycle(lower)]
     fn put_if(
         self,
@@ -157,7 +157,7 @@ impl Lowering<'_> {
             keep: depth,
             shown: depth,
         };
-        let test = self.keep_place(head, code)?;
+        let test = self.keep_index(head, code)?;
         self.put_inside(body, visible, code)?;
         self.fill_unless(head, c, code.len(), test, code)
     }
@@ -183,10 +183,10 @@ impl Lowering<'_> {
             keep: depth,
             shown: depth,
         };
-        let test = self.keep_place(head, code)?;
+        let test = self.keep_index(head, code)?;
         self.put_inside(branches.body, visible, code)?;
         self.fill_unless(head, c, code.len() + 1, test, code)?;
-        let jump = self.keep_place(head, code)?;
+        let jump = self.keep_index(head, code)?;
         self.put_inside(branches.other, visible, code)?;
         self.fill_jump(head, jump, code)
     }

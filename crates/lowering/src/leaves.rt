@@ -11,7 +11,7 @@ ghost use Rattle.plan_text.specs.Words.{spaced};
 ghost use Rattle.plans.specs.Parts.{part_tree, together_tree};
 ghost use Rattle.plans.specs.Operation.{IsOperation};
 ghost use Rattle.lowering.specs.Kinds.{HasNoBlock};
-ghost use Rattle.lowering.specs.Putting.{BeginsLoop, Fills, KeepsPlace, Puts};
+ghost use Rattle.lowering.specs.Putting.{BeginsLoop, Fills, KeepsIndex, Puts};
 ghost use Rattle.lowering.specs.Text.{IsWritten, operation_words, shown_part};
 ghost use Rattle.lowering.specs.Visible.{depth_of};
 
@@ -83,11 +83,11 @@ fn instruction_of(head: InstructionHead, operation: PlanOperation, words: Vec<u8
 }
 
 /// Puts an instruction in the place of one that is there.
-fn replace(code: &mut Vec<Instruction>, place: usize, instruction: Instruction)
-    ensures { code.new.items ≡ slice_set code.old.items place instruction }
+fn replace(code: &mut Vec<Instruction>, index: usize, instruction: Instruction)
+    ensures { code.new.items ≡ slice_set code.old.items index instruction }
 {
-    if place < code.len() {
-        code[place] = instruction;
+    if index < code.len() {
+        code[index] = instruction;
     }
 }
 
@@ -233,36 +233,36 @@ impl Lowering<'_> {
         Ok(instruction_of(head, PlanOperation::Enter { name, end }, words))
     }
 
-    /// Keeps a place for an instruction that is known when the block after it stands. Answers the place.
-    pub(crate) fn keep_place(
+    /// Keeps an index for an instruction that is known when the block after it stands. Answers the index.
+    pub(crate) fn keep_index(
         self,
         head: InstructionHead,
         code: &mut Vec<Instruction>,
     ) -> Result<usize, AllocError>
-        ensures { IfOk result (λ place. KeepsPlace code.old.items code.new.items place) }
+        ensures { IfOk result (λ index. KeepsIndex code.old.items code.new.items index) }
     {
-        let place = code.len();
+        let index = code.len();
         code.push(plain(
             head.number,
             head.shown,
             PlanOperation::End,
             Vec::new(self.alloc),
         ))?;
-        Ok(place)
+        Ok(index)
     }
 
-    /// Keeps a place for the test of a loop, and puts the turn. Answers the place.
+    /// Keeps an index for the test of a loop, and puts the turn. Answers the index.
     pub(crate) fn begin_loop(
         self,
         head: InstructionHead,
         code: &mut Vec<Instruction>,
     ) -> Result<usize, AllocError>
-        ensures { IfOk result (λ place. BeginsLoop (program_tree self.entry.program.now) code.old.items code.new.items place
+        ensures { IfOk result (λ index. BeginsLoop (program_tree self.entry.program.now) code.old.items code.new.items index
             (loop_step head.number head.keep head.shown Turn)) }
     {
-        let place = self.keep_place(head, code)?;
+        let index = self.keep_index(head, code)?;
         code.push(self.turn(head)?)?;
-        Ok(place)
+        Ok(index)
     }
 
     /// Puts a jump.
@@ -294,51 +294,51 @@ impl Lowering<'_> {
         self.put_jump(head, test, code)
     }
 
-    /// Puts a test into the place that was kept for it.
+    /// Puts a test at the index that was kept for it.
     pub(crate) fn fill_unless(
         self,
         head: InstructionHead,
         c: &BoolExpression,
         to: usize,
-        place: usize,
+        index: usize,
         code: &mut Vec<Instruction>,
     ) -> Result<(), AllocError>
-        ensures { OnOk result (Fills (program_tree self.entry.program.now) code.old.items code.new.items place
+        ensures { OnOk result (Fills (program_tree self.entry.program.now) code.old.items code.new.items index
             (loop_step head.number head.keep head.shown (Unless (condition_tree c.now) to))) }
     {
         let unless = self.unless(head, c, to)?;
-        replace(code, place, unless);
+        replace(code, index, unless);
         Ok(())
     }
 
-    /// Puts the test of a `for`, which goes after the code, into the place that was kept for it.
+    /// Puts the test of a `for`, which goes after the code, at the index that was kept for it.
     pub(crate) fn fill_unless_below(
         self,
         head: InstructionHead,
         name: usize,
-        place: usize,
+        index: usize,
         code: &mut Vec<Instruction>,
     ) -> Result<(), AllocError>
-        ensures { OnOk result (Fills (program_tree self.entry.program.now) code.old.items code.new.items place
+        ensures { OnOk result (Fills (program_tree self.entry.program.now) code.old.items code.new.items index
             (loop_step head.number head.keep head.shown (UnlessBelow name (length code.old.items)))) }
     {
         let below = self.unless_below(head, name, code.len())?;
-        replace(code, place, below);
+        replace(code, index, below);
         Ok(())
     }
 
-    /// Puts a jump after the code into the place that was kept for it.
+    /// Puts a jump after the code at the index that was kept for it.
     pub(crate) fn fill_jump(
         self,
         head: InstructionHead,
-        place: usize,
+        index: usize,
         code: &mut Vec<Instruction>,
     ) -> Result<(), AllocError>
-        ensures { OnOk result (Fills (program_tree self.entry.program.now) code.old.items code.new.items place
+        ensures { OnOk result (Fills (program_tree self.entry.program.now) code.old.items code.new.items index
             (loop_step head.number head.keep head.shown (Jump (length code.old.items)))) }
     {
         let jump = self.jump(head, code.len())?;
-        replace(code, place, jump);
+        replace(code, index, jump);
         Ok(())
     }
 

@@ -8,7 +8,7 @@ use algorithm_meaning::Depth;
 use std::alloc::{AllocError, Global};
 use typed_tree::StatementKind;
 
-/// The names of the variables and vertex sets of `main` that are visible, by their places. They are counted by lists, so
+/// The names of the variables and vertex sets of `main` that are visible, by their indices. They are counted by lists, so
 /// that a count never overflows.
 #[derive(Drop)]
 pub(crate) struct Visible {

@@ -4,7 +4,7 @@ ghost use Rattle.typed_tree.specs.ProgramTree.{ProgramTree};
 ghost use Rattle.apply_options.specs.ScheduleTree.{ScheduleTree};
 ghost use Rattle.plans.specs.Instruction.{InstructionTree};
 ghost use Rattle.plan_text.specs.Words.{spaced};
-ghost use Rattle.lowering.specs.inside.Targets.{places_of};
+ghost use Rattle.lowering.specs.inside.Targets.{indices_of};
 ghost use Rattle.lowering.specs.Text.{HasText, IsWritten, instruction_line, text_of};
 
 use decimal::push_number;
@@ -20,18 +20,18 @@ pub fn write(alloc: Global, plan: &Plan) -> Result<Vec<u8>, AllocError>
 {
     let mut text = Vec::new(alloc);
     text.extend_from_slice(&plan.fields)?;
-    'instructions: for (place, instruction) in plan.instructions.iter().enumerate() {
-        put_line(&mut text, place as u64, instruction)?;
+    'instructions: for (index, instruction) in plan.instructions.iter().enumerate() {
+        put_line(&mut text, index as u64, instruction)?;
     }
     Ok(text)
 }
 
-/// The line of the instruction at a place.
-fn put_line(text: &mut Vec<u8>, place: u64, instruction: &Instruction) -> Result<(), AllocError>
+/// The line of the instruction at an index.
+fn put_line(text: &mut Vec<u8>, index: u64, instruction: &Instruction) -> Result<(), AllocError>
     ensures { OnOk result ((p : ProgramTree) (t : InstructionTree) → IsWritten p instruction.now t
-        → text.new.items ≡ text.old.items ++ instruction_line p place t) }
+        → text.new.items ≡ text.old.items ++ instruction_line p index t) }
 {
-    push_number(text, place)?;
+    push_number(text, index)?;
     text.push(b' ')?;
     text.extend_from_slice(&instruction.words)?;
     put_target(text, &instruction.operation)?;
@@ -40,7 +40,7 @@ fn put_line(text: &mut Vec<u8>, place: u64, instruction: &Instruction) -> Result
 
 /// The number of the instruction that an operation may go to.
 fn put_target(text: &mut Vec<u8>, operation: &PlanOperation) -> Result<(), AllocError>
-    ensures { OnOk result (text.new.items ≡ text.old.items ++ spaced (places_of operation.now)) }
+    ensures { OnOk result (text.new.items ≡ text.old.items ++ spaced (indices_of operation.now)) }
 {
     match operation {
         PlanOperation::Unless { to, .. }

@@ -105,11 +105,11 @@ modified_vertices p g ends function vector s =
 
 pub filter_members : (p : ProgramTree) (g : GraphValue) (slot : VarRef) (function : ℕ) (s : StateValue) (v : ℕ)
     → Contains (members_for p g (set.Filter slot function) s) v
-    ↔ (Contains (members_of (slice_get s.sets slot.place)) v × (result_of (steps_of (slice_get p.filters function)) s.sets s.vectors v ≡ true))
-filter_members p g slot function s v = filtered_contains (lets_through p.filters function s.sets s.vectors) (members_of (slice_get s.sets slot.place)) v
+    ↔ (Contains (members_of (slice_get s.sets slot.index)) v × (result_of (steps_of (slice_get p.filters function)) s.sets s.vectors v ≡ true))
+filter_members p g slot function s v = filtered_contains (lets_through p.filters function s.sets s.vectors) (members_of (slice_get s.sets slot.index)) v
 
 pub filter_of_all : (p : ProgramTree) (g : GraphValue) (slot : VarRef) (function : ℕ) (s : StateValue) (v : ℕ)
-    → members_of (slice_get s.sets slot.place) ≡ all_below g.vertices
+    → members_of (slice_get s.sets slot.index) ≡ all_below g.vertices
     → Contains (members_for p g (set.Filter slot function) s) v
     ↔ ((v < g.vertices) × (result_of (steps_of (slice_get p.filters function)) s.sets s.vectors v ≡ true))
 filter_of_all p g slot function s v whole =
@@ -120,8 +120,8 @@ filter_of_all p g slot function s v whole =
     )
 
 pub filter_vertices : (p : ProgramTree) (g : GraphValue) (slot : VarRef) (function : ℕ) (s : StateValue)
-    → AreVertices g.vertices (members_of (slice_get s.sets slot.place)) → AreVertices g.vertices (members_for p g (set.Filter slot function) s)
-filter_vertices p g slot function s are = filtered_vertices g.vertices (lets_through p.filters function s.sets s.vectors) (members_of (slice_get s.sets slot.place)) are
+    → AreVertices g.vertices (members_of (slice_get s.sets slot.index)) → AreVertices g.vertices (members_for p g (set.Filter slot function) s)
+filter_vertices p g slot function s are = filtered_vertices g.vertices (lets_through p.filters function s.sets s.vectors) (members_of (slice_get s.sets slot.index)) are
 
 -- the test of a member finds it
 member_is : (v : ℕ) (members : List ℕ) → (is_member v members ≡ true) ↔ Contains members v
@@ -143,7 +143,7 @@ member_is v members = (found v members, contained v members)
 
 passes_is : (filters : List FunctionTree) (s : StateValue) (end : Option VertexFilter) (v : ℕ) → (passes filters s end v ≡ true) ↔ LetsThrough filters s end v
 passes_is filters s None v = (λ is. tt, λ is. refl)
-passes_is filters s (Some (Members slot)) v = member_is v (members_of (slice_get s.sets slot.place))
+passes_is filters s (Some (Members slot)) v = member_is v (members_of (slice_get s.sets slot.index))
 passes_is filters s (Some (Function function)) v = (λ is. is, λ is. is)
 
 -- both tests hold where each does

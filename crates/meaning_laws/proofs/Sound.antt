@@ -51,19 +51,19 @@ printed_line text line are is =
     (are.0 ++ line ∷ [], pushed_lines are.0 line are.1 is, ap (λ (l : List ℕ). l ++ line) are.2 ∙ sym (pushed_text are.0 line))
 
 -- sets, and one of them
-members_are : (n : ℕ) (sets : List SetBinding) (place : ℕ) → AreSets n sets → AreVertices n (members_of (slice_get sets place))
-members_are n [] place are = no_vertices n
+members_are : (n : ℕ) (sets : List SetBinding) (index : ℕ) → AreSets n sets → AreVertices n (members_of (slice_get sets index))
+members_are n [] index are = no_vertices n
 members_are n (x ∷ xs) zero are = are.0
-members_are n (x ∷ xs) (suc place) are = members_are n xs place are.1
+members_are n (x ∷ xs) (suc index) are = members_are n xs index are.1
 
 pushed_sets : (n : ℕ) (sets : List SetBinding) (name : ℕ) (members : List ℕ) → AreSets n sets → AreVertices n members → AreSets n (sets ++ record { name = name; members = members } ∷ [])
 pushed_sets n [] name members are is = (is, tt)
 pushed_sets n (x ∷ xs) name members are is = (are.0, pushed_sets n xs name members are.1 is)
 
-changed_sets : (n : ℕ) (sets : List SetBinding) (place : ℕ) (members : List ℕ) → AreSets n sets → AreVertices n members → AreSets n (set_members sets place members)
-changed_sets n [] place members are is = tt
+changed_sets : (n : ℕ) (sets : List SetBinding) (index : ℕ) (members : List ℕ) → AreSets n sets → AreVertices n members → AreSets n (set_members sets index members)
+changed_sets n [] index members are is = tt
 changed_sets n (x ∷ xs) zero members are is = (is, are.1)
-changed_sets n (x ∷ xs) (suc place) members are is = (are.0, changed_sets n xs place members are.1 is)
+changed_sets n (x ∷ xs) (suc index) members are is = (are.0, changed_sets n xs index members are.1 is)
 
 first_sets : (n k : ℕ) (sets : List SetBinding) → AreSets n sets → AreSets n (take k sets)
 first_sets n zero sets are = tt
@@ -73,9 +73,9 @@ first_sets n (suc k) (x ∷ xs) are = (are.0, first_sets n k xs are.1)
 value_members : (p : ProgramTree) (g : GraphValue) (value : SetValue) (s : StateValue) → AreSets g.vertices s.sets → AreVertices g.vertices (members_for p g value s)
 value_members p g set.Empty s are = no_vertices g.vertices
 value_members p g set.All s are = whole_vertices g.vertices
-value_members p g (set.Copy slot) s are = members_are g.vertices s.sets slot.place are
+value_members p g (set.Copy slot) s are = members_are g.vertices s.sets slot.index are
 value_members p g (set.Filter slot function) s are =
-    filtered_vertices g.vertices (lets_through p.filters function s.sets s.vectors) (members_of (slice_get s.sets slot.place)) (members_are g.vertices s.sets slot.place are)
+    filtered_vertices g.vertices (lets_through p.filters function s.sets s.vectors) (members_of (slice_get s.sets slot.index)) (members_are g.vertices s.sets slot.index are)
 value_members p g (set.Modified ends function vector) s are = modified_vertices p g ends function vector s
 
 -- a number that is a vertex is below their count
@@ -132,22 +132,22 @@ module _ (p : ProgramTree) (g : GraphValue) where
     action_sound (SetInteger slot e) number s is = value_sound g.vertices (number_in g.vertices e s) number s _ is (λ x. record { printed = is.printed; sets = is.sets })
     action_sound (SetCondition slot c) number s is = value_sound g.vertices (choice_in g.vertices c s) number s _ is (λ b. record { printed = is.printed; sets = is.sets })
     action_sound (ReduceInteger slot reduction e) number s is = value_sound g.vertices (number_in g.vertices e s) number s _ is (λ x. record { printed = is.printed; sets = is.sets })
-    action_sound (SetEntry vector index e) number s is =
-        value_sound g.vertices (vertex_in g.vertices index s) number s _ is
+    action_sound (SetEntry vector subscript e) number s is =
+        value_sound g.vertices (vertex_in g.vertices subscript s) number s _ is
         (λ v. value_sound g.vertices (number_in g.vertices e s) number s _ is (λ x. record { printed = is.printed; sets = is.sets }))
-    action_sound (ReduceEntry vector index reduction e) number s is =
-        value_sound g.vertices (vertex_in g.vertices index s) number s _ is
+    action_sound (ReduceEntry vector subscript reduction e) number s is =
+        value_sound g.vertices (vertex_in g.vertices subscript s) number s _ is
         (λ v. value_sound g.vertices (number_in g.vertices e s) number s _ is (λ x. record { printed = is.printed; sets = is.sets }))
     action_sound (DeclareSet name value) number s is =
         record { printed = is.printed; sets = pushed_sets g.vertices s.sets name (members_for p g value s) is.sets (value_members p g value s is.sets) }
     action_sound (AssignSet slot value) number s is =
-        record { printed = is.printed; sets = changed_sets g.vertices s.sets slot.place (members_for p g value s) is.sets (value_members p g value s is.sets) }
+        record { printed = is.printed; sets = changed_sets g.vertices s.sets slot.index (members_for p g value s) is.sets (value_members p g value s is.sets) }
     action_sound (AddVertex slot e) number s is =
         found_sound g.vertices (vertex_in g.vertices e s) number s _ is
         (λ v found. record {
           printed = is.printed;
-          sets = changed_sets g.vertices s.sets slot.place (inserted v (members_of (slice_get s.sets slot.place))) is.sets
-              (inserted_vertices g.vertices v (members_of (slice_get s.sets slot.place)) (found_below g.vertices v (number_in g.vertices e s) found) (members_are g.vertices s.sets slot.place is.sets));
+          sets = changed_sets g.vertices s.sets slot.index (inserted v (members_of (slice_get s.sets slot.index))) is.sets
+              (inserted_vertices g.vertices v (members_of (slice_get s.sets slot.index)) (found_below g.vertices v (number_in g.vertices e s) found) (members_are g.vertices s.sets slot.index is.sets));
         })
     action_sound (PrintInteger e) number s is =
         value_sound g.vertices (number_in g.vertices e s) number s _ is (λ x. record { printed = printed_line s.text (integer_line x) is.printed (inl (x, refl)); sets = is.sets })

@@ -103,10 +103,10 @@ module _ (d : ℕ) where
       (λ (e : Edge). ap (λ (b : Bool). b && is_end filters g (plus d s) ends.to e.1) (end_same filters g s ends.from e.0) ∙ ap (λ (b : Bool). is_end filters g s ends.from e.0 && b) (end_same filters g s ends.to e.1))
       g.edges
 
-  apply_same : (filters functions : List FunctionTree) (g : GraphValue) (ends : ApplyEnds) (places : List ℕ) (s : StateValue)
-      → after_edge_apply filters functions g ends places (plus d s) ≡ after_edge_apply filters functions g ends places s
-  apply_same filters functions g ends places s =
-      ap (λ (es : List Edge). after_edges (map (λ place. steps_of (slice_get functions place)) places) s.sets s.vectors es s.vectors) (matching_same filters g s ends)
+  apply_same : (filters functions : List FunctionTree) (g : GraphValue) (ends : ApplyEnds) (indices : List ℕ) (s : StateValue)
+      → after_edge_apply filters functions g ends indices (plus d s) ≡ after_edge_apply filters functions g ends indices s
+  apply_same filters functions g ends indices s =
+      ap (λ (es : List Edge). after_edges (map (λ index. steps_of (slice_get functions index)) indices) s.sets s.vectors es s.vectors) (matching_same filters g s ends)
 
   declared_same : (p : ProgramTree) (g : GraphValue) (name : ℕ) (value : SetValue) (s : StateValue) → after_declare_set p g name value (plus d s) ≡ plus d (after_declare_set p g name value s)
   declared_same p g name set.Empty s = refl
@@ -116,13 +116,13 @@ module _ (d : ℕ) where
   declared_same p g name (set.Modified ends function vector) s =
       ap (λ (after : List (List ℤ)). with_new_set (with_vectors (plus d s) after) name (modified g.vertices vector s.vectors after)) (apply_same p.filters p.edge_functions g ends (function ∷ []) s)
 
-  assigned_same : (p : ProgramTree) (g : GraphValue) (place : ℕ) (value : SetValue) (s : StateValue) → after_assign_set p g place value (plus d s) ≡ plus d (after_assign_set p g place value s)
-  assigned_same p g place set.Empty s = refl
-  assigned_same p g place set.All s = refl
-  assigned_same p g place (set.Copy slot) s = refl
-  assigned_same p g place (set.Filter slot function) s = refl
-  assigned_same p g place (set.Modified ends function vector) s =
-      ap (λ (after : List (List ℤ)). with_members (with_vectors (plus d s) after) place (modified g.vertices vector s.vectors after)) (apply_same p.filters p.edge_functions g ends (function ∷ []) s)
+  assigned_same : (p : ProgramTree) (g : GraphValue) (index : ℕ) (value : SetValue) (s : StateValue) → after_assign_set p g index value (plus d s) ≡ plus d (after_assign_set p g index value s)
+  assigned_same p g index set.Empty s = refl
+  assigned_same p g index set.All s = refl
+  assigned_same p g index (set.Copy slot) s = refl
+  assigned_same p g index (set.Filter slot function) s = refl
+  assigned_same p g index (set.Modified ends function vector) s =
+      ap (λ (after : List (List ℤ)). with_members (with_vectors (plus d s) after) index (modified g.vertices vector s.vectors after)) (apply_same p.filters p.edge_functions g ends (function ∷ []) s)
 
   module _ (p : ProgramTree) (g : GraphValue) where
     mutual
@@ -132,12 +132,12 @@ module _ (d : ℕ) where
       action_follows (SetInteger slot e) number s = value_follows (number_in g.vertices e s) number s _ _ (λ n. refl)
       action_follows (SetCondition slot c) number s = value_follows (choice_in g.vertices c s) number s _ _ (λ b. refl)
       action_follows (ReduceInteger slot reduction e) number s = value_follows (number_in g.vertices e s) number s _ _ (λ n. refl)
-      action_follows (SetEntry vector index e) number s =
-          value_follows (vertex_in g.vertices index s) number s _ _ (λ v. value_follows (number_in g.vertices e s) number s _ _ (λ n. refl))
-      action_follows (ReduceEntry vector index reduction e) number s =
-          value_follows (vertex_in g.vertices index s) number s _ _ (λ v. value_follows (number_in g.vertices e s) number s _ _ (λ n. refl))
+      action_follows (SetEntry vector subscript e) number s =
+          value_follows (vertex_in g.vertices subscript s) number s _ _ (λ v. value_follows (number_in g.vertices e s) number s _ _ (λ n. refl))
+      action_follows (ReduceEntry vector subscript reduction e) number s =
+          value_follows (vertex_in g.vertices subscript s) number s _ _ (λ v. value_follows (number_in g.vertices e s) number s _ _ (λ n. refl))
       action_follows (DeclareSet name value) number s = ap Live (declared_same p g name value s)
-      action_follows (AssignSet slot value) number s = ap Live (assigned_same p g slot.place value s)
+      action_follows (AssignSet slot value) number s = ap Live (assigned_same p g slot.index value s)
       action_follows (AddVertex slot e) number s = value_follows (vertex_in g.vertices e s) number s _ _ (λ v. refl)
       action_follows (PrintInteger e) number s = value_follows (number_in g.vertices e s) number s _ _ (λ n. refl)
       action_follows (PrintCondition c) number s = value_follows (choice_in g.vertices c s) number s _ _ (λ b. refl)

@@ -17,7 +17,7 @@ pub record AreVertices (vertices : ℕ) (members : List ℕ) : Type 0 where
 -- an end of an apply lets the vertex through: it is not given, or the vertex is a member of its set, or the result of its filter is true
 abbrev pub LetsThrough : List FunctionTree → StateValue → Option VertexFilter → ℕ → Type 0
 LetsThrough filters s None v = Unit {0}
-LetsThrough filters s (Some (Members slot)) v = Contains (members_of (slice_get s.sets slot.place)) v
+LetsThrough filters s (Some (Members slot)) v = Contains (members_of (slice_get s.sets slot.index)) v
 LetsThrough filters s (Some (Function function)) v = result_of (steps_of (slice_get filters function)) s.sets s.vectors v ≡ true
 
 -- the same of a vertex of the graph

@@ -29,13 +29,13 @@ pub fn modified_sets_have_the_changed_vertices()
 pub fn filtered_sets_have_the_members_that_pass()
     ensures members { (p : ProgramTree) (g : GraphValue) (slot : slot.VarRef) (function : ℕ) (s : StateValue) (v : ℕ)
         → Contains (members_for p g (set.Filter slot function) s) v
-        ↔ (Contains (members_of (slice_get s.sets slot.place)) v × (result_of (steps_of (slice_get p.filters function)) s.sets s.vectors v ≡ true)) }
+        ↔ (Contains (members_of (slice_get s.sets slot.index)) v × (result_of (steps_of (slice_get p.filters function)) s.sets s.vectors v ≡ true)) }
     ensures of_all { (p : ProgramTree) (g : GraphValue) (slot : slot.VarRef) (function : ℕ) (s : StateValue) (v : ℕ)
-        → members_of (slice_get s.sets slot.place) ≡ all_below g.vertices
+        → members_of (slice_get s.sets slot.index) ≡ all_below g.vertices
         → Contains (members_for p g (set.Filter slot function) s) v
         ↔ ((v < g.vertices) × (result_of (steps_of (slice_get p.filters function)) s.sets s.vectors v ≡ true)) }
     ensures ascending { (p : ProgramTree) (g : GraphValue) (slot : slot.VarRef) (function : ℕ) (s : StateValue)
-        → AreVertices g.vertices (members_of (slice_get s.sets slot.place)) → AreVertices g.vertices (members_for p g (set.Filter slot function) s) }
+        → AreVertices g.vertices (members_of (slice_get s.sets slot.index)) → AreVertices g.vertices (members_for p g (set.Filter slot function) s) }
 {}
 
 /// The law that an apply looks at exactly the edges of the graph whose source is a vertex that the one end lets through, and

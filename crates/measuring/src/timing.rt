@@ -87,9 +87,9 @@ impl Taken {
     }
 }
 
-// The number at a place, 0 where there is none.
-fn at(numbers: &[u64], place: usize) -> u64 {
-    numbers.get(place).copied().unwrap_or(0)
+// The number at an index, 0 where there is none.
+fn at(numbers: &[u64], index: usize) -> u64 {
+    numbers.get(index).copied().unwrap_or(0)
 }
 
 /// How many nanoseconds went by.

@@ -94,16 +94,16 @@ there_or_not u a h (e ∷ es) s = elim (cases_lt e.0 u) [
       ]
   | inr ge ↦
       let none : count_below u es ≡ 0 = below_first u (e.0 + 1) h es s.1 (omega arith) in
-      let place : count_below u (e ∷ es) ≡ 0 = below_not u e es ge ∙ none in
+      let position : count_below u (e ∷ es) ≡ 0 = below_not u e es ge ∙ none in
       let next_none : count_below (u + 1) es ≡ 0 = below_first (u + 1) (e.0 + 1) h es s.1 (omega arith) in
       elim (cases_eq e.0 u) [
         | inl at ↦ inr (record {
-          more = omega (arith, place, below_here (u + 1) e es (omega arith), next_none);
-          within = omega (arith, place);
-          at = rw (eq-eqb e.0 u at) (ap (λ i. get_or (e ∷ es) i (0, [])) place ∙ ap (λ v. (v, e.1)) at);
+          more = omega (arith, position, below_here (u + 1) e es (omega arith), next_none);
+          within = omega (arith, position);
+          at = rw (eq-eqb e.0 u at) (ap (λ i. get_or (e ∷ es) i (0, [])) position ∙ ap (λ v. (v, e.1)) at);
         })
         | inr other ↦ inl (record {
-          same = omega (arith, place, below_not (u + 1) e es (omega arith), next_none);
+          same = omega (arith, position, below_not (u + 1) e es (omega arith), next_none);
           none = rw (ne_eqb e.0 u other) (none_below u (e.0 + 1) h es s.1 (omega arith));
         })
       ]

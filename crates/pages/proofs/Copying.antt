@@ -11,27 +11,27 @@ use Rattle.pages.proofs.Ranks.{index_push}
 use Rattle.pages.proofs.Extending.{end_from, end_append, listed_append, lists_append, lists_stay, same_keys, same_list}
 
 -- the next list fits where all that are left do
-pub next_fits : (place i : ℕ) (es : List ListEntry) (d : ListEntry) → i < length es → place + size_of (get_or es i d) ≤ end_of place (drop i es)
-next_fits place i es d lt =
+pub next_fits : (position i : ℕ) (es : List ListEntry) (d : ListEntry) → i < length es → position + size_of (get_or es i d) ≤ end_of position (drop i es)
+next_fits position i es d lt =
     let e : ListEntry = get_or es i d in
     let cells : drop i es ≡ e ∷ drop (i + 1) es = drop_more es i d lt in
-    omega (arith, end_from (place + size_of e) (drop (i + 1) es), ap (end_of place) cells)
+    omega (arith, end_from (position + size_of e) (drop (i + 1) es), ap (end_of position) cells)
 
 -- the front of entries, and what is behind
-pub listed_front : (place i : ℕ) (bytes : List ℕ) (es : List ListEntry) → AreListed place bytes es → AreListed place bytes (take i es)
-listed_front place zero bytes es ok = tt
-listed_front place (suc i) bytes [] ok = tt
-listed_front place (suc i) bytes (e ∷ es) ok = (ok.0, ok.1, listed_front (place + size_of e) i bytes es ok.2)
+pub listed_front : (position i : ℕ) (bytes : List ℕ) (es : List ListEntry) → AreListed position bytes es → AreListed position bytes (take i es)
+listed_front position zero bytes es ok = tt
+listed_front position (suc i) bytes [] ok = tt
+listed_front position (suc i) bytes (e ∷ es) ok = (ok.0, ok.1, listed_front (position + size_of e) i bytes es ok.2)
 
-pub listed_behind : (place i : ℕ) (bytes : List ℕ) (es : List ListEntry) → AreListed place bytes es → AreListed (end_of place (take i es)) bytes (drop i es)
-listed_behind place zero bytes es ok = ok
-listed_behind place (suc i) bytes [] ok = tt
-listed_behind place (suc i) bytes (e ∷ es) ok = listed_behind (place + size_of e) i bytes es ok.2
+pub listed_behind : (position i : ℕ) (bytes : List ℕ) (es : List ListEntry) → AreListed position bytes es → AreListed (end_of position (take i es)) bytes (drop i es)
+listed_behind position zero bytes es ok = ok
+listed_behind position (suc i) bytes [] ok = tt
+listed_behind position (suc i) bytes (e ∷ es) ok = listed_behind (position + size_of e) i bytes es ok.2
 
-pub start_at : (place i : ℕ) (bytes : List ℕ) (es : List ListEntry) (d : ListEntry) → AreListed place bytes es → i < length es → (get_or es i d).start ≡ end_of place (take i es)
-start_at place i bytes [] d ok lt = absurd (omega arith)
-start_at place zero bytes (x ∷ es) d ok lt = ok.0
-start_at place (suc i) bytes (x ∷ es) d ok lt = start_at (place + size_of x) i bytes es d ok.2 (omega arith)
+pub start_at : (position i : ℕ) (bytes : List ℕ) (es : List ListEntry) (d : ListEntry) → AreListed position bytes es → i < length es → (get_or es i d).start ≡ end_of position (take i es)
+start_at position i bytes [] d ok lt = absurd (omega arith)
+start_at position zero bytes (x ∷ es) d ok lt = ok.0
+start_at position (suc i) bytes (x ∷ es) d ok lt = start_at (position + size_of x) i bytes es d ok.2 (omega arith)
 
 pub lists_take : (i : ℕ) (bytes : List ℕ) (es : List ListEntry) → lists_in bytes (take i es) ≡ take i (lists_in bytes es)
 lists_take zero bytes es = refl
@@ -44,24 +44,24 @@ lists_drop (suc i) bytes [] = refl
 lists_drop (suc i) bytes (e ∷ es) = lists_drop i bytes es
 
 -- where the first entries up to one end, and those up to another
-pub end_between : (place from to : ℕ) (es : List ListEntry) → from ≤ to → end_of place (take to es) ≡ end_of (end_of place (take from es)) (take (to - from) (drop from es))
-end_between place zero to es le =
+pub end_between : (position from to : ℕ) (es : List ListEntry) → from ≤ to → end_of position (take to es) ≡ end_of (end_of position (take from es)) (take (to - from) (drop from es))
+end_between position zero to es le =
     let all : to - 0 ≡ to = omega arith in
-    ap (λ k. end_of place (take k es)) (sym all)
-end_between place (suc from) zero es le = absurd (omega arith)
-end_between place (suc from) (suc to) [] le = nothing (suc to - suc from)
+    ap (λ k. end_of position (take k es)) (sym all)
+end_between position (suc from) zero es le = absurd (omega arith)
+end_between position (suc from) (suc to) [] le = nothing (suc to - suc from)
   where
-    nothing : (k : ℕ) → place ≡ end_of place (take k [])
+    nothing : (k : ℕ) → position ≡ end_of position (take k [])
     nothing zero = refl
     nothing (suc k) = refl
-end_between place (suc from) (suc to) (e ∷ es) le =
+end_between position (suc from) (suc to) (e ∷ es) le =
     let gap : to - from ≡ suc to - suc from = omega arith in
-    end_between (place + size_of e) from to es (omega arith) ∙ ap (λ k. end_of (end_of (place + size_of e) (take from es)) (take k (drop from es))) gap
+    end_between (position + size_of e) from to es (omega arith) ∙ ap (λ k. end_of (end_of (position + size_of e) (take from es)) (take k (drop from es))) gap
 
-pub end_within : (place i : ℕ) (es : List ListEntry) → end_of place (take i es) ≤ end_of place es
-end_within place zero es = end_from place es
-end_within place (suc i) [] = omega arith
-end_within place (suc i) (e ∷ es) = end_within (place + size_of e) i es
+pub end_within : (position i : ℕ) (es : List ListEntry) → end_of position (take i es) ≤ end_of position es
+end_within position zero es = end_from position es
+end_within position (suc i) [] = omega arith
+end_within position (suc i) (e ∷ es) = end_within (position + size_of e) i es
 
 -- entries of bytes that were moved
 pub are_placed : (from to n : ℕ) (bytes bytes' : List ℕ) (es : List ListEntry) → AreListed from bytes es → end_of from es ≡ from + n → take n (drop to bytes') ≡ take n (drop from bytes) → to + n + 3 ≤ length bytes' → AreListed to bytes' (placed_at to es) × (lists_in bytes' (placed_at to es) ≡ lists_in bytes es) × (end_of to (placed_at to es) ≡ to + n)
@@ -84,7 +84,7 @@ are_placed from to n bytes bytes' (e ∷ es) ok ends same room =
       omega (arith, others.2),
     )
 
--- bytes up to a place, and the bytes of a run behind them
+-- bytes up to a position, and the bytes of a run behind them
 module _ (es run : List ListEntry) (bytes from bytes' : List ℕ) (start stop : ℕ) (listed : AreListed 0 bytes es) (ends : end_of 0 es + 3 ≡ length bytes) (listed' : AreListed start from run) (stop_is : stop ≡ end_of start run) (within : stop + 3 ≤ length from) where
   pub copied : bytes' ≡ take (end_of 0 es) bytes ++ take (stop + 3 - start) (drop start from) → AreListed 0 bytes' (es ++ placed_at (end_of 0 es) run) × (end_of 0 (es ++ placed_at (end_of 0 es) run) + 3 ≡ length bytes') × (lists_in bytes' (es ++ placed_at (end_of 0 es) run) ≡ lists_in bytes es ++ lists_in from run)
   copied is =

@@ -25,11 +25,11 @@ after_at : (first w n k : ℕ) (bytes : List ℕ) → k < n → get_or (after_fi
 after_at first w zero k bytes lt = absurd (omega arith)
 after_at first w (suc n) zero bytes lt =
     let none : 0 ≡ w * 0 = omega arith in
-    ap (λ place. first + number_at w place bytes) none
+    ap (λ position. first + number_at w position bytes) none
 after_at first w (suc n) (suc k) bytes lt =
-    let place : w + w * k ≡ w * suc k = omega arith in
+    let position : w + w * k ≡ w * suc k = omega arith in
     after_at first w n k (drop w bytes) (omega arith)
-    ∙ ap (λ ys. first + number_of (take w ys)) (drop-drop (w * k) w bytes ∙ ap (λ p. drop p bytes) place)
+    ∙ ap (λ ys. first + number_of (take w ys)) (drop-drop (w * k) w bytes ∙ ap (λ p. drop p bytes) position)
 
 -- an element after the first is as far above it as its offset says
 pub list_at_more : (first w n k : ℕ) (bytes : List ℕ) → suc k < n → get_or (list_of first w n bytes) (suc k) 0 ≡ first + number_at w (w * k) bytes

@@ -60,8 +60,8 @@ after_more first w zero bytes =
     let none : 0 ≡ w * 0 = omega arith in
     ap (λ p. (first + number_at w p bytes) ∷ []) none
 after_more first w (suc n) bytes =
-    let place : w + w * n ≡ w * suc n = omega arith in
-    let at : drop (w * n) (drop w bytes) ≡ drop (w * suc n) bytes = drop-drop (w * n) w bytes ∙ ap (λ p. drop p bytes) place in
+    let position : w + w * n ≡ w * suc n = omega arith in
+    let at : drop (w * n) (drop w bytes) ≡ drop (w * suc n) bytes = drop-drop (w * n) w bytes ∙ ap (λ p. drop p bytes) position in
     ap (λ xs. (first + number_of (take w bytes)) ∷ xs) (after_more first w n (drop w bytes))
     ∙ ap (λ ys. (first + number_of (take w bytes)) ∷ (after_first first w n (drop w bytes) ++ (first + number_of (take w ys)) ∷ [])) at
 
@@ -94,10 +94,10 @@ element_written w n m x old new xs some width at within ascends wide is front pa
     first_is w zero bytes some = absurd (omega arith)
     first_is w (suc n) bytes some = refl
 
--- bytes that stay up to a place stay up to a smaller one, and from a smaller one on
-pub front_stays : (place at : ℕ) (new old : List ℕ) → place ≤ at → take at new ≡ take at old → take place new ≡ take place old
-front_stays place at new old le same = sym (take-take place at new le) ∙ ap (take place) same ∙ take-take place at old le
+-- bytes that stay up to a position stay up to a smaller one, and from a smaller one on
+pub front_stays : (position at : ℕ) (new old : List ℕ) → position ≤ at → take at new ≡ take at old → take position new ≡ take position old
+front_stays position at new old le same = sym (take-take position at new le) ∙ ap (take position) same ∙ take-take position at old le
 
-pub middle_stays : (place m at : ℕ) (new old : List ℕ) → at ≡ place + m → take at new ≡ take at old → take m (drop place new) ≡ take m (drop place old)
-middle_stays place m at new old is same =
-    sym (drop-take place m new) ∙ ap (λ k. drop place (take k new)) (sym is) ∙ ap (drop place) same ∙ ap (λ k. drop place (take k old)) is ∙ drop-take place m old
+pub middle_stays : (position m at : ℕ) (new old : List ℕ) → at ≡ position + m → take at new ≡ take at old → take m (drop position new) ≡ take m (drop position old)
+middle_stays position m at new old is same =
+    sym (drop-take position m new) ∙ ap (λ k. drop position (take k new)) (sym is) ∙ ap (drop position) same ∙ ap (λ k. drop position (take k old)) is ∙ drop-take position m old

@@ -36,36 +36,36 @@ same_keys bytes bytes' e e' width last same =
 pub same_list : (bytes bytes' : List ℕ) (e e' : ListEntry) → e'.width ≡ e.width → e'.last ≡ e.last → e'.weights ≡ e.weights → take (size_of e) (drop e'.start bytes') ≡ take (size_of e) (drop e.start bytes) → list_at bytes' e' ≡ list_at bytes e
 same_list bytes bytes' e e' width last weights same =
     let n : ℕ = weight_size e.weights * (e.last + 1) in
-    let place : keys_size e' ≡ keys_size e = ap (λ w. 4 + w * e'.last) width ∙ ap (λ k. 4 + e.width * k) last in
+    let position : keys_size e' ≡ keys_size e = ap (λ w. 4 + w * e'.last) width ∙ ap (λ k. 4 + e.width * k) last in
     let part : take n (drop (keys_size e) (drop e'.start bytes')) ≡ take n (drop (keys_size e) (drop e.start bytes)) = middle_stays (keys_size e) n (size_of e) (drop e'.start bytes') (drop e.start bytes) refl same in
     ap (λ xs. weighted xs (weights_at bytes' e')) (same_keys bytes bytes' e e' width last same)
     ∙ ap (weighted (keys_at bytes e))
     (ap (λ v. weights_from v (e'.last + 1) (drop (keys_size e') (drop e'.start bytes'))) weights
     ∙ ap (λ k. weights_from e.weights (k + 1) (drop (keys_size e') (drop e'.start bytes'))) last
-    ∙ ap (λ k. weights_from e.weights (e.last + 1) (drop k (drop e'.start bytes'))) place
+    ∙ ap (λ k. weights_from e.weights (e.last + 1) (drop k (drop e'.start bytes'))) position
     ∙ same_weights e.weights (e.last + 1) n (drop (keys_size e) (drop e'.start bytes')) (drop (keys_size e) (drop e.start bytes)) (omega arith) part)
 
-pub end_from : (place : ℕ) (es : List ListEntry) → place ≤ end_of place es
-end_from place [] = omega arith
-end_from place (e ∷ es) = omega (arith, end_from (place + size_of e) es)
+pub end_from : (position : ℕ) (es : List ListEntry) → position ≤ end_of position es
+end_from position [] = omega arith
+end_from position (e ∷ es) = omega (arith, end_from (position + size_of e) es)
 
-pub end_small : (place : ℕ) (bytes : List ℕ) (es : List ListEntry) → AreListed place bytes es → end_of place es ≤ place + 4096 * length es
-end_small place bytes [] ok = omega arith
-end_small place bytes (e ∷ es) ok = omega (arith, end_small (place + size_of e) bytes es ok.2, size_small bytes e ok.1)
+pub end_small : (position : ℕ) (bytes : List ℕ) (es : List ListEntry) → AreListed position bytes es → end_of position es ≤ position + 4096 * length es
+end_small position bytes [] ok = omega arith
+end_small position bytes (e ∷ es) ok = omega (arith, end_small (position + size_of e) bytes es ok.2, size_small bytes e ok.1)
 
--- from any other place on too
-pub end_room : (place : ℕ) (bytes : List ℕ) (es : List ListEntry) → AreListed place bytes es → (other : ℕ) → end_of other es ≤ other + 4096 * length es
-end_room place bytes [] ok other = omega arith
-end_room place bytes (e ∷ es) ok other = omega (arith, end_room (place + size_of e) bytes es ok.2 (other + size_of e), size_small bytes e ok.1)
+-- from any other position on too
+pub end_room : (position : ℕ) (bytes : List ℕ) (es : List ListEntry) → AreListed position bytes es → (other : ℕ) → end_of other es ≤ other + 4096 * length es
+end_room position bytes [] ok other = omega arith
+end_room position bytes (e ∷ es) ok other = omega (arith, end_room (position + size_of e) bytes es ok.2 (other + size_of e), size_small bytes e ok.1)
 
-pub end_append : (place : ℕ) (es fs : List ListEntry) → end_of place (es ++ fs) ≡ end_of (end_of place es) fs
-end_append place [] fs = refl
-end_append place (e ∷ es) fs = end_append (place + size_of e) es fs
+pub end_append : (position : ℕ) (es fs : List ListEntry) → end_of position (es ++ fs) ≡ end_of (end_of position es) fs
+end_append position [] fs = refl
+end_append position (e ∷ es) fs = end_append (position + size_of e) es fs
 
 -- more entries behind others
-pub listed_append : (place : ℕ) (bytes : List ℕ) (es fs : List ListEntry) → AreListed place bytes es → AreListed (end_of place es) bytes fs → AreListed place bytes (es ++ fs)
-listed_append place bytes [] fs s t = t
-listed_append place bytes (e ∷ es) fs s t = (s.0, s.1, listed_append (place + size_of e) bytes es fs s.2 t)
+pub listed_append : (position : ℕ) (bytes : List ℕ) (es fs : List ListEntry) → AreListed position bytes es → AreListed (end_of position es) bytes fs → AreListed position bytes (es ++ fs)
+listed_append position bytes [] fs s t = t
+listed_append position bytes (e ∷ es) fs s t = (s.0, s.1, listed_append (position + size_of e) bytes es fs s.2 t)
 
 pub lists_append : (bytes : List ℕ) (es fs : List ListEntry) → lists_in bytes (es ++ fs) ≡ lists_in bytes es ++ lists_in bytes fs
 lists_append bytes [] fs = refl
@@ -88,11 +88,11 @@ module _ (end : ℕ) (bytes bytes' : List ℕ) (same : take end bytes' ≡ take 
     ascends = subst (AscendsFrom 0) (sym (same_keys bytes bytes' e e refl refl (bytes_stay e within))) is.ascends;
   }
 
-  pub lists_stay : (place : ℕ) (es : List ListEntry) → AreListed place bytes es → end_of place es ≤ end → AreListed place bytes' es × (lists_in bytes' es ≡ lists_in bytes es)
-  lists_stay place [] ok le = (tt, refl)
-  lists_stay place (e ∷ es) ok le =
-      let within : e.start + size_of e ≤ end = omega (arith, ok.0, end_from (place + size_of e) es) in
-      let rest = lists_stay (place + size_of e) es ok.2 le in
+  pub lists_stay : (position : ℕ) (es : List ListEntry) → AreListed position bytes es → end_of position es ≤ end → AreListed position bytes' es × (lists_in bytes' es ≡ lists_in bytes es)
+  lists_stay position [] ok le = (tt, refl)
+  lists_stay position (e ∷ es) ok le =
+      let within : e.start + size_of e ≤ end = omega (arith, ok.0, end_from (position + size_of e) es) in
+      let rest = lists_stay (position + size_of e) es ok.2 le in
       ((ok.0, listed_stays e ok.1 within, rest.0), rw (list_stays e within, rest.1) refl)
 
 -- bytes that were longer and then written to

@@ -13,8 +13,8 @@ up_at xs from i index is = ap (λ k. get_or xs k 0) is ∙ sym (get_or-drop from
 pub down_at : (xs : List ℕ) (end i index : ℕ) → end ≤ length xs → index + 1 + i ≡ end → get_or xs index 0 ≡ get_or (reverse (take end xs)) i 0
 down_at xs end i index within is =
     let all : length (take end xs) ≡ end = length-take-le end xs within in
-    let place : length (take end xs) - 1 - i ≡ index = omega (arith, all) in
-    sym (get_or-reverse (take end xs) i 0 (omega (arith, all)) ∙ ap (λ k. get_or (take end xs) k 0) place ∙ get_or-take end xs index 0 (omega arith))
+    let position : length (take end xs) - 1 - i ≡ index = omega (arith, all) in
+    sym (get_or-reverse (take end xs) i 0 (omega (arith, all)) ∙ ap (λ k. get_or (take end xs) k 0) position ∙ get_or-take end xs index 0 (omega arith))
 
 -- the first element, and the others behind it
 pub first_filled : (block xs ys : List ℕ) (first : ℕ) → 0 < length block → length block ≤ length xs → first ≡ get_or xs 0 0 → ys ≡ take (length (take (length (slice_set block 0 first) - 1) (drop 1 (slice_set block 0 first)))) (drop 1 xs) → put_mid 1 (length (slice_set block 0 first) - 1) (slice_set block 0 first) ys ≡ take (length block) xs

@@ -66,15 +66,15 @@ present u a h (e ∷ es) s more = elim (cases_lt e.0 u) [
       let here = below_here u e es lt in
       let rest : count_below (u + 1) es ≡ count_below u es + 1 = omega (arith, more, below_here (u + 1) e es (omega arith), here) in
       let found = present u (e.0 + 1) h es s.1 rest in
-      let place : count_below u (e ∷ es) ≡ suc (count_below u es) = here ∙ add-one (count_below u es) in
-      (omega (arith, found.0, here), rw (ne_eqb e.0 u other) (ap (λ i. (get_or (e ∷ es) i (0, [])).1) place ∙ found.1))
+      let position : count_below u (e ∷ es) ≡ suc (count_below u es) = here ∙ add-one (count_below u es) in
+      (omega (arith, found.0, here), rw (ne_eqb e.0 u other) (ap (λ i. (get_or (e ∷ es) i (0, [])).1) position ∙ found.1))
   | inr ge ↦
       let none : count_below u es ≡ 0 = below_first u (e.0 + 1) h es s.1 (omega arith) in
-      let place : count_below u (e ∷ es) ≡ 0 = below_not u e es ge ∙ none in
+      let position : count_below u (e ∷ es) ≡ 0 = below_not u e es ge ∙ none in
       elim (cases_eq e.0 u) [
-        | inl at ↦ (omega (arith, place), rw (eq-eqb e.0 u at) (ap (λ i. (get_or (e ∷ es) i (0, [])).1) place))
+        | inl at ↦ (omega (arith, position), rw (eq-eqb e.0 u at) (ap (λ i. (get_or (e ∷ es) i (0, [])).1) position))
         | inr other ↦
-            absurd (omega (arith, more, place, below_not (u + 1) e es (omega arith), below_first (u + 1) (e.0 + 1) h es s.1 (omega arith)))
+            absurd (omega (arith, more, position, below_not (u + 1) e es (omega arith), below_first (u + 1) (e.0 + 1) h es s.1 (omega arith)))
       ]
 ]
 

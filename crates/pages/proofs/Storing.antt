@@ -75,14 +75,14 @@ module _ (bytes : List ℕ) where
   lists_length (e ∷ es) = omega (arith, lists_length es)
 
   -- the list of the entry at an index
-  pub listed_at : (place : ℕ) (es : List ListEntry) (i : ℕ) (e : ListEntry) → AreListed place bytes es → i < length es → e ≡ get_or es i e → IsListed bytes e × (get_or (lists_in bytes es) i (0, []) ≡ (e.vertex, list_at bytes e))
-  listed_at place [] i e ok lt is = absurd (omega arith)
-  listed_at place (x ∷ es) zero e ok lt is = rw is (ok.1, refl)
-  listed_at place (x ∷ es) (suc i) e ok lt is = listed_at (place + size_of x) es i e ok.2 (omega arith) is
+  pub listed_at : (position : ℕ) (es : List ListEntry) (i : ℕ) (e : ListEntry) → AreListed position bytes es → i < length es → e ≡ get_or es i e → IsListed bytes e × (get_or (lists_in bytes es) i (0, []) ≡ (e.vertex, list_at bytes e))
+  listed_at position [] i e ok lt is = absurd (omega arith)
+  listed_at position (x ∷ es) zero e ok lt is = rw is (ok.1, refl)
+  listed_at position (x ∷ es) (suc i) e ok lt is = listed_at (position + size_of x) es i e ok.2 (omega arith) is
 
-  are_packed : (place : ℕ) (es : List ListEntry) → AreListed place bytes es → ArePacked (lists_in bytes es)
-  are_packed place [] ok = tt
-  are_packed place (e ∷ es) ok = (listed_packed bytes e ok.1, are_packed (place + size_of e) es ok.2)
+  are_packed : (position : ℕ) (es : List ListEntry) → AreListed position bytes es → ArePacked (lists_in bytes es)
+  are_packed position [] ok = tt
+  are_packed position (e ∷ es) ok = (listed_packed bytes e ok.1, are_packed (position + size_of e) es ok.2)
 
 -- what is stored is a page
 pub is_page : (bits : ℕ) (bytes : List ℕ) (es : List ListEntry) → IsStored bits bytes es → IsPage (lists_in bytes es)

@@ -15,19 +15,19 @@ weights_length v zero bytes = refl
 weights_length v (suc n) bytes = ap suc (weights_length v n (drop (weight_size v) bytes))
 
 -- where the next weight stands
-next_place : (s k : ℕ) → s + s * k ≡ s * suc k
-next_place s k = omega arith
+next_position : (s k : ℕ) → s + s * k ≡ s * suc k
+next_position s k = omega arith
 
-first_place : (s : ℕ) → 0 ≡ s * 0
-first_place s = omega arith
+first_position : (s : ℕ) → 0 ≡ s * 0
+first_position s = omega arith
 
 -- the weight at an index
 pub weight_found : (v : WeightWidth) (n k : ℕ) (bytes : List ℕ) (d : ℤ) → k < n → get_or (weights_from v n bytes) k d ≡ weight_in v (drop (weight_size v * k) bytes)
 weight_found v zero k bytes d lt = absurd (omega (arith, lt))
-weight_found v (suc n) zero bytes d lt = ap (λ p. weight_in v (drop p bytes)) (first_place (weight_size v))
+weight_found v (suc n) zero bytes d lt = ap (λ p. weight_in v (drop p bytes)) (first_position (weight_size v))
 weight_found v (suc n) (suc k) bytes d lt =
     weight_found v n k (drop (weight_size v) bytes) d (omega (arith, lt))
-    ∙ ap (weight_in v) (drop-drop (weight_size v * k) (weight_size v) bytes ∙ ap (λ p. drop p bytes) (next_place (weight_size v) k))
+    ∙ ap (weight_in v) (drop-drop (weight_size v * k) (weight_size v) bytes ∙ ap (λ p. drop p bytes) (next_position (weight_size v) k))
 
 -- the weights in front, and those from an index on
 weights_front : (v : WeightWidth) (n m : ℕ) (bytes : List ℕ) → m ≤ n → take m (weights_from v n bytes) ≡ weights_from v m bytes
@@ -36,11 +36,11 @@ weights_front v zero (suc m) bytes le = absurd (omega (arith, le))
 weights_front v (suc n) (suc m) bytes le = ap (λ ws. weight_in v bytes ∷ ws) (weights_front v n m (drop (weight_size v) bytes) (omega (arith, le)))
 
 pub weights_part : (v : WeightWidth) (n from m : ℕ) (bytes : List ℕ) → from + m ≤ n → take m (drop from (weights_from v n bytes)) ≡ weights_from v m (drop (weight_size v * from) bytes)
-weights_part v n zero m bytes le = weights_front v n m bytes (omega (arith, le)) ∙ ap (λ p. weights_from v m (drop p bytes)) (first_place (weight_size v))
+weights_part v n zero m bytes le = weights_front v n m bytes (omega (arith, le)) ∙ ap (λ p. weights_from v m (drop p bytes)) (first_position (weight_size v))
 weights_part v zero (suc from) m bytes le = absurd (omega (arith, le))
 weights_part v (suc n) (suc from) m bytes le =
     weights_part v n from m (drop (weight_size v) bytes) (omega (arith, le))
-    ∙ ap (weights_from v m) (drop-drop (weight_size v * from) (weight_size v) bytes ∙ ap (λ p. drop p bytes) (next_place (weight_size v) from))
+    ∙ ap (weights_from v m) (drop-drop (weight_size v * from) (weight_size v) bytes ∙ ap (λ p. drop p bytes) (next_position (weight_size v) from))
 
 -- weights depend on their own bytes alone
 same_weight : (v : WeightWidth) (m : ℕ) (bytes bytes' : List ℕ) → weight_size v ≤ m → take m bytes ≡ take m bytes' → weight_in v bytes ≡ weight_in v bytes'
@@ -54,7 +54,7 @@ pub same_weights : (v : WeightWidth) (n m : ℕ) (bytes bytes' : List ℕ) → w
 same_weights v zero m bytes bytes' le same = refl
 same_weights v (suc n) m bytes bytes' le same =
     let s : ℕ = weight_size v in
-    let room : s + s * n ≤ m = omega (arith, le, next_place s n) in
+    let room : s + s * n ≤ m = omega (arith, le, next_position s n) in
     let k : ℕ = m - s in
     let up : s + k ≡ m = omega (arith, room) in
     let rest : take k (drop s bytes) ≡ take k (drop s bytes') = sym (drop-take s k bytes) ∙ ap (λ j. drop s (take j bytes)) up ∙ ap (drop s) same ∙ sym (ap (λ j. drop s (take j bytes')) up) ∙ drop-take s k bytes' in
@@ -63,10 +63,10 @@ same_weights v (suc n) m bytes bytes' le same =
 
 -- one weight more
 weights_more : (v : WeightWidth) (n : ℕ) (bytes : List ℕ) → weights_from v (suc n) bytes ≡ weights_from v n bytes ++ weight_in v (drop (weight_size v * n) bytes) ∷ []
-weights_more v zero bytes = ap (λ p. weight_in v (drop p bytes) ∷ []) (first_place (weight_size v))
+weights_more v zero bytes = ap (λ p. weight_in v (drop p bytes) ∷ []) (first_position (weight_size v))
 weights_more v (suc n) bytes =
     let s : ℕ = weight_size v in
-    let at : drop (s * n) (drop s bytes) ≡ drop (s * suc n) bytes = drop-drop (s * n) s bytes ∙ ap (λ p. drop p bytes) (next_place s n) in
+    let at : drop (s * n) (drop s bytes) ≡ drop (s * suc n) bytes = drop-drop (s * n) s bytes ∙ ap (λ p. drop p bytes) (next_position s n) in
     ap (λ ws. weight_in v bytes ∷ ws) (weights_more v n (drop s bytes))
     ∙ ap (λ b. weight_in v bytes ∷ (weights_from v n (drop s bytes) ++ weight_in v b ∷ [])) at
 
@@ -77,23 +77,23 @@ column_more (suc n) [] = ap (λ v. pos 1 ∷ v) (column_more n [])
 column_more (suc n) (w ∷ ws) = ap (λ v. w ∷ v) (column_more n ws)
 
 -- a weight more is written: those before it stay
-pub weight_written : (v : WeightWidth) (n place at : ℕ) (w : ℤ) (old new : List ℕ) (ws : List ℤ) → at ≡ place + weight_size v * n → take at new ≡ take at old → weight_in v (drop at new) ≡ w → w ≡ get_or ws n (pos 1) → weights_from v n (drop place old) ≡ column_of n ws → weights_from v (n + 1) (drop place new) ≡ column_of (n + 1) ws
-weight_written v n place at w old new ws is front put this so_far =
+pub weight_written : (v : WeightWidth) (n position at : ℕ) (w : ℤ) (old new : List ℕ) (ws : List ℤ) → at ≡ position + weight_size v * n → take at new ≡ take at old → weight_in v (drop at new) ≡ w → w ≡ get_or ws n (pos 1) → weights_from v n (drop position old) ≡ column_of n ws → weights_from v (n + 1) (drop position new) ≡ column_of (n + 1) ws
+weight_written v n position at w old new ws is front put this so_far =
     let s : ℕ = weight_size v in
-    let here : drop (s * n) (drop place new) ≡ drop at new = drop-drop (s * n) place new ∙ ap (λ p. drop p new) (sym is) in
-    let before : weights_from v n (drop place new) ≡ column_of n ws = same_weights v n (s * n) (drop place new) (drop place old) (omega arith) (middle_stays place (s * n) at new old is front) ∙ so_far in
-    ap (λ k. weights_from v k (drop place new)) (add-one n)
-    ∙ weights_more v n (drop place new)
-    ∙ ap (λ us. us ++ weight_in v (drop (s * n) (drop place new)) ∷ []) before
+    let here : drop (s * n) (drop position new) ≡ drop at new = drop-drop (s * n) position new ∙ ap (λ p. drop p new) (sym is) in
+    let before : weights_from v n (drop position new) ≡ column_of n ws = same_weights v n (s * n) (drop position new) (drop position old) (omega arith) (middle_stays position (s * n) at new old is front) ∙ so_far in
+    ap (λ k. weights_from v k (drop position new)) (add-one n)
+    ∙ weights_more v n (drop position new)
+    ∙ ap (λ us. us ++ weight_in v (drop (s * n) (drop position new)) ∷ []) before
     ∙ ap (λ x. column_of n ws ++ x ∷ []) (ap (weight_in v) here ∙ put ∙ this)
     ∙ sym (column_more n ws)
     ∙ ap (λ k. column_of k ws) (sym (add-one n))
 
 -- a weight more is read into a block
-pub weight_filled : (v : WeightWidth) (n start place : ℕ) (x : ℤ) (bytes : List ℕ) (block : List ℤ) → n < length block → place ≡ start + weight_size v * n → x ≡ weight_in v (drop place bytes) → take n block ≡ weights_from v n (drop start bytes) → take (n + 1) (slice_set block n x) ≡ weights_from v (n + 1) (drop start bytes)
-weight_filled v n start place x bytes block lt is read so_far =
+pub weight_filled : (v : WeightWidth) (n start position : ℕ) (x : ℤ) (bytes : List ℕ) (block : List ℤ) → n < length block → position ≡ start + weight_size v * n → x ≡ weight_in v (drop position bytes) → take n block ≡ weights_from v n (drop start bytes) → take (n + 1) (slice_set block n x) ≡ weights_from v (n + 1) (drop start bytes)
+weight_filled v n start position x bytes block lt is read so_far =
     let s : ℕ = weight_size v in
-    let here : drop place bytes ≡ drop (s * n) (drop start bytes) = ap (λ p. drop p bytes) is ∙ sym (drop-drop (s * n) start bytes) in
+    let here : drop position bytes ≡ drop (s * n) (drop start bytes) = ap (λ p. drop p bytes) is ∙ sym (drop-drop (s * n) start bytes) in
     take_more_set block n x lt
     ∙ ap (λ ws. ws ++ x ∷ []) so_far
     ∙ ap (λ w. weights_from v n (drop start bytes) ++ w ∷ []) (read ∙ ap (weight_in v) here)

@@ -75,26 +75,26 @@ fn write_list(bytes: &mut [u8], entry: ListEntry, keys: &[u32], weights: &[i64])
 }
 
 /// Adds the entries of a run behind others that have room, for lists which are one behind the other
-/// from a place on.
+/// from a position on.
 fn append(
     entries: &mut Vec<ListEntry>,
     run: &[ListEntry],
-    mut place: usize,
+    mut position: usize,
 ) -> Result<(), AllocError>
     requires room { vec_len entries.old + length run.now ≤ vec_capacity entries.old }
-    requires fits { end_of place run.now < 2 ^ 32 }
+    requires fits { end_of position run.now < 2 ^ 32 }
     ensures ok { IsOk result }
-    ensures items { entries.new.items ≡ entries.old.items ++ placed_at place run.now }
+    ensures items { entries.new.items ≡ entries.old.items ++ placed_at position run.now }
 {
     for entry in run {
         entries.push(ListEntry {
-            start: place as u32,
+            start: position as u32,
             last: entry.last,
             width: entry.width,
             weights: entry.weights,
             vertex: entry.vertex,
         })?;
-        place += entry.size();
+        position += entry.size();
     }
     Ok(())
 }

@@ -15,8 +15,8 @@ pub(crate) fn fill_up(packed: PackedOffsets<'_>, from: usize, block: &mut [u32])
         ≡ take (length block.old) (drop from (list_of packed.entry.first packed.entry.width packed.entry.len packed.entry.offsets.now)) }
 {
     let mut index = from - 1;
-    for place in block.iter_mut() {
-        *place = packed.first + offset(packed.offsets, packed.width, packed.mask, index);
+    for position in block.iter_mut() {
+        *position = packed.first + offset(packed.offsets, packed.width, packed.mask, index);
         index += 1;
     }
 }
@@ -31,9 +31,9 @@ pub(crate) fn fill_down(packed: PackedOffsets<'_>, end: usize, block: &mut [u32]
         ≡ take (length block.old) (reverse (take end (list_of packed.entry.first packed.entry.width packed.entry.len packed.entry.offsets.now))) }
 {
     let mut index = end - 1;
-    for place in block.iter_mut() {
+    for position in block.iter_mut() {
         index -= 1;
-        *place = packed.first + offset(packed.offsets, packed.width, packed.mask, index);
+        *position = packed.first + offset(packed.offsets, packed.width, packed.mask, index);
     }
 }
 

@@ -7,7 +7,7 @@ use crate::neighbours::Neighbours;
 use crate::offsets::{PackedOffsets, number};
 use crate::weights::WeightWidth;
 
-/// A vertex that is present, with the place where its list starts, the index of its last neighbour, and
+/// A vertex that is present, with the position where its list starts, the index of its last neighbour, and
 /// how many bytes each offset and each weight takes.
 #[derive(Clone, Copy)]
 pub(crate) struct ListEntry {

@@ -32,17 +32,17 @@ impl PackedOffsets<'_> {
     }
 }
 
-/// The number in the four bytes from a place on, the low byte first.
+/// The number in the four bytes from a position on, the low byte first.
 #[inline(always)]
-pub(crate) fn number(bytes: &[u8], place: usize) -> u32
-    requires { place + 4 ≤ length bytes.now }
-    ensures { result ≡ number_at 4 place bytes.now }
+pub(crate) fn number(bytes: &[u8], position: usize) -> u32
+    requires { position + 4 ≤ length bytes.now }
+    ensures { result ≡ number_at 4 position bytes.now }
 {
     u32::from_le_bytes([
-        bytes[place],
-        bytes[place + 1],
-        bytes[place + 2],
-        bytes[place + 3],
+        bytes[position],
+        bytes[position + 1],
+        bytes[position + 2],
+        bytes[position + 3],
     ])
 }
 

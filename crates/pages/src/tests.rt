@@ -146,9 +146,9 @@ fn comes_up(list: Neighbours<'_>, keys: &[u32], weights: &[i64]) -> bool {
     let (mut read, mut same) = (0usize, true);
     for _ in 0..22 {
         let filled = walk.fill_weighted(&mut block, &mut column);
-        for place in 0..filled.min(100) {
-            same = same && keys.get(read) == Some(&block[place]);
-            same = same && weight_of(weights, read) == column[place];
+        for position in 0..filled.min(100) {
+            same = same && keys.get(read) == Some(&block[position]);
+            same = same && weight_of(weights, read) == column[position];
             read = read.saturating_add(1);
         }
     }
@@ -161,10 +161,10 @@ fn comes_down(list: Neighbours<'_>, keys: &[u32], weights: &[i64]) -> bool {
     let (mut left, mut same) = (keys.len(), true);
     for _ in 0..22 {
         let filled = walk.fill_weighted(&mut block, &mut column);
-        for place in 0..filled.min(100) {
+        for position in 0..filled.min(100) {
             left = left.saturating_sub(1);
-            same = same && keys.get(left) == Some(&block[place]);
-            same = same && weight_of(weights, left) == column[place];
+            same = same && keys.get(left) == Some(&block[position]);
+            same = same && weight_of(weights, left) == column[position];
         }
     }
     same && left == 0 && walk.is_empty()
@@ -212,8 +212,8 @@ fn fills_up(page: &Page, list: &[(u32, i64)], room: usize) -> bool {
     let (mut read, mut same) = (0usize, true);
     for _ in 0..10 {
         let filled = walk.fill_weighted(&mut keys[..room.min(4)], &mut weights);
-        for place in 0..filled.min(4) {
-            same = same && list.get(read) == Some(&(keys[place], weights[place]));
+        for position in 0..filled.min(4) {
+            same = same && list.get(read) == Some(&(keys[position], weights[position]));
             read = read.saturating_add(1);
         }
     }
@@ -226,9 +226,9 @@ fn fills_down(page: &Page, list: &[(u32, i64)], room: usize) -> bool {
     let (mut left, mut same) = (list.len(), true);
     for _ in 0..10 {
         let filled = walk.fill_weighted(&mut keys, &mut weights[..room.min(4)]);
-        for place in 0..filled.min(4) {
+        for position in 0..filled.min(4) {
             left = left.saturating_sub(1);
-            same = same && list.get(left) == Some(&(keys[place], weights[place]));
+            same = same && list.get(left) == Some(&(keys[position], weights[position]));
         }
     }
     same && left == 0 && walk.is_empty()

@@ -6,16 +6,16 @@ ghost use Rattle.pages.specs.inside.Weights.{weight_size, weights_from};
 
 use crate::weights::{WeightWidth, weight_at};
 
-/// Fills a block with the weights from a place on.
+/// Fills a block with the weights from a position on.
 #[inline(always)]
 fn fill_by(bytes: &[u8], width: WeightWidth, start: usize, block: &mut [i64])
     requires { start + weight_size width * length block.old ≤ length bytes.now }
     ensures { block.new ≡ weights_from width (length block.old) (drop start bytes.now) }
 {
-    let mut place = start;
+    let mut position = start;
     for weight in block.iter_mut() {
-        *weight = weight_at(bytes, width, place);
-        place += width.size();
+        *weight = weight_at(bytes, width, position);
+        position += width.size();
     }
 }
 
@@ -27,7 +27,7 @@ fn fill_ones(block: &mut [i64])
     block.fill(1);
 }
 
-/// Fills a block with the weights from a place on, by the loop for their width.
+/// Fills a block with the weights from a position on, by the loop for their width.
 #[inline]
 pub(crate) fn fill_weights(bytes: &[u8], width: WeightWidth, start: usize, block: &mut [i64])
     requires { start + weight_size width * length block.old ≤ length bytes.now }

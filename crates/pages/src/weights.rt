@@ -89,44 +89,44 @@ pub fn weight_width_of(weights: &[i64]) -> usize
     WeightWidth::of(weights).size()
 }
 
-/// The weight in the bytes from a place on.
+/// The weight in the bytes from a position on.
 #[inline(always)]
-pub(crate) fn weight_at(bytes: &[u8], width: WeightWidth, place: usize) -> i64
-    requires { place + weight_size width ≤ length bytes.now }
-    ensures { result ≡ weight_in width (drop place bytes.now) }
+pub(crate) fn weight_at(bytes: &[u8], width: WeightWidth, position: usize) -> i64
+    requires { position + weight_size width ≤ length bytes.now }
+    ensures { result ≡ weight_in width (drop position bytes.now) }
 {
     match width {
         WeightWidth::Ones => 1,
-        WeightWidth::OneByte => i64::from(bytes[place]),
-        WeightWidth::TwoBytes => i64::from(two_bytes(bytes, place)),
-        WeightWidth::FourBytes => i64::from(number(bytes, place).cast_signed()),
-        WeightWidth::EightBytes => eight_bytes(bytes, place).cast_signed(),
+        WeightWidth::OneByte => i64::from(bytes[position]),
+        WeightWidth::TwoBytes => i64::from(two_bytes(bytes, position)),
+        WeightWidth::FourBytes => i64::from(number(bytes, position).cast_signed()),
+        WeightWidth::EightBytes => eight_bytes(bytes, position).cast_signed(),
     }
 }
 
-/// The number in the two bytes from a place on.
+/// The number in the two bytes from a position on.
 #[inline(always)]
-fn two_bytes(bytes: &[u8], place: usize) -> u16
-    requires { place + 2 ≤ length bytes.now }
-    ensures { result ≡ number_at 2 place bytes.now }
+fn two_bytes(bytes: &[u8], position: usize) -> u16
+    requires { position + 2 ≤ length bytes.now }
+    ensures { result ≡ number_at 2 position bytes.now }
 {
-    u16::from_le_bytes([bytes[place], bytes[place + 1]])
+    u16::from_le_bytes([bytes[position], bytes[position + 1]])
 }
 
-/// The number in the eight bytes from a place on.
+/// The number in the eight bytes from a position on.
 #[inline(always)]
-fn eight_bytes(bytes: &[u8], place: usize) -> u64
-    requires { place + 8 ≤ length bytes.now }
-    ensures { result ≡ number_at 8 place bytes.now }
+fn eight_bytes(bytes: &[u8], position: usize) -> u64
+    requires { position + 8 ≤ length bytes.now }
+    ensures { result ≡ number_at 8 position bytes.now }
 {
     u64::from_le_bytes([
-        bytes[place],
-        bytes[place + 1],
-        bytes[place + 2],
-        bytes[place + 3],
-        bytes[place + 4],
-        bytes[place + 5],
-        bytes[place + 6],
-        bytes[place + 7],
+        bytes[position],
+        bytes[position + 1],
+        bytes[position + 2],
+        bytes[position + 3],
+        bytes[position + 4],
+        bytes[position + 5],
+        bytes[position + 6],
+        bytes[position + 7],
     ])
 }

@@ -23,90 +23,90 @@ pub fn width_of(span: u32) -> usize
     }
 }
 
-/// Writes a number into the four bytes from a place on, the low byte first.
+/// Writes a number into the four bytes from a position on, the low byte first.
 #[inline(always)]
-fn put(bytes: &mut [u8], place: usize, number: u32)
-    requires { place + 4 ≤ length bytes.old }
-    ensures front { take place bytes.new ≡ take place bytes.old }
-    ensures part { take 4 (drop place bytes.new) ≡ to_le_bytes w32 number }
+fn put(bytes: &mut [u8], position: usize, number: u32)
+    requires { position + 4 ≤ length bytes.old }
+    ensures front { take position bytes.new ≡ take position bytes.old }
+    ensures part { take 4 (drop position bytes.new) ≡ to_le_bytes w32 number }
 {
-    bytes[place..place + 4].copy_from_slice(&number.to_le_bytes());
+    bytes[position..position + 4].copy_from_slice(&number.to_le_bytes());
 }
 
-/// Writes a list from a place on: its first neighbour and the offsets of the others. Bytes behind it
+/// Writes a list from a position on: its first neighbour and the offsets of the others. Bytes behind it
 /// may change.
-pub(crate) fn write(bytes: &mut [u8], place: usize, width: usize, list: &[u32])
+pub(crate) fn write(bytes: &mut [u8], position: usize, width: usize, list: &[u32])
     requires some { 0 < length list.now }
     requires ascending { AscendsFrom 0 list.now }
     requires width { (0 < width) × (width ≤ 4) }
     requires wide { span_of list.now < 2 ^ (8 * width) }
-    requires room { place + (4 + width * (length list.now - 1)) + 3 ≤ length bytes.old }
-    ensures front { take place bytes.new ≡ take place bytes.old }
-    ensures list { elements_in width (length list.now) (drop place bytes.new) ≡ list.now }
+    requires room { position + (4 + width * (length list.now - 1)) + 3 ≤ length bytes.old }
+    ensures front { take position bytes.new ≡ take position bytes.old }
+    ensures list { elements_in width (length list.now) (drop position bytes.new) ≡ list.now }
 {
     let first = list[0];
-    put(bytes, place, first);
-    let mut at = place + 4;
+    put(bytes, position, first);
+    let mut at = position + 4;
     for index in 1..list.len() {
         put(bytes, at, list[index] - first);
         at += width;
     }
 }
 
-/// Writes one weight from a place on.
+/// Writes one weight from a position on.
 #[inline(always)]
-fn put_weight(bytes: &mut [u8], place: usize, width: WeightWidth, weight: i64)
+fn put_weight(bytes: &mut [u8], position: usize, width: WeightWidth, weight: i64)
     requires allows { Allows width weight }
-    requires room { place + weight_size width ≤ length bytes.old }
-    ensures front { take place bytes.new ≡ take place bytes.old }
-    ensures weight { weight_in width (drop place bytes.new) ≡ weight }
+    requires room { position + weight_size width ≤ length bytes.old }
+    ensures front { take position bytes.new ≡ take position bytes.old }
+    ensures weight { weight_in width (drop position bytes.new) ≡ weight }
 {
     match width {
         WeightWidth::Ones => {}
-        WeightWidth::OneByte => bytes[place] = weight as u8,
-        WeightWidth::TwoBytes => put_two(bytes, place, weight as u16),
-        WeightWidth::FourBytes => put(bytes, place, (weight as i32).cast_unsigned()),
-        WeightWidth::EightBytes => put_eight(bytes, place, weight.cast_unsigned()),
+        WeightWidth::OneByte => bytes[position] = weight as u8,
+        WeightWidth::TwoBytes => put_two(bytes, position, weight as u16),
+        WeightWidth::FourBytes => put(bytes, position, (weight as i32).cast_unsigned()),
+        WeightWidth::EightBytes => put_eight(bytes, position, weight.cast_unsigned()),
     }
 }
 
-/// Writes a number into the two bytes from a place on, the low byte first.
+/// Writes a number into the two bytes from a position on, the low byte first.
 #[inline(always)]
-fn put_two(bytes: &mut [u8], place: usize, number: u16)
-    requires { place + 2 ≤ length bytes.old }
-    ensures front { take place bytes.new ≡ take place bytes.old }
-    ensures part { take 2 (drop place bytes.new) ≡ to_le_bytes w16 number }
+fn put_two(bytes: &mut [u8], position: usize, number: u16)
+    requires { position + 2 ≤ length bytes.old }
+    ensures front { take position bytes.new ≡ take position bytes.old }
+    ensures part { take 2 (drop position bytes.new) ≡ to_le_bytes w16 number }
 {
-    bytes[place..place + 2].copy_from_slice(&number.to_le_bytes());
+    bytes[position..position + 2].copy_from_slice(&number.to_le_bytes());
 }
 
-/// Writes a number into the eight bytes from a place on, the low byte first.
+/// Writes a number into the eight bytes from a position on, the low byte first.
 #[inline(always)]
-fn put_eight(bytes: &mut [u8], place: usize, number: u64)
-    requires { place + 8 ≤ length bytes.old }
-    ensures front { take place bytes.new ≡ take place bytes.old }
-    ensures part { take 8 (drop place bytes.new) ≡ to_le_bytes w64 number }
+fn put_eight(bytes: &mut [u8], position: usize, number: u64)
+    requires { position + 8 ≤ length bytes.old }
+    ensures front { take position bytes.new ≡ take position bytes.old }
+    ensures part { take 8 (drop position bytes.new) ≡ to_le_bytes w64 number }
 {
-    bytes[place..place + 8].copy_from_slice(&number.to_le_bytes());
+    bytes[position..position + 8].copy_from_slice(&number.to_le_bytes());
 }
 
-/// Writes the weights of so many neighbours from a place on: those of a column, and 1 where it is over.
+/// Writes the weights of so many neighbours from a position on: those of a column, and 1 where it is over.
 pub(crate) fn write_weights(
     bytes: &mut [u8],
-    place: usize,
+    position: usize,
     width: WeightWidth,
     count: usize,
     weights: &[i64],
 )
     requires allows { (i : ℕ) → Allows width (get_or weights.now i (pos 1)) }
-    requires room { place + weight_size width * count ≤ length bytes.old }
-    ensures front { take place bytes.new ≡ take place bytes.old }
-    ensures weights { weights_from width count (drop place bytes.new) ≡ column_of count weights.now }
+    requires room { position + weight_size width * count ≤ length bytes.old }
+    ensures front { take position bytes.new ≡ take position bytes.old }
+    ensures weights { weights_from width count (drop position bytes.new) ≡ column_of count weights.now }
 {
     if width.is_ones() {
         return;
     }
-    let mut at = place;
+    let mut at = position;
     for index in 0..count {
         put_weight(bytes, at, width, weight_of(weights, index));
         at += width.size();

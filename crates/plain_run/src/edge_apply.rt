@@ -31,7 +31,7 @@ impl Drop for Passing {
     }
 }
 
-/// Applies the edge function at a place to the edges between the ends, and gives the vectors after it. The
+/// Applies the edge function at an index to the edges between the ends, and gives the vectors after it. The
 /// state stays. It looks at each edge and each vertex once.
 pub(crate) fn apply_edges(
     alloc: Global,
@@ -168,7 +168,7 @@ fn flags_of_end(
     let vertices = graph.vertices;
     match end {
         VertexFilter::Members(slot) => {
-            let members = members_at(&state.sets, slot.place);
+            let members = members_at(&state.sets, slot.index);
             let flags = flags_of_members(alloc, vertices, members)?;
             Ok(flags)
         }
@@ -194,9 +194,9 @@ fn flags_of_members(alloc: Global, vertices: u32, members: &[u32]) -> Result<Vec
 fn set_flag(flags: &mut Vec<bool>, vertex: u32)
     ensures { flags.new.items ≡ slice_set flags.old.items vertex true }
 {
-    let place = vertex as usize;
-    if place < flags.len() {
-        flags[place] = true;
+    let index = vertex as usize;
+    if index < flags.len() {
+        flags[index] = true;
     }
 }
 

@@ -64,7 +64,7 @@ pub(crate) fn reduce_entry(
     None
 }
 
-/// Puts an entry of a vector; where there is no such place nothing is changed.
+/// Puts an entry of a vector; where there is no such index nothing is changed.
 pub(crate) fn set_entry(vectors: &mut Vec<Sequence<i64>>, vector: usize, vertex: usize, value: i64)
     ensures { vectors.new.items ≡ with_entry vectors.old.items vector vertex value }
 {
@@ -73,7 +73,7 @@ pub(crate) fn set_entry(vectors: &mut Vec<Sequence<i64>>, vector: usize, vertex:
     }
 }
 
-/// Reduces the entry of a vector at a vertex with a number; where there is no such place nothing is changed.
+/// Reduces the entry of a vector at a vertex with a number; where there is no such index nothing is changed.
 pub(crate) fn reduce_entry_at(
     vectors: &mut Vec<Sequence<i64>>,
     vertex: u32,

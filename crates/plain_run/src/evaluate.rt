@@ -47,7 +47,7 @@ fn total_of(
         IntExpression::Number(n) => Total { number: *n },
         IntExpression::Constant(_, n) => Total { number: *n },
         IntExpression::Variable(slot) => Total {
-            number: integer_at(scope, slot.place),
+            number: integer_at(scope, slot.index),
         },
         IntExpression::Parameter(at) => Total {
             number: i64::from(endpoint(scope, *at)),
@@ -58,14 +58,14 @@ fn total_of(
         IntExpression::EntryAt(vector, at) => Total {
             number: entry_of(vectors, *vector, endpoint(scope, *at) as usize),
         },
-        IntExpression::Entry(vector, index) => {
-            let index = total_of(index, vectors, sets, scope);
+        IntExpression::Entry(vector, subscript) => {
+            let subscript = total_of(subscript, vectors, sets, scope);
             Total {
-                number: entry_at_index(vectors, *vector, index.number),
+                number: entry_at_index(vectors, *vector, subscript.number),
             }
         }
         IntExpression::SetSize(slot) => Total {
-            number: (members_at(sets, slot.place).len() as u64).cast_signed(),
+            number: (members_at(sets, slot.index).len() as u64).cast_signed(),
         },
         IntExpression::Negative(signs, e) => behind_signs(
             *signs,
@@ -138,7 +138,7 @@ pub(crate) fn holds(
     match c {
         BoolExpression::Literal(b) => *b,
         BoolExpression::Constant(_, b) => *b,
-        BoolExpression::Variable(slot) => condition_at(scope, slot.place),
+        BoolExpression::Variable(slot) => condition_at(scope, slot.index),
         BoolExpression::Not(turns, c) => turned(*turns, holds(c, vectors, sets, scope)),
         BoolExpression::Compare(comparison, left, right) => compare(
             *comparison,
@@ -280,21 +280,21 @@ fn conditions_are_inside(
     true
 }
 
-/// The variable at a place, 0 where there is none.
-pub(crate) fn integer_at(scope: &Environment, place: usize) -> i64
-    ensures { result ≡ slice_index_or (scope_of scope.now).integers place (pos 0) }
+/// The variable at an index, 0 where there is none.
+pub(crate) fn integer_at(scope: &Environment, index: usize) -> i64
+    ensures { result ≡ slice_index_or (scope_of scope.now).integers index (pos 0) }
 {
-    match scope.integers.get(place) {
+    match scope.integers.get(index) {
         Some(n) => *n,
         None => 0,
     }
 }
 
-/// The variable at a place, false where there is none.
-pub(crate) fn condition_at(scope: &Environment, place: usize) -> bool
-    ensures { result ≡ slice_index_or (scope_of scope.now).conditions place false }
+/// The variable at an index, false where there is none.
+pub(crate) fn condition_at(scope: &Environment, index: usize) -> bool
+    ensures { result ≡ slice_index_or (scope_of scope.now).conditions index false }
 {
-    match scope.conditions.get(place) {
+    match scope.conditions.get(index) {
         Some(b) => *b,
         None => false,
     }
@@ -339,11 +339,11 @@ fn names_vertex(vertices: u32, index: i64) -> bool
     0 <= index && index < i64::from(vertices)
 }
 
-/// The members of the set at a place, none where there is no set.
-pub(crate) fn members_at(sets: &[SetBinding], place: usize) -> &[u32]
-    ensures { result.now ≡ members_of (slice_get sets.now place) }
+/// The members of the set at an index, none where there is no set.
+pub(crate) fn members_at(sets: &[SetBinding], index: usize) -> &[u32]
+    ensures { result.now ≡ members_of (slice_get sets.now index) }
 {
-    match sets.get(place) {
+    match sets.get(index) {
         Some(set) => set.members.as_slice(),
         None => &[],
     }

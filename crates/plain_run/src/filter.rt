@@ -10,7 +10,7 @@ use algorithm_meaning::{SetBinding, Writing};
 use std::alloc::{AllocError, Global};
 use typed_tree::{Function, FunctionStatement, Sequence};
 
-/// Of these vertices those that the filter at a place lets through.
+/// Of these vertices those that the filter at an index lets through.
 pub(crate) fn filter_members(
     alloc: Global,
     filters: &[Function],

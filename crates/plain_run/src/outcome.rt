@@ -80,11 +80,11 @@ fn name_sets(
     Ok(named)
 }
 
-/// A copy of the name at a place, the empty one where there is none.
-fn name_of(alloc: Global, names: &[Name], place: usize) -> Result<Name, AllocError>
-    ensures { IfOk result (λ name. name ≡ name_at names.now place) }
+/// A copy of the name at an index, the empty one where there is none.
+fn name_of(alloc: Global, names: &[Name], index: usize) -> Result<Name, AllocError>
+    ensures { IfOk result (λ name. name ≡ name_at names.now index) }
 {
-    match names.get(place) {
+    match names.get(index) {
         Some(name) => Ok(Sequence::new(Vec::from_slice(alloc, name.as_slice())?)),
         None => Ok(Sequence::new(Vec::new(alloc))),
     }

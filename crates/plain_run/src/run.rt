@@ -125,18 +125,18 @@ fn run_without_block(
     match action {
         StatementKind::DeclareInteger(_, e) => declare_integer(e, context, state),
         StatementKind::DeclareCondition(_, c) => declare_condition(c, context, state),
-        StatementKind::SetInteger(slot, e) => Ok(set_integer(slot.place, e, context, state)),
-        StatementKind::SetCondition(slot, c) => Ok(set_condition(slot.place, c, context, state)),
+        StatementKind::SetInteger(slot, e) => Ok(set_integer(slot.index, e, context, state)),
+        StatementKind::SetCondition(slot, c) => Ok(set_condition(slot.index, c, context, state)),
         StatementKind::ReduceInteger(slot, reduction, e) => Ok(reduce_integer(
-            slot.place, *reduction, e, context, state,
+            slot.index, *reduction, e, context, state,
         )),
-        StatementKind::SetEntry(vector, index, e) => {
-            Ok(set_entry_in(*vector, index, e, context, state))
+        StatementKind::SetEntry(vector, subscript, e) => {
+            Ok(set_entry_in(*vector, subscript, e, context, state))
         }
-        StatementKind::ReduceEntry(vector, index, reduction, e) => Ok(reduce_entry(
-            *vector, index, *reduction, e, context, state,
+        StatementKind::ReduceEntry(vector, subscript, reduction, e) => Ok(reduce_entry(
+            *vector, subscript, *reduction, e, context, state,
         )),
-        StatementKind::AddVertex(slot, e) => add_vertex(alloc, slot.place, e, context, state),
+        StatementKind::AddVertex(slot, e) => add_vertex(alloc, slot.index, e, context, state),
         StatementKind::PrintInteger(e) => print_integer_in(e, context, state),
         StatementKind::PrintCondition(c) => print_condition_in(c, context, state),
         StatementKind::DeclareSet(_, _)
@@ -171,11 +171,11 @@ fn run_over_sets(
             declare_set(alloc, *name, *value, program, graph, state)
         }
         StatementKind::AssignSet(slot, value) => {
-            assign_set(alloc, slot.place, *value, program, graph, state)
+            assign_set(alloc, slot.index, *value, program, graph, state)
         }
         StatementKind::ApplyVertex(set, function) => {
             let functions = &program.vertex_functions;
-            apply_vertex(alloc, functions, set.place, *function, state)
+            apply_vertex(alloc, functions, set.index, *function, state)
         }
         StatementKind::ApplyEdges(ends, function) => {
             apply_in(alloc, *ends, *function, program, graph, state)

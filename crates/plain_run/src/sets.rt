@@ -40,37 +40,37 @@ pub(crate) fn declare_set(
 /// A set variable gets this value, in the same way.
 pub(crate) fn assign_set(
     alloc: Global,
-    place: usize,
+    index: usize,
     value: SetValue,
     program: &Typed,
     graph: &EdgeList,
     state: &mut InterpreterState,
 ) -> Result<(), AllocError>
-    ensures meaning { OnOk result (state_of state.new ≡ after_assign_set (program_tree program.now) (graph_of graph.now) place value (state_of state.old)) }
+    ensures meaning { OnOk result (state_of state.new ≡ after_assign_set (program_tree program.now) (graph_of graph.now) index value (state_of state.old)) }
     ensures turns { state.new.turns ≡ state.old.turns }
 {
     let members = value_of(alloc, value, program, graph, state)?;
-    put_members(place, members, &mut state.sets);
+    put_members(index, members, &mut state.sets);
     Ok(())
 }
 
 /// A set gets one more vertex.
 pub(crate) fn add_vertex(
     alloc: Global,
-    place: usize,
+    index: usize,
     e: &IntExpression,
     context: StatementContext,
     state: &mut InterpreterState,
 ) -> Result<Option<End>, AllocError>
     ensures meaning { IfOk result (λ end. stand end (state_of state.new)
-        ≡ after_add_vertex context.vertices context.number place (integer_tree e.now) (state_of state.old)) }
+        ≡ after_add_vertex context.vertices context.number index (integer_tree e.now) (state_of state.old)) }
     ensures turns { state.new.turns ≡ state.old.turns }
 {
     let Some(vertex) = vertex_of(e, context.vertices, state) else {
         return Ok(fault(context.number));
     };
-    let members = with_vertex(alloc, vertex, members_at(&state.sets, place))?;
-    put_members(place, Sequence::new(members), &mut state.sets);
+    let members = with_vertex(alloc, vertex, members_at(&state.sets, index))?;
+    put_members(index, Sequence::new(members), &mut state.sets);
     Ok(None)
 }
 
@@ -91,11 +91,11 @@ fn value_of(
         SetValue::Empty => Ok(Sequence::new(Vec::new(alloc))),
         SetValue::All => Ok(Sequence::new(vertices_below(alloc, graph.vertices)?)),
         SetValue::Copy(slot) => {
-            let members = Vec::from_slice(alloc, members_at(&state.sets, slot.place))?;
+            let members = Vec::from_slice(alloc, members_at(&state.sets, slot.index))?;
             Ok(Sequence::new(members))
         }
         SetValue::Filter(slot, function) => {
-            filter_set(alloc, slot.place, function, &program.filters, state)
+            filter_set(alloc, slot.index, function, &program.filters, state)
         }
         SetValue::Modified(ends, function, vector) => {
             apply_modified(alloc, ends, function, vector, program, graph, state)
@@ -106,17 +106,17 @@ fn value_of(
 /// The members of a set that a filter lets through.
 fn filter_set(
     alloc: Global,
-    place: usize,
+    index: usize,
     function: usize,
     filters: &[Function],
     state: &mut InterpreterState,
 ) -> Result<Sequence<u32>, AllocError>
     ensures members { IfOk result (λ members. members ≡ filtered (map function_tree filters.now) function state.old.sets.items state.old.vectors.items
-        (members_of (slice_get state.old.sets.items place))) }
+        (members_of (slice_get state.old.sets.items index))) }
     ensures vectors { OnOk result (state_of state.new ≡ state_of state.old) }
     ensures turns { state.new.turns ≡ state.old.turns }
 {
-    let members = members_at(&state.sets, place);
+    let members = members_at(&state.sets, index);
     let kept = filter_members(
         alloc,
         filters,
@@ -160,12 +160,12 @@ fn apply_modified(
     Ok(Sequence::new(changed))
 }
 
-/// Gives the set at a place these members; where there is no set nothing is changed.
-fn put_members(place: usize, members: Sequence<u32>, sets: &mut Vec<SetBinding>)
-    ensures { sets.new.items ≡ set_members sets.old.items place members }
+/// Gives the set at an index these members; where there is no set nothing is changed.
+fn put_members(index: usize, members: Sequence<u32>, sets: &mut Vec<SetBinding>)
+    ensures { sets.new.items ≡ set_members sets.old.items index members }
 {
-    if place < sets.len() {
-        let set = &mut sets[place];
+    if index < sets.len() {
+        let set = &mut sets[index];
         set.members = members;
     }
 }

@@ -16,7 +16,7 @@ pub(crate) struct StatementContext {
     pub(crate) vertices: u32,
 }
 
-/// The variables that are visible, by their places, and the vertices and the weight that a function works on.
+/// The variables that are visible, by their indices, and the vertices and the weight that a function works on.
 #[derive(Drop)]
 pub(crate) struct Environment {
     pub(crate) integers: Vec<i64>,

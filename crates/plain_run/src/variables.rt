@@ -50,72 +50,72 @@ pub(crate) fn declare_condition(
 }
 
 pub(crate) fn set_integer(
-    place: usize,
+    index: usize,
     e: &IntExpression,
     context: StatementContext,
     state: &mut InterpreterState,
 ) -> Option<End>
     ensures meaning { stand result (state_of state.new)
-        ≡ after_set_integer context.vertices context.number place (integer_tree e.now) (state_of state.old) }
+        ≡ after_set_integer context.vertices context.number index (integer_tree e.now) (state_of state.old) }
     ensures turns { state.new.turns ≡ state.old.turns }
 {
     let Some(value) = number_of(e, context.vertices, state) else {
         return fault(context.number);
     };
-    put_integer(place, value, &mut state.scope.integers);
+    put_integer(index, value, &mut state.scope.integers);
     None
 }
 
 pub(crate) fn set_condition(
-    place: usize,
+    index: usize,
     c: &BoolExpression,
     context: StatementContext,
     state: &mut InterpreterState,
 ) -> Option<End>
     ensures meaning { stand result (state_of state.new)
-        ≡ after_set_condition context.vertices context.number place (condition_tree c.now) (state_of state.old) }
+        ≡ after_set_condition context.vertices context.number index (condition_tree c.now) (state_of state.old) }
     ensures turns { state.new.turns ≡ state.old.turns }
 {
     let Some(value) = decide(c, context.vertices, state) else {
         return fault(context.number);
     };
-    put_condition(place, value, &mut state.scope.conditions);
+    put_condition(index, value, &mut state.scope.conditions);
     None
 }
 
 pub(crate) fn reduce_integer(
-    place: usize,
+    index: usize,
     reduction: Reduction,
     e: &IntExpression,
     context: StatementContext,
     state: &mut InterpreterState,
 ) -> Option<End>
     ensures meaning { stand result (state_of state.new)
-        ≡ after_reduce_integer context.vertices context.number place reduction (integer_tree e.now) (state_of state.old) }
+        ≡ after_reduce_integer context.vertices context.number index reduction (integer_tree e.now) (state_of state.old) }
     ensures turns { state.new.turns ≡ state.old.turns }
 {
     let Some(given) = number_of(e, context.vertices, state) else {
         return fault(context.number);
     };
-    let value = reduce(reduction, integer_at(&state.scope, place), given);
-    put_integer(place, value, &mut state.scope.integers);
+    let value = reduce(reduction, integer_at(&state.scope, index), given);
+    put_integer(index, value, &mut state.scope.integers);
     None
 }
 
-/// Puts a value at a place; where there is no such place nothing is changed.
-pub(crate) fn put_integer(place: usize, value: i64, integers: &mut Vec<i64>)
-    ensures { integers.new.items ≡ slice_set integers.old.items place value }
+/// Puts a value at an index; where there is no such index nothing is changed.
+pub(crate) fn put_integer(index: usize, value: i64, integers: &mut Vec<i64>)
+    ensures { integers.new.items ≡ slice_set integers.old.items index value }
 {
-    if place < integers.len() {
-        integers[place] = value;
+    if index < integers.len() {
+        integers[index] = value;
     }
 }
 
-/// Puts a value at a place; where there is no such place nothing is changed.
-pub(crate) fn put_condition(place: usize, value: bool, conditions: &mut Vec<bool>)
-    ensures { conditions.new.items ≡ slice_set conditions.old.items place value }
+/// Puts a value at an index; where there is no such index nothing is changed.
+pub(crate) fn put_condition(index: usize, value: bool, conditions: &mut Vec<bool>)
+    ensures { conditions.new.items ≡ slice_set conditions.old.items index value }
 {
-    if place < conditions.len() {
-        conditions[place] = value;
+    if index < conditions.len() {
+        conditions[index] = value;
     }
 }

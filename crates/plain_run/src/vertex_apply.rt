@@ -12,7 +12,7 @@ use edge_lists::UNIT_WEIGHT;
 use std::alloc::{AllocError, Global};
 use typed_tree::{Function, FunctionStatement, Sequence};
 
-/// Runs the function at a place for each member of a set alone.
+/// Runs the function at an index for each member of a set alone.
 pub(crate) fn apply_vertex(
     alloc: Global,
     functions: &[Function],

@@ -30,11 +30,11 @@ stays_visible _ names k x is = is
 
 end_stays : (a : ActionTree) (names : SetNames) (end : Option VertexFilter) → EndIsVisible names end → EndIsVisible (names_behind a names) end
 end_stays a names None visible = tt
-end_stays a names (Some (filter.Members slot)) visible = stays_visible a names slot.place (Some slot.name) visible
-end_stays a names (Some (filter.Function place)) visible = tt
+end_stays a names (Some (filter.Members slot)) visible = stays_visible a names slot.index (Some slot.name) visible
+end_stays a names (Some (filter.Function index)) visible = tt
 
 value_stays : (a : ActionTree) (names : SetNames) (value : SetValue) → ValueIsVisible names value → ValueIsVisible (names_behind a names) value
-value_stays a names (set.Filter slot place) visible = stays_visible a names slot.place (Some slot.name) visible
+value_stays a names (set.Filter slot index) visible = stays_visible a names slot.index (Some slot.name) visible
 value_stays a names (set.Modified ends function vector) visible = (end_stays a names ends.from visible.0, end_stays a names ends.to visible.1)
 value_stays a names _ visible = tt
 
@@ -44,11 +44,11 @@ sets_stay p (DeclareSet name value) names visible = value_stays (DeclareSet name
 sets_stay p _ names visible = visible
 
 module _ (p : ProgramTree) where
-  -- the set that gets what an apply changed stands at its place after the statement, and is a variable
+  -- the set that gets what an apply changed stands at its index after the statement, and is a variable
   abbrev pub ResultStands : VisibleTree → Depth → ResultTree → Type 0
   ResultStands behind d Dropped = Unit {0}
   ResultStands behind d (Declared name vector) = (slice_get behind.sets d.sets ≡ Some name) × (length p.sets ≤ d.sets)
-  ResultStands behind d (Assigned slot vector) = (slice_get behind.sets slot.place ≡ Some slot.name) × (length p.sets ≤ slot.place)
+  ResultStands behind d (Assigned slot vector) = (slice_get behind.sets slot.index ≡ Some slot.name) × (length p.sets ≤ slot.index)
 
   -- its vector is one that the edge function writes
   abbrev pub ResultIsWritten : (function : ℕ) → ResultTree → Type 0

@@ -39,39 +39,39 @@ module _ (p : ProgramTree) (s : ScheduleTree) (low high : ℕ) where
   company_between WithPrevious number label d is own all = tt
 
   mutual
-    pub action_between : (a : ActionTree) (place : ℕ) (d : Depth) (number : ℕ) (label : Option ℕ) (n : ℕ) → (low ≤ number) × (number < high) → InOrder n (inner_numbers a) → low ≤ n
-        → length (inner_numbers a) + n ≤ high → AreBetween low high (plan p s place d number label a)
-    action_between (DeclareInteger name e) place d number label n own order from to = (own, tt)
-    action_between (DeclareCondition name c) place d number label n own order from to = (own, tt)
-    action_between (SetInteger slot e) place d number label n own order from to = (own, tt)
-    action_between (SetCondition slot c) place d number label n own order from to = (own, tt)
-    action_between (ReduceInteger slot by e) place d number label n own order from to = (own, tt)
-    action_between (SetEntry vector index e) place d number label n own order from to = (own, tt)
-    action_between (ReduceEntry vector index by e) place d number label n own order from to = (own, tt)
-    action_between (DeclareSet name value) place d number label n own order from to = (own, tt)
-    action_between (AssignSet slot value) place d number label n own order from to = (own, tt)
-    action_between (AddVertex slot e) place d number label n own order from to = (own, tt)
-    action_between (PrintInteger e) place d number label n own order from to = (own, tt)
-    action_between (PrintCondition c) place d number label n own order from to = (own, tt)
-    action_between (ApplyVertex set function) place d number label n own order from to = (own, tt)
-    action_between (ApplyEdges ends function) place d number label n own order from to = (own, tt)
-    action_between (If c body) place d number label n own order from to = (own, block_between body (place + 1) d false n order from to)
-    action_between (IfElse c body other) place d number label n own order from to =
-        let to_other = place + 1 + size_all p s d false body + 1 in
+    pub action_between : (a : ActionTree) (index : ℕ) (d : Depth) (number : ℕ) (label : Option ℕ) (n : ℕ) → (low ≤ number) × (number < high) → InOrder n (inner_numbers a) → low ≤ n
+        → length (inner_numbers a) + n ≤ high → AreBetween low high (plan p s index d number label a)
+    action_between (DeclareInteger name e) index d number label n own order from to = (own, tt)
+    action_between (DeclareCondition name c) index d number label n own order from to = (own, tt)
+    action_between (SetInteger slot e) index d number label n own order from to = (own, tt)
+    action_between (SetCondition slot c) index d number label n own order from to = (own, tt)
+    action_between (ReduceInteger slot by e) index d number label n own order from to = (own, tt)
+    action_between (SetEntry vector subscript e) index d number label n own order from to = (own, tt)
+    action_between (ReduceEntry vector subscript by e) index d number label n own order from to = (own, tt)
+    action_between (DeclareSet name value) index d number label n own order from to = (own, tt)
+    action_between (AssignSet slot value) index d number label n own order from to = (own, tt)
+    action_between (AddVertex slot e) index d number label n own order from to = (own, tt)
+    action_between (PrintInteger e) index d number label n own order from to = (own, tt)
+    action_between (PrintCondition c) index d number label n own order from to = (own, tt)
+    action_between (ApplyVertex set function) index d number label n own order from to = (own, tt)
+    action_between (ApplyEdges ends function) index d number label n own order from to = (own, tt)
+    action_between (If c body) index d number label n own order from to = (own, block_between body (index + 1) d false n order from to)
+    action_between (IfElse c body other) index d number label n own order from to =
+        let to_other = index + 1 + size_all p s d false body + 1 in
         let two = in_two n (numbers body) (numbers other) order in
         let all : length (numbers body ++ numbers other) + n ≤ high = to in
         let first : length (numbers body) + n ≤ high = omega (arith, length-append (numbers body) (numbers other)) in
         let second : length (numbers other) + (length (numbers body) + n) ≤ high = omega (arith, length-append (numbers body) (numbers other)) in (
           own,
-          two_between low high (plan_all p s (place + 1) d false body) (plain number d (Jump (to_other + size_all p s d false other)) ∷ plan_all p s to_other d false other)
-              (block_between body (place + 1) d false n two.0 from first)
+          two_between low high (plan_all p s (index + 1) d false body) (plain number d (Jump (to_other + size_all p s d false other)) ∷ plan_all p s to_other d false other)
+              (block_between body (index + 1) d false n two.0 from first)
               (own, block_between other to_other d false (length (numbers body) + n) two.1 (omega arith) second),
         )
-    action_between (While c body) place d number label n own order from to = (
+    action_between (While c body) index d number label n own order from to = (
       own,
-      (own, two_between low high (plan_all p s (place + 2) d false body) (plain number d (Jump place) ∷ []) (block_between body (place + 2) d false n order from to) (own, tt)),
+      (own, two_between low high (plan_all p s (index + 2) d false body) (plain number d (Jump index) ∷ []) (block_between body (index + 2) d false n order from to) (own, tt)),
     )
-    action_between (For name start end body) place d number label n own order from to =
+    action_between (For name start end body) index d number label n own order from to =
         let deep = in_loop d in (
           own,
           (
@@ -80,19 +80,19 @@ module _ (p : ProgramTree) (s : ScheduleTree) (low high : ℕ) where
               own,
               (
                 own,
-                two_between low high (plan_all p s (place + 4) deep false body) (plain number d (Advance name) ∷ loop_step number deep d (Jump (place + 2)) ∷ [])
-                    (block_between body (place + 4) deep false n order from to) (own, (own, tt)),
+                two_between low high (plan_all p s (index + 4) deep false body) (plain number d (Advance name) ∷ loop_step number deep d (Jump (index + 2)) ∷ [])
+                    (block_between body (index + 4) deep false n order from to) (own, (own, tt)),
               ),
             ),
           ),
         )
 
-    pub block_between : (b : BlockTree) (place : ℕ) (d : Depth) (is_done : Bool) (n : ℕ) → InOrder n (numbers b) → low ≤ n → length (numbers b) + n ≤ high
-        → AreBetween low high (plan_all p s place d is_done b)
-    block_between Empty place d is_done n order from to = tt
-    block_between (Then number label action rest) place d is_done n order from to =
+    pub block_between : (b : BlockTree) (index : ℕ) (d : Depth) (is_done : Bool) (n : ℕ) → InOrder n (numbers b) → low ≤ n → length (numbers b) + n ≤ high
+        → AreBetween low high (plan_all p s index d is_done b)
+    block_between Empty index d is_done n order from to = tt
+    block_between (Then number label action rest) index d is_done n order from to =
         let company = fusion_role_of p s d is_done label action rest in
-        let own = plan p s place d number label action in
+        let own = plan p s index d number label action in
         let inner = inner_numbers action in
         let two = in_two (suc n) inner (numbers rest) order.1 in
         let is : number ≡ n = order.0 in
@@ -101,10 +101,10 @@ module _ (p : ProgramTree) (s : ScheduleTree) (low high : ℕ) where
         let below : number < high = omega arith in
         let first : length inner + suc n ≤ high = omega (arith, length-append inner (numbers rest)) in
         let second : length (numbers rest) + (length inner + suc n) ≤ high = omega (arith, length-append inner (numbers rest)) in
-        let place_behind = place + size_in company (size p s d action) in
-        two_between low high (plan_in company s number label d own) (plan_all p s place_behind (behind action d) (takes_next company) rest)
-        (company_between company number label d own (here, below) (action_between action place d number label (suc n) (here, below) two.0 (omega arith) first))
-        (block_between rest place_behind (behind action d) (takes_next company) (length inner + suc n) two.1 (omega arith) second)
+        let index_behind = index + size_in company (size p s d action) in
+        two_between low high (plan_in company s number label d own) (plan_all p s index_behind (behind action d) (takes_next company) rest)
+        (company_between company number label d own (here, below) (action_between action index d number label (suc n) (here, below) two.0 (omega arith) first))
+        (block_between rest index_behind (behind action d) (takes_next company) (length inner + suc n) two.1 (omega arith) second)
 
 -- two neighbours have ascending numbers among those of their block
 pub record AreAscending (low high : ℕ) (one other : StatementTree) : Type 0 where

@@ -19,7 +19,7 @@ use Rattle.schedule.specs.Laws.{IsIndependent}
 use Rattle.schedule.proofs.Uses.{nothing_in_common}
 use Rattle.algorithm_meaning.specs.declared.state.Depth.{Depth}
 use Rattle.plans.specs.Instruction.{OperationTree, ApplyEdgesTogether, ApplyVerticesTogether, ResultTree, Dropped, Declared, Assigned}
-use Rattle.plans.specs.Fusing.{EdgeApplyTree, VertexApplyTree, apply_tree, edge_apply_of, edges_fit, edges_together, either, end_sets, function_sizes, is_same_end, result_name, result_places, result_vectors, sets_read, together, vertex_apply_of, vertices_fit, vertices_together}
+use Rattle.plans.specs.Fusing.{EdgeApplyTree, VertexApplyTree, apply_tree, edge_apply_of, edges_fit, edges_together, either, end_sets, function_sizes, is_same_end, result_name, result_indices, result_vectors, sets_read, together, vertex_apply_of, vertices_fit, vertices_together}
 use Rattle.type_laws.specs.EachStatement.{SetNames}
 use Rattle.type_laws.specs.VisibleSets.{AreApart, EndIsVisible, IsVisible}
 use Rattle.plan_laws.specs.OneInstruction.{AreTogether}
@@ -33,10 +33,10 @@ pub record OneDoes (p : ProgramTree) (d : Depth) (a b : ActionTree) : Type 0 whe
   pub is : together p d a b ≡ Some operation
   pub does : AreTogether a b operation
 
--- visible sets with the same name stand at the same place
+-- visible sets with the same name stand at the same index
 same_set : (p : ProgramTree) (names : SetNames) (a b : VarRef) → AreApart p names → IsVisible names a → IsVisible names b → are_same p.names a.name b.name ≡ true
-    → nat_eq a.place b.place ≡ true
-same_set p names a b apart first second same = eq-eqb a.place b.place (apart a.place b.place a.name b.name first second same)
+    → nat_eq a.index b.index ≡ true
+same_set p names a b apart first second same = eq-eqb a.index b.index (apart a.index b.index a.name b.name first second same)
 
 same_end : (p : ProgramTree) (names : SetNames) (a b : Option VertexFilter) → AreApart p names → EndIsVisible names a → EndIsVisible names b
     → are_same_ends p.names a b ≡ true → is_same_end a b ≡ true
@@ -53,40 +53,40 @@ module _ (p : ProgramTree) (all : IsResolved p) where
   names_same : (a b : ℕ) → a ≡ b → are_same p.names a b ≡ true
   names_same a b same = (bytes_eq-Decides (name_at p.names a) (name_at p.names b)).1 (ap (name_at p.names) same)
 
-  constants_below : (place : ℕ) (xs : List ℕ) → length p.sets ≤ place → AreConstant p xs → AllByRecursion (λ x. x ≢ place) xs
-  constants_below place [] low all = tt
-  constants_below place (x ∷ xs) low all =
+  constants_below : (index : ℕ) (xs : List ℕ) → length p.sets ≤ index → AreConstant p xs → AllByRecursion (λ x. x ≢ index) xs
+  constants_below index [] low all = tt
+  constants_below index (x ∷ xs) low all =
       let below : x < length p.sets = all.0 in
-      ((λ same. absurd (omega (arith, same, below, low))), constants_below place xs low all.1)
+      ((λ same. absurd (omega (arith, same, below, low))), constants_below index xs low all.1)
 
-  -- an end depends on no set at this place, where it is not the set of this name that stands there
-  end_apart : (v : VisibleTree) (place name : ℕ) → slice_get v.sets place ≡ Some name → length p.sets ≤ place → (end : Option VertexFilter) → EndIsResolved p v end
-      → is_end p.names (Some name) end ≡ false → AllByRecursion (λ x. x ≢ place) (end_sets p.filters end)
-  end_apart v place name at low None resolved other = tt
-  end_apart v place name at low (Some (filter.Members slot)) resolved other = (
+  -- an end depends on no set at this index, where it is not the set of this name that stands there
+  end_apart : (v : VisibleTree) (index name : ℕ) → slice_get v.sets index ≡ Some name → length p.sets ≤ index → (end : Option VertexFilter) → EndIsResolved p v end
+      → is_end p.names (Some name) end ≡ false → AllByRecursion (λ x. x ≢ index) (end_sets p.filters end)
+  end_apart v index name at low None resolved other = tt
+  end_apart v index name at low (Some (filter.Members slot)) resolved other = (
     λ same. both_ways (are_same p.names name slot.name) other
         (names_same name slot.name (same_Some name slot.name (sym at ∙ ap (slice_get v.sets) (sym same) ∙ resolved.0))),
     tt,
   )
-  end_apart v place name at low (Some (filter.Function function)) resolved other =
-      constants_below place (function_sizes p.filters function) low (filter_constant p all.filters function)
+  end_apart v index name at low (Some (filter.Function function)) resolved other =
+      constants_below index (function_sizes p.filters function) low (filter_constant p all.filters function)
 
-  reads_apart : (v : VisibleTree) (place name : ℕ) (y : EdgeApplyTree) → slice_get v.sets place ≡ Some name → length p.sets ≤ place → EndsAreResolved p v y.ends
-      → is_end p.names (Some name) y.ends.from ≡ false → is_end p.names (Some name) y.ends.to ≡ false → are_apart (sets_read p y) (place ∷ []) ≡ true
-  reads_apart v place name y at low resolved from to =
+  reads_apart : (v : VisibleTree) (index name : ℕ) (y : EdgeApplyTree) → slice_get v.sets index ≡ Some name → length p.sets ≤ index → EndsAreResolved p v y.ends
+      → is_end p.names (Some name) y.ends.from ≡ false → is_end p.names (Some name) y.ends.to ≡ false → are_apart (sets_read p y) (index ∷ []) ≡ true
+  reads_apart v index name y at low resolved from to =
       let sizes = function_sizes p.edge_functions y.part.function in
-      apart_from_one place (sets_read p y)
-      (all_two (λ x. x ≢ place) (end_sets p.filters y.ends.from) (end_sets p.filters y.ends.to ++ sizes) (end_apart v place name at low y.ends.from resolved.0 from)
-      (all_two (λ x. x ≢ place) (end_sets p.filters y.ends.to) sizes (end_apart v place name at low y.ends.to resolved.1 to)
-      (constants_below place sizes low (edge_function_constant p all.edge_functions y.part.function))))
+      apart_from_one index (sets_read p y)
+      (all_two (λ x. x ≢ index) (end_sets p.filters y.ends.from) (end_sets p.filters y.ends.to ++ sizes) (end_apart v index name at low y.ends.from resolved.0 from)
+      (all_two (λ x. x ≢ index) (end_sets p.filters y.ends.to) sizes (end_apart v index name at low y.ends.to resolved.1 to)
+      (constants_below index sizes low (edge_function_constant p all.edge_functions y.part.function))))
 
   -- the second apply depends on no set that gets what the first changed
   result_apart : (v : VisibleTree) (d : Depth) (result : ResultTree) (y : EdgeApplyTree) → ResultStands p v d result → EndsAreResolved p v y.ends
       → is_end p.names (result_name result) y.ends.from ≡ false → is_end p.names (result_name result) y.ends.to ≡ false
-      → are_apart (sets_read p y) (result_places d result) ≡ true
+      → are_apart (sets_read p y) (result_indices d result) ≡ true
   result_apart v d Dropped y stands resolved from to = apart_from_none (sets_read p y)
   result_apart v d (Declared name vector) y stands resolved from to = reads_apart v d.sets name y stands.0 stands.1 resolved from to
-  result_apart v d (Assigned slot vector) y stands resolved from to = reads_apart v slot.place slot.name y stands.0 stands.1 resolved from to
+  result_apart v d (Assigned slot vector) y stands resolved from to = reads_apart v slot.index slot.name y stands.0 stands.1 resolved from to
 
   -- no vector that one function writes is written by the other
   module _ (f g : ℕ) (shared_not : (v : ℕ) → Contains (function_uses p.edge_functions g) v → Contains (function_writes p.edge_functions f) v → ⊥) where
@@ -164,7 +164,7 @@ module _ (p : ProgramTree) (all : IsResolved p) where
             other = y;
             first_applies = is_x;
             second_applies = is_y;
-            same_set = eqb-true x.set.place y.set.place (and_parts _ _ fit).0;
+            same_set = eqb-true x.set.index y.set.index (and_parts _ _ fit).0;
             does = refl;
           });
         }

@@ -11,7 +11,7 @@ use Rattle.schedule.specs.declared.site.Site.{Site}
 use Rattle.schedule.specs.Calls.{apply_in, is_label, is_next}
 use Rattle.schedule.specs.Laws.{IsFusedWell}
 use Rattle.schedule.specs.Sites.{apply_of, label_of, site_at, site_of, sites_in, sites_of}
-use Rattle.type_laws.specs.LabelPlaces.{inner_places, label_places, own_place}
+use Rattle.type_laws.specs.LabelIndices.{inner_indices, label_indices, own_index}
 use Rattle.type_laws.specs.Numbers.{InOrder}
 use Rattle.plan_laws.specs.Neighbours.{AreNeighbours, AreNeighboursInside, StatementTree}
 
@@ -154,7 +154,7 @@ one_site : (n : ℕ) (xs : Sites) (label : ℕ) (apply : Option StatementApply) 
 one_site n [] label apply site order is has = absurd has
 one_site n (x ∷ xs) label apply site order is has = by_test n x xs label apply site (nat_eq label x.0) refl order is has (one_site (suc n) xs label apply site order.1)
 
-own_keys : (label : Option ℕ) (action : ActionTree) (rest : BlockTree) → keys (site_at label action rest) ≡ own_place label
+own_keys : (label : Option ℕ) (action : ActionTree) (rest : BlockTree) → keys (site_at label action rest) ≡ own_index label
 own_keys None action rest = refl
 own_keys (Some l) action rest = refl
 
@@ -162,18 +162,18 @@ keys_of_two : (xs ys : Sites) (ls ms : List ℕ) → keys xs ≡ ls → keys ys 
 keys_of_two xs ys ls ms first second = map-append (λ x. x.0) xs ys ∙ ap (λ ks. ks ++ keys ys) first ∙ ap (λ ks. ls ++ ks) second
 
 mutual
-  inner_keys : (a : ActionTree) → keys (sites_in a) ≡ inner_places a
+  inner_keys : (a : ActionTree) → keys (sites_in a) ≡ inner_indices a
   inner_keys (If c body) = block_keys body
-  inner_keys (IfElse c body other) = keys_of_two (sites_of body) (sites_of other) (label_places body) (label_places other) (block_keys body) (block_keys other)
+  inner_keys (IfElse c body other) = keys_of_two (sites_of body) (sites_of other) (label_indices body) (label_indices other) (block_keys body) (block_keys other)
   inner_keys (While c body) = block_keys body
   inner_keys (For name start end body) = block_keys body
   inner_keys _ = refl
 
-  block_keys : (b : BlockTree) → keys (sites_of b) ≡ label_places b
+  block_keys : (b : BlockTree) → keys (sites_of b) ≡ label_indices b
   block_keys Empty = refl
   block_keys (Then number label action rest) =
-      keys_of_two (site_at label action rest) (sites_in action ++ sites_of rest) (own_place label) (inner_places action ++ label_places rest) (own_keys label action rest)
-      (keys_of_two (sites_in action) (sites_of rest) (inner_places action) (label_places rest) (inner_keys action) (block_keys rest))
+      keys_of_two (site_at label action rest) (sites_in action ++ sites_of rest) (own_index label) (inner_indices action ++ label_indices rest) (own_keys label action rest)
+      (keys_of_two (sites_in action) (sites_of rest) (inner_indices action) (label_indices rest) (inner_keys action) (block_keys rest))
 
 -- the two statements of a fusing, with what they apply
 pub record AreFused (main : BlockTree) (first second : ℕ) (x y : StatementApply) : Type 0 where
@@ -185,7 +185,7 @@ pub record AreFused (main : BlockTree) (first second : ℕ) (x y : StatementAppl
   pub first_applies : apply_of one.action ≡ Some x
   pub second_applies : apply_of other.action ≡ Some y
 
-with_sites : (main : BlockTree) (n first second : ℕ) (x y : StatementApply) (a b : Option Site) → InOrder n (label_places main) → site_of first main ≡ a → site_of second main ≡ b
+with_sites : (main : BlockTree) (n first second : ℕ) (x y : StatementApply) (a b : Option Site) → InOrder n (label_indices main) → site_of first main ≡ a → site_of second main ≡ b
     → apply_in a ≡ Some x → apply_in b ≡ Some y → is_next a second ≡ true → AreFused main first second x y
 with_sites main n first second x y None b order is_a is_b one other next = absurd (none-some x one)
 with_sites main n first second x y (Some a) None order is_a is_b one other next = absurd (none-some y other)
@@ -201,6 +201,6 @@ with_sites main n first second x y (Some a) (Some b) order is_a is_b one other n
       second_applies = one_site n (sites_of main) second (apply_of both.other.action) b (subst (InOrder n) (sym (block_keys main)) order) is_b both.site ∙ other;
     }
 
-pub fused_stand : (p : ProgramTree) (n first second : ℕ) → InOrder n (label_places p.main) → (well : IsFusedWell p first second) → AreFused p.main first second well.one well.other
+pub fused_stand : (p : ProgramTree) (n first second : ℕ) → InOrder n (label_indices p.main) → (well : IsFusedWell p first second) → AreFused p.main first second well.one well.other
 fused_stand p n first second order well =
     with_sites p.main n first second well.one well.other (site_of first p.main) (site_of second p.main) order refl refl well.first_applies well.second_applies well.behind

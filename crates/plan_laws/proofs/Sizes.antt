@@ -18,12 +18,12 @@ pub all_two : {A : Type 0} (P : A → Type 0) (xs ys : List A) → AllByRecursio
 all_two P [] ys first second = second
 all_two P (x ∷ xs) ys first second = (first.0, all_two P xs ys first.1 second)
 
--- what holds of each function holds at a place
-at_place : (P : FunctionTree → Type 0) (Q : Option FunctionTree → Type 0) → Q None → ((f : FunctionTree) → P f → Q (Some f)) → (fs : List FunctionTree) (place : ℕ) → AllByRecursion P fs
-    → Q (slice_get fs place)
-at_place P Q none some [] place all = none
-at_place P Q none some (f ∷ fs) zero all = some f all.0
-at_place P Q none some (f ∷ fs) (suc place) all = at_place P Q none some fs place all.1
+-- what holds of each function holds at an index
+at_index : (P : FunctionTree → Type 0) (Q : Option FunctionTree → Type 0) → Q None → ((f : FunctionTree) → P f → Q (Some f)) → (fs : List FunctionTree) (index : ℕ) → AllByRecursion P fs
+    → Q (slice_get fs index)
+at_index P Q none some [] index all = none
+at_index P Q none some (f ∷ fs) zero all = some f all.0
+at_index P Q none some (f ∷ fs) (suc index) all = at_index P Q none some fs index all.1
 
 behind_sets : (s : StepTree) (v : VisibleTree) → (behind_step s v).sets ≡ v.sets
 behind_sets (step.DeclareInteger name e) v = refl
@@ -48,9 +48,9 @@ behind_indexes (step.If c body) v = refl
 behind_indexes (step.IfElse c body other) v = refl
 
 module _ (p : ProgramTree) where
-  -- the places of constant sets
+  -- the indices of constant sets
   abbrev pub AreConstant : List ℕ → Type 0
-  AreConstant places = AllByRecursion (λ place. place < length p.sets) places
+  AreConstant indices = AllByRecursion (λ index. index < length p.sets) indices
 
   integer_constant : (v : VisibleTree) → v.sets ≡ p.sets → (e : IntegerTree) → IntegerIsResolved p v e → AreConstant (integer_sizes e)
   integer_constant v same (integer.Number n) is = tt
@@ -59,11 +59,11 @@ module _ (p : ProgramTree) where
   integer_constant v same (integer.Parameter at) is = tt
   integer_constant v same integer.Weight is = tt
   integer_constant v same (integer.EntryAt vector at) is = tt
-  integer_constant v same (integer.Entry vector index) is = integer_constant v same index is.2
-  integer_constant v same (integer.SetSize slot) is = (subst (λ sets. slot.place < length sets) same (slice_get_within v.sets slot.place slot.name is.0), tt)
+  integer_constant v same (integer.Entry vector subscript) is = integer_constant v same subscript is.2
+  integer_constant v same (integer.SetSize slot) is = (subst (λ sets. slot.index < length sets) same (slice_get_within v.sets slot.index slot.name is.0), tt)
   integer_constant v same (integer.Negative e) is = integer_constant v same e is
   integer_constant v same (integer.Arithmetic operator a b) is =
-      all_two (λ place. place < length p.sets) (integer_sizes a) (integer_sizes b) (integer_constant v same a is.0) (integer_constant v same b is.1)
+      all_two (λ index. index < length p.sets) (integer_sizes a) (integer_sizes b) (integer_constant v same a is.0) (integer_constant v same b is.1)
 
   condition_constant : (v : VisibleTree) → v.sets ≡ p.sets → (c : ConditionTree) → ConditionIsResolved p v c → AreConstant (condition_sizes c)
   condition_constant v same (condition.Literal b) is = tt
@@ -71,9 +71,9 @@ module _ (p : ProgramTree) where
   condition_constant v same (condition.Variable slot) is = tt
   condition_constant v same (condition.Not c) is = condition_constant v same c is
   condition_constant v same (condition.Compare comparison a b) is =
-      all_two (λ place. place < length p.sets) (integer_sizes a) (integer_sizes b) (integer_constant v same a is.0) (integer_constant v same b is.1)
+      all_two (λ index. index < length p.sets) (integer_sizes a) (integer_sizes b) (integer_constant v same a is.0) (integer_constant v same b is.1)
   condition_constant v same (condition.Connect connective a b) is =
-      all_two (λ place. place < length p.sets) (condition_sizes a) (condition_sizes b) (condition_constant v same a is.0) (condition_constant v same b is.1)
+      all_two (λ index. index < length p.sets) (condition_sizes a) (condition_sizes b) (condition_constant v same a is.0) (condition_constant v same b is.1)
 
   mutual
     step_constant : (v : VisibleTree) → v.sets ≡ p.sets → (s : StepTree) → StepIsResolved p v s → AreConstant (step_sizes s)
@@ -85,24 +85,24 @@ module _ (p : ProgramTree) where
     step_constant v same (step.SetEntry vector e) is = integer_constant v same e is.1
     step_constant v same (step.ReduceEntry vector by e) is = integer_constant v same e is.1
     step_constant v same (step.If c body) is =
-        all_two (λ place. place < length p.sets) (condition_sizes c) (steps_sizes body) (condition_constant v same c is.0) (steps_constant v same body is.1)
+        all_two (λ index. index < length p.sets) (condition_sizes c) (steps_sizes body) (condition_constant v same c is.0) (steps_constant v same body is.1)
     step_constant v same (step.IfElse c body other) is =
-        all_two (λ place. place < length p.sets) (condition_sizes c) (steps_sizes body ++ steps_sizes other) (condition_constant v same c is.0)
-        (all_two (λ place. place < length p.sets) (steps_sizes body) (steps_sizes other) (steps_constant v same body is.1) (steps_constant v same other is.2))
+        all_two (λ index. index < length p.sets) (condition_sizes c) (steps_sizes body ++ steps_sizes other) (condition_constant v same c is.0)
+        (all_two (λ index. index < length p.sets) (steps_sizes body) (steps_sizes other) (steps_constant v same body is.1) (steps_constant v same other is.2))
 
     steps_constant : (v : VisibleTree) → v.sets ≡ p.sets → (ss : StepsTree) → StepsAreResolved p v ss → AreConstant (steps_sizes ss)
     steps_constant v same step.NoStep is = tt
     steps_constant v same (step.StepThen s others) is =
-        all_two (λ place. place < length p.sets) (step_sizes s) (steps_sizes others) (step_constant v same s is.0)
+        all_two (λ index. index < length p.sets) (step_sizes s) (steps_sizes others) (step_constant v same s is.0)
         (steps_constant (behind_step s v) (behind_sets s v ∙ same) others is.1)
 
-  pub edge_function_constant : AllByRecursion (EdgeFunctionIsResolved p) p.edge_functions → (place : ℕ) → AreConstant (function_sizes p.edge_functions place)
-  edge_function_constant all place =
-      at_place (EdgeFunctionIsResolved p) (λ o. AreConstant (steps_sizes_where o)) tt (λ f is. steps_constant (in_edge_function p) refl f.steps is.1) p.edge_functions place all
+  pub edge_function_constant : AllByRecursion (EdgeFunctionIsResolved p) p.edge_functions → (index : ℕ) → AreConstant (function_sizes p.edge_functions index)
+  edge_function_constant all index =
+      at_index (EdgeFunctionIsResolved p) (λ o. AreConstant (steps_sizes_where o)) tt (λ f is. steps_constant (in_edge_function p) refl f.steps is.1) p.edge_functions index all
 
-  pub filter_constant : AllByRecursion (FilterIsResolved p) p.filters → (place : ℕ) → AreConstant (function_sizes p.filters place)
-  filter_constant all place =
-      at_place (FilterIsResolved p) (λ o. AreConstant (steps_sizes_where o)) tt (λ f is. steps_constant (in_filter p is.1.0) refl f.steps is.1.2) p.filters place all
+  pub filter_constant : AllByRecursion (FilterIsResolved p) p.filters → (index : ℕ) → AreConstant (function_sizes p.filters index)
+  filter_constant all index =
+      at_index (FilterIsResolved p) (λ o. AreConstant (steps_sizes_where o)) tt (λ f is. steps_constant (in_filter p is.1.0) refl f.steps is.1.2) p.filters index all
 
   -- where no entry is read at an index
   integer_local : (v : VisibleTree) → v.indexes ≡ false → (e : IntegerTree) → IntegerIsResolved p v e → integer_is_local e ≡ true
@@ -112,7 +112,7 @@ module _ (p : ProgramTree) where
   integer_local v none (integer.Parameter at) is = refl
   integer_local v none integer.Weight is = refl
   integer_local v none (integer.EntryAt vector at) is = refl
-  integer_local v none (integer.Entry vector index) is = let some : v.indexes ≡ true = is.0 in cc
+  integer_local v none (integer.Entry vector subscript) is = let some : v.indexes ≡ true = is.0 in cc
   integer_local v none (integer.SetSize slot) is = refl
   integer_local v none (integer.Negative e) is = integer_local v none e is
   integer_local v none (integer.Arithmetic operator a b) is = and_from (integer_is_local a) (integer_is_local b) (integer_local v none a is.0) (integer_local v none b is.1)
@@ -144,6 +144,6 @@ module _ (p : ProgramTree) where
     steps_local v none (step.StepThen s others) is =
         and_from (step_is_local s) (steps_are_local others) (step_local v none s is.0) (steps_local (behind_step s v) (behind_indexes s v ∙ none) others is.1)
 
-  pub vertex_function_local : AllByRecursion (VertexFunctionIsResolved p) p.vertex_functions → (place : ℕ) → function_is_local p.vertex_functions place ≡ true
-  vertex_function_local all place =
-      at_place (VertexFunctionIsResolved p) (λ o. steps_are_local_where o ≡ true) refl (λ f is. steps_local (in_vertex_function p) refl f.steps is.1) p.vertex_functions place all
+  pub vertex_function_local : AllByRecursion (VertexFunctionIsResolved p) p.vertex_functions → (index : ℕ) → function_is_local p.vertex_functions index ≡ true
+  vertex_function_local all index =
+      at_index (VertexFunctionIsResolved p) (λ o. steps_are_local_where o ≡ true) refl (λ f is. steps_local (in_vertex_function p) refl f.steps is.1) p.vertex_functions index all

@@ -182,7 +182,7 @@ module _ (p : ProgramTree) (s : ScheduleTree) (pairs : FusesInPairs s) where
   low_behind _ d low = low
 
   -- as the first two statements of a block
-  module _ (place : ℕ) (d : Depth) (n number other_number : ℕ) (label other_label : Option ℕ) (a b : ActionTree) (rest : BlockTree) where
+  module _ (index : ℕ) (d : Depth) (n number other_number : ℕ) (label other_label : Option ℕ) (a b : ActionTree) (rest : BlockTree) where
     abbrev first_statement : StatementTree
     first_statement = record { number = number; label = label; action = a }
 
@@ -194,10 +194,10 @@ module _ (p : ProgramTree) (s : ScheduleTree) (pairs : FusesInPairs s) where
 
     abbrev whole : FusionRole → List InstructionTree
     whole company =
-        plan_in company s number label d (plan p s place d number label a) ++ plan_all p s (place + size_in company (size p s d a)) (behind a d) (takes_next company) others
+        plan_in company s number label d (plan p s index d number label a) ++ plan_all p s (index + size_in company (size p s d a)) (behind a d) (takes_next company) others
 
     abbrev remaining : List InstructionTree
-    remaining = plan_all p s (place + 1 + 0) (behind b (behind a d)) false rest
+    remaining = plan_all p s (index + 1 + 0) (behind b (behind a d)) false rest
 
     with_operation : (o : OperationTree) → AreTogether a b o → number < other_number → AllByRecursion (IsOfNeither first_statement second_statement) remaining
         → Split s first_statement second_statement (whole (WithNext o))
@@ -215,7 +215,7 @@ module _ (p : ProgramTree) (s : ScheduleTree) (pairs : FusesInPairs s) where
 
     both_here : (v : VisibleTree) (is_done : Bool) → IsPair p s first_statement second_statement → d.sets ≡ length v.sets → length p.sets ≤ d.sets → ActionIsResolved p v a
         → ActionIsResolved p (behind_action a v) b → InOrder n (numbers (Then number label a others)) → IsDone s is_done (Then number label a others)
-        → Split s first_statement second_statement (plan_all p s place d is_done (Then number label a others))
+        → Split s first_statement second_statement (plan_all p s index d is_done (Then number label a others))
     both_here v is_done pair deep low first second order done =
         let does = pair.fit v d deep low first second in
         let fused = ap (λ l. (choice_at l s).fused) pair.first_has ∙ pair.fused in
@@ -228,8 +228,8 @@ module _ (p : ProgramTree) (s : ScheduleTree) (pairs : FusesInPairs s) where
         let less : number < other_number = omega arith in
         let above : other_number < m = omega arith in
         let neither = neither_above m (length (numbers rest) + m) first_statement second_statement remaining
-        (block_between p s m (length (numbers rest) + m) rest (place + 1 + 0) (behind b (behind a d)) false m three.1 (omega arith) (omega arith)) less above in
-        subst (λ t. Split s first_statement second_statement (plan_all p s place d t (Then number label a others))) (sym (not_second is_done number label a others pair.second fused done))
+        (block_between p s m (length (numbers rest) + m) rest (index + 1 + 0) (behind b (behind a d)) false m three.1 (omega arith) (omega arith)) less above in
+        subst (λ t. Split s first_statement second_statement (plan_all p s index d t (Then number label a others))) (sym (not_second is_done number label a others pair.second fused done))
         (subst (λ company. Split s first_statement second_statement (whole company))
         (sym (takes d number other_number label other_label a b rest pair.second does.operation fused pair.second_has does.is))
         (with_operation does.operation does.does less neither))
@@ -245,97 +245,97 @@ module _ (p : ProgramTree) (s : ScheduleTree) (pairs : FusesInPairs s) where
     neither_of : (i : InstructionTree) → i.number < one.number → one.number < other.number → IsOfNeither one other i
     neither_of i first second = ((λ same. absurd (omega (arith, same))), (λ same. absurd (omega (arith, same))))
 
-    here : (place : ℕ) (d : Depth) (v : VisibleTree) (is_done : Bool) (n number : ℕ) (label : Option ℕ) (a : ActionTree) (rest : BlockTree)
+    here : (index : ℕ) (d : Depth) (v : VisibleTree) (is_done : Bool) (n number : ℕ) (label : Option ℕ) (a : ActionTree) (rest : BlockTree)
         → BeginsWith one (Then number label a rest) → BeginsWith other rest → d.sets ≡ length v.sets → length p.sets ≤ d.sets → BlockIsResolved p v (Then number label a rest)
-        → InOrder n (numbers (Then number label a rest)) → IsDone s is_done (Then number label a rest) → Splits (plan_all p s place d is_done (Then number label a rest))
-    here place d v is_done n number label a Empty first second deep low known order done = absurd second
-    here place d v is_done n number label a (Then other_number other_label b rest) first second deep low known order done =
-        let is = plan_all p s place d is_done (Then number label a (Then other_number other_label b rest)) in
+        → InOrder n (numbers (Then number label a rest)) → IsDone s is_done (Then number label a rest) → Splits (plan_all p s index d is_done (Then number label a rest))
+    here index d v is_done n number label a Empty first second deep low known order done = absurd second
+    here index d v is_done n number label a (Then other_number other_label b rest) first second deep low known order done =
+        let is = plan_all p s index d is_done (Then number label a (Then other_number other_label b rest)) in
         subst (λ t. Split s t other is) first
         (subst (λ t. Split s (record { number = number; label = label; action = a }) t is) second
-        (both_here place d n number other_number label other_label a b rest v is_done
+        (both_here index d n number other_number label other_label a b rest v is_done
         (subst (λ t. IsPair p s (record { number = number; label = label; action = a }) t) (sym second) (subst (λ t. IsPair p s t other) (sym first) pair))
         deep low known.1 known.2.1 order done))
 
     mutual
-      split_inside : (a : ActionTree) (place : ℕ) (d : Depth) (v : VisibleTree) (number : ℕ) (label : Option ℕ) (n : ℕ) → AreNeighboursInside one other a → d.sets ≡ length v.sets
-          → length p.sets ≤ d.sets → ActionIsResolved p v a → number < n → InOrder n (inner_numbers a) → Splits (plan p s place d number label a)
-      split_inside (If c body) place d v number label n are deep low known above order =
+      split_inside : (a : ActionTree) (index : ℕ) (d : Depth) (v : VisibleTree) (number : ℕ) (label : Option ℕ) (n : ℕ) → AreNeighboursInside one other a → d.sets ≡ length v.sets
+          → length p.sets ≤ d.sets → ActionIsResolved p v a → number < n → InOrder n (inner_numbers a) → Splits (plan p s index d number label a)
+      split_inside (If c body) index d v number label n are deep low known above order =
           let up = neighbours_ascend body one other n order are in
           let first : number < one.number = omega (arith, up.from) in
-          one_before _ _ first up.two (split_block body (place + 1) d v false n are deep low known.1 order tt)
-      split_inside (IfElse c body others) place d v number label n (inl are) deep low known above order =
+          one_before _ _ first up.two (split_block body (index + 1) d v false n are deep low known.1 order tt)
+      split_inside (IfElse c body others) index d v number label n (inl are) deep low known above order =
           let two = in_two n (numbers body) (numbers others) order in
           let m = length (numbers body) + n in
           let up = neighbours_ascend body one other n two.0 are in
           let first : number < one.number = omega (arith, up.from) in
-          let to = place + 1 + size_all p s d false body + 1 in
+          let to = index + 1 + size_all p s d false body + 1 in
           let last = plan_all p s to d false others in
           let below : other.number < m = up.to in
           one_before _ _ first up.two
-          (split_before s one other (plan_all p s (place + 1) d false body) (plain number d (Jump (to + size_all p s d false others)) ∷ last)
-          (split_block body (place + 1) d v false n are deep low known.1 two.0 tt) (
+          (split_before s one other (plan_all p s (index + 1) d false body) (plain number d (Jump (to + size_all p s d false others)) ∷ last)
+          (split_block body (index + 1) d v false n are deep low known.1 two.0 tt) (
             neither_of (plain number d (Jump (to + size_all p s d false others))) first up.two,
             neither_above m (length (numbers others) + m) one other last (block_between p s m (length (numbers others) + m) others to d false m two.1 (omega arith) (omega arith)) up.two below,
           ))
-      split_inside (IfElse c body others) place d v number label n (inr are) deep low known above order =
+      split_inside (IfElse c body others) index d v number label n (inr are) deep low known above order =
           let two = in_two n (numbers body) (numbers others) order in
           let m = length (numbers body) + n in
           let up = neighbours_ascend others one other m two.1 are in
           let first : number < one.number = omega (arith, up.from) in
-          let to = place + 1 + size_all p s d false body + 1 in
-          let start = plan_all p s (place + 1) d false body in
+          let to = index + 1 + size_all p s d false body + 1 in
+          let start = plan_all p s (index + 1) d false body in
           let from : m ≤ one.number = up.from in
           one_before _ _ first up.two
           (split_behind s one other start (plain number d (Jump (to + size_all p s d false others)) ∷ plan_all p s to d false others)
-          (neither_below n m one other start (block_between p s n m body (place + 1) d false n two.0 (omega arith) (omega arith)) from up.two)
+          (neither_below n m one other start (block_between p s n m body (index + 1) d false n two.0 (omega arith) (omega arith)) from up.two)
           (one_before _ _ first up.two (split_block others to d v false m are deep low known.2 two.1 tt)))
-      split_inside (While c body) place d v number label n are deep low known above order =
+      split_inside (While c body) index d v number label n are deep low known above order =
           let up = neighbours_ascend body one other n order are in
           let first : number < one.number = omega (arith, up.from) in
           one_before _ _ first up.two (one_before _ _ first up.two
-          (split_before s one other (plan_all p s (place + 2) d false body) (plain number d (Jump place) ∷ []) (split_block body (place + 2) d v false n are deep low known.1 order tt)
-          (neither_of (plain number d (Jump place)) first up.two, tt)))
-      split_inside (For name start end body) place d v number label n are deep low known above order =
+          (split_before s one other (plan_all p s (index + 2) d false body) (plain number d (Jump index) ∷ []) (split_block body (index + 2) d v false n are deep low known.1 order tt)
+          (neither_of (plain number d (Jump index)) first up.two, tt)))
+      split_inside (For name start end body) index d v number label n are deep low known above order =
           let inner = in_loop d in
           let up = neighbours_ascend body one other n order are in
           let first : number < one.number = omega (arith, up.from) in
           one_before _ _ first up.two (one_before _ _ first up.two (one_before _ _ first up.two (one_before _ _ first up.two
-          (split_before s one other (plan_all p s (place + 4) inner false body) (plain number d (Advance name) ∷ loop_step number inner d (Jump (place + 2)) ∷ [])
-          (split_block body (place + 4) inner (resolved.in_loop name v) false n are deep low known.3 order tt)
-          (neither_of (plain number d (Advance name)) first up.two, (neither_of (loop_step number inner d (Jump (place + 2))) first up.two, tt))))))
-      split_inside _ place d v number label n are deep low known above order = absurd are
+          (split_before s one other (plan_all p s (index + 4) inner false body) (plain number d (Advance name) ∷ loop_step number inner d (Jump (index + 2)) ∷ [])
+          (split_block body (index + 4) inner (resolved.in_loop name v) false n are deep low known.3 order tt)
+          (neither_of (plain number d (Advance name)) first up.two, (neither_of (loop_step number inner d (Jump (index + 2))) first up.two, tt))))))
+      split_inside _ index d v number label n are deep low known above order = absurd are
 
-      pub split_block : (block : BlockTree) (place : ℕ) (d : Depth) (v : VisibleTree) (is_done : Bool) (n : ℕ) → AreNeighbours one other block → d.sets ≡ length v.sets
-          → length p.sets ≤ d.sets → BlockIsResolved p v block → InOrder n (numbers block) → IsDone s is_done block → Splits (plan_all p s place d is_done block)
-      split_block Empty place d v is_done n are deep low known order done = absurd are
-      split_block (Then number label a rest) place d v is_done n (inl are) deep low known order done =
-          here place d v is_done n number label a rest are.0 are.1 deep low known order done
-      split_block (Then number label a rest) place d v is_done n (inr (inl are)) deep low known order done =
+      pub split_block : (block : BlockTree) (index : ℕ) (d : Depth) (v : VisibleTree) (is_done : Bool) (n : ℕ) → AreNeighbours one other block → d.sets ≡ length v.sets
+          → length p.sets ≤ d.sets → BlockIsResolved p v block → InOrder n (numbers block) → IsDone s is_done block → Splits (plan_all p s index d is_done block)
+      split_block Empty index d v is_done n are deep low known order done = absurd are
+      split_block (Then number label a rest) index d v is_done n (inl are) deep low known order done =
+          here index d v is_done n number label a rest are.0 are.1 deep low known order done
+      split_block (Then number label a rest) index d v is_done n (inr (inl are)) deep low known order done =
           let two = in_two (suc n) (inner_numbers a) (numbers rest) order.1 in
           let m = length (inner_numbers a) + suc n in
           let is : number ≡ n = order.0 in
           let company = fusion_role_of p s d is_done label a rest in
-          let place_behind = place + size_in company (size p s d a) in
-          let last = plan_all p s place_behind (behind a d) (takes_next company) rest in
+          let index_behind = index + size_in company (size p s d a) in
+          let last = plan_all p s index_behind (behind a d) (takes_next company) rest in
           let up = inside_ascend a one other (suc n) two.0 are in
           let below : other.number < m = up.to in
-          split_before s one other (plan_in company s number label d (plan p s place d number label a)) last
-          (subst (λ c. Splits (plan_in c s number label d (plan p s place d number label a))) (sym (inside_alone one other d is_done number label a rest are done))
-          (split_inside a place d v number label (suc n) are deep low known.1 (omega arith) two.0))
+          split_before s one other (plan_in company s number label d (plan p s index d number label a)) last
+          (subst (λ c. Splits (plan_in c s number label d (plan p s index d number label a))) (sym (inside_alone one other d is_done number label a rest are done))
+          (split_inside a index d v number label (suc n) are deep low known.1 (omega arith) two.0))
           (neither_above m (length (numbers rest) + m) one other last
-          (block_between p s m (length (numbers rest) + m) rest place_behind (behind a d) (takes_next company) m two.1 (omega arith) (omega arith)) up.two below)
-      split_block (Then number label a rest) place d v is_done n (inr (inr are)) deep low known order done =
+          (block_between p s m (length (numbers rest) + m) rest index_behind (behind a d) (takes_next company) m two.1 (omega arith) (omega arith)) up.two below)
+      split_block (Then number label a rest) index d v is_done n (inr (inr are)) deep low known order done =
           let two = in_two (suc n) (inner_numbers a) (numbers rest) order.1 in
           let m = length (inner_numbers a) + suc n in
           let is : number ≡ n = order.0 in
           let company = fusion_role_of p s d is_done label a rest in
-          let own = plan p s place d number label a in
-          let place_behind = place + size_in company (size p s d a) in
+          let own = plan p s index d number label a in
+          let index_behind = index + size_in company (size p s d a) in
           let up = neighbours_ascend rest one other m two.1 are in
           let from : m ≤ one.number = up.from in
           let here : (n ≤ number) × (number < m) = (omega arith, omega arith) in
-          split_behind s one other (plan_in company s number label d own) (plan_all p s place_behind (behind a d) (takes_next company) rest)
+          split_behind s one other (plan_in company s number label d own) (plan_all p s index_behind (behind a d) (takes_next company) rest)
           (neither_below n m one other (plan_in company s number label d own)
-          (company_between p s n m company number label d own here (action_between p s n m a place d number label (suc n) here two.0 (omega arith) (omega arith))) from up.two)
-          (split_block rest place_behind (behind a d) (behind_action a v) (takes_next company) m are (deep_behind a d v deep) (low_behind a d low) known.2 two.1 (rest_done d is_done label a rest))
+          (company_between p s n m company number label d own here (action_between p s n m a index d number label (suc n) here two.0 (omega arith) (omega arith))) from up.two)
+          (split_block rest index_behind (behind a d) (behind_action a v) (takes_next company) m are (deep_behind a d v deep) (low_behind a d low) known.2 two.1 (rest_done d is_done label a rest))

@@ -14,7 +14,7 @@ use Rattle.plans.specs.Instruction.{End}
 use Rattle.plans.specs.Plan.{behind_all, main_depth, plain, plan_all}
 use Rattle.type_laws.specs.AskedVectors.{AskForWritten, AsksForWritten}
 use Rattle.type_laws.specs.EachStatement.{HoldsInside, HoldsOfEach, SetNames, names_before, names_behind}
-use Rattle.type_laws.specs.LabelPlaces.{LabelsAreInOrder}
+use Rattle.type_laws.specs.LabelIndices.{LabelsAreInOrder}
 use Rattle.type_laws.specs.Numbers.{InOrder, numbers}
 use Rattle.type_laws.specs.VisibleSets.{NamesSets, NamesSetsApart}
 use Rattle.plan_laws.specs.Neighbours.{AreNeighbours, AreNeighboursInside, BeginsWith, StatementTree}

@@ -25,7 +25,7 @@ pub record AreVerticesTogether (first second : ActionTree) (operation : Operatio
   pub other : VertexApplyTree
   pub first_applies : vertex_apply_of first ≡ Some one
   pub second_applies : vertex_apply_of second ≡ Some other
-  pub same_set : one.set.place ≡ other.set.place
+  pub same_set : one.set.index ≡ other.set.index
   pub does : operation ≡ ApplyVerticesTogether one.set one.function other.function
 
 abbrev pub AreTogether : (first second : ActionTree) → OperationTree → Type 0

@@ -14,16 +14,16 @@ use Rattle.typed_tree.specs.ConditionTree as condition
 use Rattle.typed_tree.specs.ConditionTree.{ConditionTree}
 use Rattle.typed_tree.specs.ProgramTree.{ProgramTree}
 
--- the name at a place, without a byte where there is none
+-- the name at an index, without a byte where there is none
 abbrev pub name_at : ProgramTree → ℕ → List ℕ
-name_at p place = slice_index_or p.names place []
+name_at p index = slice_index_or p.names index []
 
 abbrev pub name_of : ProgramTree → Option Vector → List ℕ
 name_of p None = []
 name_of p (Some vector) = name_at p vector.name
 
 abbrev pub vector_at : ProgramTree → ℕ → List ℕ
-vector_at p place = name_of p (slice_get p.vectors place)
+vector_at p index = name_of p (slice_get p.vectors index)
 
 abbrev pub operator_word : Operator → List ℕ
 operator_word operator.Add = codes "+"

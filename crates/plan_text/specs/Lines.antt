@@ -55,13 +55,13 @@ dense_word None = codes "bool-array"
 dense_word (Some dense.BoolArray) = codes "bool-array"
 dense_word (Some dense.Bitvector) = codes "bitvector"
 
--- the name of the function at a place, without a byte where there is none
+-- the name of the function at an index, without a byte where there is none
 abbrev pub function_name : ProgramTree → Option FunctionTree → List ℕ
 function_name p None = []
 function_name p (Some f) = name_at p f.name
 
 abbrev pub function_at : ProgramTree → List FunctionTree → ℕ → List ℕ
-function_at p functions place = function_name p (slice_get functions place)
+function_at p functions index = function_name p (slice_get functions index)
 
 -- set x [e]
 abbrev pub set_words : (target : List ℕ) → (words : List (List ℕ)) → List (List ℕ)
@@ -76,7 +76,7 @@ put_words p vector index word value =
 abbrev pub end_word : ProgramTree → Option VertexFilter → List ℕ
 end_word p None = codes "-"
 end_word p (Some (end.Members slot)) = name_at p slot.name
-end_word p (Some (end.Function place)) = function_at p p.filters place
+end_word p (Some (end.Function index)) = function_at p p.filters index
 
 -- f, or f -> s v
 abbrev pub changed_words : ProgramTree → Option ChangedSet → List (List ℕ)
@@ -100,7 +100,7 @@ edges_words p ends first second choice =
 -- vapply s f g
 abbrev pub second_function_words : ProgramTree → Option ℕ → List (List ℕ)
 second_function_words p None = []
-second_function_words p (Some place) = function_at p p.vertex_functions place ∷ []
+second_function_words p (Some index) = function_at p p.vertex_functions index ∷ []
 
 abbrev pub vertices_words : ProgramTree → (set : VarRef) → (first : ℕ) → (second : Option ℕ) → List (List ℕ)
 vertices_words p set first second =
@@ -111,7 +111,7 @@ abbrev pub set_value_words : ProgramTree → (name : ℕ) → SetValue → List 
 set_value_words p name set.Empty = codes "newset" ∷ name_at p name ∷ []
 set_value_words p name set.All = codes "allset" ∷ name_at p name ∷ []
 set_value_words p name (set.Copy slot) = codes "copyset" ∷ name_at p name ∷ name_at p slot.name ∷ []
-set_value_words p name (set.Filter slot place) = codes "filter" ∷ name_at p name ∷ name_at p slot.name ∷ function_at p p.filters place ∷ []
+set_value_words p name (set.Filter slot index) = codes "filter" ∷ name_at p name ∷ name_at p slot.name ∷ function_at p p.filters index ∷ []
 set_value_words p name (set.Modified ends function vector) = []
 
 -- an apply of one edge function
@@ -124,7 +124,7 @@ set_line p name (set.Modified ends function vector) choice = edges_words p ends 
 set_line p name set.Empty choice = set_value_words p name set.Empty
 set_line p name set.All choice = set_value_words p name set.All
 set_line p name (set.Copy slot) choice = set_value_words p name (set.Copy slot)
-set_line p name (set.Filter slot place) choice = set_value_words p name (set.Filter slot place)
+set_line p name (set.Filter slot index) choice = set_value_words p name (set.Filter slot index)
 
 -- a statement without a block; what stands for one with a block is no instruction of its own
 abbrev pub statement_words : ProgramTree → ActionTree → ApplySchedule → List (List ℕ)
@@ -147,7 +147,7 @@ statement_words p (IfElse c body other) choice = []
 statement_words p (While c body) choice = []
 statement_words p (For name first last body) choice = []
 
--- unless [c], before the place that it goes to
+-- unless [c], before the index that it goes to
 abbrev pub unless_words : ProgramTree → ConditionTree → List (List ℕ)
 unless_words p c = codes "unless" ∷ bracketed (condition_words p c) ∷ []
 

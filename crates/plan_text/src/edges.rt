@@ -87,7 +87,7 @@ impl<'a> Lines<'a> {
         match end {
             None => b"-",
             Some(VertexFilter::Members(slot)) => self.name(slot.name),
-            Some(VertexFilter::Function(place)) => self.function(&self.program.filters, place),
+            Some(VertexFilter::Function(index)) => self.function(&self.program.filters, index),
         }
     }
 

@@ -14,31 +14,31 @@ pub struct Lines<'a> {
 }
 
 impl<'a> Lines<'a> {
-    /// The name at a place, without a byte where there is none.
-    pub(crate) fn name(self, place: usize) -> &'a [u8]
-        ensures { result.now ≡ name_at (program_tree self.entry.program.now) place }
+    /// The name at an index, without a byte where there is none.
+    pub(crate) fn name(self, index: usize) -> &'a [u8]
+        ensures { result.now ≡ name_at (program_tree self.entry.program.now) index }
     {
-        match self.program.names.get(place) {
+        match self.program.names.get(index) {
             Some(name) => name.as_slice(),
             None => b"",
         }
     }
 
     /// The name of a vector.
-    pub(crate) fn vector(self, place: usize) -> &'a [u8]
-        ensures { result.now ≡ vector_at (program_tree self.entry.program.now) place }
+    pub(crate) fn vector(self, index: usize) -> &'a [u8]
+        ensures { result.now ≡ vector_at (program_tree self.entry.program.now) index }
     {
-        match self.program.vectors.get(place) {
+        match self.program.vectors.get(index) {
             Some(vector) => self.name(vector.name),
             None => b"",
         }
     }
 
     /// The name of a function of these.
-    pub(crate) fn function(self, functions: &'a [Function], place: usize) -> &'a [u8]
-        ensures { result.now ≡ function_at (program_tree self.entry.program.now) (map function_tree functions.now) place }
+    pub(crate) fn function(self, functions: &'a [Function], index: usize) -> &'a [u8]
+        ensures { result.now ≡ function_at (program_tree self.entry.program.now) (map function_tree functions.now) index }
     {
-        match functions.get(place) {
+        match functions.get(index) {
             Some(function) => self.name(function.name),
             None => b"",
         }

@@ -77,7 +77,7 @@ impl Lines<'_> {
         }
     }
 
-    /// Puts `unless` and a test, before the place that it goes to.
+    /// Puts `unless` and a test, before the index that it goes to.
     pub fn put_unless(self, out: &mut Vec<u8>, c: &BoolExpression) -> Result<(), AllocError>
         ensures { OnOk result (out.new.items ≡ out.old.items ++ spaced (unless_words (program_tree self.entry.program.now) (condition_tree c.now))) }
     {
@@ -98,7 +98,7 @@ impl Lines<'_> {
         self.put_bracketed(out, e)
     }
 
-    /// Puts the test of a `for`, before the place that it goes to.
+    /// Puts the test of a `for`, before the index that it goes to.
     pub fn put_below(self, out: &mut Vec<u8>, name: usize) -> Result<(), AllocError>
         ensures { OnOk result (out.new.items ≡ out.old.items ++ spaced (below_words (program_tree self.entry.program.now) name)) }
     {
@@ -145,7 +145,7 @@ impl Lines<'_> {
         put_word(out, self.name(name))
     }
 
-    /// Puts that a variable of type `int`, whose name is at this place, gets a value. The only error is out of memory.
+    /// Puts that a variable of type `int`, whose name is at this index, gets a value. The only error is out of memory.
     pub fn put_set_integer(
         self,
         out: &mut Vec<u8>,
@@ -256,10 +256,10 @@ impl Lines<'_> {
                 self.put_words(out, b"copyset", name)?;
                 put_word(out, self.name(from.name))
             }
-            SetValue::Filter(from, place) => {
+            SetValue::Filter(from, index) => {
                 self.put_words(out, b"filter", name)?;
                 put_word(out, self.name(from.name))?;
-                put_word(out, self.function(&self.program.filters, place))
+                put_word(out, self.function(&self.program.filters, index))
             }
         }
     }

@@ -27,7 +27,7 @@ use Rattle.plan_text_laws.specs.Machine.{StackValue, Number, Truth, Stack, Names
 use Rattle.plan_text_laws.specs.Given.{IntegerIsGiven, IsNamed}
 use Rattle.plan_text_laws.specs.Brackets.{HasNamesOfOneWord, IsOneWord, read_brackets, read_reduction, reduce_words}
 use Rattle.plan_text_laws.specs.Kinds.{InstructionKind, instruction_words, kind_of, kind_of_action, kind_of_set}
-use Rattle.plan_text_laws.specs.Values.{ActionIsGiven, OperationIsGiven, bracket_places, read_places, values_in, values_of, values_of_action}
+use Rattle.plan_text_laws.specs.Values.{ActionIsGiven, OperationIsGiven, bracket_indices, read_indices, values_in, values_of, values_of_action}
 use Rattle.plan_text_laws.proofs.Machine.{integer_is_read, read_name}
 use Rattle.plan_text_laws.proofs.CutWords.{all_both, condition_in_brackets, integer_in_brackets, integer_words_are, looked_at, name_is_one, text_back}
 use Rattle.plan_text_laws.proofs.Words.{kind_is}
@@ -39,7 +39,7 @@ two_values : (a b c d : Stack) → a ≡ b → c ≡ d → a ∷ c ∷ [] ≡ b 
 two_values a b c d first second = ap (λ (x : Stack). x ∷ c ∷ []) first ∙ ap (λ (x : Stack). b ∷ x ∷ []) second
 
 -- sets have no expressions
-no_values : (names : Names) (words : List (List ℕ)) (value : SetValue) → read_places names words (bracket_places (Some (kind_of_set value))) ≡ []
+no_values : (names : Names) (words : List (List ℕ)) (value : SetValue) → read_indices names words (bracket_indices (Some (kind_of_set value))) ≡ []
 no_values names words set.Empty = refl
 no_values names words set.All = refl
 no_values names words (set.Copy slot) = refl
@@ -47,7 +47,7 @@ no_values names words (set.Filter slot function) = refl
 no_values names words (set.Modified ends function vector) = refl
 
 action_values : (p : ProgramTree) (names : Names) (s : StateValue) (action : ActionTree) (choice : ApplySchedule) → HasNamesOfOneWord p → ActionIsGiven p names s action
-    → read_places names (statement_words p action choice ++ []) (bracket_places (kind_of_action action)) ≡ values_of_action names.vertices s action
+    → read_indices names (statement_words p action choice ++ []) (bracket_indices (kind_of_action action)) ≡ values_of_action names.vertices s action
 action_values p names s (action.DeclareInteger name e) choice one given = one_value _ _ (integer_in_brackets p names s e one given)
 action_values p names s (action.DeclareCondition name c) choice one given = one_value _ _ (condition_in_brackets p names s c one given)
 action_values p names s (action.SetInteger slot e) choice one given = one_value _ _ (integer_in_brackets p names s e one given)
@@ -89,7 +89,7 @@ next_read p names name r one first =
     ∙ ap (option_and_then (read_words names (codes "1" ∷ codes "+" ∷ []))) (read_name names (name_at p name) (Number r.next) [] first)
 
 operation_values : (p : ProgramTree) (names : Names) (r : LoopCounter) (s : StateValue) (choice : ApplySchedule) (o : OperationTree) → HasNamesOfOneWord p → OperationIsGiven p names r s o
-    → read_places names (operation_words p choice o ++ target_words o) (bracket_places (kind_of o)) ≡ values_of names.vertices r s o
+    → read_indices names (operation_words p choice o ++ target_words o) (bracket_indices (kind_of o)) ≡ values_of names.vertices r s o
 operation_values p names r s choice (operation.Do action) one given = action_values p names s action choice one given
 operation_values p names r s choice (operation.ApplyEdgesTogether ends first second) one given = refl
 operation_values p names r s choice (operation.ApplyVerticesTogether slot first second) one given = refl
@@ -104,7 +104,7 @@ operation_values p names r s choice operation.End one given = refl
 pub values_are : (p : ProgramTree) (names : Names) (r : LoopCounter) (s : StateValue) (i : InstructionTree) → HasNamesOfOneWord p → OperationIsGiven p names r s i.operation
     → values_in names (instruction_words p i) ≡ values_of names.vertices r s i.operation
 values_are p names r s i one given =
-    ap (λ (k : Option InstructionKind). read_places names (instruction_words p i) (bracket_places k)) (kind_is p i)
+    ap (λ (k : Option InstructionKind). read_indices names (instruction_words p i) (bracket_indices k)) (kind_is p i)
     ∙ operation_values p names r s i.choice i.operation one given
 
 -- the last word is a reduction of what the others leave
@@ -136,11 +136,11 @@ reduce_value names r a None = refl
 reduce_value names r a (Some n) = reduce_is names r a n
 
 pub reduction_is_read : (p : ProgramTree) (names : Names) (s : StateValue) (x : VarRef) (r : Reduction) (e : IntegerTree) (choice : ApplySchedule) → HasNamesOfOneWord p
-    → IsNamed names (name_at p x.name) (Number (slice_index_or s.scope.integers x.place (pos 0))) → IntegerIsGiven p names s e
+    → IsNamed names (name_at p x.name) (Number (slice_index_or s.scope.integers x.index (pos 0))) → IntegerIsGiven p names s e
     → read_reduction names (slice_index_or (statement_words p (action.ReduceInteger x r e) choice) 2 [])
-    ≡ option_map (λ n. reduced r (slice_index_or s.scope.integers x.place (pos 0)) n) (number_in names.vertices e s)
+    ≡ option_map (λ n. reduced r (slice_index_or s.scope.integers x.index (pos 0)) n) (number_in names.vertices e s)
 reduction_is_read p names s x r e choice one named given =
-    let a = slice_index_or s.scope.integers x.place (pos 0) in
+    let a = slice_index_or s.scope.integers x.index (pos 0) in
     let words = name_at p x.name ∷ integer_words p e in
     let all : AllByRecursion IsOneWord (name_at p x.name ∷ integer_words p e ++ reducing_word r ∷ []) =
     (name_is_one p x.name one, all_both IsOneWord (integer_words p e) (reducing_word r ∷ []) (integer_words_are p names s e one given) (reducing_is_one r, tt)) in

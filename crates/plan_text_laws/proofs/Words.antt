@@ -24,7 +24,7 @@ use Rattle.plan_text.specs.Lines.{dense_word, direction_word, edges_words, end_w
 use Rattle.lowering.specs.Text.{operation_words, shown_part, target_words}
 use Rattle.decimal.specs.Numbers.{number_of}
 use Rattle.decimal.proofs.NumberLaws.{decimal-IsReadBack}
-use Rattle.plan_text_laws.specs.Kinds.{InstructionKind, ApplyEdges, instruction_words, kind_in, kind_of, kind_of_action, kind_of_set, place_behind, place_in, place_of}
+use Rattle.plan_text_laws.specs.Kinds.{InstructionKind, ApplyEdges, instruction_words, kind_in, kind_of, kind_of_action, kind_of_set, index_behind, index_in, index_of}
 use Rattle.plan_text_laws.specs.Settings.{dense_vertex_sets, directions, parallelizations, settings_in, settings_of, settings_used, settings_with}
 
 -- the kind of each operation
@@ -70,53 +70,53 @@ kind_at p choice operation.End = refl
 pub kind_is : (p : ProgramTree) (i : InstructionTree) → kind_in (instruction_words p i) ≡ kind_of i.operation
 kind_is p i = kind_at p i.choice i.operation
 
--- a statement goes on at no other place
-no_place_of_set : (value : SetValue) (words : List (List ℕ)) → place_behind (Some (kind_of_set value)) words ≡ None
-no_place_of_set set.Empty words = refl
-no_place_of_set set.All words = refl
-no_place_of_set (set.Copy slot) words = refl
-no_place_of_set (set.Filter slot function) words = refl
-no_place_of_set (set.Modified ends function vector) words = refl
+-- a statement goes on at no other index
+no_index_of_set : (value : SetValue) (words : List (List ℕ)) → index_behind (Some (kind_of_set value)) words ≡ None
+no_index_of_set set.Empty words = refl
+no_index_of_set set.All words = refl
+no_index_of_set (set.Copy slot) words = refl
+no_index_of_set (set.Filter slot function) words = refl
+no_index_of_set (set.Modified ends function vector) words = refl
 
-no_place : (action : ActionTree) (words : List (List ℕ)) → place_behind (kind_of_action action) words ≡ None
-no_place (action.DeclareInteger name e) words = refl
-no_place (action.DeclareCondition name c) words = refl
-no_place (action.SetInteger slot e) words = refl
-no_place (action.SetCondition slot c) words = refl
-no_place (action.ReduceInteger slot reduction e) words = refl
-no_place (action.SetEntry vector index e) words = refl
-no_place (action.ReduceEntry vector index reduction e) words = refl
-no_place (action.DeclareSet name value) words = no_place_of_set value words
-no_place (action.AssignSet slot value) words = no_place_of_set value words
-no_place (action.AddVertex slot e) words = refl
-no_place (action.PrintInteger e) words = refl
-no_place (action.PrintCondition c) words = refl
-no_place (action.ApplyVertex slot function) words = refl
-no_place (action.ApplyEdges ends function) words = refl
-no_place (action.If c body) words = refl
-no_place (action.IfElse c body other) words = refl
-no_place (action.While c body) words = refl
-no_place (action.For name first last body) words = refl
+no_index : (action : ActionTree) (words : List (List ℕ)) → index_behind (kind_of_action action) words ≡ None
+no_index (action.DeclareInteger name e) words = refl
+no_index (action.DeclareCondition name c) words = refl
+no_index (action.SetInteger slot e) words = refl
+no_index (action.SetCondition slot c) words = refl
+no_index (action.ReduceInteger slot reduction e) words = refl
+no_index (action.SetEntry vector index e) words = refl
+no_index (action.ReduceEntry vector index reduction e) words = refl
+no_index (action.DeclareSet name value) words = no_index_of_set value words
+no_index (action.AssignSet slot value) words = no_index_of_set value words
+no_index (action.AddVertex slot e) words = refl
+no_index (action.PrintInteger e) words = refl
+no_index (action.PrintCondition c) words = refl
+no_index (action.ApplyVertex slot function) words = refl
+no_index (action.ApplyEdges ends function) words = refl
+no_index (action.If c body) words = refl
+no_index (action.IfElse c body other) words = refl
+no_index (action.While c body) words = refl
+no_index (action.For name first last body) words = refl
 
 number_is : (to : ℕ) → to < 2 ^ 64 → number_of (2 ^ 64) (decimal to) ≡ Some to
 number_is to below = decimal-IsReadBack (2 ^ 64) to below below 0
 
-place_at : (p : ProgramTree) (choice : ApplySchedule) (o : OperationTree) → IfSome (place_of o) (λ to. to < 2 ^ 64)
-    → place_behind (kind_of o) (operation_words p choice o ++ target_words o) ≡ place_of o
-place_at p choice (operation.Do action) below = no_place action (statement_words p action choice ++ [])
-place_at p choice (operation.ApplyEdgesTogether ends first second) below = refl
-place_at p choice (operation.ApplyVerticesTogether slot first second) below = refl
-place_at p choice (operation.Unless c to) below = number_is to below
-place_at p choice (operation.Enter name e) below = refl
-place_at p choice (operation.UnlessBelow name to) below = number_is to below
-place_at p choice (operation.Advance name) below = refl
-place_at p choice operation.Turn below = refl
-place_at p choice (operation.Jump to) below = number_is to below
-place_at p choice operation.End below = refl
+index_at : (p : ProgramTree) (choice : ApplySchedule) (o : OperationTree) → IfSome (index_of o) (λ to. to < 2 ^ 64)
+    → index_behind (kind_of o) (operation_words p choice o ++ target_words o) ≡ index_of o
+index_at p choice (operation.Do action) below = no_index action (statement_words p action choice ++ [])
+index_at p choice (operation.ApplyEdgesTogether ends first second) below = refl
+index_at p choice (operation.ApplyVerticesTogether slot first second) below = refl
+index_at p choice (operation.Unless c to) below = number_is to below
+index_at p choice (operation.Enter name e) below = refl
+index_at p choice (operation.UnlessBelow name to) below = number_is to below
+index_at p choice (operation.Advance name) below = refl
+index_at p choice operation.Turn below = refl
+index_at p choice (operation.Jump to) below = number_is to below
+index_at p choice operation.End below = refl
 
-pub place_is : (p : ProgramTree) (i : InstructionTree) → IfSome (place_of i.operation) (λ to. to < 2 ^ 64) → place_in (instruction_words p i) ≡ place_of i.operation
-place_is p i below =
-    ap (λ (k : Option InstructionKind). place_behind k (instruction_words p i)) (kind_is p i) ∙ place_at p i.choice i.operation below
+pub index_is : (p : ProgramTree) (i : InstructionTree) → IfSome (index_of i.operation) (λ to. to < 2 ^ 64) → index_in (instruction_words p i) ≡ index_of i.operation
+index_is p i below =
+    ap (λ (k : Option InstructionKind). index_behind k (instruction_words p i)) (kind_is p i) ∙ index_at p i.choice i.operation below
 
 -- what the words of a schedule say
 direction_is : (o : Option Direction) → lookup (bytes_eq (direction_word o)) directions ≡ Some (unwrap_or o direction.SparsePush)

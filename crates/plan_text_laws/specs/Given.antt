@@ -29,21 +29,21 @@ pub record IsNamed (names : Names) (word : List ℕ) (value : StackValue) : Type
 abbrev pub IntegerIsGiven : ProgramTree → Names → StateValue → IntegerTree → Type 0
 IntegerIsGiven p names s (integer.Number n) = FitsSigned w64 n
 IntegerIsGiven p names s (integer.Constant name n) = IsNamed names (name_at p name) (Number n)
-IntegerIsGiven p names s (integer.Variable slot) = IsNamed names (name_at p slot.name) (Number (slice_index_or s.scope.integers slot.place (pos 0)))
+IntegerIsGiven p names s (integer.Variable slot) = IsNamed names (name_at p slot.name) (Number (slice_index_or s.scope.integers slot.index (pos 0)))
 IntegerIsGiven p names s (integer.Parameter at) = ⊥
 IntegerIsGiven p names s integer.Weight = ⊥
 IntegerIsGiven p names s (integer.EntryAt vector at) = ⊥
 IntegerIsGiven p names s (integer.Entry vector index) =
     ((v : ℕ) → names.entry (vector_at p vector) v ≡ entry s.vectors vector v) × IntegerIsGiven p names s index
 IntegerIsGiven p names s (integer.SetSize slot) =
-    names.size (name_at p slot.name) ≡ cast_signed w64 (length (members_of (slice_get s.sets slot.place)))
+    names.size (name_at p slot.name) ≡ cast_signed w64 (length (members_of (slice_get s.sets slot.index)))
 IntegerIsGiven p names s (integer.Negative e) = IntegerIsGiven p names s e
 IntegerIsGiven p names s (integer.Arithmetic operator a b) = IntegerIsGiven p names s a × IntegerIsGiven p names s b
 
 abbrev pub ConditionIsGiven : ProgramTree → Names → StateValue → ConditionTree → Type 0
 ConditionIsGiven p names s (condition.Literal b) = Unit {0}
 ConditionIsGiven p names s (condition.Constant name b) = IsNamed names (name_at p name) (Truth b)
-ConditionIsGiven p names s (condition.Variable slot) = IsNamed names (name_at p slot.name) (Truth (slice_index_or s.scope.conditions slot.place false))
+ConditionIsGiven p names s (condition.Variable slot) = IsNamed names (name_at p slot.name) (Truth (slice_index_or s.scope.conditions slot.index false))
 ConditionIsGiven p names s (condition.Not c) = ConditionIsGiven p names s c
 ConditionIsGiven p names s (condition.Compare comparison a b) = IntegerIsGiven p names s a × IntegerIsGiven p names s b
 ConditionIsGiven p names s (condition.Connect connective a b) = ConditionIsGiven p names s a × ConditionIsGiven p names s b

@@ -45,13 +45,13 @@ abbrev pub kind_in : List (List ℕ) → Option InstructionKind
 kind_in [] = None
 kind_in (word ∷ words) = lookup (bytes_eq word) kinds
 
-abbrev pub place_behind : Option InstructionKind → List (List ℕ) → Option ℕ
-place_behind (Some Unless) words = option_and_then (number_of (2 ^ 64)) (slice_get words 2)
-place_behind (Some Jump) words = option_and_then (number_of (2 ^ 64)) (slice_get words 1)
-place_behind _ words = None
+abbrev pub index_behind : Option InstructionKind → List (List ℕ) → Option ℕ
+index_behind (Some Unless) words = option_and_then (number_of (2 ^ 64)) (slice_get words 2)
+index_behind (Some Jump) words = option_and_then (number_of (2 ^ 64)) (slice_get words 1)
+index_behind _ words = None
 
-abbrev pub place_in : List (List ℕ) → Option ℕ
-place_in words = place_behind (kind_in words) words
+abbrev pub index_in : List (List ℕ) → Option ℕ
+index_in words = index_behind (kind_in words) words
 
 -- the kind of a statement without a block, and of an operation
 abbrev pub kind_of_set : SetValue → InstructionKind
@@ -94,8 +94,8 @@ kind_of (operation.Jump to) = Some Jump
 kind_of operation.End = Some End
 
 -- the number of the instruction that an operation may go to
-abbrev pub place_of : OperationTree → Option ℕ
-place_of (operation.Unless c to) = Some to
-place_of (operation.UnlessBelow name to) = Some to
-place_of (operation.Jump to) = Some to
-place_of _ = None
+abbrev pub index_of : OperationTree → Option ℕ
+index_of (operation.Unless c to) = Some to
+index_of (operation.UnlessBelow name to) = Some to
+index_of (operation.Jump to) = Some to
+index_of _ = None

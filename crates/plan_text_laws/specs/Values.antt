@@ -20,20 +20,20 @@ use Rattle.plan_text_laws.specs.Brackets.{read_brackets}
 use Rattle.plan_text_laws.specs.Kinds.{InstructionKind, Set, Put, Print, AddVertex, Unless, kind_in}
 
 -- which words of an instruction are expressions in brackets: `set x [e]`, `put v [i] = [e]`, `print [e]`, `addvertex s [e]`, `unless [e]`
-abbrev pub bracket_places : Option InstructionKind → List ℕ
-bracket_places (Some Set) = 2 ∷ []
-bracket_places (Some Put) = 2 ∷ 4 ∷ []
-bracket_places (Some Print) = 1 ∷ []
-bracket_places (Some AddVertex) = 2 ∷ []
-bracket_places (Some Unless) = 1 ∷ []
-bracket_places _ = []
+abbrev pub bracket_indices : Option InstructionKind → List ℕ
+bracket_indices (Some Set) = 2 ∷ []
+bracket_indices (Some Put) = 2 ∷ 4 ∷ []
+bracket_indices (Some Print) = 1 ∷ []
+bracket_indices (Some AddVertex) = 2 ∷ []
+bracket_indices (Some Unless) = 1 ∷ []
+bracket_indices _ = []
 
-abbrev pub read_places : Names → List (List ℕ) → List ℕ → List Stack
-read_places names words places = map (λ place. read_brackets names (slice_index_or words place [])) places
+abbrev pub read_indices : Names → List (List ℕ) → List ℕ → List Stack
+read_indices names words indices = map (λ index. read_brackets names (slice_index_or words index [])) indices
 
 -- what stands in the brackets of these words
 abbrev pub values_in : Names → List (List ℕ) → List Stack
-values_in names words = read_places names words (bracket_places (kind_in words))
+values_in names words = read_indices names words (bracket_indices (kind_in words))
 
 abbrev pub number_on : ℕ → StateValue → IntegerTree → Stack
 number_on vertices s e = option_map (λ n. Number n ∷ []) (number_in vertices e s)

@@ -43,8 +43,8 @@ pub fn instructions_have_their_values()
 /// has the value of `x` reduced with that of `e`. The call does nothing.
 pub fn reductions_are_read_by_hand()
     ensures { (p : ProgramTree) (names : Names) (s : StateValue) (x : slot.VarRef) (r : reduction.Reduction) (e : IntegerTree) (choice : schedule.ApplySchedule)
-        → HasNamesOfOneWord p → IsNamed names (name_at p x.name) (Number (slice_index_or s.scope.integers x.place (pos 0)))
+        → HasNamesOfOneWord p → IsNamed names (name_at p x.name) (Number (slice_index_or s.scope.integers x.index (pos 0)))
         → IntegerIsGiven p names s e
         → read_reduction names (slice_index_or (statement_words p (ReduceInteger x r e) choice) 2 [])
-        ≡ option_map (λ n. reduced r (slice_index_or s.scope.integers x.place (pos 0)) n) (number_in names.vertices e s) }
+        ≡ option_map (λ n. reduced r (slice_index_or s.scope.integers x.index (pos 0)) n) (number_in names.vertices e s) }
 {}

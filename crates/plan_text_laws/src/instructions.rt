@@ -3,7 +3,7 @@ ghost use Rattle.std.specs.Prelude.{◌≡◌, ◌<◌, ◌^◌, Some};
 ghost use Rattle.std.specs.Option.{IfSome};
 ghost use Rattle.typed_tree.specs.ProgramTree.{ProgramTree};
 ghost use Rattle.plans.specs.Instruction.{InstructionTree};
-ghost use Rattle.plan_text_laws.specs.Kinds.{ApplyEdges, instruction_words, kind_in, kind_of, place_in, place_of};
+ghost use Rattle.plan_text_laws.specs.Kinds.{ApplyEdges, instruction_words, kind_in, kind_of, index_in, index_of};
 ghost use Rattle.plan_text_laws.specs.Settings.{settings_in, settings_used};
 
 /// The law that the first word of an instruction says its kind: no two kinds share one. A statement with a block is no
@@ -15,8 +15,8 @@ pub fn first_words_say_the_kind()
 /// The law that the words of an instruction say where it may go on: at the number that stands behind a test, or behind
 /// `jump`. The call does nothing.
 pub fn words_say_where_to_go()
-    ensures { (p : ProgramTree) (i : InstructionTree) → IfSome (place_of i.operation) (λ to. to < 2 ^ 64)
-        → place_in (instruction_words p i) ≡ place_of i.operation }
+    ensures { (p : ProgramTree) (i : InstructionTree) → IfSome (index_of i.operation) (λ to. to < 2 ^ 64)
+        → index_in (instruction_words p i) ≡ index_of i.operation }
 {}
 
 /// The law that the last three words of an edge apply say by what the engines go: the direction, the parallelization and the

@@ -54,4 +54,4 @@ ascends_increasing low (x ∷ xs) h up = (h, ascends_increasing (x + 1) xs (incr
 
 -- so are all these sets
 abbrev pub AreAscending : StateValue → Type 0
-AreAscending s = (place : ℕ) → AscendsFrom 0 (members_of (slice_get s.sets place))
+AreAscending s = (index : ℕ) → AscendsFrom 0 (members_of (slice_get s.sets index))

@@ -31,59 +31,59 @@ use Rattle.plans.specs.Outline.{outline, outline_of, most_steps_of}
 -- the bound sees no difference
 record SameBound (o t : OperationTree) : Type 0 where
   turn : uses_turn o ≡ uses_turn t
-  rank : (count place : ℕ) (before_turn : Bool) → rank_by count place o before_turn ≡ rank_by count place t before_turn
+  rank : (count index : ℕ) (before_turn : Bool) → rank_by count index o before_turn ≡ rank_by count index t before_turn
 
 itself_alike : (o : OperationTree) → SameBound o o
-itself_alike o = record { turn = refl; rank = λ count place b. refl }
+itself_alike o = record { turn = refl; rank = λ count index b. refl }
 
 do_alike : (action : ActionTree) → SameBound End (Do action)
-do_alike action = record { turn = refl; rank = λ count place b. by_test count place b }
+do_alike action = record { turn = refl; rank = λ count index b. by_test count index b }
   where
-    by_test : (count place : ℕ) (b : Bool) → rank_by count place End b ≡ rank_by count place (Do action) b
-    by_test count place true = refl
-    by_test count place false = refl
+    by_test : (count index : ℕ) (b : Bool) → rank_by count index End b ≡ rank_by count index (Do action) b
+    by_test count index true = refl
+    by_test count index false = refl
 
 vertices_alike : (set : VarRef) (f g : ℕ) → SameBound End (ApplyVerticesTogether set f g)
-vertices_alike set f g = record { turn = refl; rank = λ count place b. by_test count place b }
+vertices_alike set f g = record { turn = refl; rank = λ count index b. by_test count index b }
   where
-    by_test : (count place : ℕ) (b : Bool) → rank_by count place End b ≡ rank_by count place (ApplyVerticesTogether set f g) b
-    by_test count place true = refl
-    by_test count place false = refl
+    by_test : (count index : ℕ) (b : Bool) → rank_by count index End b ≡ rank_by count index (ApplyVerticesTogether set f g) b
+    by_test count index true = refl
+    by_test count index false = refl
 
 edges_alike : (ends : ApplyEnds) (first second : EdgePartTree) → SameBound End (ApplyEdgesTogether ends first second)
-edges_alike ends first second = record { turn = refl; rank = λ count place b. by_test count place b }
+edges_alike ends first second = record { turn = refl; rank = λ count index b. by_test count index b }
   where
-    by_test : (count place : ℕ) (b : Bool) → rank_by count place End b ≡ rank_by count place (ApplyEdgesTogether ends first second) b
-    by_test count place true = refl
-    by_test count place false = refl
+    by_test : (count index : ℕ) (b : Bool) → rank_by count index End b ≡ rank_by count index (ApplyEdgesTogether ends first second) b
+    by_test count index true = refl
+    by_test count index false = refl
 
 unless_alike : (c : ConditionTree) (to : ℕ) → SameBound (Unless (Literal true) to) (Unless c to)
-unless_alike c to = record { turn = refl; rank = λ count place b. by_test count place b }
+unless_alike c to = record { turn = refl; rank = λ count index b. by_test count index b }
   where
-    by_test : (count place : ℕ) (b : Bool) → rank_by count place (Unless (Literal true) to) b ≡ rank_by count place (Unless c to) b
-    by_test count place true = refl
-    by_test count place false = refl
+    by_test : (count index : ℕ) (b : Bool) → rank_by count index (Unless (Literal true) to) b ≡ rank_by count index (Unless c to) b
+    by_test count index true = refl
+    by_test count index false = refl
 
 enter_alike : (name : ℕ) (e : IntegerTree) → SameBound End (Enter name e)
-enter_alike name e = record { turn = refl; rank = λ count place b. by_test count place b }
+enter_alike name e = record { turn = refl; rank = λ count index b. by_test count index b }
   where
-    by_test : (count place : ℕ) (b : Bool) → rank_by count place End b ≡ rank_by count place (Enter name e) b
-    by_test count place true = refl
-    by_test count place false = refl
+    by_test : (count index : ℕ) (b : Bool) → rank_by count index End b ≡ rank_by count index (Enter name e) b
+    by_test count index true = refl
+    by_test count index false = refl
 
 advance_alike : (name : ℕ) → SameBound End (Advance name)
-advance_alike name = record { turn = refl; rank = λ count place b. by_test count place b }
+advance_alike name = record { turn = refl; rank = λ count index b. by_test count index b }
   where
-    by_test : (count place : ℕ) (b : Bool) → rank_by count place End b ≡ rank_by count place (Advance name) b
-    by_test count place true = refl
-    by_test count place false = refl
+    by_test : (count index : ℕ) (b : Bool) → rank_by count index End b ≡ rank_by count index (Advance name) b
+    by_test count index true = refl
+    by_test count index false = refl
 
 jump_alike : (to : ℕ) → SameBound End (Jump to)
-jump_alike to = record { turn = refl; rank = λ count place b. by_test count place b }
+jump_alike to = record { turn = refl; rank = λ count index b. by_test count index b }
   where
-    by_test : (count place : ℕ) (b : Bool) → rank_by count place End b ≡ rank_by count place (Jump to) b
-    by_test count place true = refl
-    by_test count place false = refl
+    by_test : (count index : ℕ) (b : Bool) → rank_by count index End b ≡ rank_by count index (Jump to) b
+    by_test count index true = refl
+    by_test count index false = refl
 
 -- of an operation it sees the outline
 sees_alike : (keep shown : Depth) (o : PlanOperation) (t : OperationTree) → IsOperation keep shown o t → SameBound (outline o) t
@@ -123,10 +123,10 @@ same_length [] (t ∷ ts) are = absurd are
 same_length (i ∷ is) [] are = absurd are
 same_length (i ∷ is) (t ∷ ts) are = ap suc (same_length is ts are.1)
 
-same_at : (is : List Instruction) (ts : List InstructionTree) → AreInstructions is ts → (place : ℕ) → SameAt (slice_get (map outline_of is) place) (slice_get ts place)
-same_at [] [] are place = tt
-same_at [] (t ∷ ts) are place = absurd are
-same_at (i ∷ is) [] are place = absurd are
+same_at : (is : List Instruction) (ts : List InstructionTree) → AreInstructions is ts → (index : ℕ) → SameAt (slice_get (map outline_of is) index) (slice_get ts index)
+same_at [] [] are index = tt
+same_at [] (t ∷ ts) are index = absurd are
+same_at (i ∷ is) [] are index = absurd are
 same_at (i ∷ is) (t ∷ ts) are zero = sees_alike i.keep i.shown i.operation t.operation are.0.operation
 same_at (i ∷ is) (t ∷ ts) are (suc n) = same_at is ts are.1 n
 
@@ -136,37 +136,37 @@ same_turn None (Some t) same = absurd same
 same_turn (Some i) None same = absurd same
 same_turn (Some i) (Some t) same = same.turn
 
-same_rank : (is ts : List InstructionTree) (place : ℕ) (a b : Option InstructionTree) → length is ≡ length ts → is_turn (slice_get is (place + 1)) ≡ is_turn (slice_get ts (place + 1)) → SameAt a b
-    → rank_where is place a ≡ rank_where ts place b
-same_rank is ts place None None long next same = refl
-same_rank is ts place None (Some t) long next same = absurd same
-same_rank is ts place (Some i) None long next same = absurd same
-same_rank is ts place (Some i) (Some t) long next same =
-    (λ j. rank_by (long j) place i.operation (next j)) ∙ same.rank (length ts) place (is_turn (slice_get ts (place + 1)))
+same_rank : (is ts : List InstructionTree) (index : ℕ) (a b : Option InstructionTree) → length is ≡ length ts → is_turn (slice_get is (index + 1)) ≡ is_turn (slice_get ts (index + 1)) → SameAt a b
+    → rank_where is index a ≡ rank_where ts index b
+same_rank is ts index None None long next same = refl
+same_rank is ts index None (Some t) long next same = absurd same
+same_rank is ts index (Some i) None long next same = absurd same
+same_rank is ts index (Some i) (Some t) long next same =
+    (λ j. rank_by (long j) index i.operation (next j)) ∙ same.rank (length ts) index (is_turn (slice_get ts (index + 1)))
 
 -- instructions and their plan have the same bound
 pub same_bound : (is : List Instruction) (ts : List InstructionTree) → AreInstructions is ts → (c : Configuration) → most_steps_of is c ≡ most_steps ts c
 same_bound is ts are (Ended s end) = refl
-same_bound is ts are (At place loops s) =
+same_bound is ts are (At index loops s) =
     let os = map outline_of is in
     let long = same_length is ts are in
-    let next = same_turn (slice_get os (place + 1)) (slice_get ts (place + 1)) (same_at is ts are (place + 1)) in
-    let ranks = same_rank os ts place (slice_get os place) (slice_get ts place) long next (same_at is ts are place) in
+    let next = same_turn (slice_get os (index + 1)) (slice_get ts (index + 1)) (same_at is ts are (index + 1)) in
+    let ranks = same_rank os ts index (slice_get os index) (slice_get ts index) long next (same_at is ts are index) in
     λ j. s.turns * (2 * long j + 2) + ranks j + 1
 
 -- a step of a plan, from wherever an instruction stands, lowers the bound
-pub step_falls : (plan : Plan) (g : GraphValue) (place : ℕ) (loops : List LoopCounter) (s : StateValue) (next : Configuration) → place < length plan.instructions.items
-    → ((p : ProgramTree) (schedule : ScheduleTree) → IsPlan plan p schedule → next ≡ step p g (plan_of p schedule) (At place loops s))
-    → most_steps_of plan.instructions.items next < most_steps_of plan.instructions.items (At place loops s)
-step_falls plan g place loops s next within goes =
+pub step_falls : (plan : Plan) (g : GraphValue) (index : ℕ) (loops : List LoopCounter) (s : StateValue) (next : Configuration) → index < length plan.instructions.items
+    → ((p : ProgramTree) (schedule : ScheduleTree) → IsPlan plan p schedule → next ≡ step p g (plan_of p schedule) (At index loops s))
+    → most_steps_of plan.instructions.items next < most_steps_of plan.instructions.items (At index loops s)
+step_falls plan g index loops s next within goes =
     ∥∥₁_elim plan.lowered le_prop (λ of.
     let p = program_of plan in
     let ts = plan_of p of.schedule in
     let is = plan.instructions.items in
     let are = of.planned.instructions in
-    let now = At place loops s in
+    let now = At index loops s in
     let long = same_length is ts are in
-    let inside : place < length ts = omega (arith, within, long, length-map is outline_of) in
+    let inside : index < length ts = omega (arith, within, long, length-map is outline_of) in
     let next_is = goes p of.schedule of.planned in
     let fewer = steps_lower p of.schedule g now inside in
     let before : most_steps_of is now ≡ most_steps ts now = same_bound is ts are now in

@@ -10,7 +10,7 @@ use Rattle.typed_tree.specs.Access.{is_none_of, are_apart, end_reads, function_u
 use Rattle.std.proofs.lemmas.Bool.{and_parts}
 use Rattle.edge_lists.specs.Edge.{Edge}
 use Rattle.algorithm_meaning.specs.declared.state.Depth.{Depth}
-use Rattle.plans.specs.Fusing.{EdgeApplyTree, result_places, result_vectors, end_sets, function_sizes, is_same_end, edges_fit}
+use Rattle.plans.specs.Fusing.{EdgeApplyTree, result_indices, result_vectors, end_sets, function_sizes, is_same_end, edges_fit}
 use Rattle.plans.specs.Machine.{with_result, after_parts}
 use Rattle.plans.proofs.Beside.{AgreeBut, SetsAgreeBut, both_parts, gives_same}
 use Rattle.plans.proofs.GivenVectors.{writes_of_steps}
@@ -31,15 +31,15 @@ record AreChecked (p : ProgramTree) (d : Depth) (x y : EdgeApplyTree) : Type 0 w
   uses : are_apart (function_uses p.edge_functions y.part.function) (function_writes p.edge_functions x.part.function) ≡ true
   from_reads : are_apart (end_reads p.filters y.ends.from) (function_writes p.edge_functions x.part.function) ≡ true
   to_reads : are_apart (end_reads p.filters y.ends.to) (function_writes p.edge_functions x.part.function) ≡ true
-  from_sets : are_apart (end_sets p.filters y.ends.from) (result_places d x.part.result) ≡ true
-  to_sets : are_apart (end_sets p.filters y.ends.to) (result_places d x.part.result) ≡ true
-  sizes : are_apart (function_sizes p.edge_functions y.part.function) (result_places d x.part.result) ≡ true
+  from_sets : are_apart (end_sets p.filters y.ends.from) (result_indices d x.part.result) ≡ true
+  to_sets : are_apart (end_sets p.filters y.ends.to) (result_indices d x.part.result) ≡ true
+  sizes : are_apart (function_sizes p.edge_functions y.part.function) (result_indices d x.part.result) ≡ true
   first_result : are_apart (result_vectors x.part.result) (function_writes p.edge_functions y.part.function) ≡ true
   second_result : are_apart (result_vectors y.part.result) (function_writes p.edge_functions x.part.function) ≡ true
 
 fit_together : (p : ProgramTree) (d : Depth) (x y : EdgeApplyTree) → edges_fit p d x y ≡ true → AreChecked p d x y
 fit_together p d x y h =
-    let places = result_places d x.part.result in
+    let indices = result_indices d x.part.result in
     let writes = function_writes p.edge_functions x.part.function in
     let ends_and = and_parts _ _ h in
     let ends = and_parts _ _ ends_and.0 in
@@ -49,8 +49,8 @@ fit_together p d x y h =
     let reads = and_parts _ _ uses_and.1 in
     let sets_and = and_parts _ _ independent_and.1 in
     let results = and_parts _ _ sets_and.1 in
-    let from_and = both_parts (λ v. is_none_of v places) (end_sets p.filters y.ends.from) (end_sets p.filters y.ends.to ++ function_sizes p.edge_functions y.part.function) sets_and.0 in
-    let to_and = both_parts (λ v. is_none_of v places) (end_sets p.filters y.ends.to) (function_sizes p.edge_functions y.part.function) from_and.1 in
+    let from_and = both_parts (λ v. is_none_of v indices) (end_sets p.filters y.ends.from) (end_sets p.filters y.ends.to ++ function_sizes p.edge_functions y.part.function) sets_and.0 in
+    let to_and = both_parts (λ v. is_none_of v indices) (end_sets p.filters y.ends.to) (function_sizes p.edge_functions y.part.function) from_and.1 in
     record {
       from = ends.0;
       to = ends.1;
@@ -97,12 +97,12 @@ module _ (p : ProgramTree) (g : GraphValue) (d : Depth) (x y : EdgeApplyTree) (s
   rows_between vector h =
       sym (ap (λ (ys : List (List ℤ)). slice_index_or ys vector []) vectors_between ∙ unwritten_stays first s.sets s.vectors edges s.vectors vector h)
 
-  sets_between : SetsAgreeBut (result_places d x.part.result) s.sets between.sets
+  sets_between : SetsAgreeBut (result_indices d x.part.result) s.sets between.sets
   sets_between = sets_of_result g.vertices s.vectors behind_first x.part.result d (with_vectors s behind_first) deep
 
   same_edges : edges ≡ matching p.filters g between y.ends
   same_edges =
-      matching_same p.filters (steps_write first) (result_places d x.part.result) s between rows_between sets_between g x.ends y.ends fit.from fit.to
+      matching_same p.filters (steps_write first) (result_indices d x.part.result) s between rows_between sets_between g x.ends y.ends fit.from fit.to
       (first_writes (end_reads p.filters y.ends.from) fit.from_reads) fit.from_sets (first_writes (end_reads p.filters y.ends.to) fit.to_reads) fit.to_sets
 
   uses_apart : are_apart (steps_use second) (steps_write first) ≡ true
@@ -110,8 +110,8 @@ module _ (p : ProgramTree) (g : GraphValue) (d : Depth) (x y : EdgeApplyTree) (s
 
   second_gives : (e : Edge) → gives second between.sets between.vectors e ≡ gives second s.sets s.vectors e
   second_gives e =
-      sym (gives_same (steps_write first) (result_places d x.part.result) s.sets between.sets sets_between second s.vectors between.vectors rows_between uses_apart
-      (ap (λ (xs : List ℕ). are_apart xs (result_places d x.part.result)) (sizes_of (slice_get p.edge_functions y.part.function)) ∙ fit.sizes) e)
+      sym (gives_same (steps_write first) (result_indices d x.part.result) s.sets between.sets sets_between second s.vectors between.vectors rows_between uses_apart
+      (ap (λ (xs : List ℕ). are_apart xs (result_indices d x.part.result)) (sizes_of (slice_get p.edge_functions y.part.function)) ∙ fit.sizes) e)
 
   writes_apart : are_apart (steps_write second) (steps_write first) ≡ true
   writes_apart = writes_of_steps (λ v. is_none_of v (steps_write first)) second uses_apart

@@ -68,9 +68,9 @@ module _ (p : ProgramTree) (g : GraphValue) (code : List InstructionTree) (well 
   ended : (x : ℕ) → 0 < x + 1
   ended x = omega arith
 
-  after_stand : (st : Stand) (place : ℕ) (loops : List LoopCounter) (shown : Depth) (n here : ℕ) → HasTurns n st → rank code place < here → most_steps code (go_on place loops shown st) < n * many + here + 1
-  after_stand (Live t) place loops shown n here same h = lower (rank code place) here t.turns n same h
-  after_stand (Over t end) place loops shown n here same h = ended (n * many + here)
+  after_stand : (st : Stand) (index : ℕ) (loops : List LoopCounter) (shown : Depth) (n here : ℕ) → HasTurns n st → rank code index < here → most_steps code (go_on index loops shown st) < n * many + here + 1
+  after_stand (Live t) index loops shown n here same h = lower (rank code index) here t.turns n same h
+  after_stand (Over t end) index loops shown n here same h = ended (n * many + here)
 
   after_test : (o : Option Bool) (next to : ℕ) (loops : List LoopCounter) (number : ℕ) (shown : Depth) (s : StateValue) (here : ℕ) → rank code next < here → rank code to < here
       → most_steps code (after_unless o next to loops number shown s) < s.turns * many + here + 1
@@ -104,30 +104,30 @@ module _ (p : ProgramTree) (g : GraphValue) (code : List InstructionTree) (well 
   use_turn zero next loops shown s here = ended (zero * many + here)
   use_turn (suc n) next loops shown s here = let below = low code well next in let e = one_turn n in omega (arith, below, e)
 
-  act_falls : (operation : OperationTree) (number place : ℕ) (shown : Depth) (loops : List LoopCounter) (s : StateValue) → LeadsLower code place operation
-      → most_steps code (act p g operation number shown place loops s) < s.turns * many + rank code place + 1
-  act_falls (Do action) number place shown loops s h = after_stand (after p g number action s) (place + 1) loops shown s.turns (rank code place) (turns_stay p g action h.0 number s) h.1
-  act_falls (ApplyEdgesTogether ends a b) number place shown loops s h =
-      lower (rank code (place + 1)) (rank code place) (after_parts p g ends (a ∷ b ∷ []) s).turns s.turns (turns_of_results g.vertices _ _ (a ∷ b ∷ []) _) h
-  act_falls (ApplyVerticesTogether set a b) number place shown loops s h = lower (rank code (place + 1)) (rank code place) s.turns s.turns refl h
-  act_falls (Unless c to) number place shown loops s h = after_test (choice_in g.vertices c s) (place + 1) to loops number shown s (rank code place) h.0 h.1
-  act_falls (Enter name e) number place shown loops s h = after_entry (number_in g.vertices e (forget_beyond shown s)) (place + 1) loops number shown s (rank code place) h
-  act_falls (UnlessBelow name to) number place shown loops s h = after_loop_test loops (place + 1) to s (rank code place) h.0 h.1
-  act_falls (Advance name) number place shown loops s h = after_next loops (place + 1) s (rank code place) h
-  act_falls Turn number place shown loops s h = use_turn s.turns (place + 1) loops shown s (rank code place)
-  act_falls (Jump to) number place shown loops s h = lower (rank code to) (rank code place) s.turns s.turns refl h
-  act_falls End number place shown loops s h = ended (s.turns * many + rank code place)
+  act_falls : (operation : OperationTree) (number index : ℕ) (shown : Depth) (loops : List LoopCounter) (s : StateValue) → LeadsLower code index operation
+      → most_steps code (act p g operation number shown index loops s) < s.turns * many + rank code index + 1
+  act_falls (Do action) number index shown loops s h = after_stand (after p g number action s) (index + 1) loops shown s.turns (rank code index) (turns_stay p g action h.0 number s) h.1
+  act_falls (ApplyEdgesTogether ends a b) number index shown loops s h =
+      lower (rank code (index + 1)) (rank code index) (after_parts p g ends (a ∷ b ∷ []) s).turns s.turns (turns_of_results g.vertices _ _ (a ∷ b ∷ []) _) h
+  act_falls (ApplyVerticesTogether set a b) number index shown loops s h = lower (rank code (index + 1)) (rank code index) s.turns s.turns refl h
+  act_falls (Unless c to) number index shown loops s h = after_test (choice_in g.vertices c s) (index + 1) to loops number shown s (rank code index) h.0 h.1
+  act_falls (Enter name e) number index shown loops s h = after_entry (number_in g.vertices e (forget_beyond shown s)) (index + 1) loops number shown s (rank code index) h
+  act_falls (UnlessBelow name to) number index shown loops s h = after_loop_test loops (index + 1) to s (rank code index) h.0 h.1
+  act_falls (Advance name) number index shown loops s h = after_next loops (index + 1) s (rank code index) h
+  act_falls Turn number index shown loops s h = use_turn s.turns (index + 1) loops shown s (rank code index)
+  act_falls (Jump to) number index shown loops s h = lower (rank code to) (rank code index) s.turns s.turns refl h
+  act_falls End number index shown loops s h = ended (s.turns * many + rank code index)
 
-  stands_inside : (is : List InstructionTree) (place : ℕ) → place < length is → (i : InstructionTree) × (slice_get is place ≡ Some i)
-  stands_inside [] place h = absurd (omega (arith, h))
+  stands_inside : (is : List InstructionTree) (index : ℕ) → index < length is → (i : InstructionTree) × (slice_get is index ≡ Some i)
+  stands_inside [] index h = absurd (omega (arith, h))
   stands_inside (i ∷ is) zero h = (i, refl)
   stands_inside (i ∷ is) (suc n) h = let within : n < length is = omega (arith, h) in stands_inside is n within
 
   -- each step leaves fewer than before
   pub step_falls : (c : Configuration) → GoesOn code c → most_steps code (step p g code c) < most_steps code c
-  step_falls (At place loops s) within =
-      let here = stands_inside code place within in
+  step_falls (At index loops s) within =
+      let here = stands_inside code index within in
       let i = here.0 in
-      subst (λ (o : Option InstructionTree). most_steps code (act_at p g o place loops s) < s.turns * many + rank code place + 1) (sym here.1)
-      (act_falls i.operation i.number place i.shown loops (forget_beyond i.keep s) (leads_lower code well place i here.1))
+      subst (λ (o : Option InstructionTree). most_steps code (act_at p g o index loops s) < s.turns * many + rank code index + 1) (sym here.1)
+      (act_falls i.operation i.number index i.shown loops (forget_beyond i.keep s) (leads_lower code well index i here.1))
   step_falls (Ended s end) within = absurd within

@@ -28,7 +28,7 @@ module _ (p : ProgramTree) where
 
   vertices_apart : (x y : VertexApplyTree) → vertices_fit p x y ≡ true → FitTogether p (ApplyVerticesTogether x.set x.function y.function)
   vertices_apart x y fit m vs vectors up =
-      let fits = and_parts (nat_eq x.set.place y.set.place) (function_is_local p.vertex_functions x.function && function_is_local p.vertex_functions y.function) fit in
+      let fits = and_parts (nat_eq x.set.index y.set.index) (function_is_local p.vertex_functions x.function && function_is_local p.vertex_functions y.function) fit in
       let local = and_parts (function_is_local p.vertex_functions x.function) (function_is_local p.vertex_functions y.function) fits.1 in
       both_at_each (steps_of (slice_get p.vertex_functions x.function)) (steps_of (slice_get p.vertex_functions y.function))
       (local_steps (slice_get p.vertex_functions x.function) local.0) (local_steps (slice_get p.vertex_functions y.function) local.1)
@@ -81,33 +81,33 @@ module _ (p : ProgramTree) (s : ScheduleTree) where
 
   mutual
     -- what a statement, and what a block does together fits
-    action_fits : (a : ActionTree) (place number : ℕ) (label : Option ℕ) (d : Depth) → AllOf Fits (plan p s place d number label a)
-    action_fits (DeclareInteger name e) place number label d = (tt, tt)
-    action_fits (DeclareCondition name c) place number label d = (tt, tt)
-    action_fits (SetInteger slot e) place number label d = (tt, tt)
-    action_fits (SetCondition slot c) place number label d = (tt, tt)
-    action_fits (ReduceInteger slot reduction e) place number label d = (tt, tt)
-    action_fits (SetEntry vector index e) place number label d = (tt, tt)
-    action_fits (ReduceEntry vector index reduction e) place number label d = (tt, tt)
-    action_fits (DeclareSet name set) place number label d = (tt, tt)
-    action_fits (AssignSet slot set) place number label d = (tt, tt)
-    action_fits (AddVertex slot e) place number label d = (tt, tt)
-    action_fits (PrintInteger e) place number label d = (tt, tt)
-    action_fits (PrintCondition c) place number label d = (tt, tt)
-    action_fits (ApplyVertex set function) place number label d = (tt, tt)
-    action_fits (ApplyEdges ends function) place number label d = (tt, tt)
-    action_fits (If c body) place number label d = (tt, block_fits body false (place + 1) d)
-    action_fits (IfElse c body others) place number label d =
-        let to = place + 1 + size_all p s d false body + 1 in (
+    action_fits : (a : ActionTree) (index number : ℕ) (label : Option ℕ) (d : Depth) → AllOf Fits (plan p s index d number label a)
+    action_fits (DeclareInteger name e) index number label d = (tt, tt)
+    action_fits (DeclareCondition name c) index number label d = (tt, tt)
+    action_fits (SetInteger slot e) index number label d = (tt, tt)
+    action_fits (SetCondition slot c) index number label d = (tt, tt)
+    action_fits (ReduceInteger slot reduction e) index number label d = (tt, tt)
+    action_fits (SetEntry vector subscript e) index number label d = (tt, tt)
+    action_fits (ReduceEntry vector subscript reduction e) index number label d = (tt, tt)
+    action_fits (DeclareSet name set) index number label d = (tt, tt)
+    action_fits (AssignSet slot set) index number label d = (tt, tt)
+    action_fits (AddVertex slot e) index number label d = (tt, tt)
+    action_fits (PrintInteger e) index number label d = (tt, tt)
+    action_fits (PrintCondition c) index number label d = (tt, tt)
+    action_fits (ApplyVertex set function) index number label d = (tt, tt)
+    action_fits (ApplyEdges ends function) index number label d = (tt, tt)
+    action_fits (If c body) index number label d = (tt, block_fits body false (index + 1) d)
+    action_fits (IfElse c body others) index number label d =
+        let to = index + 1 + size_all p s d false body + 1 in (
           tt,
-          all_append Fits (plan_all p s (place + 1) d false body) (plain number d (Jump (to + size_all p s d false others)) ∷ plan_all p s to d false others)
-              (block_fits body false (place + 1) d) (tt, block_fits others false to d),
+          all_append Fits (plan_all p s (index + 1) d false body) (plain number d (Jump (to + size_all p s d false others)) ∷ plan_all p s to d false others)
+              (block_fits body false (index + 1) d) (tt, block_fits others false to d),
         )
-    action_fits (While c body) place number label d = (
+    action_fits (While c body) index number label d = (
       tt,
-      (tt, all_append Fits (plan_all p s (place + 2) d false body) (plain number d (Jump place) ∷ []) (block_fits body false (place + 2) d) (tt, tt)),
+      (tt, all_append Fits (plan_all p s (index + 2) d false body) (plain number d (Jump index) ∷ []) (block_fits body false (index + 2) d) (tt, tt)),
     )
-    action_fits (For name first end body) place number label d =
+    action_fits (For name first end body) index number label d =
         let deep = in_loop d in (
           tt,
           (
@@ -116,25 +116,25 @@ module _ (p : ProgramTree) (s : ScheduleTree) where
               tt,
               (
                 tt,
-                all_append Fits (plan_all p s (place + 4) deep false body) (plain number d (Advance name) ∷ loop_step number deep d (Jump (place + 2)) ∷ [])
-                    (block_fits body false (place + 4) deep) (tt, (tt, tt)),
+                all_append Fits (plan_all p s (index + 4) deep false body) (plain number d (Advance name) ∷ loop_step number deep d (Jump (index + 2)) ∷ [])
+                    (block_fits body false (index + 4) deep) (tt, (tt, tt)),
               ),
             ),
           ),
         )
 
-    block_fits : (b : BlockTree) (is_done : Bool) (place : ℕ) (d : Depth) → AllOf Fits (plan_all p s place d is_done b)
-    block_fits Empty is_done place d = tt
-    block_fits (Then number label action rest) is_done place d =
+    block_fits : (b : BlockTree) (is_done : Bool) (index : ℕ) (d : Depth) → AllOf Fits (plan_all p s index d is_done b)
+    block_fits Empty is_done index d = tt
+    block_fits (Then number label action rest) is_done index d =
         let company = fusion_role_of p s d is_done label action rest in
-        let own = plan p s place d number label action in
+        let own = plan p s index d number label action in
         let n = size_in company (size p s d action) in
-        all_append Fits (plan_in company s number label d own) (plan_all p s (place + n) (behind action d) (takes_next company) rest)
-        (in_company company number label d own (company_fits p s d is_done label action rest) (action_fits action place number label d))
-        (block_fits rest (takes_next company) (place + n) (behind action d))
+        all_append Fits (plan_in company s number label d own) (plan_all p s (index + n) (behind action d) (takes_next company) rest)
+        (in_company company number label d own (company_fits p s d is_done label action rest) (action_fits action index number label d))
+        (block_fits rest (takes_next company) (index + n) (behind action d))
 
 pub fused_fit : (p : ProgramTree) (s : ScheduleTree) → FusedFit p (plan_of p s)
-fused_fit p s place i at =
+fused_fit p s index i at =
     let d = main_depth p in
     let last = plain 0 (behind_all p.main d) End ∷ [] in
-    all_at (Fits p s) (plan_of p s) place i (all_append (Fits p s) (plan_all p s 0 d false p.main) last (block_fits p s p.main false 0 d) (tt, tt)) at
+    all_at (Fits p s) (plan_of p s) index i (all_append (Fits p s) (plan_all p s 0 d false p.main) last (block_fits p s p.main false 0 d) (tt, tt)) at

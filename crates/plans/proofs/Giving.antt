@@ -10,7 +10,7 @@ use Rattle.algorithm_meaning.specs.declared.state.SetBinding.{SetBinding}
 use Rattle.algorithm_meaning.specs.declared.contribution.Contribution.{Contribution}
 use Rattle.plans.proofs.GivenVectors.{AreFor}
 
--- the rows at two places are changed in any order
+-- the rows at two indices are changed in any order
 rows_change : (xs : List (List ℤ)) (a b : ℕ) (f g : List ℤ → List ℤ) → (a == b) ≡ false
     → slice_set (slice_set xs a (f (slice_index_or xs a []))) b (g (slice_index_or (slice_set xs a (f (slice_index_or xs a []))) b []))
     ≡ slice_set (slice_set xs b (g (slice_index_or xs b []))) a (f (slice_index_or (slice_set xs b (g (slice_index_or xs b []))) a []))

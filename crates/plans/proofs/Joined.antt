@@ -25,8 +25,8 @@ module _ (p : ProgramTree) (g : GraphValue) where
     pub second : StateValue → StateValue
     pub first_means : IsFaultless a first
     pub second_means : IsFaultless b second
-    pub acts : (number : ℕ) (shown : Depth) (place : ℕ) (loops : List LoopCounter) (turns : ℕ) (s : StateValue) → IsProper d turns s
-        → act p g operation number shown place loops s ≡ At (place + 1) loops (second (first s))
+    pub acts : (number : ℕ) (shown : Depth) (index : ℕ) (loops : List LoopCounter) (turns : ℕ) (s : StateValue) → IsProper d turns s
+        → act p g operation number shown index loops s ≡ At (index + 1) loops (second (first s))
 
   -- what holds of a statement in such company
   abbrev pub IsGoodCompany : FusionRole → Depth → ActionTree → BlockTree → Type 0

@@ -1,7 +1,7 @@
 pub mod Depths
 pub mod Ascending
 pub mod Proper
-pub mod Places
+pub mod Indices
 pub mod Reaching
 pub mod Whiles
 pub mod Fors

@@ -43,14 +43,14 @@ module _ (u : ℕ) (sets : List SetBinding) where
   value_alike : (v w : WorkValue) → IsAlike u v w → (e : IntegerTree) → integer_is_local e ≡ true → value v.vectors sets v.scope e ≡ value w.vectors sets w.scope e
   value_alike v w h (integer.Number n) local = refl
   value_alike v w h (integer.Constant name n) local = refl
-  value_alike v w h (integer.Variable slot) local = ap (λ (s : ScopeValue). slice_index_or s.integers slot.place (pos 0)) h.scope
+  value_alike v w h (integer.Variable slot) local = ap (λ (s : ScopeValue). slice_index_or s.integers slot.index (pos 0)) h.scope
   value_alike v w h (integer.Parameter at) local = ap (λ (s : ScopeValue). pos (vertex_at s at)) h.scope
   value_alike v w h integer.Weight local = ap (λ (s : ScopeValue). s.weight) h.scope
   value_alike v w h (integer.EntryAt vector at) local =
       ap (entry v.vectors vector) (at_vertex u v h.source h.destination at)
       ∙ entry_alike u v w h vector
       ∙ ap (entry w.vectors vector) (sym (at_vertex u w (other_source u v w h) (other_destination u v w h) at))
-  value_alike v w h (integer.Entry vector index) local = cc
+  value_alike v w h (integer.Entry vector subscript) local = cc
   value_alike v w h (integer.SetSize slot) local = refl
   value_alike v w h (integer.Negative e) local = ap negative (value_alike v w h e local)
   value_alike v w h (integer.Arithmetic o a b) local =
@@ -62,7 +62,7 @@ module _ (u : ℕ) (sets : List SetBinding) where
   truth_alike : (v w : WorkValue) → IsAlike u v w → (c : ConditionTree) → condition_is_local c ≡ true → truth v.vectors sets v.scope c ≡ truth w.vectors sets w.scope c
   truth_alike v w h (condition.Literal b) local = refl
   truth_alike v w h (condition.Constant name b) local = refl
-  truth_alike v w h (condition.Variable slot) local = ap (λ (s : ScopeValue). slice_index_or s.conditions slot.place false) h.scope
+  truth_alike v w h (condition.Variable slot) local = ap (λ (s : ScopeValue). slice_index_or s.conditions slot.index false) h.scope
   truth_alike v w h (condition.Not c) local = ap not (truth_alike v w h c local)
   truth_alike v w h (condition.Compare o a b) local =
       let both = and_parts (integer_is_local a) (integer_is_local b) local in
@@ -131,13 +131,13 @@ module _ (u : ℕ) (sets : List SetBinding) (writing : _) (sets_at_once : (vecto
         record { columns = h.columns; scope = λ i. new_condition (h.scope i) (x i); source = h.source; destination = h.destination }
     step_alike (SetInteger slot e) v w local h =
         let x = value_alike u sets v w h e local in
-        record { columns = h.columns; scope = λ i. set_integer (h.scope i) slot.place (x i); source = h.source; destination = h.destination }
+        record { columns = h.columns; scope = λ i. set_integer (h.scope i) slot.index (x i); source = h.source; destination = h.destination }
     step_alike (SetCondition slot c) v w local h =
         let x = truth_alike u sets v w h c local in
-        record { columns = h.columns; scope = λ i. set_condition (h.scope i) slot.place (x i); source = h.source; destination = h.destination }
+        record { columns = h.columns; scope = λ i. set_condition (h.scope i) slot.index (x i); source = h.source; destination = h.destination }
     step_alike (ReduceInteger slot reduction e) v w local h =
         let x = value_alike u sets v w h e local in
-        record { columns = h.columns; scope = λ i. reduce_integer (h.scope i) slot.place reduction (x i); source = h.source; destination = h.destination }
+        record { columns = h.columns; scope = λ i. reduce_integer (h.scope i) slot.index reduction (x i); source = h.source; destination = h.destination }
     step_alike (SetEntry vector e) v w local h = set_alike v w h vector (value v.vectors sets v.scope e) (value w.vectors sets w.scope e) (value_alike u sets v w h e local)
     step_alike (ReduceEntry vector reduction e) v w local h = reduce_alike v w h vector reduction (value v.vectors sets v.scope e) (value w.vectors sets w.scope e) (value_alike u sets v w h e local)
     step_alike (If c body) v w local h =

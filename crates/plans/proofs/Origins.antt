@@ -17,8 +17,8 @@ pub all_append : (P : InstructionTree → Type 0) (a b : List InstructionTree) �
 all_append P [] b h k = k
 all_append P (i ∷ a) b h k = (h.0, all_append P a b h.1 k)
 
-pub all_at : (P : InstructionTree → Type 0) (is : List InstructionTree) (place : ℕ) (i : InstructionTree) → AllOf P is → slice_get is place ≡ Some i → P i
-all_at P [] place i h at = let bad : None ≡ Some i = at in cc
+pub all_at : (P : InstructionTree → Type 0) (is : List InstructionTree) (index : ℕ) (i : InstructionTree) → AllOf P is → slice_get is index ≡ Some i → P i
+all_at P [] index i h at = let bad : None ≡ Some i = at in cc
 all_at P (x ∷ xs) zero i h at = let same : x ≡ i = cc in subst P same h.0
 all_at P (x ∷ xs) (suc n) i h at = all_at P xs n i h.1 at
 
@@ -84,40 +84,40 @@ module _ (p : ProgramTree) (schedule : ScheduleTree) (P : InstructionTree → Ty
   other number label action i holds numbered none = holds i numbered (λ x e. let bad : None ≡ Some x = sym none ∙ e in cc)
 
   mutual
-    action_comes : (a : ActionTree) (place number : ℕ) (label : Option ℕ) (d : Depth) → HoldsFor number label a → ((n : ℕ) (l : Option ℕ) (c : ActionTree) → StandsInside a n l c → HoldsFor n l c)
-        → AllOf P (plan p schedule place d number label a)
-    action_comes (DeclareInteger name e) place number label d own inner = (own _ refl (λ x e. (e, refl)), tt)
-    action_comes (DeclareCondition name c) place number label d own inner = (own _ refl (λ x e. (e, refl)), tt)
-    action_comes (SetInteger slot e) place number label d own inner = (own _ refl (λ x e. (e, refl)), tt)
-    action_comes (SetCondition slot c) place number label d own inner = (own _ refl (λ x e. (e, refl)), tt)
-    action_comes (ReduceInteger slot reduction e) place number label d own inner = (own _ refl (λ x e. (e, refl)), tt)
-    action_comes (SetEntry vector index e) place number label d own inner = (own _ refl (λ x e. (e, refl)), tt)
-    action_comes (ReduceEntry vector index reduction e) place number label d own inner = (own _ refl (λ x e. (e, refl)), tt)
-    action_comes (DeclareSet name set) place number label d own inner = (own _ refl (λ x e. (e, refl)), tt)
-    action_comes (AssignSet slot set) place number label d own inner = (own _ refl (λ x e. (e, refl)), tt)
-    action_comes (AddVertex slot e) place number label d own inner = (own _ refl (λ x e. (e, refl)), tt)
-    action_comes (PrintInteger e) place number label d own inner = (own _ refl (λ x e. (e, refl)), tt)
-    action_comes (PrintCondition c) place number label d own inner = (own _ refl (λ x e. (e, refl)), tt)
-    action_comes (ApplyVertex set function) place number label d own inner = (own _ refl (λ x e. (e, refl)), tt)
-    action_comes (ApplyEdges ends function) place number label d own inner = (own _ refl (λ x e. (e, refl)), tt)
-    action_comes (If c body) place number label d own inner =
-        (other number label (If c body) _ own refl refl, block_comes body false (place + 1) d inner)
-    action_comes (IfElse c body others) place number label d own inner =
-        let to = place + 1 + size_all p schedule d false body + 1 in (
+    action_comes : (a : ActionTree) (index number : ℕ) (label : Option ℕ) (d : Depth) → HoldsFor number label a → ((n : ℕ) (l : Option ℕ) (c : ActionTree) → StandsInside a n l c → HoldsFor n l c)
+        → AllOf P (plan p schedule index d number label a)
+    action_comes (DeclareInteger name e) index number label d own inner = (own _ refl (λ x e. (e, refl)), tt)
+    action_comes (DeclareCondition name c) index number label d own inner = (own _ refl (λ x e. (e, refl)), tt)
+    action_comes (SetInteger slot e) index number label d own inner = (own _ refl (λ x e. (e, refl)), tt)
+    action_comes (SetCondition slot c) index number label d own inner = (own _ refl (λ x e. (e, refl)), tt)
+    action_comes (ReduceInteger slot reduction e) index number label d own inner = (own _ refl (λ x e. (e, refl)), tt)
+    action_comes (SetEntry vector subscript e) index number label d own inner = (own _ refl (λ x e. (e, refl)), tt)
+    action_comes (ReduceEntry vector subscript reduction e) index number label d own inner = (own _ refl (λ x e. (e, refl)), tt)
+    action_comes (DeclareSet name set) index number label d own inner = (own _ refl (λ x e. (e, refl)), tt)
+    action_comes (AssignSet slot set) index number label d own inner = (own _ refl (λ x e. (e, refl)), tt)
+    action_comes (AddVertex slot e) index number label d own inner = (own _ refl (λ x e. (e, refl)), tt)
+    action_comes (PrintInteger e) index number label d own inner = (own _ refl (λ x e. (e, refl)), tt)
+    action_comes (PrintCondition c) index number label d own inner = (own _ refl (λ x e. (e, refl)), tt)
+    action_comes (ApplyVertex set function) index number label d own inner = (own _ refl (λ x e. (e, refl)), tt)
+    action_comes (ApplyEdges ends function) index number label d own inner = (own _ refl (λ x e. (e, refl)), tt)
+    action_comes (If c body) index number label d own inner =
+        (other number label (If c body) _ own refl refl, block_comes body false (index + 1) d inner)
+    action_comes (IfElse c body others) index number label d own inner =
+        let to = index + 1 + size_all p schedule d false body + 1 in (
           other number label (IfElse c body others) _ own refl refl,
-          all_append P (plan_all p schedule (place + 1) d false body) (plain number d (Jump (to + size_all p schedule d false others)) ∷ plan_all p schedule to d false others)
-              (block_comes body false (place + 1) d (λ n l c h. inner n l c (inl h)))
+          all_append P (plan_all p schedule (index + 1) d false body) (plain number d (Jump (to + size_all p schedule d false others)) ∷ plan_all p schedule to d false others)
+              (block_comes body false (index + 1) d (λ n l c h. inner n l c (inl h)))
               (other number label (IfElse c body others) _ own refl refl, block_comes others false to d (λ n l c h. inner n l c (inr h))),
         )
-    action_comes (While c body) place number label d own inner = (
+    action_comes (While c body) index number label d own inner = (
       other number label (While c body) _ own refl refl,
       (
         other number label (While c body) _ own refl refl,
-        all_append P (plan_all p schedule (place + 2) d false body) (plain number d (Jump place) ∷ [])
-            (block_comes body false (place + 2) d inner) (other number label (While c body) _ own refl refl, tt),
+        all_append P (plan_all p schedule (index + 2) d false body) (plain number d (Jump index) ∷ [])
+            (block_comes body false (index + 2) d inner) (other number label (While c body) _ own refl refl, tt),
       ),
     )
-    action_comes (For name first end body) place number label d own inner =
+    action_comes (For name first end body) index number label d own inner =
         let deep = in_loop d in
         let a = For name first end body in (
           other number label a _ own refl refl,
@@ -127,29 +127,29 @@ module _ (p : ProgramTree) (schedule : ScheduleTree) (P : InstructionTree → Ty
               other number label a _ own refl refl,
               (
                 other number label a _ own refl refl,
-                all_append P (plan_all p schedule (place + 4) deep false body) (plain number d (Advance name) ∷ loop_step number deep d (Jump (place + 2)) ∷ [])
-                    (block_comes body false (place + 4) deep inner) (other number label a _ own refl refl, (other number label a _ own refl refl, tt)),
+                all_append P (plan_all p schedule (index + 4) deep false body) (plain number d (Advance name) ∷ loop_step number deep d (Jump (index + 2)) ∷ [])
+                    (block_comes body false (index + 4) deep inner) (other number label a _ own refl refl, (other number label a _ own refl refl, tt)),
               ),
             ),
           ),
         )
 
-    block_comes : (b : BlockTree) (is_done : Bool) (place : ℕ) (d : Depth) → ((n : ℕ) (l : Option ℕ) (c : ActionTree) → StandsIn b n l c → HoldsFor n l c) → AllOf P (plan_all p schedule place d is_done b)
-    block_comes Empty is_done place d holds = tt
-    block_comes (Then number label action rest) is_done place d holds =
+    block_comes : (b : BlockTree) (is_done : Bool) (index : ℕ) (d : Depth) → ((n : ℕ) (l : Option ℕ) (c : ActionTree) → StandsIn b n l c → HoldsFor n l c) → AllOf P (plan_all p schedule index d is_done b)
+    block_comes Empty is_done index d holds = tt
+    block_comes (Then number label action rest) is_done index d holds =
         let company = fusion_role_of p schedule d is_done label action rest in
-        let own = plan p schedule place d number label action in
+        let own = plan p schedule index d number label action in
         let n = size_in company (size p schedule d action) in
-        all_append P (plan_in company schedule number label d own) (plan_all p schedule (place + n) (behind action d) (takes_next company) rest)
+        all_append P (plan_in company schedule number label d own) (plan_all p schedule (index + n) (behind action d) (takes_next company) rest)
         (in_company company number label d action own (company_begins p schedule d is_done label action rest) (holds number label action (inl (refl, refl, refl)))
-        (action_comes action place number label d (holds number label action (inl (refl, refl, refl))) (λ n l c h. holds n l c (inr (inl h)))))
-        (block_comes rest (takes_next company) (place + n) (behind action d) (λ n l c h. holds n l c (inr (inr h))))
+        (action_comes action index number label d (holds number label action (inl (refl, refl, refl))) (λ n l c h. holds n l c (inr (inl h)))))
+        (block_comes rest (takes_next company) (index + n) (behind action d) (λ n l c h. holds n l c (inr (inr h))))
 
 pub go_by_schedule : (p : ProgramTree) (schedule : ScheduleTree) → GoBySchedule p.main schedule (plan_of p schedule)
-go_by_schedule p schedule place i x at e =
+go_by_schedule p schedule index i x at e =
     let P : InstructionTree → Type 0 = λ i. (x : EdgeApplyTree) → first_apply i.operation ≡ Some x → ComesFrom p.main schedule i x in
     let d = main_depth p in
     let last = plain 0 (behind_all p.main d) End ∷ [] in
     let from_main = block_comes p schedule P p.main false 0 d (λ n l c stands i numbered tells x e.
     let t = tells x e in record { number = n; label = l; action = c; stands = stands; applies = t.0; numbered = numbered; chosen = t.1 }) in
-    all_at P (plan_of p schedule) place i (all_append P (plan_all p schedule 0 d false p.main) last from_main (λ x e. let bad : None ≡ Some x = e in cc, tt)) at x e
+    all_at P (plan_of p schedule) index i (all_append P (plan_all p schedule 0 d false p.main) last from_main (λ x e. let bad : None ≡ Some x = e in cc, tt)) at x e

@@ -38,7 +38,7 @@ module _ (p : ProgramTree) (g : GraphValue) where
   is_edge_apply a = tt
 
   abbrev after_vertex_apply : VertexApplyTree → StateValue → StateValue
-  after_vertex_apply x s = after_apply_vertex p.vertex_functions x.set.place x.function s
+  after_vertex_apply x s = after_apply_vertex p.vertex_functions x.set.index x.function s
 
   abbrev IsVertexApply : ActionTree → Option VertexApplyTree → Type 0
   IsVertexApply a None = Unit {0}
@@ -49,16 +49,16 @@ module _ (p : ProgramTree) (g : GraphValue) where
   is_vertex_apply a = tt
 
   vertices_at_once : (x y : VertexApplyTree) (d : Depth) (turns : ℕ) (s : StateValue) → vertices_fit p x y ≡ true → IsProper d turns s
-      → after_apply_both p x.set.place x.function y.function s ≡ after_vertex_apply y (after_vertex_apply x s)
+      → after_apply_both p x.set.index x.function y.function s ≡ after_vertex_apply y (after_vertex_apply x s)
   vertices_at_once x y d turns s fit q =
-      let fits = and_parts (nat_eq x.set.place y.set.place) (function_is_local p.vertex_functions x.function && function_is_local p.vertex_functions y.function) fit in
+      let fits = and_parts (nat_eq x.set.index y.set.index) (function_is_local p.vertex_functions x.function && function_is_local p.vertex_functions y.function) fit in
       let local = and_parts (function_is_local p.vertex_functions x.function) (function_is_local p.vertex_functions y.function) fits.1 in
       let f = steps_of (slice_get p.vertex_functions x.function) in
       let h = steps_of (slice_get p.vertex_functions y.function) in
       ap (with_vectors s) (both_at_each f h (local_steps (slice_get p.vertex_functions x.function) local.0) (local_steps (slice_get p.vertex_functions y.function) local.1) 0 s
-      (members_of (slice_get s.sets x.set.place)) s.vectors (q.sets x.set.place))
-      ∙ ap (λ (n : ℕ). with_vectors s (after_vertices h s.sets (members_of (slice_get s.sets n)) (after_vertices f s.sets (members_of (slice_get s.sets x.set.place)) s.vectors)))
-      (eqb-true x.set.place y.set.place fits.0)
+      (members_of (slice_get s.sets x.set.index)) s.vectors (q.sets x.set.index))
+      ∙ ap (λ (n : ℕ). with_vectors s (after_vertices h s.sets (members_of (slice_get s.sets n)) (after_vertices f s.sets (members_of (slice_get s.sets x.set.index)) s.vectors)))
+      (eqb-true x.set.index y.set.index fits.0)
 
   -- an operation, if there is one, does both
   abbrev DoesBothIf : Option OperationTree → Depth → ActionTree → ActionTree → Type 0
@@ -73,7 +73,7 @@ module _ (p : ProgramTree) (g : GraphValue) where
     second = after_part p g y;
     first_means = h;
     second_means = k;
-    acts = λ number shown place loops turns s q. ap (At (place + 1) loops) (edges_at_once p g d x y s e (ap (λ (d : Depth). d.sets) q.deep));
+    acts = λ number shown index loops turns s q. ap (At (index + 1) loops) (edges_at_once p g d x y s e (ap (λ (d : Depth). d.sets) q.deep));
   }
 
   vertices_if : (d : Depth) (a b : ActionTree) (x y : VertexApplyTree) (fits : Bool) → vertices_fit p x y ≡ fits → IsFaultless p g a (after_vertex_apply x) → IsFaultless p g b (after_vertex_apply y)
@@ -84,7 +84,7 @@ module _ (p : ProgramTree) (g : GraphValue) where
     second = after_vertex_apply y;
     first_means = h;
     second_means = k;
-    acts = λ number shown place loops turns s q. ap (At (place + 1) loops) (vertices_at_once x y d turns s e q);
+    acts = λ number shown index loops turns s q. ap (At (index + 1) loops) (vertices_at_once x y d turns s e q);
   }
 
   edges_do_both : (d : Depth) (a b : ActionTree) (x y : Option EdgeApplyTree) → IsEdgeApply a x → IsEdgeApply b y → DoesBothIf (edges_together p d x y) d a b

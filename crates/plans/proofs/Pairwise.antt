@@ -1,4 +1,4 @@
--- Laws of lists that agree place by place.
+-- Laws of lists that agree index by index.
 use Rattle.std.proofs.Common.{◌≡◌, ◌<◌, ◌+◌, ℕ, zero, suc, List, [], ◌∷◌, ◌++◌, map, take, length, get_or, slice_get, sym, ap, ◌∙◌, subst}
 use Rattle.std.proofs.lemmas.List.{map-append, take_more}
 use Rattle.std.specs.Option.{unwrap_or}
@@ -20,14 +20,14 @@ pairwise_append R [] (b ∷ ys) vs ws all more = absurd all
 pairwise_append R (a ∷ xs) [] vs ws all more = absurd all
 pairwise_append R (a ∷ xs) (b ∷ ys) vs ws all more = (all.0, pairwise_append R xs ys vs ws all.1 more)
 
--- the kernel at a place is that of the statements there, and what stands in for it that of none
+-- the kernel at an index is that of the statements there, and what stands in for it that of none
 pub pairwise_at : {K : Type 0} (R : K → StepsTree → Type 0) (ks : List K) (fs : List FunctionTree) (nothing : K) → ArePairwise (λ k f. R k f.steps) ks fs → R nothing NoStep
-    → (place : ℕ) → R (unwrap_or (slice_get ks place) nothing) (steps_of (slice_get fs place))
-pairwise_at R [] [] nothing all none place = none
-pairwise_at R [] (f ∷ fs) nothing all none place = absurd all
-pairwise_at R (k ∷ ks) [] nothing all none place = absurd all
+    → (index : ℕ) → R (unwrap_or (slice_get ks index) nothing) (steps_of (slice_get fs index))
+pairwise_at R [] [] nothing all none index = none
+pairwise_at R [] (f ∷ fs) nothing all none index = absurd all
+pairwise_at R (k ∷ ks) [] nothing all none index = absurd all
 pairwise_at R (k ∷ ks) (f ∷ fs) nothing all none zero = all.0
-pairwise_at R (k ∷ ks) (f ∷ fs) nothing all none (suc place) = pairwise_at R ks fs nothing all.1 none place
+pairwise_at R (k ∷ ks) (f ∷ fs) nothing all none (suc index) = pairwise_at R ks fs nothing all.1 none index
 
 -- one more kernel, of the next function
 pub pairwise_next : {A B C : Type 0} (R : A → B → Type 0) (tree : C → B) (ks : List A) (k : A) (fs : List C) (i : ℕ) (f : C) → i < length fs → f ≡ get_or fs i f

@@ -26,49 +26,49 @@ pub record IsProper (d : Depth) (turns : ℕ) (s : StateValue) : Type 0 where
   pub sets : AreAscending s
   pub fewer : s.turns ≤ turns
 
-pub length-set_members : (sets : _) (place : ℕ) (members : List ℕ) → length (set_members sets place members) ≡ length sets
-length-set_members [] place members = refl
+pub length-set_members : (sets : _) (index : ℕ) (members : List ℕ) → length (set_members sets index members) ≡ length sets
+length-set_members [] index members = refl
 length-set_members (x ∷ xs) zero members = refl
 length-set_members (x ∷ xs) (suc n) members = ap suc (length-set_members xs n members)
 
--- the members at a place of a list with one more set
-new_members : (P : List ℕ → Type 0) (sets : _) (x : _) (place : ℕ) → P [] → P (members_of (Some x)) → ((place : ℕ) → P (members_of (slice_get sets place)))
-    → P (members_of (slice_get (sets ++ x ∷ []) place))
+-- the members at an index of a list with one more set
+new_members : (P : List ℕ → Type 0) (sets : _) (x : _) (index : ℕ) → P [] → P (members_of (Some x)) → ((index : ℕ) → P (members_of (slice_get sets index)))
+    → P (members_of (slice_get (sets ++ x ∷ []) index))
 new_members P [] x zero none here all = here
 new_members P [] x (suc n) none here all = none
 new_members P (y ∷ ys) x zero none here all = all zero
-new_members P (y ∷ ys) x (suc n) none here all = new_members P ys x n none here (λ place. all (suc place))
+new_members P (y ∷ ys) x (suc n) none here all = new_members P ys x n none here (λ index. all (suc index))
 
 -- of a list in which one set has others
-put_members : (P : List ℕ → Type 0) (sets : _) (at : ℕ) (members : List ℕ) (place : ℕ) → P members → ((place : ℕ) → P (members_of (slice_get sets place)))
-    → P (members_of (slice_get (set_members sets at members) place))
-put_members P [] at members place here all = all place
+put_members : (P : List ℕ → Type 0) (sets : _) (at : ℕ) (members : List ℕ) (index : ℕ) → P members → ((index : ℕ) → P (members_of (slice_get sets index)))
+    → P (members_of (slice_get (set_members sets at members) index))
+put_members P [] at members index here all = all index
 put_members P (y ∷ ys) zero members zero here all = here
 put_members P (y ∷ ys) zero members (suc n) here all = all (suc n)
 put_members P (y ∷ ys) (suc m) members zero here all = all zero
-put_members P (y ∷ ys) (suc m) members (suc n) here all = put_members P ys m members n here (λ place. all (suc place))
+put_members P (y ∷ ys) (suc m) members (suc n) here all = put_members P ys m members n here (λ index. all (suc index))
 
 -- of the first ones
-first_members : (P : List ℕ → Type 0) (sets : _) (count place : ℕ) → P [] → ((place : ℕ) → P (members_of (slice_get sets place)))
-    → P (members_of (slice_get (take count sets) place))
-first_members P sets zero place none all = none
-first_members P [] (suc n) place none all = none
+first_members : (P : List ℕ → Type 0) (sets : _) (count index : ℕ) → P [] → ((index : ℕ) → P (members_of (slice_get sets index)))
+    → P (members_of (slice_get (take count sets) index))
+first_members P sets zero index none all = none
+first_members P [] (suc n) index none all = none
 first_members P (y ∷ ys) (suc n) zero none all = all zero
-first_members P (y ∷ ys) (suc n) (suc m) none all = first_members P ys n m none (λ place. all (suc place))
+first_members P (y ∷ ys) (suc n) (suc m) none all = first_members P ys n m none (λ index. all (suc index))
 
 pub proper-forgotten : (d e : Depth) (turns : ℕ) (s : StateValue) → IsWithin d e → IsProper e turns s → IsProper d turns (forget_beyond d s)
 proper-forgotten d e turns s h k = record {
   deep = visible-forgotten d e s k.deep h;
-  sets = λ place. first_members (AscendsFrom 0) s.sets d.sets place tt k.sets;
+  sets = λ index. first_members (AscendsFrom 0) s.sets d.sets index tt k.sets;
   fewer = k.fewer;
 }
 
 members-ascend : (p : ProgramTree) (g : GraphValue) (set : SetValue) (s : StateValue) → AreAscending s → AscendsFrom 0 (members_for p g set s)
 members-ascend p g set.Empty s h = tt
 members-ascend p g set.All s h = ascends_range 0 g.vertices
-members-ascend p g (set.Copy slot) s h = h slot.place
+members-ascend p g (set.Copy slot) s h = h slot.index
 members-ascend p g (set.Filter slot function) s h =
-    ascends_filter (lets_through p.filters function s.sets s.vectors) 0 (members_of (slice_get s.sets slot.place)) (h slot.place)
+    ascends_filter (lets_through p.filters function s.sets s.vectors) 0 (members_of (slice_get s.sets slot.index)) (h slot.index)
 members-ascend p g (set.Modified ends function vector) s h =
     ascends_filter (is_modified vector s.vectors (after_edge_apply p.filters p.edge_functions g ends (function ∷ []) s)) 0 _ (ascends_range 0 g.vertices)
 
@@ -102,19 +102,19 @@ declared-proper d turns s proper name members vectors ascending = record {
     conditions = ap (λ (d : Depth). d.conditions) proper.deep i;
     sets = one_more s.sets (record { name = name; members = members }) d.sets (ap (λ (d : Depth). d.sets) proper.deep) i;
   };
-  sets = λ place. new_members (AscendsFrom 0) s.sets (record { name = name; members = members }) place tt ascending proper.sets;
+  sets = λ index. new_members (AscendsFrom 0) s.sets (record { name = name; members = members }) index tt ascending proper.sets;
   fewer = proper.fewer;
 }
 
-pub assigned-proper : (d : Depth) (turns : ℕ) (s : StateValue) → IsProper d turns s → (place : ℕ) (members : List ℕ) (vectors : List (List ℤ)) → AscendsFrom 0 members
-    → IsProper d turns (with_members (with_vectors s vectors) place members)
-assigned-proper d turns s proper place members vectors ascending = record {
+pub assigned-proper : (d : Depth) (turns : ℕ) (s : StateValue) → IsProper d turns s → (index : ℕ) (members : List ℕ) (vectors : List (List ℤ)) → AscendsFrom 0 members
+    → IsProper d turns (with_members (with_vectors s vectors) index members)
+assigned-proper d turns s proper index members vectors ascending = record {
   deep = λ i. record {
     integers = ap (λ (d : Depth). d.integers) proper.deep i;
     conditions = ap (λ (d : Depth). d.conditions) proper.deep i;
-    sets = (length-set_members s.sets place members ∙ ap (λ (d : Depth). d.sets) proper.deep) i;
+    sets = (length-set_members s.sets index members ∙ ap (λ (d : Depth). d.sets) proper.deep) i;
   };
-  sets = λ at. put_members (AscendsFrom 0) s.sets place members at ascending proper.sets;
+  sets = λ at. put_members (AscendsFrom 0) s.sets index members at ascending proper.sets;
   fewer = proper.fewer;
 }
 
@@ -143,36 +143,36 @@ module _ (p : ProgramTree) (g : GraphValue) (number : ℕ) (d : Depth) (turns : 
       })
   alone-leaves (SetInteger slot e) alone =
       by_value (number_in g.vertices e s) d d turns number s _ proper.deep (λ n. record {
-        deep = λ i. record { integers = (length-set s.scope.integers slot.place n ∙ integers_here) i; conditions = conditions_here i; sets = sets_here i };
+        deep = λ i. record { integers = (length-set s.scope.integers slot.index n ∙ integers_here) i; conditions = conditions_here i; sets = sets_here i };
         sets = proper.sets;
         fewer = proper.fewer;
       })
   alone-leaves (SetCondition slot c) alone =
       by_value (choice_in g.vertices c s) d d turns number s _ proper.deep (λ b. record {
-        deep = λ i. record { integers = integers_here i; conditions = (length-set s.scope.conditions slot.place b ∙ conditions_here) i; sets = sets_here i };
+        deep = λ i. record { integers = integers_here i; conditions = (length-set s.scope.conditions slot.index b ∙ conditions_here) i; sets = sets_here i };
         sets = proper.sets;
         fewer = proper.fewer;
       })
   alone-leaves (ReduceInteger slot reduction e) alone =
       by_value (number_in g.vertices e s) d d turns number s _ proper.deep (λ n.
-      let x : ℤ = reduced reduction (slice_index_or s.scope.integers slot.place (pos 0)) n in record {
-        deep = λ i. record { integers = (length-set s.scope.integers slot.place x ∙ integers_here) i; conditions = conditions_here i; sets = sets_here i };
+      let x : ℤ = reduced reduction (slice_index_or s.scope.integers slot.index (pos 0)) n in record {
+        deep = λ i. record { integers = (length-set s.scope.integers slot.index x ∙ integers_here) i; conditions = conditions_here i; sets = sets_here i };
         sets = proper.sets;
         fewer = proper.fewer;
       })
-  alone-leaves (SetEntry vector index e) alone =
-      by_value (vertex_in g.vertices index s) d d turns number s _ proper.deep (λ v.
+  alone-leaves (SetEntry vector subscript e) alone =
+      by_value (vertex_in g.vertices subscript s) d d turns number s _ proper.deep (λ v.
       by_value (number_in g.vertices e s) d d turns number s _ proper.deep (λ n.
       record { deep = proper.deep; sets = proper.sets; fewer = proper.fewer }))
-  alone-leaves (ReduceEntry vector index reduction e) alone =
-      by_value (vertex_in g.vertices index s) d d turns number s _ proper.deep (λ v.
+  alone-leaves (ReduceEntry vector subscript reduction e) alone =
+      by_value (vertex_in g.vertices subscript s) d d turns number s _ proper.deep (λ v.
       by_value (number_in g.vertices e s) d d turns number s _ proper.deep (λ n.
       record { deep = proper.deep; sets = proper.sets; fewer = proper.fewer }))
   alone-leaves (DeclareSet name set) alone = declared-proper d turns s proper name (members_for p g set s) (vectors_after p g set s) (members-ascend p g set s proper.sets)
-  alone-leaves (AssignSet slot set) alone = assigned-proper d turns s proper slot.place (members_for p g set s) (vectors_after p g set s) (members-ascend p g set s proper.sets)
+  alone-leaves (AssignSet slot set) alone = assigned-proper d turns s proper slot.index (members_for p g set s) (vectors_after p g set s) (members-ascend p g set s proper.sets)
   alone-leaves (AddVertex slot e) alone =
       by_value (vertex_in g.vertices e s) d d turns number s _ proper.deep (λ v.
-      assigned-proper d turns s proper slot.place (inserted v (members_of (slice_get s.sets slot.place))) s.vectors (ascends_inserted v 0 (members_of (slice_get s.sets slot.place)) (omega arith) (proper.sets slot.place)))
+      assigned-proper d turns s proper slot.index (inserted v (members_of (slice_get s.sets slot.index))) s.vectors (ascends_inserted v 0 (members_of (slice_get s.sets slot.index)) (omega arith) (proper.sets slot.index)))
   alone-leaves (PrintInteger e) alone =
       by_value (number_in g.vertices e s) d d turns number s _ proper.deep (λ n.
       record { deep = proper.deep; sets = proper.sets; fewer = proper.fewer })

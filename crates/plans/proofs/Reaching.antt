@@ -28,8 +28,8 @@ forgotten-new d s n h = λ i. record (forget_beyond d s) {
   scope = record (forget_beyond d s).scope { integers = take-append-le d.integers s.scope.integers (n ∷ []) h i };
 }
 
-pub is_inside : (code : List InstructionTree) (place : ℕ) (i : InstructionTree) → slice_get code place ≡ Some i → place < length code
-is_inside [] place i h = let bad : None ≡ Some i = h in cc
+pub is_inside : (code : List InstructionTree) (index : ℕ) (i : InstructionTree) → slice_get code index ≡ Some i → index < length code
+is_inside [] index i h = let bad : None ≡ Some i = h in cc
 is_inside (x ∷ xs) zero i h = omega arith
 is_inside (x ∷ xs) (suc n) i h = let within = is_inside xs n i h in omega (arith, within)
 
@@ -57,7 +57,7 @@ module _ (p : ProgramTree) (g : GraphValue) (code : List InstructionTree) where
   pub by_step : (c d e : Configuration) → Moves c d → Reaches d e → Reaches c e
   by_step c d e h r = next h.goes_on (subst (λ (x : Configuration). Reaches x e) (sym h.leads) r)
 
-  -- it comes to a place with a state that is, without what is beyond a depth, this one
+  -- it comes to an index with a state that is, without what is beyond a depth, this one
   pub record Lands (to : ℕ) (loops : List LoopCounter) (d : Depth) (turns : ℕ) (s : StateValue) (c : Configuration) : Type 0 where
     pub there : StateValue
     pub reaches : Reaches c (At to loops there)
@@ -78,12 +78,12 @@ module _ (p : ProgramTree) (g : GraphValue) (code : List InstructionTree) where
   follows_more (Over s end) to loops d m n c h f = f
 
   -- one instruction
-  pub takes : (place : ℕ) (loops : List LoopCounter) (m : StateValue) (i : InstructionTree) (s : StateValue) → slice_get code place ≡ Some i → forget_beyond i.keep m ≡ s
-      → Moves (At place loops m) (act p g i.operation i.number i.shown place loops s)
-  takes place loops m i s h e =
+  pub takes : (index : ℕ) (loops : List LoopCounter) (m : StateValue) (i : InstructionTree) (s : StateValue) → slice_get code index ≡ Some i → forget_beyond i.keep m ≡ s
+      → Moves (At index loops m) (act p g i.operation i.number i.shown index loops s)
+  takes index loops m i s h e =
       record {
-        goes_on = is_inside code place i h;
-        leads = ap (λ (o : Option InstructionTree). act_at p g o place loops m) h ∙ ap (λ (t : StateValue). act p g i.operation i.number i.shown place loops t) e;
+        goes_on = is_inside code index i h;
+        leads = ap (λ (o : Option InstructionTree). act_at p g o index loops m) h ∙ ap (λ (t : StateValue). act p g i.operation i.number i.shown index loops t) e;
       }
 
   alone_stands : (st : Stand) (to : ℕ) (loops : List LoopCounter) (d e : Depth) (turns : ℕ) (c : Configuration) → Leaves d e turns st
@@ -94,12 +94,12 @@ module _ (p : ProgramTree) (g : GraphValue) (code : List InstructionTree) where
       by_step c (Ended t end) (Ended t end) (moves_on h (ap (λ (u : StateValue). Ended u end) (forgotten-all d t leaves))) here
 
   -- a statement without a block
-  pub alone_runs : (a : ActionTree) → HasNoBlock a → (place number : ℕ) (choice : ApplySchedule) (d : Depth) (turns : ℕ) (loops : List LoopCounter) (m s : StateValue)
-      → slice_get code place ≡ Some (record { number = number; keep = d; shown = d; choice = choice; operation = Do a })
-      → forget_beyond d m ≡ s → IsProper d turns s → Follows (place + 1) loops (behind a d) turns (after p g number a s) (At place loops m)
-  alone_runs a alone place number choice d turns loops m s at same proper =
-      alone_stands (after p g number a s) (place + 1) loops d (behind a d) turns (At place loops m) (alone-leaves p g number d turns s proper a alone)
-      (takes place loops m (record { number = number; keep = d; shown = d; choice = choice; operation = Do a }) s at same)
+  pub alone_runs : (a : ActionTree) → HasNoBlock a → (index number : ℕ) (choice : ApplySchedule) (d : Depth) (turns : ℕ) (loops : List LoopCounter) (m s : StateValue)
+      → slice_get code index ≡ Some (record { number = number; keep = d; shown = d; choice = choice; operation = Do a })
+      → forget_beyond d m ≡ s → IsProper d turns s → Follows (index + 1) loops (behind a d) turns (after p g number a s) (At index loops m)
+  alone_runs a alone index number choice d turns loops m s at same proper =
+      alone_stands (after p g number a s) (index + 1) loops d (behind a d) turns (At index loops m) (alone-leaves p g number d turns s proper a alone)
+      (takes index loops m (record { number = number; keep = d; shown = d; choice = choice; operation = Do a }) s at same)
 
   -- a block is left
   pub leaving : (st : Stand) (to : ℕ) (loops : List LoopCounter) (d e : Depth) (turns : ℕ) (s : StateValue) (c : Configuration) → depth_of s ≡ d → IsWithin d e
@@ -123,7 +123,7 @@ module _ (p : ProgramTree) (g : GraphValue) (code : List InstructionTree) where
   }
   jumps (Over s end) at to loops d shown turns number c h f = f
 
-  -- the same place under another name
+  -- the same index under another name
   pub lands_at : (st : Stand) (a b : ℕ) (loops : List LoopCounter) (d : Depth) (turns : ℕ) (c : Configuration) → a ≡ b → Follows a loops d turns st c → Follows b loops d turns st c
   lands_at st a b loops d turns c e f = subst (λ (x : ℕ). Follows x loops d turns st c) e f
 

@@ -16,7 +16,7 @@ use Rattle.plans.specs.Plan.{behind, behind_all, in_loop, plain, loop_step, chos
 use Rattle.plans.specs.Machine.{Configuration, At}
 use Rattle.plans.proofs.Depths.{within_loop, within_behind_all, within_both, forgotten-all}
 use Rattle.plans.proofs.Proper.{IsProper, HasNoBlock}
-use Rattle.plans.proofs.Places.{HasAt, has_front, has_behind, length-plan, length-plan_all}
+use Rattle.plans.proofs.Indices.{HasAt, has_front, has_behind, length-plan, length-plan_all}
 use Rattle.plans.proofs.Reaching.{here, by_step, Moves, moves_on, Lands, Follows, follows_from, takes, alone_runs, leaving, jumps, lands_at}
 use Rattle.plans.proofs.Whiles.{unless_faults, unless_chooses, while_runs}
 use Rattle.plans.proofs.Fors.{StandsFor, for_runs}
@@ -50,46 +50,46 @@ module _ (p : ProgramTree) (g : GraphValue) (schedule : ScheduleTree) (code : Li
       follows_from p g code (leave (depth_of s) st) to loops d turns c c' (by_step p g code c c' c' e here)
       (leaving p g code st to loops d (behind_all b d) turns s c' q.deep (within_behind_all b d) f)
 
-  if_runs : (c : ConditionTree) (body : BlockTree) (place number to : ℕ) (d : Depth) (turns : ℕ) (loops : List LoopCounter) (m s : StateValue) (o : Option Bool)
-      → slice_get code place ≡ Some (plain number d (Unless c to)) → forget_beyond d m ≡ s → IsProper d turns s → choice_in g.vertices c s ≡ o
-      → Follows p g code to loops (behind_all body d) turns (after_all p g body s) (At (place + 1) loops s)
-      → Follows p g code to loops d turns (with_value o number s (λ b. choose b (inside (after_all p g body) s) (Live s))) (At place loops m)
-  if_runs c body place number to d turns loops m s None at same q e body_runs = unless_faults p g code c place number to d turns loops m s at same q e
-  if_runs c body place number to d turns loops m s (Some true) at same q e body_runs =
-      block_inside (after_all p g body s) to loops body d turns s (At place loops m) (At (place + 1) loops s) q
-      (unless_chooses p g code c place number to d loops m s true at same e) body_runs
-  if_runs c body place number to d turns loops m s (Some false) at same q e body_runs = record {
+  if_runs : (c : ConditionTree) (body : BlockTree) (index number to : ℕ) (d : Depth) (turns : ℕ) (loops : List LoopCounter) (m s : StateValue) (o : Option Bool)
+      → slice_get code index ≡ Some (plain number d (Unless c to)) → forget_beyond d m ≡ s → IsProper d turns s → choice_in g.vertices c s ≡ o
+      → Follows p g code to loops (behind_all body d) turns (after_all p g body s) (At (index + 1) loops s)
+      → Follows p g code to loops d turns (with_value o number s (λ b. choose b (inside (after_all p g body) s) (Live s))) (At index loops m)
+  if_runs c body index number to d turns loops m s None at same q e body_runs = unless_faults p g code c index number to d turns loops m s at same q e
+  if_runs c body index number to d turns loops m s (Some true) at same q e body_runs =
+      block_inside (after_all p g body s) to loops body d turns s (At index loops m) (At (index + 1) loops s) q
+      (unless_chooses p g code c index number to d loops m s true at same e) body_runs
+  if_runs c body index number to d turns loops m s (Some false) at same q e body_runs = record {
     there = s;
-    reaches = by_step p g code (At place loops m) (At to loops s) (At to loops s) (unless_chooses p g code c place number to d loops m s false at same e) here;
+    reaches = by_step p g code (At index loops m) (At to loops s) (At to loops s) (unless_chooses p g code c index number to d loops m s false at same e) here;
     same = forgotten-all d s q.deep;
     proper = q;
   }
 
-  if_else_runs : (c : ConditionTree) (body other : BlockTree) (place number back from to : ℕ) (d : Depth) (turns : ℕ) (loops : List LoopCounter) (m s : StateValue) (o : Option Bool)
-      → slice_get code place ≡ Some (plain number d (Unless c from)) → slice_get code back ≡ Some (plain number d (Jump to)) → forget_beyond d m ≡ s → IsProper d turns s → choice_in g.vertices c s ≡ o
-      → Follows p g code back loops (behind_all body d) turns (after_all p g body s) (At (place + 1) loops s)
+  if_else_runs : (c : ConditionTree) (body other : BlockTree) (index number back from to : ℕ) (d : Depth) (turns : ℕ) (loops : List LoopCounter) (m s : StateValue) (o : Option Bool)
+      → slice_get code index ≡ Some (plain number d (Unless c from)) → slice_get code back ≡ Some (plain number d (Jump to)) → forget_beyond d m ≡ s → IsProper d turns s → choice_in g.vertices c s ≡ o
+      → Follows p g code back loops (behind_all body d) turns (after_all p g body s) (At (index + 1) loops s)
       → Follows p g code to loops (behind_all other d) turns (after_all p g other s) (At from loops s)
-      → Follows p g code to loops d turns (with_value o number s (λ b. choose b (inside (after_all p g body) s) (inside (after_all p g other) s))) (At place loops m)
-  if_else_runs c body other place number back from to d turns loops m s None at at_jump same q e body_runs other_runs =
-      unless_faults p g code c place number from d turns loops m s at same q e
-  if_else_runs c body other place number back from to d turns loops m s (Some true) at at_jump same q e body_runs other_runs =
-      jumps p g code (inside (after_all p g body) s) back to loops d d turns number (At place loops m) at_jump
-      (block_inside (after_all p g body s) back loops body d turns s (At place loops m) (At (place + 1) loops s) q
-      (unless_chooses p g code c place number from d loops m s true at same e) body_runs)
-  if_else_runs c body other place number back from to d turns loops m s (Some false) at at_jump same q e body_runs other_runs =
-      block_inside (after_all p g other s) to loops other d turns s (At place loops m) (At from loops s) q
-      (unless_chooses p g code c place number from d loops m s false at same e) other_runs
+      → Follows p g code to loops d turns (with_value o number s (λ b. choose b (inside (after_all p g body) s) (inside (after_all p g other) s))) (At index loops m)
+  if_else_runs c body other index number back from to d turns loops m s None at at_jump same q e body_runs other_runs =
+      unless_faults p g code c index number from d turns loops m s at same q e
+  if_else_runs c body other index number back from to d turns loops m s (Some true) at at_jump same q e body_runs other_runs =
+      jumps p g code (inside (after_all p g body) s) back to loops d d turns number (At index loops m) at_jump
+      (block_inside (after_all p g body s) back loops body d turns s (At index loops m) (At (index + 1) loops s) q
+      (unless_chooses p g code c index number from d loops m s true at same e) body_runs)
+  if_else_runs c body other index number back from to d turns loops m s (Some false) at at_jump same q e body_runs other_runs =
+      block_inside (after_all p g other s) to loops other d turns s (At index loops m) (At from loops s) q
+      (unless_chooses p g code c index number from d loops m s false at same e) other_runs
 
   -- two statements that one instruction does
-  both_run : (operation : OperationTree) (a b : ActionTree) (place number : ℕ) (label : Option ℕ) (d : Depth) (turns : ℕ) (loops : List LoopCounter) (m s : StateValue) (both : DoesBoth p g operation d a b)
-      → slice_get code place ≡ Some (chosen schedule number label d operation) → forget_beyond d m ≡ s → IsProper d turns s
-      → Lands p g code (place + 1) loops (behind b (behind a d)) turns (both.second (both.first s)) (At place loops m)
-  both_run operation a b place number label d turns loops m s both at same q =
+  both_run : (operation : OperationTree) (a b : ActionTree) (index number : ℕ) (label : Option ℕ) (d : Depth) (turns : ℕ) (loops : List LoopCounter) (m s : StateValue) (both : DoesBoth p g operation d a b)
+      → slice_get code index ≡ Some (chosen schedule number label d operation) → forget_beyond d m ≡ s → IsProper d turns s
+      → Lands p g code (index + 1) loops (behind b (behind a d)) turns (both.second (both.first s)) (At index loops m)
+  both_run operation a b index number label d turns loops m s both at same q =
       let proper = faultless-proper p g b both.second (behind a d) turns (both.first s) both.second_means (faultless-proper p g a both.first d turns s both.first_means q) in
       record {
         there = both.second (both.first s);
-        reaches = by_step p g code (At place loops m) (At (place + 1) loops (both.second (both.first s))) (At (place + 1) loops (both.second (both.first s)))
-            (moves_on p g code (takes p g code place loops m (chosen schedule number label d operation) s at same) (both.acts number d place loops turns s q)) here;
+        reaches = by_step p g code (At index loops m) (At (index + 1) loops (both.second (both.first s))) (At (index + 1) loops (both.second (both.first s)))
+            (moves_on p g code (takes p g code index loops m (chosen schedule number label d operation) s at same) (both.acts number d index loops turns s q)) here;
         same = forgotten-all (behind b (behind a d)) (both.second (both.first s)) proper.deep;
         proper = proper;
       }
@@ -102,112 +102,112 @@ module _ (p : ProgramTree) (g : GraphValue) (schedule : ScheduleTree) (code : Li
       ∙ ap (λ (st : Stand). then_do st (after_all p g (Then other label b rest))) (sym (a_means.means number s))
 
   -- the instruction of a statement without a block
-  single : (a : ActionTree) → HasNoBlock a → (place number : ℕ) (label : Option ℕ) (d : Depth) (turns : ℕ) (loops : List LoopCounter) (m s : StateValue)
-      → HasAt code place (chosen schedule number label d (Do a) ∷ []) → forget_beyond d m ≡ s → IsProper d turns s
-      → Follows p g code (place + 1) loops (behind a d) turns (after p g number a s) (At place loops m)
-  single a alone place number label d turns loops m s at same q = alone_runs p g code a alone place number (choice_at label schedule) d turns loops m s at.0 same q
+  single : (a : ActionTree) → HasNoBlock a → (index number : ℕ) (label : Option ℕ) (d : Depth) (turns : ℕ) (loops : List LoopCounter) (m s : StateValue)
+      → HasAt code index (chosen schedule number label d (Do a) ∷ []) → forget_beyond d m ≡ s → IsProper d turns s
+      → Follows p g code (index + 1) loops (behind a d) turns (after p g number a s) (At index loops m)
+  single a alone index number label d turns loops m s at same q = alone_runs p g code a alone index number (choice_at label schedule) d turns loops m s at.0 same q
 
   -- the instructions of a block after others
-  abbrev HasBlock : (place : ℕ) → Depth → (is_done : Bool) → BlockTree → List InstructionTree → Type 0
-  HasBlock place d is_done b rest = HasAt code place (plan_all p schedule place d is_done b ++ rest)
+  abbrev HasBlock : (index : ℕ) → Depth → (is_done : Bool) → BlockTree → List InstructionTree → Type 0
+  HasBlock index d is_done b rest = HasAt code index (plan_all p schedule index d is_done b ++ rest)
 
-  behind_block : (place to : ℕ) (d : Depth) (b : BlockTree) (rest : List InstructionTree) → place + size_all p schedule d false b ≡ to → HasBlock place d false b rest → HasAt code to rest
-  behind_block place to d b rest e at =
-      has_behind code place (size_all p schedule d false b) to (plan_all p schedule place d false b) rest (length-plan_all p schedule b place d false) e at
+  behind_block : (index to : ℕ) (d : Depth) (b : BlockTree) (rest : List InstructionTree) → index + size_all p schedule d false b ≡ to → HasBlock index d false b rest → HasAt code to rest
+  behind_block index to d b rest e at =
+      has_behind code index (size_all p schedule d false b) to (plan_all p schedule index d false b) rest (length-plan_all p schedule b index d false) e at
 
   -- a statement in such company, and what stands after it
-  joined_runs : (company : FusionRole) (action : ActionTree) (rest : BlockTree) (place number : ℕ) (label : Option ℕ) (d : Depth) (turns : ℕ) (loops : List LoopCounter) (m s : StateValue) → IsGoodCompany p g company d action rest
-      → HasAt code place (plan_in company schedule number label d (plan p schedule place d number label action)
-      ++ plan_all p schedule (place + size_in company (size p schedule d action)) (behind action d) (takes_next company) rest)
+  joined_runs : (company : FusionRole) (action : ActionTree) (rest : BlockTree) (index number : ℕ) (label : Option ℕ) (d : Depth) (turns : ℕ) (loops : List LoopCounter) (m s : StateValue) → IsGoodCompany p g company d action rest
+      → HasAt code index (plan_in company schedule number label d (plan p schedule index d number label action)
+      ++ plan_all p schedule (index + size_in company (size p schedule d action)) (behind action d) (takes_next company) rest)
       → forget_beyond d m ≡ s → IsProper d turns s
-      → (HasAt code place (plan p schedule place d number label action) → Follows p g code (place + size p schedule d action) loops (behind action d) turns (after p g number action s) (At place loops m))
+      → (HasAt code index (plan p schedule index d number label action) → Follows p g code (index + size p schedule d action) loops (behind action d) turns (after p g number action s) (At index loops m))
       → ((is_done : Bool) (from : ℕ) (m t : StateValue) → HasAt code from (plan_all p schedule from (behind action d) is_done rest)
       → forget_beyond (at_rest is_done rest (behind action d)) m ≡ t → IsProper (at_rest is_done rest (behind action d)) turns t
       → Follows p g code (from + size_all p schedule (behind action d) is_done rest) loops (behind_all rest (behind action d)) turns (after_rest p g is_done rest t) (At from loops m))
-      → Follows p g code (place + (size_in company (size p schedule d action) + size_all p schedule (behind action d) (takes_next company) rest)) loops (behind_all rest (behind action d)) turns
-      (then_do (after p g number action s) (after_all p g rest)) (At place loops m)
-  joined_runs Alone action rest place number label d turns loops m s good at same q run_action run_rest =
+      → Follows p g code (index + (size_in company (size p schedule d action) + size_all p schedule (behind action d) (takes_next company) rest)) loops (behind_all rest (behind action d)) turns
+      (then_do (after p g number action s) (after_all p g rest)) (At index loops m)
+  joined_runs Alone action rest index number label d turns loops m s good at same q run_action run_rest =
       let n = size p schedule d action in
       let e = behind action d in
-      let to = place + n + size_all p schedule e false rest in
-      let own = plan p schedule place d number label action in
-      let others = plan_all p schedule (place + n) e false rest in
+      let to = index + n + size_all p schedule e false rest in
+      let own = plan p schedule index d number label action in
+      let others = plan_all p schedule (index + n) e false rest in
       let st = then_do (after p g number action s) (after_all p g rest) in
-      lands_at p g code st to (place + (n + size_all p schedule e false rest)) loops (behind_all rest e) turns (At place loops m) (omega arith)
-      (then_follows (after p g number action s) (after_all p g rest) (place + n) to loops e (behind_all rest e) turns (At place loops m)
-      (run_action (has_front code place own others at))
-      (λ t there kept proper. run_rest false (place + n) there t (has_behind code place n (place + n) own others (length-plan p schedule action place d number label) refl at) kept proper))
-  joined_runs WithPrevious action rest place number label d turns loops m s good at same q run_action run_rest = absurd good
-  joined_runs (WithNext operation) action Empty place number label d turns loops m s good at same q run_action run_rest = absurd good
-  joined_runs (WithNext operation) action (Then other second next rest) place number label d turns loops m s good at same q run_action run_rest =
+      lands_at p g code st to (index + (n + size_all p schedule e false rest)) loops (behind_all rest e) turns (At index loops m) (omega arith)
+      (then_follows (after p g number action s) (after_all p g rest) (index + n) to loops e (behind_all rest e) turns (At index loops m)
+      (run_action (has_front code index own others at))
+      (λ t there kept proper. run_rest false (index + n) there t (has_behind code index n (index + n) own others (length-plan p schedule action index d number label) refl at) kept proper))
+  joined_runs WithPrevious action rest index number label d turns loops m s good at same q run_action run_rest = absurd good
+  joined_runs (WithNext operation) action Empty index number label d turns loops m s good at same q run_action run_rest = absurd good
+  joined_runs (WithNext operation) action (Then other second next rest) index number label d turns loops m s good at same q run_action run_rest =
       let e = behind action d in
       let block = Then other second next rest in
       let t = good.second (good.first s) in
-      let lands = both_run operation action next place number label d turns loops m s good at.0 same q in
-      let to = place + 1 + size_all p schedule e true block in
+      let lands = both_run operation action next index number label d turns loops m s good at.0 same q in
+      let to = index + 1 + size_all p schedule e true block in
       let st = after_all p g rest t in
-      let ran = follows_from p g code st to loops (behind_all block e) turns (At place loops m) (At (place + 1) loops lands.there) lands.reaches
-      (run_rest true (place + 1) lands.there t at.1 lands.same lands.proper) in
+      let ran = follows_from p g code st to loops (behind_all block e) turns (At index loops m) (At (index + 1) loops lands.there) lands.reaches
+      (run_rest true (index + 1) lands.there t at.1 lands.same lands.proper) in
       let same_stand = both_mean action next number other rest second s good.first good.second good.first_means good.second_means in
-      lands_at p g code (then_do (after p g number action s) (after_all p g block)) to (place + (1 + size_all p schedule e true block)) loops (behind_all block e) turns (At place loops m) (omega arith)
-      (subst (λ (st : Stand). Follows p g code to loops (behind_all block e) turns st (At place loops m)) same_stand ran)
+      lands_at p g code (then_do (after p g number action s) (after_all p g block)) to (index + (1 + size_all p schedule e true block)) loops (behind_all block e) turns (At index loops m) (omega arith)
+      (subst (λ (st : Stand). Follows p g code to loops (behind_all block e) turns st (At index loops m)) same_stand ran)
 
-  lands_here : (place : ℕ) (loops : List LoopCounter) (d : Depth) (turns : ℕ) (m s : StateValue) → forget_beyond d m ≡ s → IsProper d turns s
-      → Lands p g code (place + 0) loops d turns s (At place loops m)
-  lands_here place loops d turns m s same q =
-      let e : place ≡ place + 0 = omega arith in
-      subst (λ (x : ℕ). Lands p g code x loops d turns s (At place loops m)) e (record { there = m; reaches = here; same = same; proper = q })
+  lands_here : (index : ℕ) (loops : List LoopCounter) (d : Depth) (turns : ℕ) (m s : StateValue) → forget_beyond d m ≡ s → IsProper d turns s
+      → Lands p g code (index + 0) loops d turns s (At index loops m)
+  lands_here index loops d turns m s same q =
+      let e : index ≡ index + 0 = omega arith in
+      subst (λ (x : ℕ). Lands p g code x loops d turns s (At index loops m)) e (record { there = m; reaches = here; same = same; proper = q })
 
   module _ (good : (d : Depth) (label : Option ℕ) (a : ActionTree) (rest : BlockTree) → IsGoodCompany p g (fusion_role_of p schedule d false label a rest) d a rest) where
     mutual
-      pub action_runs : (a : ActionTree) (place number : ℕ) (label : Option ℕ) (d : Depth) (turns : ℕ) (loops : List LoopCounter) (m s : StateValue)
-          → HasAt code place (plan p schedule place d number label a) → forget_beyond d m ≡ s → IsProper d turns s
-          → Follows p g code (place + size p schedule d a) loops (behind a d) turns (after p g number a s) (At place loops m)
-      action_runs (DeclareInteger name e) place number label d turns loops m s at same q = single (DeclareInteger name e) tt place number label d turns loops m s at same q
-      action_runs (DeclareCondition name c) place number label d turns loops m s at same q = single (DeclareCondition name c) tt place number label d turns loops m s at same q
-      action_runs (SetInteger slot e) place number label d turns loops m s at same q = single (SetInteger slot e) tt place number label d turns loops m s at same q
-      action_runs (SetCondition slot c) place number label d turns loops m s at same q = single (SetCondition slot c) tt place number label d turns loops m s at same q
-      action_runs (ReduceInteger slot reduction e) place number label d turns loops m s at same q = single (ReduceInteger slot reduction e) tt place number label d turns loops m s at same q
-      action_runs (SetEntry vector index e) place number label d turns loops m s at same q = single (SetEntry vector index e) tt place number label d turns loops m s at same q
-      action_runs (ReduceEntry vector index reduction e) place number label d turns loops m s at same q = single (ReduceEntry vector index reduction e) tt place number label d turns loops m s at same q
-      action_runs (DeclareSet name set) place number label d turns loops m s at same q = single (DeclareSet name set) tt place number label d turns loops m s at same q
-      action_runs (AssignSet slot set) place number label d turns loops m s at same q = single (AssignSet slot set) tt place number label d turns loops m s at same q
-      action_runs (AddVertex slot e) place number label d turns loops m s at same q = single (AddVertex slot e) tt place number label d turns loops m s at same q
-      action_runs (PrintInteger e) place number label d turns loops m s at same q = single (PrintInteger e) tt place number label d turns loops m s at same q
-      action_runs (PrintCondition c) place number label d turns loops m s at same q = single (PrintCondition c) tt place number label d turns loops m s at same q
-      action_runs (ApplyVertex set function) place number label d turns loops m s at same q = single (ApplyVertex set function) tt place number label d turns loops m s at same q
-      action_runs (ApplyEdges ends function) place number label d turns loops m s at same q = single (ApplyEdges ends function) tt place number label d turns loops m s at same q
-      action_runs (If c body) place number label d turns loops m s at same q =
-          let to = place + 1 + size_all p schedule d false body in
-          lands_at p g code (after p g number (If c body) s) to (place + size p schedule d (If c body)) loops d turns (At place loops m) (omega arith)
-          (if_runs c body place number to d turns loops m s (choice_in g.vertices c s) at.0 same q refl
-          (block_runs body false (place + 1) d turns loops s s at.1 (forgotten-all d s q.deep) q))
-      action_runs (IfElse c body other) place number label d turns loops m s at same q =
-          let back = place + 1 + size_all p schedule d false body in
+      pub action_runs : (a : ActionTree) (index number : ℕ) (label : Option ℕ) (d : Depth) (turns : ℕ) (loops : List LoopCounter) (m s : StateValue)
+          → HasAt code index (plan p schedule index d number label a) → forget_beyond d m ≡ s → IsProper d turns s
+          → Follows p g code (index + size p schedule d a) loops (behind a d) turns (after p g number a s) (At index loops m)
+      action_runs (DeclareInteger name e) index number label d turns loops m s at same q = single (DeclareInteger name e) tt index number label d turns loops m s at same q
+      action_runs (DeclareCondition name c) index number label d turns loops m s at same q = single (DeclareCondition name c) tt index number label d turns loops m s at same q
+      action_runs (SetInteger slot e) index number label d turns loops m s at same q = single (SetInteger slot e) tt index number label d turns loops m s at same q
+      action_runs (SetCondition slot c) index number label d turns loops m s at same q = single (SetCondition slot c) tt index number label d turns loops m s at same q
+      action_runs (ReduceInteger slot reduction e) index number label d turns loops m s at same q = single (ReduceInteger slot reduction e) tt index number label d turns loops m s at same q
+      action_runs (SetEntry vector subscript e) index number label d turns loops m s at same q = single (SetEntry vector subscript e) tt index number label d turns loops m s at same q
+      action_runs (ReduceEntry vector subscript reduction e) index number label d turns loops m s at same q = single (ReduceEntry vector subscript reduction e) tt index number label d turns loops m s at same q
+      action_runs (DeclareSet name set) index number label d turns loops m s at same q = single (DeclareSet name set) tt index number label d turns loops m s at same q
+      action_runs (AssignSet slot set) index number label d turns loops m s at same q = single (AssignSet slot set) tt index number label d turns loops m s at same q
+      action_runs (AddVertex slot e) index number label d turns loops m s at same q = single (AddVertex slot e) tt index number label d turns loops m s at same q
+      action_runs (PrintInteger e) index number label d turns loops m s at same q = single (PrintInteger e) tt index number label d turns loops m s at same q
+      action_runs (PrintCondition c) index number label d turns loops m s at same q = single (PrintCondition c) tt index number label d turns loops m s at same q
+      action_runs (ApplyVertex set function) index number label d turns loops m s at same q = single (ApplyVertex set function) tt index number label d turns loops m s at same q
+      action_runs (ApplyEdges ends function) index number label d turns loops m s at same q = single (ApplyEdges ends function) tt index number label d turns loops m s at same q
+      action_runs (If c body) index number label d turns loops m s at same q =
+          let to = index + 1 + size_all p schedule d false body in
+          lands_at p g code (after p g number (If c body) s) to (index + size p schedule d (If c body)) loops d turns (At index loops m) (omega arith)
+          (if_runs c body index number to d turns loops m s (choice_in g.vertices c s) at.0 same q refl
+          (block_runs body false (index + 1) d turns loops s s at.1 (forgotten-all d s q.deep) q))
+      action_runs (IfElse c body other) index number label d turns loops m s at same q =
+          let back = index + 1 + size_all p schedule d false body in
           let from = back + 1 in
           let to = from + size_all p schedule d false other in
-          let others = behind_block (place + 1) back d body (plain number d (Jump to) ∷ plan_all p schedule from d false other) refl at.1 in
-          lands_at p g code (after p g number (IfElse c body other) s) to (place + size p schedule d (IfElse c body other)) loops d turns (At place loops m) (omega arith)
-          (if_else_runs c body other place number back from to d turns loops m s (choice_in g.vertices c s) at.0 others.0 same q refl
-          (block_runs body false (place + 1) d turns loops s s (has_front code (place + 1) (plan_all p schedule (place + 1) d false body) (plain number d (Jump to) ∷ plan_all p schedule from d false other) at.1) (forgotten-all d s q.deep) q)
+          let others = behind_block (index + 1) back d body (plain number d (Jump to) ∷ plan_all p schedule from d false other) refl at.1 in
+          lands_at p g code (after p g number (IfElse c body other) s) to (index + size p schedule d (IfElse c body other)) loops d turns (At index loops m) (omega arith)
+          (if_else_runs c body other index number back from to d turns loops m s (choice_in g.vertices c s) at.0 others.0 same q refl
+          (block_runs body false (index + 1) d turns loops s s (has_front code (index + 1) (plan_all p schedule (index + 1) d false body) (plain number d (Jump to) ∷ plan_all p schedule from d false other) at.1) (forgotten-all d s q.deep) q)
           (block_runs other false from d turns loops s s others.1 (forgotten-all d s q.deep) q))
-      action_runs (While c body) place number label d turns loops m s at same q =
-          let back = place + 2 + size_all p schedule d false body in
+      action_runs (While c body) index number label d turns loops m s at same q =
+          let back = index + 2 + size_all p schedule d false body in
           let to = back + 1 in
-          let jump = plain number d (Jump place) ∷ [] in
-          let inner : HasBlock (place + 2) d false body jump = subst (λ (x : ℕ). HasAt code x (plan_all p schedule (place + 2) d false body ++ jump)) (omega arith) at.1.1 in
-          lands_at p g code (after p g number (While c body) s) to (place + size p schedule d (While c body)) loops d turns (At place loops m) (omega arith)
-          (while_runs p g code c (after_all p g body) place number back to d (behind_all body d) turns loops m s at.0 at.1.0 (behind_block (place + 2) back d body jump refl inner).0 (within_behind_all body d)
-          (λ n t proper. block_runs body false (place + 2) d n loops t t (has_front code (place + 2) (plan_all p schedule (place + 2) d false body) jump inner) (forgotten-all d t proper.deep) proper)
+          let jump = plain number d (Jump index) ∷ [] in
+          let inner : HasBlock (index + 2) d false body jump = subst (λ (x : ℕ). HasAt code x (plan_all p schedule (index + 2) d false body ++ jump)) (omega arith) at.1.1 in
+          lands_at p g code (after p g number (While c body) s) to (index + size p schedule d (While c body)) loops d turns (At index loops m) (omega arith)
+          (while_runs p g code c (after_all p g body) index number back to d (behind_all body d) turns loops m s at.0 at.1.0 (behind_block (index + 2) back d body jump refl inner).0 (within_behind_all body d)
+          (λ n t proper. block_runs body false (index + 2) d n loops t t (has_front code (index + 2) (plan_all p schedule (index + 2) d false body) jump inner) (forgotten-all d t proper.deep) proper)
           same q)
-      action_runs (For name first end body) place number label d turns loops m s at same q =
+      action_runs (For name first end body) index number label d turns loops m s at same q =
           let deep = in_loop d in
-          let back = place + 4 + size_all p schedule deep false body in
+          let back = index + 4 + size_all p schedule deep false body in
           let to = back + 2 in
-          let last = plain number d (Advance name) ∷ loop_step number deep d (Jump (place + 2)) ∷ [] in
-          let inner : HasBlock (place + 4) deep false body last = subst (λ (x : ℕ). HasAt code x (plan_all p schedule (place + 4) deep false body ++ last)) (omega arith) at.1.1.1.1 in
-          let others = behind_block (place + 4) back deep body last refl inner in
-          let stands : StandsFor code place number name back to first end d = record {
+          let last = plain number d (Advance name) ∷ loop_step number deep d (Jump (index + 2)) ∷ [] in
+          let inner : HasBlock (index + 4) deep false body last = subst (λ (x : ℕ). HasAt code x (plan_all p schedule (index + 4) deep false body ++ last)) (omega arith) at.1.1.1.1 in
+          let others = behind_block (index + 4) back deep body last refl inner in
+          let stands : StandsFor code index number name back to first end d = record {
             at_first = at.0;
             at_end = at.1.0;
             at_test = subst (λ (x : ℕ). slice_get code x ≡ Some (loop_step number deep d (UnlessBelow name to))) (omega arith) at.1.1.0;
@@ -215,22 +215,22 @@ module _ (p : ProgramTree) (g : GraphValue) (schedule : ScheduleTree) (code : Li
             at_advance = others.0;
             at_jump = others.1.0;
           } in
-          lands_at p g code (after p g number (For name first end body) s) to (place + size p schedule d (For name first end body)) loops d turns (At place loops m) (omega arith)
-          (for_runs p g code place number name back to first end d (behind_all body deep) loops stands (after_all p g body) turns s m
+          lands_at p g code (after p g number (For name first end body) s) to (index + size p schedule d (For name first end body)) loops d turns (At index loops m) (omega arith)
+          (for_runs p g code index number name back to first end d (behind_all body deep) loops stands (after_all p g body) turns s m
           (within_both d deep (behind_all body deep) (within_loop d) (within_behind_all body deep))
-          (λ r n t proper. block_runs body false (place + 4) deep n (r ∷ loops) t t (has_front code (place + 4) (plan_all p schedule (place + 4) deep false body) last inner) (forgotten-all deep t proper.deep) proper)
+          (λ r n t proper. block_runs body false (index + 4) deep n (r ∷ loops) t t (has_front code (index + 4) (plan_all p schedule (index + 4) deep false body) last inner) (forgotten-all deep t proper.deep) proper)
           same q)
 
-      pub block_runs : (b : BlockTree) (is_done : Bool) (place : ℕ) (d : Depth) (turns : ℕ) (loops : List LoopCounter) (m s : StateValue)
-          → HasAt code place (plan_all p schedule place d is_done b) → forget_beyond (at_rest is_done b d) m ≡ s → IsProper (at_rest is_done b d) turns s
-          → Follows p g code (place + size_all p schedule d is_done b) loops (behind_all b d) turns (after_rest p g is_done b s) (At place loops m)
-      block_runs Empty true place d turns loops m s at same q = lands_here place loops d turns m s same q
-      block_runs Empty false place d turns loops m s at same q = lands_here place loops d turns m s same q
-      block_runs (Then number label action rest) true place d turns loops m s at same q =
-          let e : place + 0 ≡ place = omega arith in
-          lands_at p g code (after_all p g rest s) (place + size_all p schedule (behind action d) false rest) (place + size_all p schedule d true (Then number label action rest)) loops (behind_all rest (behind action d)) turns (At place loops m) (omega arith)
-          (block_runs rest false place (behind action d) turns loops m s (subst (λ (x : ℕ). HasAt code place (plan_all p schedule x (behind action d) false rest)) e at) same q)
-      block_runs (Then number label action rest) false place d turns loops m s at same q =
-          joined_runs (fusion_role_of p schedule d false label action rest) action rest place number label d turns loops m s (good d label action rest) at same q
-          (λ own. action_runs action place number label d turns loops m s own same q)
+      pub block_runs : (b : BlockTree) (is_done : Bool) (index : ℕ) (d : Depth) (turns : ℕ) (loops : List LoopCounter) (m s : StateValue)
+          → HasAt code index (plan_all p schedule index d is_done b) → forget_beyond (at_rest is_done b d) m ≡ s → IsProper (at_rest is_done b d) turns s
+          → Follows p g code (index + size_all p schedule d is_done b) loops (behind_all b d) turns (after_rest p g is_done b s) (At index loops m)
+      block_runs Empty true index d turns loops m s at same q = lands_here index loops d turns m s same q
+      block_runs Empty false index d turns loops m s at same q = lands_here index loops d turns m s same q
+      block_runs (Then number label action rest) true index d turns loops m s at same q =
+          let e : index + 0 ≡ index = omega arith in
+          lands_at p g code (after_all p g rest s) (index + size_all p schedule (behind action d) false rest) (index + size_all p schedule d true (Then number label action rest)) loops (behind_all rest (behind action d)) turns (At index loops m) (omega arith)
+          (block_runs rest false index (behind action d) turns loops m s (subst (λ (x : ℕ). HasAt code index (plan_all p schedule x (behind action d) false rest)) e at) same q)
+      block_runs (Then number label action rest) false index d turns loops m s at same q =
+          joined_runs (fusion_role_of p schedule d false label action rest) action rest index number label d turns loops m s (good d label action rest) at same q
+          (λ own. action_runs action index number label d turns loops m s own same q)
           (λ is_done from m t others kept proper. block_runs rest is_done from (behind action d) turns loops m t others kept proper)

@@ -24,36 +24,36 @@ in_company WithPrevious s number label d is own = tt
 
 module _ (p : ProgramTree) (s : ScheduleTree) where
   mutual
-    action_shows : (a : ActionTree) (place number : ℕ) (label : Option ℕ) (d : Depth) → AllOf ShowsWithin (plan p s place d number label a)
-    action_shows (DeclareInteger name e) place number label d = (within_itself d, tt)
-    action_shows (DeclareCondition name c) place number label d = (within_itself d, tt)
-    action_shows (SetInteger slot e) place number label d = (within_itself d, tt)
-    action_shows (SetCondition slot c) place number label d = (within_itself d, tt)
-    action_shows (ReduceInteger slot reduction e) place number label d = (within_itself d, tt)
-    action_shows (SetEntry vector index e) place number label d = (within_itself d, tt)
-    action_shows (ReduceEntry vector index reduction e) place number label d = (within_itself d, tt)
-    action_shows (DeclareSet name set) place number label d = (within_itself d, tt)
-    action_shows (AssignSet slot set) place number label d = (within_itself d, tt)
-    action_shows (AddVertex slot e) place number label d = (within_itself d, tt)
-    action_shows (PrintInteger e) place number label d = (within_itself d, tt)
-    action_shows (PrintCondition c) place number label d = (within_itself d, tt)
-    action_shows (ApplyVertex set function) place number label d = (within_itself d, tt)
-    action_shows (ApplyEdges ends function) place number label d = (within_itself d, tt)
-    action_shows (If c body) place number label d = (within_itself d, block_shows body false (place + 1) d)
-    action_shows (IfElse c body others) place number label d =
-        let to = place + 1 + size_all p s d false body + 1 in (
+    action_shows : (a : ActionTree) (index number : ℕ) (label : Option ℕ) (d : Depth) → AllOf ShowsWithin (plan p s index d number label a)
+    action_shows (DeclareInteger name e) index number label d = (within_itself d, tt)
+    action_shows (DeclareCondition name c) index number label d = (within_itself d, tt)
+    action_shows (SetInteger slot e) index number label d = (within_itself d, tt)
+    action_shows (SetCondition slot c) index number label d = (within_itself d, tt)
+    action_shows (ReduceInteger slot reduction e) index number label d = (within_itself d, tt)
+    action_shows (SetEntry vector subscript e) index number label d = (within_itself d, tt)
+    action_shows (ReduceEntry vector subscript reduction e) index number label d = (within_itself d, tt)
+    action_shows (DeclareSet name set) index number label d = (within_itself d, tt)
+    action_shows (AssignSet slot set) index number label d = (within_itself d, tt)
+    action_shows (AddVertex slot e) index number label d = (within_itself d, tt)
+    action_shows (PrintInteger e) index number label d = (within_itself d, tt)
+    action_shows (PrintCondition c) index number label d = (within_itself d, tt)
+    action_shows (ApplyVertex set function) index number label d = (within_itself d, tt)
+    action_shows (ApplyEdges ends function) index number label d = (within_itself d, tt)
+    action_shows (If c body) index number label d = (within_itself d, block_shows body false (index + 1) d)
+    action_shows (IfElse c body others) index number label d =
+        let to = index + 1 + size_all p s d false body + 1 in (
           within_itself d,
-          all_append ShowsWithin (plan_all p s (place + 1) d false body) (plain number d (Jump (to + size_all p s d false others)) ∷ plan_all p s to d false others)
-              (block_shows body false (place + 1) d) (within_itself d, block_shows others false to d),
+          all_append ShowsWithin (plan_all p s (index + 1) d false body) (plain number d (Jump (to + size_all p s d false others)) ∷ plan_all p s to d false others)
+              (block_shows body false (index + 1) d) (within_itself d, block_shows others false to d),
         )
-    action_shows (While c body) place number label d = (
+    action_shows (While c body) index number label d = (
       within_itself d,
       (
         within_itself d,
-        all_append ShowsWithin (plan_all p s (place + 2) d false body) (plain number d (Jump place) ∷ []) (block_shows body false (place + 2) d) (within_itself d, tt),
+        all_append ShowsWithin (plan_all p s (index + 2) d false body) (plain number d (Jump index) ∷ []) (block_shows body false (index + 2) d) (within_itself d, tt),
       ),
     )
-    action_shows (For name first end body) place number label d =
+    action_shows (For name first end body) index number label d =
         let deep = in_loop d in (
           within_itself d,
           (
@@ -62,27 +62,27 @@ module _ (p : ProgramTree) (s : ScheduleTree) where
               within_loop d,
               (
                 within_loop d,
-                all_append ShowsWithin (plan_all p s (place + 4) deep false body) (plain number d (Advance name) ∷ loop_step number deep d (Jump (place + 2)) ∷ [])
-                    (block_shows body false (place + 4) deep) (within_itself d, (within_loop d, tt)),
+                all_append ShowsWithin (plan_all p s (index + 4) deep false body) (plain number d (Advance name) ∷ loop_step number deep d (Jump (index + 2)) ∷ [])
+                    (block_shows body false (index + 4) deep) (within_itself d, (within_loop d, tt)),
               ),
             ),
           ),
         )
 
-    block_shows : (b : BlockTree) (is_done : Bool) (place : ℕ) (d : Depth) → AllOf ShowsWithin (plan_all p s place d is_done b)
-    block_shows Empty is_done place d = tt
-    block_shows (Then number label action rest) is_done place d =
+    block_shows : (b : BlockTree) (is_done : Bool) (index : ℕ) (d : Depth) → AllOf ShowsWithin (plan_all p s index d is_done b)
+    block_shows Empty is_done index d = tt
+    block_shows (Then number label action rest) is_done index d =
         let company = fusion_role_of p s d is_done label action rest in
-        let own = plan p s place d number label action in
+        let own = plan p s index d number label action in
         let n = size_in company (size p s d action) in
-        all_append ShowsWithin (plan_in company s number label d own) (plan_all p s (place + n) (behind action d) (takes_next company) rest)
-        (in_company company s number label d own (action_shows action place number label d))
-        (block_shows rest (takes_next company) (place + n) (behind action d))
+        all_append ShowsWithin (plan_in company s number label d own) (plan_all p s (index + n) (behind action d) (takes_next company) rest)
+        (in_company company s number label d own (action_shows action index number label d))
+        (block_shows rest (takes_next company) (index + n) (behind action d))
 
 -- each instruction of a plan does so
-pub shows_within : (p : ProgramTree) (s : ScheduleTree) (place : ℕ) (i : InstructionTree) → slice_get (plan_of p s) place ≡ Some i → IsWithin i.shown i.keep
-shows_within p s place i at =
+pub shows_within : (p : ProgramTree) (s : ScheduleTree) (index : ℕ) (i : InstructionTree) → slice_get (plan_of p s) index ≡ Some i → IsWithin i.shown i.keep
+shows_within p s index i at =
     let d = main_depth p in
     let last = behind_all p.main d in
-    all_at ShowsWithin (plan_of p s) place i
+    all_at ShowsWithin (plan_of p s) index i
     (all_append ShowsWithin (plan_all p s 0 d false p.main) _ (block_shows p s p.main false 0 d) (within_itself last, tt)) at

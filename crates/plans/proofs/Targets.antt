@@ -9,40 +9,40 @@ use Rattle.plans.specs.Fusing.{EdgeApplyTree, VertexApplyTree, edge_apply_of, ve
 use Rattle.plans.specs.Plan.{behind, behind_all, in_loop, main_depth, plan_of, plain, loop_step, size_in, plan_in, size, size_all, plan, plan_all}
 use Rattle.plans.specs.Bound.{is_turn}
 use Rattle.plans.proofs.Proper.{HasNoBlock}
-use Rattle.plans.proofs.Places.{HasAt, has_front, has_behind, has_all, length_in, length-plan, length-plan_all}
+use Rattle.plans.proofs.Indices.{HasAt, has_front, has_behind, has_all, length_in, length-plan, length-plan_all}
 
--- the place to which a test leaves
-abbrev pub leaving_place : OperationTree → Option ℕ
-leaving_place (Unless c to) = Some to
-leaving_place (UnlessBelow name to) = Some to
-leaving_place _ = None
+-- the index to which a test leaves
+abbrev pub leaving_index : OperationTree → Option ℕ
+leaving_index (Unless c to) = Some to
+leaving_index (UnlessBelow name to) = Some to
+leaving_index _ = None
 
--- a loop has its head at a place, and what stands after it at another
+-- a loop has its head at an index, and what stands after it at another
 pub record IsHead (code : List InstructionTree) (head to : ℕ) : Type 0 where
   pub instruction : InstructionTree
   pub stands : slice_get code head ≡ Some instruction
-  pub leaves : leaving_place instruction.operation ≡ Some to
+  pub leaves : leaving_index instruction.operation ≡ Some to
   pub turn : is_turn (slice_get code (head + 1)) ≡ true
 
 -- a jump leads on, or back to the head of a loop whose last instruction it is
-abbrev pub LeadsWell : List InstructionTree → (place : ℕ) → OperationTree → Type 0
-LeadsWell code place (Do action) = HasNoBlock action
-LeadsWell code place (Unless c to) = place < to
-LeadsWell code place (UnlessBelow name to) = (place < to) × (is_turn (slice_get code (place + 1)) ≡ true)
-LeadsWell code place (Jump to) = (place < to) ⊎ IsHead code to (place + 1)
-LeadsWell code place _ = Unit {0}
+abbrev pub LeadsWell : List InstructionTree → (index : ℕ) → OperationTree → Type 0
+LeadsWell code index (Do action) = HasNoBlock action
+LeadsWell code index (Unless c to) = index < to
+LeadsWell code index (UnlessBelow name to) = (index < to) × (is_turn (slice_get code (index + 1)) ≡ true)
+LeadsWell code index (Jump to) = (index < to) ⊎ IsHead code to (index + 1)
+LeadsWell code index _ = Unit {0}
 
-abbrev pub AllLeadWell : List InstructionTree → (place : ℕ) → List InstructionTree → Type 0
-AllLeadWell code place [] = Unit {0}
-AllLeadWell code place (i ∷ is) = LeadsWell code place i.operation × AllLeadWell code (place + 1) is
+abbrev pub AllLeadWell : List InstructionTree → (index : ℕ) → List InstructionTree → Type 0
+AllLeadWell code index [] = Unit {0}
+AllLeadWell code index (i ∷ is) = LeadsWell code index i.operation × AllLeadWell code (index + 1) is
 
-lead_append : (code : List InstructionTree) (place n : ℕ) (a b : List InstructionTree) → length a ≡ n → AllLeadWell code place a → AllLeadWell code (place + n) b → AllLeadWell code place (a ++ b)
-lead_append code place n [] b e h k =
-    let same : place + n ≡ place = omega (arith, e) in
+lead_append : (code : List InstructionTree) (index n : ℕ) (a b : List InstructionTree) → length a ≡ n → AllLeadWell code index a → AllLeadWell code (index + n) b → AllLeadWell code index (a ++ b)
+lead_append code index n [] b e h k =
+    let same : index + n ≡ index = omega (arith, e) in
     subst (λ (x : ℕ). AllLeadWell code x b) same k
-lead_append code place n (i ∷ a) b e h k =
-    let same : place + n ≡ place + 1 + length a = omega (arith, e) in
-    (h.0, lead_append code (place + 1) (length a) a b refl h.1 (subst (λ (x : ℕ). AllLeadWell code x b) same k))
+lead_append code index n (i ∷ a) b e h k =
+    let same : index + n ≡ index + 1 + length a = omega (arith, e) in
+    (h.0, lead_append code (index + 1) (length a) a b refl h.1 (subst (λ (x : ℕ). AllLeadWell code x b) same k))
 
 -- an operation that does two applies
 abbrev IsForTwo : OperationTree → Type 0
@@ -95,99 +95,99 @@ company_of_two p schedule d false label a (Then number other b rest) =
     (edges_for_two p d (edge_apply_of a) (edge_apply_of b)) (vertices_for_two p (vertex_apply_of a) (vertex_apply_of b)))
 
 module _ (p : ProgramTree) (schedule : ScheduleTree) (code : List InstructionTree) where
-  company_leads : (company : FusionRole) (place number : ℕ) (label : Option ℕ) (d : Depth) (is : List InstructionTree) → IsCompanyOfTwo company
-      → HasAt code place (plan_in company schedule number label d is) → (HasAt code place is → AllLeadWell code place is) → AllLeadWell code place (plan_in company schedule number label d is)
-  company_leads Alone place number label d is for_two at own = own at
-  company_leads (WithNext (ApplyEdgesTogether ends a b)) place number label d is for_two at own = (tt, tt)
-  company_leads (WithNext (ApplyVerticesTogether set a b)) place number label d is for_two at own = (tt, tt)
-  company_leads (WithNext operation) place number label d is for_two at own = absurd for_two
-  company_leads WithPrevious place number label d is for_two at own = tt
+  company_leads : (company : FusionRole) (index number : ℕ) (label : Option ℕ) (d : Depth) (is : List InstructionTree) → IsCompanyOfTwo company
+      → HasAt code index (plan_in company schedule number label d is) → (HasAt code index is → AllLeadWell code index is) → AllLeadWell code index (plan_in company schedule number label d is)
+  company_leads Alone index number label d is for_two at own = own at
+  company_leads (WithNext (ApplyEdgesTogether ends a b)) index number label d is for_two at own = (tt, tt)
+  company_leads (WithNext (ApplyVerticesTogether set a b)) index number label d is for_two at own = (tt, tt)
+  company_leads (WithNext operation) index number label d is for_two at own = absurd for_two
+  company_leads WithPrevious index number label d is for_two at own = tt
 
   -- instructions between others
-  inner : (place n to : ℕ) (a b : List InstructionTree) → length a ≡ n → place + n ≡ to → AllLeadWell code place a → AllLeadWell code to b → AllLeadWell code place (a ++ b)
-  inner place n to a b e same h k = lead_append code place n a b e h (subst (λ (x : ℕ). AllLeadWell code x b) (sym same) k)
+  inner : (index n to : ℕ) (a b : List InstructionTree) → length a ≡ n → index + n ≡ to → AllLeadWell code index a → AllLeadWell code to b → AllLeadWell code index (a ++ b)
+  inner index n to a b e same h k = lead_append code index n a b e h (subst (λ (x : ℕ). AllLeadWell code x b) (sym same) k)
 
-  turn_at : (place number : ℕ) (keep shown : Depth) → slice_get code place ≡ Some (loop_step number keep shown Turn) → is_turn (slice_get code place) ≡ true
-  turn_at place number keep shown e = ap is_turn e
+  turn_at : (index number : ℕ) (keep shown : Depth) → slice_get code index ≡ Some (loop_step number keep shown Turn) → is_turn (slice_get code index) ≡ true
+  turn_at index number keep shown e = ap is_turn e
 
   mutual
-    action_leads : (a : ActionTree) (place number : ℕ) (label : Option ℕ) (d : Depth) → HasAt code place (plan p schedule place d number label a) → AllLeadWell code place (plan p schedule place d number label a)
-    action_leads (DeclareInteger name e) place number label d at = (tt, tt)
-    action_leads (DeclareCondition name c) place number label d at = (tt, tt)
-    action_leads (SetInteger slot e) place number label d at = (tt, tt)
-    action_leads (SetCondition slot c) place number label d at = (tt, tt)
-    action_leads (ReduceInteger slot reduction e) place number label d at = (tt, tt)
-    action_leads (SetEntry vector index e) place number label d at = (tt, tt)
-    action_leads (ReduceEntry vector index reduction e) place number label d at = (tt, tt)
-    action_leads (DeclareSet name set) place number label d at = (tt, tt)
-    action_leads (AssignSet slot set) place number label d at = (tt, tt)
-    action_leads (AddVertex slot e) place number label d at = (tt, tt)
-    action_leads (PrintInteger e) place number label d at = (tt, tt)
-    action_leads (PrintCondition c) place number label d at = (tt, tt)
-    action_leads (ApplyVertex set function) place number label d at = (tt, tt)
-    action_leads (ApplyEdges ends function) place number label d at = (tt, tt)
-    action_leads (If c body) place number label d at = (omega arith, block_leads body false (place + 1) d at.1)
-    action_leads (IfElse c body other) place number label d at =
+    action_leads : (a : ActionTree) (index number : ℕ) (label : Option ℕ) (d : Depth) → HasAt code index (plan p schedule index d number label a) → AllLeadWell code index (plan p schedule index d number label a)
+    action_leads (DeclareInteger name e) index number label d at = (tt, tt)
+    action_leads (DeclareCondition name c) index number label d at = (tt, tt)
+    action_leads (SetInteger slot e) index number label d at = (tt, tt)
+    action_leads (SetCondition slot c) index number label d at = (tt, tt)
+    action_leads (ReduceInteger slot reduction e) index number label d at = (tt, tt)
+    action_leads (SetEntry vector subscript e) index number label d at = (tt, tt)
+    action_leads (ReduceEntry vector subscript reduction e) index number label d at = (tt, tt)
+    action_leads (DeclareSet name set) index number label d at = (tt, tt)
+    action_leads (AssignSet slot set) index number label d at = (tt, tt)
+    action_leads (AddVertex slot e) index number label d at = (tt, tt)
+    action_leads (PrintInteger e) index number label d at = (tt, tt)
+    action_leads (PrintCondition c) index number label d at = (tt, tt)
+    action_leads (ApplyVertex set function) index number label d at = (tt, tt)
+    action_leads (ApplyEdges ends function) index number label d at = (tt, tt)
+    action_leads (If c body) index number label d at = (omega arith, block_leads body false (index + 1) d at.1)
+    action_leads (IfElse c body other) index number label d at =
         let n = size_all p schedule d false body in
-        let back = place + 1 + n in
+        let back = index + 1 + n in
         let from = back + 1 in
         let to = from + size_all p schedule d false other in
-        let own = plan_all p schedule (place + 1) d false body in
+        let own = plan_all p schedule (index + 1) d false body in
         let behind_own = plain number d (Jump to) ∷ plan_all p schedule from d false other in
-        let others = has_behind code (place + 1) n back own behind_own (length-plan_all p schedule body (place + 1) d false) refl at.1 in
+        let others = has_behind code (index + 1) n back own behind_own (length-plan_all p schedule body (index + 1) d false) refl at.1 in
         let on : back < to = omega arith in (
           omega arith,
-          inner (place + 1) n back own behind_own (length-plan_all p schedule body (place + 1) d false) refl
-              (block_leads body false (place + 1) d (has_front code (place + 1) own behind_own at.1))
+          inner (index + 1) n back own behind_own (length-plan_all p schedule body (index + 1) d false) refl
+              (block_leads body false (index + 1) d (has_front code (index + 1) own behind_own at.1))
               (inl on, block_leads other false from d others.1),
         )
-    action_leads (While c body) place number label d at =
+    action_leads (While c body) index number label d at =
         let n = size_all p schedule d false body in
-        let back = place + 2 + n in
-        let own = plan_all p schedule (place + 2) d false body in
-        let jump = plain number d (Jump place) ∷ [] in
-        let second : place + 1 + 1 ≡ place + 2 = omega arith in
+        let back = index + 2 + n in
+        let own = plan_all p schedule (index + 2) d false body in
+        let jump = plain number d (Jump index) ∷ [] in
+        let second : index + 1 + 1 ≡ index + 2 = omega arith in
         let inside = subst (λ (x : ℕ). HasAt code x (own ++ jump)) second at.1.1 in
-        let head : IsHead code place (back + 1) = record { instruction = plain number d (Unless c (back + 1)); stands = at.0; leaves = refl; turn = turn_at (place + 1) number d d at.1.0 } in
-        let both = inner (place + 2) n back own jump (length-plan_all p schedule body (place + 2) d false) refl
-        (block_leads body false (place + 2) d (has_front code (place + 2) own jump inside)) (inr head, tt) in
+        let head : IsHead code index (back + 1) = record { instruction = plain number d (Unless c (back + 1)); stands = at.0; leaves = refl; turn = turn_at (index + 1) number d d at.1.0 } in
+        let both = inner (index + 2) n back own jump (length-plan_all p schedule body (index + 2) d false) refl
+        (block_leads body false (index + 2) d (has_front code (index + 2) own jump inside)) (inr head, tt) in
         (omega arith, (tt, subst (λ (x : ℕ). AllLeadWell code x (own ++ jump)) (sym second) both))
-    action_leads (For name first end body) place number label d at =
+    action_leads (For name first end body) index number label d at =
         let deep = in_loop d in
         let n = size_all p schedule deep false body in
-        let back = place + 4 + n in
-        let own = plan_all p schedule (place + 4) deep false body in
-        let last = plain number d (Advance name) ∷ loop_step number deep d (Jump (place + 2)) ∷ [] in
-        let second : place + 1 + 1 ≡ place + 2 = omega arith in
-        let third : place + 1 + 1 + 1 ≡ place + 2 + 1 = omega arith in
-        let fourth : place + 1 + 1 + 1 + 1 ≡ place + 4 = omega arith in
+        let back = index + 4 + n in
+        let own = plan_all p schedule (index + 4) deep false body in
+        let last = plain number d (Advance name) ∷ loop_step number deep d (Jump (index + 2)) ∷ [] in
+        let second : index + 1 + 1 ≡ index + 2 = omega arith in
+        let third : index + 1 + 1 + 1 ≡ index + 2 + 1 = omega arith in
+        let fourth : index + 1 + 1 + 1 + 1 ≡ index + 4 = omega arith in
         let inside = subst (λ (x : ℕ). HasAt code x (own ++ last)) fourth at.1.1.1.1 in
         let to = back + 2 in
         let test = loop_step number deep d (UnlessBelow name to) in
         let behind_last : to ≡ back + 1 + 1 = omega arith in
-        let turn = turn_at (place + 1 + 1 + 1) number deep d at.1.1.1.0 in
-        let head : IsHead code (place + 2) (back + 1 + 1) = record {
+        let turn = turn_at (index + 1 + 1 + 1) number deep d at.1.1.1.0 in
+        let head : IsHead code (index + 2) (back + 1 + 1) = record {
           instruction = test;
           stands = subst (λ (x : ℕ). slice_get code x ≡ Some test) second at.1.1.0;
           leaves = ap {B = Option ℕ} Some behind_last;
           turn = subst (λ (x : ℕ). is_turn (slice_get code x) ≡ true) third turn;
         } in
-        let both = inner (place + 4) n back own last (length-plan_all p schedule body (place + 4) deep false) refl
-        (block_leads body false (place + 4) deep (has_front code (place + 4) own last inside)) (tt, (inr head, tt)) in
+        let both = inner (index + 4) n back own last (length-plan_all p schedule body (index + 4) deep false) refl
+        (block_leads body false (index + 4) deep (has_front code (index + 4) own last inside)) (tt, (inr head, tt)) in
         (tt, (tt, ((omega arith, turn), (tt, subst (λ (x : ℕ). AllLeadWell code x (own ++ last)) (sym fourth) both))))
 
-    block_leads : (b : BlockTree) (is_done : Bool) (place : ℕ) (d : Depth) → HasAt code place (plan_all p schedule place d is_done b) → AllLeadWell code place (plan_all p schedule place d is_done b)
-    block_leads Empty is_done place d at = tt
-    block_leads (Then number label action rest) is_done place d at =
+    block_leads : (b : BlockTree) (is_done : Bool) (index : ℕ) (d : Depth) → HasAt code index (plan_all p schedule index d is_done b) → AllLeadWell code index (plan_all p schedule index d is_done b)
+    block_leads Empty is_done index d at = tt
+    block_leads (Then number label action rest) is_done index d at =
         let company = fusion_role_of p schedule d is_done label action rest in
-        let own = plan p schedule place d number label action in
+        let own = plan p schedule index d number label action in
         let n = size_in company (size p schedule d action) in
         let first = plan_in company schedule number label d own in
-        let others = plan_all p schedule (place + n) (behind action d) (takes_next company) rest in
-        let e : length first ≡ n = length_in company schedule number label d own (size p schedule d action) (length-plan p schedule action place d number label) in
-        lead_append code place n first others e
-        (company_leads company place number label d own (company_of_two p schedule d is_done label action rest) (has_front code place first others at) (λ here. action_leads action place number label d here))
-        (block_leads rest (takes_next company) (place + n) (behind action d) (has_behind code place n (place + n) first others e refl at))
+        let others = plan_all p schedule (index + n) (behind action d) (takes_next company) rest in
+        let e : length first ≡ n = length_in company schedule number label d own (size p schedule d action) (length-plan p schedule action index d number label) in
+        lead_append code index n first others e
+        (company_leads company index number label d own (company_of_two p schedule d is_done label action rest) (has_front code index first others at) (λ here. action_leads action index number label d here))
+        (block_leads rest (takes_next company) (index + n) (behind action d) (has_behind code index n (index + n) first others e refl at))
 
 -- each instruction of the plan of a program leads well
 pub plan_leads : (p : ProgramTree) (schedule : ScheduleTree) → AllLeadWell (plan_of p schedule) 0 (plan_of p schedule)

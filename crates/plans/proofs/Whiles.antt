@@ -48,59 +48,59 @@ forgotten-pushed d turns s next end proper =
 
 module _ (p : ProgramTree) (g : GraphValue) (code : List InstructionTree) where
   -- the test of a loop or of a choice, which has no value, or fails
-  pub unless_faults : (c : ConditionTree) (place number to : ℕ) (d : Depth) (turns : ℕ) (loops : List LoopCounter) (m s : StateValue)
-      → slice_get code place ≡ Some (plain number d (Unless c to)) → forget_beyond d m ≡ s → IsProper d turns s → choice_in g.vertices c s ≡ None
-      → Reaches p g code (At place loops m) (Ended s (Fault 401 number))
-  unless_faults c place number to d turns loops m s at same proper e =
-      by_step p g code (At place loops m) (Ended s (Fault 401 number)) (Ended s (Fault 401 number))
-      (moves_on p g code (takes p g code place loops m (plain number d (Unless c to)) s at same)
-      (ap (λ (o : Option Bool). after_unless o (place + 1) to loops number d s) e
+  pub unless_faults : (c : ConditionTree) (index number to : ℕ) (d : Depth) (turns : ℕ) (loops : List LoopCounter) (m s : StateValue)
+      → slice_get code index ≡ Some (plain number d (Unless c to)) → forget_beyond d m ≡ s → IsProper d turns s → choice_in g.vertices c s ≡ None
+      → Reaches p g code (At index loops m) (Ended s (Fault 401 number))
+  unless_faults c index number to d turns loops m s at same proper e =
+      by_step p g code (At index loops m) (Ended s (Fault 401 number)) (Ended s (Fault 401 number))
+      (moves_on p g code (takes p g code index loops m (plain number d (Unless c to)) s at same)
+      (ap (λ (o : Option Bool). after_unless o (index + 1) to loops number d s) e
       ∙ ap (λ (t : StateValue). Ended t (Fault 401 number)) (forgotten-all d s proper.deep))) here
 
-  pub unless_chooses : (c : ConditionTree) (place number to : ℕ) (d : Depth) (loops : List LoopCounter) (m s : StateValue) (b : Bool)
-      → slice_get code place ≡ Some (plain number d (Unless c to)) → forget_beyond d m ≡ s → choice_in g.vertices c s ≡ Some b
-      → Moves p g code (At place loops m) (At (if b then place + 1 else to) loops s)
-  unless_chooses c place number to d loops m s b at same e =
-      moves_on p g code (takes p g code place loops m (plain number d (Unless c to)) s at same)
-      (ap (λ (o : Option Bool). after_unless o (place + 1) to loops number d s) e)
+  pub unless_chooses : (c : ConditionTree) (index number to : ℕ) (d : Depth) (loops : List LoopCounter) (m s : StateValue) (b : Bool)
+      → slice_get code index ≡ Some (plain number d (Unless c to)) → forget_beyond d m ≡ s → choice_in g.vertices c s ≡ Some b
+      → Moves p g code (At index loops m) (At (if b then index + 1 else to) loops s)
+  unless_chooses c index number to d loops m s b at same e =
+      moves_on p g code (takes p g code index loops m (plain number d (Unless c to)) s at same)
+      (ap (λ (o : Option Bool). after_unless o (index + 1) to loops number d s) e)
 
   -- at the head of `while`
   abbrev IsAtWhile : ℕ → List LoopCounter → Depth → ℕ → StateValue → Configuration → Type 0
-  IsAtWhile place loops d n s c = (m : StateValue) × (forget_beyond d m ≡ s) × (c ≡ At place loops m)
+  IsAtWhile index loops d n s c = (m : StateValue) × (forget_beyond d m ≡ s) × (c ≡ At index loops m)
 
-  while_leads : (st : Stand) (place number back : ℕ) (d : Depth) (turns : ℕ) (loops : List LoopCounter) (c : Configuration)
-      → slice_get code back ≡ Some (plain number d (Jump place)) → Follows p g code back loops d turns st c → LeadsOn p g code d turns (IsAtWhile place loops d 0) st c
-  while_leads (Live u) place number back d turns loops c at f = (
-    At place loops u,
+  while_leads : (st : Stand) (index number back : ℕ) (d : Depth) (turns : ℕ) (loops : List LoopCounter) (c : Configuration)
+      → slice_get code back ≡ Some (plain number d (Jump index)) → Follows p g code back loops d turns st c → LeadsOn p g code d turns (IsAtWhile index loops d 0) st c
+  while_leads (Live u) index number back d turns loops c at f = (
+    At index loops u,
     and_reaches p g code f.reaches
-        (by_step p g code (At back loops f.there) (At place loops u) (At place loops u) (takes p g code back loops f.there (plain number d (Jump place)) u at f.same) here),
+        (by_step p g code (At back loops f.there) (At index loops u) (At index loops u) (takes p g code back loops f.there (plain number d (Jump index)) u at f.same) here),
     (u, forgotten-all d u f.proper.deep, refl),
     f.proper,
   )
-  while_leads (Over u end) place number back d turns loops c at f = f
+  while_leads (Over u end) index number back d turns loops c at f = f
 
-  pub while_runs : (c : ConditionTree) (block : StateValue → Stand) (place number back to : ℕ) (d e : Depth) (turns : ℕ) (loops : List LoopCounter) (m s : StateValue)
-      → slice_get code place ≡ Some (plain number d (Unless c to)) → slice_get code (place + 1) ≡ Some (plain number d Turn) → slice_get code back ≡ Some (plain number d (Jump place))
-      → IsWithin d e → ((n : ℕ) (t : StateValue) → IsProper d n t → Follows p g code back loops e n (block t) (At (place + 2) loops t))
-      → forget_beyond d m ≡ s → IsProper d turns s → Follows p g code to loops d turns (after_while g.vertices number c block s) (At place loops m)
-  while_runs c block place number back to d e turns loops m s at_test at_turn at_back within block_runs same proper =
+  pub while_runs : (c : ConditionTree) (block : StateValue → Stand) (index number back to : ℕ) (d e : Depth) (turns : ℕ) (loops : List LoopCounter) (m s : StateValue)
+      → slice_get code index ≡ Some (plain number d (Unless c to)) → slice_get code (index + 1) ≡ Some (plain number d Turn) → slice_get code back ≡ Some (plain number d (Jump index))
+      → IsWithin d e → ((n : ℕ) (t : StateValue) → IsProper d n t → Follows p g code back loops e n (block t) (At (index + 2) loops t))
+      → forget_beyond d m ≡ s → IsProper d turns s → Follows p g code to loops d turns (after_while g.vertices number c block s) (At index loops m)
+  while_runs c block index number back to d e turns loops m s at_test at_turn at_back within block_runs same proper =
       let st = after_while g.vertices number c block s in
-      follows_more p g code st to loops d s.turns turns (At place loops m) proper.fewer
-      (loop_runs p g code ℕ (while_test g.vertices c) (while_body block) (λ (n : ℕ). n) number to loops d (IsAtWhile place loops d) runs s.turns 0 s (At place loops m)
+      follows_more p g code st to loops d s.turns turns (At index loops m) proper.fewer
+      (loop_runs p g code ℕ (while_test g.vertices c) (while_body block) (λ (n : ℕ). n) number to loops d (IsAtWhile index loops d) runs s.turns 0 s (At index loops m)
       (record { deep = proper.deep; sets = proper.sets; fewer = omega arith }) (m, same, refl))
     where
-      chosen : (b : Bool) (t : StateValue) (x : Configuration) → IsAtWhile place loops d 0 t x → choice_in g.vertices c t ≡ Some b
-          → Moves p g code x (At (if b then place + 1 else to) loops t)
-      chosen b t x head e = moves_from p g code head.2 (unless_chooses c place number to d loops head.0 t b at_test head.1 e)
+      chosen : (b : Bool) (t : StateValue) (x : Configuration) → IsAtWhile index loops d 0 t x → choice_in g.vertices c t ≡ Some b
+          → Moves p g code x (At (if b then index + 1 else to) loops t)
+      chosen b t x head e = moves_from p g code head.2 (unless_chooses c index number to d loops head.0 t b at_test head.1 e)
 
-      turned : (t : StateValue) → depth_of t ≡ d → Moves p g code (At (place + 1) loops t) (after_turn t.turns (place + 2) loops d t)
+      turned : (t : StateValue) → depth_of t ≡ d → Moves p g code (At (index + 1) loops t) (after_turn t.turns (index + 2) loops d t)
       turned t deep =
-          moves_on p g code (takes p g code (place + 1) loops t (plain number d Turn) t at_turn (forgotten-all d t deep)) (ap (λ (x : ℕ). after_turn t.turns x loops d t) (omega arith))
+          moves_on p g code (takes p g code (index + 1) loops t (plain number d Turn) t at_turn (forgotten-all d t deep)) (ap (λ (x : ℕ). after_turn t.turns x loops d t) (omega arith))
 
-      runs : RunsLoop p g code ℕ (while_test g.vertices c) (while_body block) (λ (n : ℕ). n) number to loops d (IsAtWhile place loops d)
+      runs : RunsLoop p g code ℕ (while_test g.vertices c) (while_body block) (λ (n : ℕ). n) number to loops d (IsAtWhile index loops d)
       runs = record {
         faults = λ a n t x q head e. subst (λ (y : Configuration). Reaches p g code y (Ended t (Fault 401 number))) (sym head.2)
-            (unless_faults c place number to d n loops head.0 t at_test head.1 q e);
+            (unless_faults c index number to d n loops head.0 t at_test head.1 q e);
         stops = λ a n t x q head e. record {
           there = t;
           reaches = by_step p g code x (At to loops t) (At to loops t) (chosen false t x head e) here;
@@ -108,16 +108,16 @@ module _ (p : ProgramTree) (g : GraphValue) (code : List InstructionTree) where
           proper = q;
         };
         is_over = λ a n t x q head e none.
-            by_step p g code x (At (place + 1) loops t) (Ended t TurnsOver) (chosen true t x head e)
-            (by_step p g code (At (place + 1) loops t) (Ended t TurnsOver) (Ended t TurnsOver)
-            (moves_on p g code (turned t q.deep) (ap (λ (y : ℕ). after_turn y (place + 2) loops d t) none ∙ ap (λ (u : StateValue). Ended u TurnsOver) (forgotten-all d t q.deep))) here);
+            by_step p g code x (At (index + 1) loops t) (Ended t TurnsOver) (chosen true t x head e)
+            (by_step p g code (At (index + 1) loops t) (Ended t TurnsOver) (Ended t TurnsOver)
+            (moves_on p g code (turned t q.deep) (ap (λ (y : ℕ). after_turn y (index + 2) loops d t) none ∙ ap (λ (u : StateValue). Ended u TurnsOver) (forgotten-all d t q.deep))) here);
         turn = λ a n t x q head holds k left.
             let u : StateValue = record t { turns = k } in
             let proper : IsProper d k u = record { deep = q.deep; sets = q.sets; fewer = omega arith } in
-            leads_from p g code d k (IsAtWhile place loops d 0) (inside block u) x (At (place + 2) loops u)
-            (by_step p g code x (At (place + 1) loops t) (At (place + 2) loops u) (chosen true t x head holds)
-            (by_step p g code (At (place + 1) loops t) (At (place + 2) loops u) (At (place + 2) loops u)
-            (moves_on p g code (turned t q.deep) (ap (λ (y : ℕ). after_turn y (place + 2) loops d t) left)) here))
-            (while_leads (inside block u) place number back d k loops (At (place + 2) loops u) at_back
-            (leaving p g code (block u) back loops d e k u (At (place + 2) loops u) q.deep within (block_runs k u proper)));
+            leads_from p g code d k (IsAtWhile index loops d 0) (inside block u) x (At (index + 2) loops u)
+            (by_step p g code x (At (index + 1) loops t) (At (index + 2) loops u) (chosen true t x head holds)
+            (by_step p g code (At (index + 1) loops t) (At (index + 2) loops u) (At (index + 2) loops u)
+            (moves_on p g code (turned t q.deep) (ap (λ (y : ℕ). after_turn y (index + 2) loops d t) left)) here))
+            (while_leads (inside block u) index number back d k loops (At (index + 2) loops u) at_back
+            (leaving p g code (block u) back loops d e k u (At (index + 2) loops u) q.deep within (block_runs k u proper)));
       }

@@ -16,7 +16,7 @@ use Rattle.plans.specs.RunLaws.{Shows, RunsAs, StepsLowerTheBound}
 use Rattle.plans.proofs.Depths.{forgotten-all}
 use Rattle.plans.proofs.Ascending.{AscendsFrom, ascends_range}
 use Rattle.plans.proofs.Proper.{IsProper}
-use Rattle.plans.proofs.Places.{has_front, has_behind, has_all, length-plan_all}
+use Rattle.plans.proofs.Indices.{has_front, has_behind, has_all, length-plan_all}
 use Rattle.plans.proofs.Reaching.{Reaches, here, and_reaches, by_step, moves_on, Follows, takes}
 use Rattle.plans.proofs.Runs.{block_runs}
 use Rattle.plans.proofs.Pairs.{company_is_good}
@@ -28,8 +28,8 @@ length-all_vertices : (g : GraphValue) (sets : List ℕ) → length (map (all_ve
 length-all_vertices g [] = refl
 length-all_vertices g (x ∷ xs) = ap suc (length-all_vertices g xs)
 
-constant_sets_ascend : (g : GraphValue) (sets : List ℕ) (place : ℕ) → AscendsFrom 0 (members_of (slice_get (map (all_vertices g) sets) place))
-constant_sets_ascend g [] place = tt
+constant_sets_ascend : (g : GraphValue) (sets : List ℕ) (index : ℕ) → AscendsFrom 0 (members_of (slice_get (map (all_vertices g) sets) index))
+constant_sets_ascend g [] index = tt
 constant_sets_ascend g (x ∷ xs) zero = ascends_range 0 g.vertices
 constant_sets_ascend g (x ∷ xs) (suc n) = constant_sets_ascend g xs n
 

@@ -91,7 +91,7 @@ vertex_applies vertices = Then 1 (Some 0) (ApplyVertex vertices 0) (Then 2 (Some
 
 -- the first constant set, of this name
 abbrev pub first_set : (name : ℕ) → VarRef
-first_set name = record { place = 0; name = name }
+first_set name = record { index = 0; name = name }
 
 abbrev pub HasPlanOfVertexPair : ProgramTree → (name : ℕ) → Type 0
 HasPlanOfVertexPair p name =
@@ -100,7 +100,7 @@ HasPlanOfVertexPair p name =
     ∷ End
     ∷ []
 
--- the filter reads vector 0, and the edge function at a place writes the vector at this place
+-- the filter reads vector 0, and the edge function at an index writes the vector at this index
 abbrev pub reads_first : FunctionTree
 reads_first = record { name = 0; steps = step.StepThen (step.DeclareCondition 1 (Compare Less (EntryAt 0 Source) (Number (pos 1)))) step.NoStep }
 
@@ -124,7 +124,7 @@ HasPlanOfEdgePair p =
     ∷ End
     ∷ []
 
--- two sets that get what the edge functions at places 1 and 2 change
+-- two sets that get what the edge functions at indices 1 and 2 change
 abbrev pub all_edges : ApplyEnds
 all_edges = record { from = None; to = None }
 

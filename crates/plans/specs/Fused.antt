@@ -31,4 +31,4 @@ FitTogether p End = Unit {0}
 
 -- so it is of each two applies that a plan does together
 abbrev pub FusedFit : ProgramTree → List InstructionTree → Type 0
-FusedFit p plan = (place : ℕ) (i : InstructionTree) → slice_get plan place ≡ Some i → FitTogether p i.operation
+FusedFit p plan = (index : ℕ) (i : InstructionTree) → slice_get plan index ≡ Some i → FitTogether p i.operation

@@ -53,11 +53,11 @@ abbrev pub vertex_apply_of : ActionTree → Option VertexApplyTree
 vertex_apply_of (block.ApplyVertex set function) = Some (record { set = set; function = function })
 vertex_apply_of _ = None
 
--- the place of the set that gets what an edge apply changed, where so many sets are visible; its name; and the vector
-abbrev pub result_places : Depth → ResultTree → List ℕ
-result_places d Dropped = []
-result_places d (Declared name vector) = d.sets ∷ []
-result_places d (Assigned slot vector) = slot.place ∷ []
+-- the index of the set that gets what an edge apply changed, where so many sets are visible; its name; and the vector
+abbrev pub result_indices : Depth → ResultTree → List ℕ
+result_indices d Dropped = []
+result_indices d (Declared name vector) = d.sets ∷ []
+result_indices d (Assigned slot vector) = slot.index ∷ []
 
 abbrev pub result_name : ResultTree → Option ℕ
 result_name Dropped = None
@@ -73,7 +73,7 @@ result_vectors (Assigned slot vector) = vector ∷ []
 abbrev pub set_of : Access → List ℕ
 set_of (ReadAtVertex vector) = []
 set_of (ReadAtIndex vector) = []
-set_of (ReadSet place) = place ∷ []
+set_of (ReadSet index) = index ∷ []
 set_of (Write vector) = []
 
 -- the vertex sets of which an expression reads the size
@@ -90,12 +90,12 @@ step_sizes step = step_fold (gathered set_of) step
 abbrev pub steps_sizes : StepsTree → List ℕ
 steps_sizes steps = steps_fold (gathered set_of) steps
 
--- the same of the function at a place
+-- the same of the function at an index
 abbrev pub steps_sizes_where : Option FunctionTree → List ℕ
 steps_sizes_where f = steps_fold_where (gathered set_of) f
 
 abbrev pub function_sizes : List FunctionTree → ℕ → List ℕ
-function_sizes functions place = function_fold (gathered set_of) functions place
+function_sizes functions index = function_fold (gathered set_of) functions index
 
 -- the vertex sets that an end of an edge apply depends on
 abbrev pub end_sets : List FunctionTree → Option VertexFilter → List ℕ
@@ -105,12 +105,12 @@ end_sets filters end = end_fold (gathered set_of) filters end
 abbrev pub sets_read : ProgramTree → EdgeApplyTree → List ℕ
 sets_read p x = end_sets p.filters x.ends.from ++ (end_sets p.filters x.ends.to ++ function_sizes p.edge_functions x.part.function)
 
--- two ends are the set, or the filter, at the same place, or none is given
+-- two ends are the set, or the filter, at the same index, or none is given
 abbrev pub is_same_end : Option VertexFilter → Option VertexFilter → Bool
 is_same_end None None = true
 is_same_end None (Some b) = false
 is_same_end (Some a) None = false
-is_same_end (Some (end.Members a)) (Some (end.Members b)) = nat_eq a.place b.place
+is_same_end (Some (end.Members a)) (Some (end.Members b)) = nat_eq a.index b.index
 is_same_end (Some (end.Members a)) (Some (end.Function g)) = false
 is_same_end (Some (end.Function f)) (Some (end.Members b)) = false
 is_same_end (Some (end.Function f)) (Some (end.Function g)) = nat_eq f g
@@ -125,7 +125,7 @@ abbrev pub edges_fit : ProgramTree → Depth → EdgeApplyTree → EdgeApplyTree
 edges_fit p d x y =
     (is_same_end x.ends.from y.ends.from && is_same_end x.ends.to y.ends.to)
     && (are_independent p (apply_tree x) (apply_tree y)
-    && (are_apart (sets_read p y) (result_places d x.part.result)
+    && (are_apart (sets_read p y) (result_indices d x.part.result)
     && (are_apart (result_vectors x.part.result) (function_writes p.edge_functions y.part.function)
     && are_apart (result_vectors y.part.result) (function_writes p.edge_functions x.part.function))))
 
@@ -133,7 +133,7 @@ edges_fit p d x y =
 abbrev pub is_local : Access → Bool
 is_local (ReadAtVertex vector) = true
 is_local (ReadAtIndex vector) = false
-is_local (ReadSet place) = true
+is_local (ReadSet index) = true
 is_local (Write vector) = true
 
 -- so are all those of an expression
@@ -154,12 +154,12 @@ abbrev pub steps_are_local_where : Option FunctionTree → Bool
 steps_are_local_where f = steps_fold_where (all_pass is_local) f
 
 abbrev pub function_is_local : List FunctionTree → ℕ → Bool
-function_is_local functions place = function_fold (all_pass is_local) functions place
+function_is_local functions index = function_fold (all_pass is_local) functions index
 
 -- two vertex applies to the same set, of functions that work on their own vertex alone
 abbrev pub vertices_fit : ProgramTree → VertexApplyTree → VertexApplyTree → Bool
 vertices_fit p x y =
-    nat_eq x.set.place y.set.place
+    nat_eq x.set.index y.set.index
     && (function_is_local p.vertex_functions x.function && function_is_local p.vertex_functions y.function)
 
 -- two applies together, where they fit

@@ -14,23 +14,23 @@ pub data ResultTree : Type 0 where
   Declared : (name vector : ℕ) → ResultTree
   Assigned : VarRef → (vector : ℕ) → ResultTree
 
--- the edge function at this place, and what is done with what it changed
+-- the edge function at this index, and what is done with what it changed
 pub record EdgePartTree : Type 0 where
   pub function : ℕ
   pub result : ResultTree
 
--- what an instruction does; a place that it may go to is that of an instruction
+-- what an instruction does; an index that it may go to is that of an instruction
 pub data OperationTree : Type 0 where
   -- a statement without a block
   Do : ActionTree → OperationTree
   -- two edge applies between the same ends, and two vertex applies to the same set
   ApplyEdgesTogether : ApplyEnds → (first second : EdgePartTree) → OperationTree
   ApplyVerticesTogether : (set : VarRef) → (first second : ℕ) → OperationTree
-  -- goes on at the place unless the condition holds
+  -- goes on at the index unless the condition holds
   Unless : ConditionTree → (to : ℕ) → OperationTree
   -- `for` whose name, the last variable, has its first value: the second bound, which stands after the name
   Enter : (name : ℕ) → (end : IntegerTree) → OperationTree
-  -- leaves the loop for the place unless the name is below the bound
+  -- leaves the loop for the index unless the name is below the bound
   UnlessBelow : (name to : ℕ) → OperationTree
   -- the name of the loop gets its next value
   Advance : (name : ℕ) → OperationTree

@@ -20,16 +20,16 @@ use Rattle.algorithm_meaning.specs.Loop.{forget_beyond, next_of}
 use Rattle.algorithm_meaning.specs.Meaning.{after}
 use Rattle.plans.specs.Instruction.{ResultTree, Dropped, Declared, Assigned, EdgePartTree, OperationTree, Do, ApplyEdgesTogether, ApplyVerticesTogether, Unless, Enter, UnlessBelow, Advance, Turn, Jump, End, InstructionTree}
 
--- where a run of a plan stands: before the instruction at a place, with the values of the `for` loops around it, the innermost first; or at its end
+-- where a run of a plan stands: before the instruction at an index, with the values of the `for` loops around it, the innermost first; or at its end
 pub data Configuration : Type 0 where
-  At : (place : ℕ) → (loops : List LoopCounter) → StateValue → Configuration
+  At : (index : ℕ) → (loops : List LoopCounter) → StateValue → Configuration
   Ended : StateValue → Ending → Configuration
 
 -- what is done with the vertices where a vector changed
 abbrev pub with_result : (vertices : ℕ) → (before after : List (List ℤ)) → ResultTree → StateValue → StateValue
 with_result vertices before after Dropped s = s
 with_result vertices before after (Declared name vector) s = with_new_set s name (modified vertices vector before after)
-with_result vertices before after (Assigned slot vector) s = with_members s slot.place (modified vertices vector before after)
+with_result vertices before after (Assigned slot vector) s = with_members s slot.index (modified vertices vector before after)
 
 abbrev pub with_results : (vertices : ℕ) → (before after : List (List ℤ)) → List EdgePartTree → StateValue → StateValue
 with_results vertices before after [] s = s
@@ -52,20 +52,20 @@ after_apply_both p set first second s =
     with_vectors s (after_both (steps_of (slice_get p.vertex_functions first)) (steps_of (slice_get p.vertex_functions second)) s (members_of (slice_get s.sets set)) s.vectors)
 
 -- at the next instruction, or at the end, where what is visible at the statement is shown
-abbrev pub go_on : (place : ℕ) → List LoopCounter → (shown : Depth) → Stand → Configuration
-go_on place loops shown (Live s) = At place loops s
-go_on place loops shown (Over s end) = Ended (forget_beyond shown s) end
+abbrev pub go_on : (index : ℕ) → List LoopCounter → (shown : Depth) → Stand → Configuration
+go_on index loops shown (Live s) = At index loops s
+go_on index loops shown (Over s end) = Ended (forget_beyond shown s) end
 
 abbrev pub faulty : (number : ℕ) → (shown : Depth) → StateValue → Configuration
 faulty number shown s = Ended (forget_beyond shown s) (Fault 401 number)
 
--- at one of two places
-abbrev pub either_place : Bool → (here there : ℕ) → List LoopCounter → StateValue → Configuration
-either_place b here there loops s = At (if b then here else there) loops s
+-- at one of two indices
+abbrev pub either_index : Bool → (here there : ℕ) → List LoopCounter → StateValue → Configuration
+either_index b here there loops s = At (if b then here else there) loops s
 
 abbrev pub after_unless : Option Bool → (here there : ℕ) → List LoopCounter → (number : ℕ) → (shown : Depth) → StateValue → Configuration
 after_unless None here there loops number shown s = faulty number shown s
-after_unless (Some b) here there loops number shown s = either_place b here there loops s
+after_unless (Some b) here there loops number shown s = either_index b here there loops s
 
 -- the loop's name is the last variable; the bound does not see it
 abbrev pub after_enter : Option ℤ → (here : ℕ) → List LoopCounter → (number : ℕ) → (shown : Depth) → StateValue → Configuration
@@ -86,28 +86,28 @@ abbrev pub after_turn : (turns : ℕ) → (here : ℕ) → List LoopCounter → 
 after_turn zero here loops shown s = Ended (forget_beyond shown s) TurnsOver
 after_turn (suc n) here loops shown s = At here loops (record s { turns = n })
 
--- what an operation of a statement does at a place, on a state without what is beyond it
-abbrev pub act : ProgramTree → GraphValue → OperationTree → (number : ℕ) → (shown : Depth) → (place : ℕ) → List LoopCounter → StateValue → Configuration
-act p g (Do action) number shown place loops s = go_on (place + 1) loops shown (after p g number action s)
-act p g (ApplyEdgesTogether ends a b) number shown place loops s = At (place + 1) loops (after_parts p g ends (a ∷ b ∷ []) s)
-act p g (ApplyVerticesTogether set a b) number shown place loops s = At (place + 1) loops (after_apply_both p set.place a b s)
-act p g (Unless c to) number shown place loops s = after_unless (choice_in g.vertices c s) (place + 1) to loops number shown s
-act p g (Enter name e) number shown place loops s =
-    after_enter (number_in g.vertices e (forget_beyond shown s)) (place + 1) loops number shown s
-act p g (UnlessBelow name to) number shown place loops s = after_unless_below (place + 1) to loops s
-act p g (Advance name) number shown place loops s = after_advance (place + 1) loops s
-act p g Turn number shown place loops s = after_turn s.turns (place + 1) loops shown s
-act p g (Jump to) number shown place loops s = At to loops s
-act p g End number shown place loops s = Ended (forget_beyond shown s) Finished
+-- what an operation of a statement does at an index, on a state without what is beyond it
+abbrev pub act : ProgramTree → GraphValue → OperationTree → (number : ℕ) → (shown : Depth) → (index : ℕ) → List LoopCounter → StateValue → Configuration
+act p g (Do action) number shown index loops s = go_on (index + 1) loops shown (after p g number action s)
+act p g (ApplyEdgesTogether ends a b) number shown index loops s = At (index + 1) loops (after_parts p g ends (a ∷ b ∷ []) s)
+act p g (ApplyVerticesTogether set a b) number shown index loops s = At (index + 1) loops (after_apply_both p set.index a b s)
+act p g (Unless c to) number shown index loops s = after_unless (choice_in g.vertices c s) (index + 1) to loops number shown s
+act p g (Enter name e) number shown index loops s =
+    after_enter (number_in g.vertices e (forget_beyond shown s)) (index + 1) loops number shown s
+act p g (UnlessBelow name to) number shown index loops s = after_unless_below (index + 1) to loops s
+act p g (Advance name) number shown index loops s = after_advance (index + 1) loops s
+act p g Turn number shown index loops s = after_turn s.turns (index + 1) loops shown s
+act p g (Jump to) number shown index loops s = At to loops s
+act p g End number shown index loops s = Ended (forget_beyond shown s) Finished
 
--- the instruction at a place; after the last one the run has come to the end
-abbrev pub act_at : ProgramTree → GraphValue → Option InstructionTree → (place : ℕ) → List LoopCounter → StateValue → Configuration
-act_at p g None place loops s = Ended s Finished
-act_at p g (Some i) place loops s = act p g i.operation i.number i.shown place loops (forget_beyond i.keep s)
+-- the instruction at an index; after the last one the run has come to the end
+abbrev pub act_at : ProgramTree → GraphValue → Option InstructionTree → (index : ℕ) → List LoopCounter → StateValue → Configuration
+act_at p g None index loops s = Ended s Finished
+act_at p g (Some i) index loops s = act p g i.operation i.number i.shown index loops (forget_beyond i.keep s)
 
 -- one instruction; a run that has ended stays
 abbrev pub step : ProgramTree → GraphValue → List InstructionTree → Configuration → Configuration
-step p g plan (At place loops s) = act_at p g (slice_get plan place) place loops s
+step p g plan (At index loops s) = act_at p g (slice_get plan index) index loops s
 step p g plan (Ended s end) = Ended s end
 
 abbrev pub steps : ProgramTree → GraphValue → List InstructionTree → ℕ → Configuration → Configuration

@@ -82,37 +82,37 @@ abbrev mutual
       + size_all p s (behind action d) (takes_next (fusion_role_of p s d is_done label action rest)) rest
 
 abbrev mutual
-  -- the instructions of a statement, of which the first stands at this place
-  pub plan : ProgramTree → ScheduleTree → (place : ℕ) → Depth → (number : ℕ) → Option ℕ → ActionTree → List InstructionTree
-  plan p s place d number label (If c body) =
-      plain number d (Unless c (place + 1 + size_all p s d false body))
-      ∷ plan_all p s (place + 1) d false body
-  plan p s place d number label (IfElse c body other) =
-      plain number d (Unless c (place + 1 + size_all p s d false body + 1))
-      ∷ (plan_all p s (place + 1) d false body
-      ++ plain number d (Jump (place + 1 + size_all p s d false body + 1 + size_all p s d false other))
-      ∷ plan_all p s (place + 1 + size_all p s d false body + 1) d false other)
-  plan p s place d number label (While c body) =
-      plain number d (Unless c (place + 2 + size_all p s d false body + 1))
+  -- the instructions of a statement, of which the first stands at this index
+  pub plan : ProgramTree → ScheduleTree → (index : ℕ) → Depth → (number : ℕ) → Option ℕ → ActionTree → List InstructionTree
+  plan p s index d number label (If c body) =
+      plain number d (Unless c (index + 1 + size_all p s d false body))
+      ∷ plan_all p s (index + 1) d false body
+  plan p s index d number label (IfElse c body other) =
+      plain number d (Unless c (index + 1 + size_all p s d false body + 1))
+      ∷ (plan_all p s (index + 1) d false body
+      ++ plain number d (Jump (index + 1 + size_all p s d false body + 1 + size_all p s d false other))
+      ∷ plan_all p s (index + 1 + size_all p s d false body + 1) d false other)
+  plan p s index d number label (While c body) =
+      plain number d (Unless c (index + 2 + size_all p s d false body + 1))
       ∷ plain number d Turn
-      ∷ (plan_all p s (place + 2) d false body
-      ++ plain number d (Jump place) ∷ [])
-  plan p s place d number label (For name first end body) =
+      ∷ (plan_all p s (index + 2) d false body
+      ++ plain number d (Jump index) ∷ [])
+  plan p s index d number label (For name first end body) =
       plain number d (Do (DeclareInteger name first))
       ∷ loop_step number (with_integer d) d (Enter name end)
-      ∷ loop_step number (in_loop d) d (UnlessBelow name (place + 4 + size_all p s (in_loop d) false body + 2))
+      ∷ loop_step number (in_loop d) d (UnlessBelow name (index + 4 + size_all p s (in_loop d) false body + 2))
       ∷ loop_step number (in_loop d) d Turn
-      ∷ (plan_all p s (place + 4) (in_loop d) false body
+      ∷ (plan_all p s (index + 4) (in_loop d) false body
       ++ plain number d (Advance name)
-      ∷ loop_step number (in_loop d) d (Jump (place + 2)) ∷ [])
-  plan p s place d number label action = chosen s number label d (Do action) ∷ []
+      ∷ loop_step number (in_loop d) d (Jump (index + 2)) ∷ [])
+  plan p s index d number label action = chosen s number label d (Do action) ∷ []
 
   -- the instructions of a block
-  pub plan_all : ProgramTree → ScheduleTree → (place : ℕ) → Depth → (is_done : Bool) → BlockTree → List InstructionTree
-  plan_all p s place d is_done Empty = []
-  plan_all p s place d is_done (Then number label action rest) =
-      plan_in (fusion_role_of p s d is_done label action rest) s number label d (plan p s place d number label action)
-      ++ plan_all p s (place + size_in (fusion_role_of p s d is_done label action rest) (size p s d action)) (behind action d) (takes_next (fusion_role_of p s d is_done label action rest)) rest
+  pub plan_all : ProgramTree → ScheduleTree → (index : ℕ) → Depth → (is_done : Bool) → BlockTree → List InstructionTree
+  plan_all p s index d is_done Empty = []
+  plan_all p s index d is_done (Then number label action rest) =
+      plan_in (fusion_role_of p s d is_done label action rest) s number label d (plan p s index d number label action)
+      ++ plan_all p s (index + size_in (fusion_role_of p s d is_done label action rest) (size p s d action)) (behind action d) (takes_next (fusion_role_of p s d is_done label action rest)) rest
 
 -- the instructions of main, and the end
 abbrev pub plan_of : ProgramTree → ScheduleTree → List InstructionTree

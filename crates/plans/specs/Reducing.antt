@@ -9,14 +9,14 @@ use Rattle.algorithm_meaning.specs.State.{StateValue}
 use Rattle.plans.specs.Instruction.{OperationTree, Do, ApplyEdgesTogether, ApplyVerticesTogether, Unless, Enter, UnlessBelow, Advance, Turn, Jump, End, InstructionTree}
 use Rattle.plans.specs.Fusing.{EdgeApplyTree, edge_apply_of}
 
--- the places of one or two functions
-abbrev pub places_of : (first : ℕ) → (second : Option ℕ) → List ℕ
-places_of first None = first ∷ []
-places_of first (Some second) = first ∷ second ∷ []
+-- the indices of one or two functions
+abbrev pub indices_of : (first : ℕ) → (second : Option ℕ) → List ℕ
+indices_of first None = first ∷ []
+indices_of first (Some second) = first ∷ second ∷ []
 
--- the statements of the functions at these places
+-- the statements of the functions at these indices
 abbrev pub steps_at : List FunctionTree → List ℕ → List StepsTree
-steps_at functions places = map (λ place. steps_of (slice_get functions place)) places
+steps_at functions indices = map (λ index. steps_of (slice_get functions index)) indices
 
 -- there is a reduction by which alone the functions give a vector numbers
 pub record IsReducedAlone (steps : List StepsTree) (m : StateValue) (vector : ℕ) : Type 0 where
@@ -29,8 +29,8 @@ AreReduced steps m = (vector : ℕ) → IsReducedAlone steps m vector
 
 -- whatever the state, the edge apply of an operation gives each vector numbers by one reduction
 abbrev pub OperationReduces : ProgramTree → OperationTree → Type 0
-OperationReduces p (Do action) = (x : EdgeApplyTree) → edge_apply_of action ≡ Some x → (m : StateValue) → AreReduced (steps_at p.edge_functions (places_of x.part.function None)) m
-OperationReduces p (ApplyEdgesTogether ends a b) = (m : StateValue) → AreReduced (steps_at p.edge_functions (places_of a.function (Some b.function))) m
+OperationReduces p (Do action) = (x : EdgeApplyTree) → edge_apply_of action ≡ Some x → (m : StateValue) → AreReduced (steps_at p.edge_functions (indices_of x.part.function None)) m
+OperationReduces p (ApplyEdgesTogether ends a b) = (m : StateValue) → AreReduced (steps_at p.edge_functions (indices_of a.function (Some b.function))) m
 OperationReduces p (ApplyVerticesTogether set f g) = Unit {0}
 OperationReduces p (Unless c to) = Unit {0}
 OperationReduces p (Enter name e) = Unit {0}
@@ -42,4 +42,4 @@ OperationReduces p End = Unit {0}
 
 -- so does each edge apply of a plan
 abbrev pub AppliesReduce : ProgramTree → List InstructionTree → Type 0
-AppliesReduce p plan = (place : ℕ) (i : InstructionTree) → slice_get plan place ≡ Some i → OperationReduces p i.operation
+AppliesReduce p plan = (index : ℕ) (i : InstructionTree) → slice_get plan index ≡ Some i → OperationReduces p i.operation

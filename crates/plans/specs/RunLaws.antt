@@ -9,14 +9,14 @@ use Rattle.plans.specs.Instruction.{InstructionTree}
 use Rattle.plans.specs.Machine.{Configuration, At, Ended, step, steps, first_configuration, finish}
 use Rattle.plans.specs.Bound.{most_steps}
 
--- a run that stands so has a next step: it has not ended, and an instruction stands at its place
+-- a run that stands so has a next step: it has not ended, and an instruction stands at its index
 abbrev pub GoesOn : List InstructionTree → Configuration → Type 0
-GoesOn plan (At place loops s) = place < length plan
+GoesOn plan (At index loops s) = index < length plan
 GoesOn plan (Ended s end) = ⊥
 
 -- it has ended, and this is what it shows
 abbrev pub Shows : ProgramTree → (turns : ℕ) → Configuration → Outcome → Type 0
-Shows p turns (At place loops s) outcome = ⊥
+Shows p turns (At index loops s) outcome = ⊥
 Shows p turns (Ended s end) outcome = shown p turns s end ≡ outcome
 
 -- The plan does what the program does: after some number of steps, no more than told beforehand, the run has ended, stands where main

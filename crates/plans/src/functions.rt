@@ -10,7 +10,7 @@ use kernels::{EdgeKernel, FilterKernel, VertexKernel};
 use std::alloc::{AllocError, Global};
 use typed_tree::{Function, Typed};
 
-/// The kernels of a program's functions, by the places of the functions.
+/// The kernels of a program's functions, by the indices of the functions.
 pub struct FunctionKernels {
     pub edge: Kernels<EdgeKernel>,
     pub vertex: Kernels<VertexKernel>,

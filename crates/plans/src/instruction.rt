@@ -14,7 +14,7 @@ pub struct Instruction {
     /// What the schedule says of it, which decides only how an edge apply is done.
     pub choice: ApplySchedule,
     pub operation: PlanOperation,
-    /// Its words, each with a space after it, without its number and without the place that it goes to.
+    /// Its words, each with a space after it, without its number and without the index that it goes to.
     pub words: Vec<u8>,
 }
 

@@ -1,4 +1,4 @@
-//! Kernels by the places of their functions.
+//! Kernels by the indices of their functions.
 ghost use Rattle.std.specs.Prelude.{◌≡◌, ℕ, IfOk, map, slice_get};
 ghost use Rattle.algorithm_meaning.specs.Function.{steps_of};
 ghost use Rattle.typed_tree.specs.StepTree.{StepsTree, function_tree};
@@ -43,7 +43,7 @@ impl Kernel for FilterKernel {
     }
 }
 
-/// Kernels of one kind by the places of their functions, and one that does nothing.
+/// Kernels of one kind by the indices of their functions, and one that does nothing.
 pub struct Kernels<K> {
     pub(crate) at: Vec<K>,
     pub(crate) nothing: K,
@@ -58,7 +58,7 @@ impl<K: Drop> Drop for Kernels<K> {
 impl<K: Kernel> Kernels<K> {
     /// The kernels of these functions. The only error is out of memory.
     pub fn of(alloc: Global, functions: &[Function]) -> Result<Kernels<K>, AllocError>
-        ensures { IfOk result (λ ks. (place : ℕ) → K.is_of (kernel_at ks place) (steps_of (slice_get (map function_tree functions.now) place))) }
+        ensures { IfOk result (λ ks. (index : ℕ) → K.is_of (kernel_at ks index) (steps_of (slice_get (map function_tree functions.now) index))) }
     {
         let no_step = Function {
             name: 0,
@@ -71,11 +71,11 @@ impl<K: Kernel> Kernels<K> {
 }
 
 impl<K> Kernels<K> {
-    /// That of the function at this place, and the one that does nothing where there is none.
-    pub fn get(&self, place: usize) -> &K
-        ensures { result.now ≡ kernel_at self.now place }
+    /// That of the function at this index, and the one that does nothing where there is none.
+    pub fn get(&self, index: usize) -> &K
+        ensures { result.now ≡ kernel_at self.now index }
     {
-        match self.at.get(place) {
+        match self.at.get(index) {
             Some(kernel) => kernel,
             None => &self.nothing,
         }

@@ -1,7 +1,7 @@
 //! Plans: what programs are lowered to, as definitions, and the law that a plan does what its program does.
 //!
 //! A plan is a list of instructions, one for each step of a run. An instruction does a statement without a block, goes
-//! on at another place, or does two applies that the schedule fuses (`specs/Instruction.antt`). `specs/Plan.antt` has the
+//! on at another index, or does two applies that the schedule fuses (`specs/Instruction.antt`). `specs/Plan.antt` has the
 //! plan of a program under a schedule, `specs/Fusing.antt` which two applies are done together, and
 //! `specs/Machine.antt` the machine that runs a plan, one instruction a step.
 //!

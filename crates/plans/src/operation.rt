@@ -5,8 +5,8 @@ use apply_options::Reduction;
 use kernels::ExpressionKernel;
 use typed_tree::{ApplyEnds, VarRef};
 
-/// What an instruction does. A name is the place of one in the plan's names, a vector or a function its place in its list,
-/// and `to` the place of an instruction.
+/// What an instruction does. A name is the index of one in the plan's names, a vector or a function its index in its list,
+/// and `to` the index of an instruction.
 pub enum PlanOperation {
     DeclareInteger {
         name: usize,
@@ -73,7 +73,7 @@ pub enum PlanOperation {
         first: EdgePart,
         second: Option<EdgePart>,
     },
-    /// Goes on at the place unless the test holds.
+    /// Goes on at the index unless the test holds.
     Unless {
         test: ExpressionKernel,
         to: usize,
@@ -83,7 +83,7 @@ pub enum PlanOperation {
         name: usize,
         end: ExpressionKernel,
     },
-    /// Leaves the innermost `for` for the place unless its value is below its bound.
+    /// Leaves the innermost `for` for the index unless its value is below its bound.
     UnlessBelow {
         name: usize,
         to: usize,

@@ -1,7 +1,7 @@
 //! Apply parts: the function of an apply, and the set that gets what it changed.
 use typed_tree::{ApplyEnds, VarRef};
 
-/// The edge function at this place, and what is done with the vertices at which it changes a vector.
+/// The edge function at this index, and what is done with the vertices at which it changes a vector.
 #[derive(Clone, Copy, Debug, PartialEq, Eq)]
 pub struct EdgePart {
     pub function: usize,
@@ -12,9 +12,9 @@ pub struct EdgePart {
 #[derive(Clone, Copy, Debug, PartialEq, Eq)]
 pub enum PartResult {
     Dropped,
-    /// A new set, whose name is at this place, gets those of this vector.
+    /// A new set, whose name is at this index, gets those of this vector.
     Declared { name: usize, vector: usize },
-    /// The set at this place gets those of this vector.
+    /// The set at this index gets those of this vector.
     Assigned { set: VarRef, vector: usize },
 }
 

@@ -10,6 +10,6 @@ pub enum SetExpression {
     All,
     /// The members of a set.
     Copy(VarRef),
-    /// The members of a set that pass the filter at this place.
+    /// The members of a set that pass the filter at this index.
     Filter(VarRef, usize),
 }

@@ -12,7 +12,7 @@ use Rattle.crew.specs.Pieces.{AreAnswers, pieces_of}
 use Rattle.pull_engine.specs.Ranges.{all_listed}
 use Rattle.vertex_sets.proofs.Ascending.{range_end, range_has}
 
--- what is found at a place is the part of its piece
+-- what is found at an index is the part of its piece
 abbrev pub ListParts : (parts : ℕ → List EntryChange) → List (Found Gathered) → Type 0
 ListParts parts fs = AreAnswers (λ k g. all_listed g.vectors.items ≡ parts k) fs
 

@@ -29,11 +29,11 @@ in_row_cut : (old new : ℕ → ℤ) (low u high : ℕ) → low ≤ u → u < hi
     → changed_from old new low (high - low) ≡ change_at old new u ++ changed_from old new (u + 1) (high - (u + 1))
 in_row_cut old new low u high l k quiet =
     let first : high - low ≡ u - low + (1 + (high - (u + 1))) = omega (arith, l, k) in
-    let place : low + (u - low) ≡ u = omega (arith, l) in
+    let index : low + (u - low) ≡ u = omega (arith, l) in
     ap (λ n. changed_from old new low n) first
     ∙ changed_from-append old new low (u - low) (1 + (high - (u + 1)))
     ∙ ap (λ cs. cs ++ changed_from old new (low + (u - low)) (1 + (high - (u + 1)))) (nothing_changed old new low (u - low) (λ v a b. quiet v a (omega (arith, l, b))))
-    ∙ ap (λ n. changed_from old new n (1 + (high - (u + 1)))) place
+    ∙ ap (λ n. changed_from old new n (1 + (high - (u + 1)))) index
     ∙ changed_from-append old new u 1 (high - (u + 1))
     ∙ ap (λ cs. cs ++ changed_from old new (u + 1) (high - (u + 1))) (one_change old new u ∙ append-nil (change_at old new u))
 

@@ -59,14 +59,14 @@ pub range_more : (r : Reduction) (number : ℕ → ℤ → ℤ) (lane old : ℕ 
 range_more r number lane old from to es low next stop part kept found more l k same is_part is_kept is was =
     let new = λ (o : ℕ → ℤ). pulled_to r number o from to es in
     let whole : next - low + (stop - next) ≡ stop - low = omega (arith, l, k) in
-    let place : next ≡ low + (next - low) = omega (arith, l) in
+    let index : next ≡ low + (next - low) = omega (arith, l) in
     is ∙ ap (λ cs. cs ++ changes_at lane (pulled r number lane from es) kept) was
     ∙ ap (λ cs. changed_from old (new old) low (next - low) ++ cs)
     (ap (λ us. changes_at lane (pulled r number lane from es) us) (is_kept ∙ ap (λ us. filter to us) is_part)
     ∙ told_passing lane (pulled r number lane from es) to (range_with_len next (stop - next))
     ∙ told_in_row lane (new lane) next (stop - next)
     ∙ changed_agree lane old (new lane) (new old) same next (stop - next) (λ v b. ap (λ (z : ℤ). cond (to v) (reduced_over r number z (passing from (sources_of v es))) z) (same v)))
-    ∙ ap (λ u. changed_from old (new old) low (next - low) ++ changed_from old (new old) u (stop - next)) place
+    ∙ ap (λ u. changed_from old (new old) low (next - low) ++ changed_from old (new old) u (stop - next)) index
     ∙ sym (changed_from-append old (new old) low (next - low) (stop - next))
     ∙ ap (λ n. changed_from old (new old) low n) whole
 

@@ -33,7 +33,7 @@ pulled r number old from es v = reduced_over r number (old v) (passing from (sou
 abbrev pub pulled_to : Reduction → (number : ℕ → ℤ → ℤ) → (old : ℕ → ℤ) → (from to : ℕ → Bool) → List Edge → ℕ → ℤ
 pulled_to r number old from to es v = if to v then pulled r number old from es v else old v
 
--- the place of the vector to which a function of a shape gives by the sources and the weights
+-- the index of the vector to which a function of a shape gives by the sources and the weights
 abbrev pub shape_vector : Shape → Option ℕ
 shape_vector shape.Other = None
 shape_vector (shape.Source x r) = Some x

@@ -56,13 +56,13 @@ pub(crate) fn last_passing(
 fn first_packed(sources: Neighbours<'_>, from: Option<&[u64]>) -> Option<u32>
     ensures { result ≡ first_of (filter (passes_words from.entry) (keys_of sources.entry)) }
 {
-    let mut place = 0usize;
-    'up: while place < sources.len() {
-        let source = sources.neighbour(place);
+    let mut index = 0usize;
+    'up: while index < sources.len() {
+        let source = sources.neighbour(index);
         if passes(from, source) {
             return Some(source);
         }
-        place += 1;
+        index += 1;
     }
     None
 }

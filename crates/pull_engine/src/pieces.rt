@@ -85,8 +85,8 @@ impl PullWork<'_> {
         ensures { IfOk result (GathersPiece self.now piece) }
     {
         let context = self.apply.context(FoldStart::Unit);
-        let places = self.cuts.piece(piece);
-        let part = part_between(&self.vertices, places.start, places.end);
+        let indices = self.cuts.piece(piece);
+        let part = part_between(&self.vertices, indices.start, indices.end);
         let words = words_of(&self.bits);
         let input = ColumnInput {
             flat: self.apply.flat,
@@ -111,15 +111,15 @@ impl PullWork<'_> {
         ensures { IfOk result (λ cs. IfSome (vector_of self.now.shape) (λ vector. IsPiecePulled vector self.now piece cs.items)) }
     {
         let context = self.apply.context(FoldStart::OldEntry);
-        let places = self.cuts.piece(piece);
+        let indices = self.cuts.piece(piece);
         let from = words_of(&self.bits);
         let range = PullRange {
             flat: self.apply.flat,
             context,
             from,
             to: self.apply.to,
-            low: places.start as u32,
-            high: places.end as u32,
+            low: indices.start as u32,
+            high: indices.end as u32,
         };
         pull_shape(alloc, self.shape, range, scratch)
     }
@@ -183,8 +183,8 @@ fn append_pieces(
         → AreAnswers (λ k g. all_listed g.vectors.items ≡ parts k) found.now → cs.items ≡ flat_map parts (range_with_len 1 pieces)) }
 {
     let mut changes = Vec::new(alloc);
-    'pieces: for place in 0..pieces {
-        match find_piece(found, place + 1) {
+    'pieces: for index in 0..pieces {
+        match find_piece(found, index + 1) {
             Some(one) => append_listed(&one.vectors, &mut changes)?,
             None => {}
         }

@@ -118,8 +118,8 @@ impl PushWork<'_> {
             (passing_in self.now.tested from (piece_of self.now.cuts self.now.sources.items piece)))) g) }
     {
         let context = self.apply.context(FoldStart::Unit);
-        let places = self.cuts.piece(piece);
-        let part = part_between(&self.sources, places.start, places.end);
+        let indices = self.cuts.piece(piece);
+        let part = part_between(&self.sources, indices.start, indices.end);
         state.begin();
         self.fold_part(alloc, context, part, words, state)?;
         let gathered = state.gathered(alloc, context, to)?;

@@ -94,8 +94,14 @@ fn send_early<W: Drain>(
 ) -> Result<(), SendError>
     ensures { Emits replies.old replies.new (early_text all.now) result }
 {
-    'runs: for place in 0..all.len() {
-        send_run(alloc, EARLY, place as u64 + 1, &all[place].early, replies)?;
+    'runs: for position in 0..all.len() {
+        send_run(
+            alloc,
+            EARLY,
+            position as u64 + 1,
+            &all[position].early,
+            replies,
+        )?;
     }
     Ok(())
 }
@@ -107,8 +113,14 @@ fn send_late<W: Drain>(
 ) -> Result<(), SendError>
     ensures { Emits replies.old replies.new (late_text all.now) result }
 {
-    'runs: for place in 0..all.len() {
-        send_run(alloc, LATE, place as u64 + 1, &all[place].late, replies)?;
+    'runs: for position in 0..all.len() {
+        send_run(
+            alloc,
+            LATE,
+            position as u64 + 1,
+            &all[position].late,
+            replies,
+        )?;
     }
     Ok(())
 }

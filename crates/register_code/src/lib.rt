@@ -1,7 +1,7 @@
 //! Register code: user functions and expressions of `main` as flat code, made once from the checked tree.
 //!
-//! An [`RegisterInstruction`] works on cells. A cell is a place of the stack, known by its number when the code is made, so that
-//! no instruction pushes or pops. No name is in code: vectors, vertex sets and variables go by their places. What stands
+//! An [`RegisterInstruction`] works on cells. A cell is an entry of the stack, known by its number when the code is made, so that
+//! no instruction pushes or pops. No name is in code: vectors, vertex sets and variables go by their indices. What stands
 //! under an `if` is done always, and counts where the test's cell is true.
 //!
 //! `specs/Cells.antt` says what an instruction does to the cells (`step`, `run`), and what code that writes entries leaves

@@ -147,15 +147,15 @@ fails_item {A} f a b c t xs rest all x error is one other =
     ∙ ap (λ (ys : List A). t ++ flat_map f ys) is in
     subst (λ u. Fails a c u error) whole (fails_more a c ((t ++ flat_map f xs) ++ f x) (flat_map f rest) error (fails_then a b c (t ++ flat_map f xs) (f x) error one other))
 
--- the same of the items of a list up to a place
-module _ {A : Type 0} (f : A → List ℕ) (a b c : Output) (xs : List A) (place : ℕ) (x none : A) (within : place < length xs) (is : x ≡ get_or xs place none) where
-  split_at : take place xs ++ x ∷ drop (place + 1) xs ≡ xs
-  split_at = ap (λ ys. take place xs ++ ys) (ap (λ y. y ∷ drop (place + 1) xs) is ∙ sym (drop_more xs place none within)) ∙ take-append-drop place xs
+-- the same of the items of a list up to an index
+module _ {A : Type 0} (f : A → List ℕ) (a b c : Output) (xs : List A) (index : ℕ) (x none : A) (within : index < length xs) (is : x ≡ get_or xs index none) where
+  split_at : take index xs ++ x ∷ drop (index + 1) xs ≡ xs
+  split_at = ap (λ ys. take index xs ++ ys) (ap (λ y. y ∷ drop (index + 1) xs) is ∙ sym (drop_more xs index none within)) ∙ take-append-drop index xs
 
-  pub sends_at : Sends a b (flat_map f (take place xs)) → Sends b c (f x) → Sends a c (flat_map f (take (place + 1) xs))
+  pub sends_at : Sends a b (flat_map f (take index xs)) → Sends b c (f x) → Sends a c (flat_map f (take (index + 1) xs))
   sends_at one other =
-      let more : take place xs ++ x ∷ [] ≡ take (place + 1) xs = ap (λ y. take place xs ++ y ∷ []) is ∙ sym (take_more xs place none within) in
-      subst (λ (ys : List A). Sends a c (flat_map f ys)) more (sends_item f a b c [] (take place xs) x one other)
+      let more : take index xs ++ x ∷ [] ≡ take (index + 1) xs = ap (λ y. take index xs ++ y ∷ []) is ∙ sym (take_more xs index none within) in
+      subst (λ (ys : List A). Sends a c (flat_map f ys)) more (sends_item f a b c [] (take index xs) x one other)
 
-  pub fails_at : (error : SendError) → Sends a b (flat_map f (take place xs)) → Fails b c (f x) error → Fails a c (flat_map f xs) error
-  fails_at error one other = fails_item f a b c [] (take place xs) (drop (place + 1) xs) xs x error split_at one other
+  pub fails_at : (error : SendError) → Sends a b (flat_map f (take index xs)) → Fails b c (f x) error → Fails a c (flat_map f xs) error
+  fails_at error one other = fails_item f a b c [] (take index xs) (drop (index + 1) xs) xs x error split_at one other

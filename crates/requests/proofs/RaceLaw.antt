@@ -26,7 +26,7 @@ module _ (all_files all_workers all_turns : List Text) (w : IsTaken the_workers 
     pub workers_are : workers ++ (pending_numbers the_workers pending ++ numbers_in the_workers parts) ≡ all_workers
     pub turns_are : turns ++ (pending_numbers the_turns pending ++ numbers_in the_turns parts) ≡ all_turns
     pub room : length files + length (pending_files pending) + length parts ≤ usize_max
-    pub place : position ≡ position_after (files ++ pending_files pending)
+    pub index : position ≡ position_after (files ++ pending_files pending)
 
   -- what is pending is used, and this is found then
   record Settles (files workers turns : List Text) (rows : List Row) (pending : Pending) (parts : List RacePart) : Type 0 where
@@ -79,7 +79,7 @@ module _ (all_files all_workers all_turns : List Text) (w : IsTaken the_workers 
       workers_are = s.workers_are;
       turns_are = s.turns_are;
       room = omega (arith, r);
-      place = refl;
+      index = refl;
     };
   }
 
@@ -105,7 +105,7 @@ module _ (all_files all_workers all_turns : List Text) (w : IsTaken the_workers 
       workers_are = s.workers_are;
       turns_are = s.turns_are;
       room = omega (arith, r);
-      place = sym (position_some (files ++ pending_files pending) file []);
+      index = sym (position_some (files ++ pending_files pending) file []);
     };
   }
 
@@ -114,32 +114,32 @@ module _ (all_files all_workers all_turns : List Text) (w : IsTaken the_workers 
   file_next position [] workers turns rows nothing file parts h at =
       let s = settles position [] workers turns rows nothing (a_file file ∷ parts) at in
       script_next (walk_at position rows nothing) [] workers turns rows nothing file parts refl s
-      (subst (λ (k : ℕ). Turn (walk_at k rows nothing) file (walk_at 2 rows (a_script file))) (sym at.place) (first_file rows file h))
+      (subst (λ (k : ℕ). Turn (walk_at k rows nothing) file (walk_at 2 rows (a_script file))) (sym at.index) (first_file rows file h))
   file_next position [] workers turns rows (a_number the_workers number) file parts h at =
       let s = settles position [] workers turns rows (a_number the_workers number) (a_file file ∷ parts) at in
       script_next (walk_at position rows (a_number the_workers number)) [] workers turns rows (a_number the_workers number) file parts refl s
-      (subst (λ (k : ℕ). Turn (walk_at k rows (a_number the_workers number)) file (walk_at 2 (settled_at rows (a_number the_workers number)) (a_script file))) (sym at.place) (first_after_workers rows number file h s.quiet))
+      (subst (λ (k : ℕ). Turn (walk_at k rows (a_number the_workers number)) file (walk_at 2 (settled_at rows (a_number the_workers number)) (a_script file))) (sym at.index) (first_after_workers rows number file h s.quiet))
   file_next position [] workers turns rows (a_number the_turns number) file parts h at =
       let s = settles position [] workers turns rows (a_number the_turns number) (a_file file ∷ parts) at in
       script_next (walk_at position rows (a_number the_turns number)) [] workers turns rows (a_number the_turns number) file parts refl s
-      (subst (λ (k : ℕ). Turn (walk_at k rows (a_number the_turns number)) file (walk_at 2 (settled_at rows (a_number the_turns number)) (a_script file))) (sym at.place) (first_after_turns rows number file h s.quiet))
+      (subst (λ (k : ℕ). Turn (walk_at k rows (a_number the_turns number)) file (walk_at 2 (settled_at rows (a_number the_turns number)) (a_script file))) (sym at.index) (first_after_turns rows number file h s.quiet))
   file_next position files workers turns rows (a_script script) file parts h at =
       let s = settles position files workers turns rows (a_script script) (a_file file ∷ parts) at in
       let l = length-append files (script ∷ []) in
       program_next (walk_at position rows (a_script script)) position files workers turns rows (a_script script) file parts (omega (arith, l)) s
-      (subst (λ (k : ℕ). Turn (walk_at k rows (a_script script)) file (walk_at 2 (settled_at rows (a_script script)) (some_programs file []))) (sym (at.place ∙ position_some files script [])) (next_after_script rows script file h s.quiet))
+      (subst (λ (k : ℕ). Turn (walk_at k rows (a_script script)) file (walk_at 2 (settled_at rows (a_script script)) (some_programs file []))) (sym (at.index ∙ position_some files script [])) (next_after_script rows script file h s.quiet))
   file_next position (f ∷ fs) workers turns rows nothing file parts h at =
       let s = settles position (f ∷ fs) workers turns rows nothing (a_file file ∷ parts) at in
       program_next (walk_at position rows nothing) position (f ∷ fs) workers turns rows nothing file parts (omega arith) s
-      (subst (λ (k : ℕ). Turn (walk_at k rows nothing) file (walk_at 2 rows (some_programs file []))) (sym at.place) (next_file rows file h))
+      (subst (λ (k : ℕ). Turn (walk_at k rows nothing) file (walk_at 2 rows (some_programs file []))) (sym at.index) (next_file rows file h))
   file_next position (f ∷ fs) workers turns rows (a_number the_workers number) file parts h at =
       let s = settles position (f ∷ fs) workers turns rows (a_number the_workers number) (a_file file ∷ parts) at in
       program_next (walk_at position rows (a_number the_workers number)) position (f ∷ fs) workers turns rows (a_number the_workers number) file parts (omega arith) s
-      (subst (λ (k : ℕ). Turn (walk_at k rows (a_number the_workers number)) file (walk_at 2 (settled_at rows (a_number the_workers number)) (some_programs file []))) (sym at.place) (next_after_workers rows number file h s.quiet))
+      (subst (λ (k : ℕ). Turn (walk_at k rows (a_number the_workers number)) file (walk_at 2 (settled_at rows (a_number the_workers number)) (some_programs file []))) (sym at.index) (next_after_workers rows number file h s.quiet))
   file_next position (f ∷ fs) workers turns rows (a_number the_turns number) file parts h at =
       let s = settles position (f ∷ fs) workers turns rows (a_number the_turns number) (a_file file ∷ parts) at in
       program_next (walk_at position rows (a_number the_turns number)) position (f ∷ fs) workers turns rows (a_number the_turns number) file parts (omega arith) s
-      (subst (λ (k : ℕ). Turn (walk_at k rows (a_number the_turns number)) file (walk_at 2 (settled_at rows (a_number the_turns number)) (some_programs file []))) (sym at.place) (next_after_turns rows number file h s.quiet))
+      (subst (λ (k : ℕ). Turn (walk_at k rows (a_number the_turns number)) file (walk_at 2 (settled_at rows (a_number the_turns number)) (some_programs file []))) (sym at.index) (next_after_turns rows number file h s.quiet))
   file_next position files workers turns rows (some_programs program programs) file parts h at =
       let r = at.room in let l = length-append programs (file ∷ []) in record {
         position = 2;
@@ -148,7 +148,7 @@ module _ (all_files all_workers all_turns : List Text) (w : IsTaken the_workers 
         turns = turns;
         rows = rows;
         pending = some_programs program (programs ++ file ∷ []);
-        turn = subst (λ (k : ℕ). Turn (walk_at k rows (some_programs program programs)) file (walk_at 2 rows (some_programs program (programs ++ file ∷ [])))) (sym (at.place ∙ position_some files program programs))
+        turn = subst (λ (k : ℕ). Turn (walk_at k rows (some_programs program programs)) file (walk_at 2 rows (some_programs program (programs ++ file ∷ [])))) (sym (at.index ∙ position_some files program programs))
             (one_more_program rows program programs file h);
         at = record {
           found = at.found;
@@ -157,7 +157,7 @@ module _ (all_files all_workers all_turns : List Text) (w : IsTaken the_workers 
           workers_are = at.workers_are;
           turns_are = at.turns_are;
           room = omega (arith, r, l);
-          place = sym (position_some files program (programs ++ file ∷ []));
+          index = sym (position_some files program (programs ++ file ∷ []));
         };
       }
 
@@ -170,8 +170,8 @@ module _ (all_files all_workers all_turns : List Text) (w : IsTaken the_workers 
   taken_once o (b ∷ []) number after taken = absurd taken
   taken_once o (b ∷ c ∷ before) number after taken = absurd taken
 
-  same_place : (position : ℕ) (files more : List Text) → position ≡ position_after (files ++ more) → position ≡ position_after ((files ++ more) ++ [])
-  same_place position files more at = at ∙ ap position_after (sym (append-nil (files ++ more)))
+  same_index : (position : ℕ) (files more : List Text) → position ≡ position_after (files ++ more) → position ≡ position_after ((files ++ more) ++ [])
+  same_index position files more at = at ∙ ap position_after (sym (append-nil (files ++ more)))
 
   workers_next : (position : ℕ) (files workers turns : List Text) (rows : List Row) (pending : Pending) (number : Text) (parts : List RacePart)
       → IsAt position files workers turns rows pending (joined the_workers number ∷ parts) → Next (walk_at position rows pending) (option_word the_workers ++ 61 ∷ number) parts
@@ -195,7 +195,7 @@ module _ (all_files all_workers all_turns : List Text) (w : IsTaken the_workers 
           workers_are = subst (λ (ws : List Text). ws ++ number ∷ numbers_in the_workers parts ≡ all_workers) once.0 s.workers_are;
           turns_are = s.turns_are;
           room = omega (arith, r);
-          place = same_place position files (pending_files pending) at.place;
+          index = same_index position files (pending_files pending) at.index;
         };
       }
 
@@ -221,7 +221,7 @@ module _ (all_files all_workers all_turns : List Text) (w : IsTaken the_workers 
           workers_are = s.workers_are;
           turns_are = subst (λ (ts : List Text). ts ++ number ∷ numbers_in the_turns parts ≡ all_turns) once.0 s.turns_are;
           room = omega (arith, r);
-          place = same_place position files (pending_files pending) at.place;
+          index = same_index position files (pending_files pending) at.index;
         };
       }
 
@@ -254,7 +254,7 @@ module _ (all_files all_workers all_turns : List Text) (w : IsTaken the_workers 
             workers_are = s.workers_are;
             turns_are = s.turns_are;
             room = omega (arith, r);
-            place = same_place position files (pending_files pending) at.place;
+            index = same_index position files (pending_files pending) at.index;
           };
         };
       }
@@ -282,7 +282,7 @@ module _ (all_files all_workers all_turns : List Text) (w : IsTaken the_workers 
             workers_are = s.workers_are;
             turns_are = s.turns_are;
             room = omega (arith, r);
-            place = same_place position files (pending_files pending) at.place;
+            index = same_index position files (pending_files pending) at.index;
           };
         };
       }
@@ -413,7 +413,7 @@ module _ (parts : List RacePart) (script program : Text) (programs : List Text) 
     workers_are = refl;
     turns_are = refl;
     room = omega (arith, few);
-    place = refl;
+    index = refl;
   })
 
   -- the rows at the end

@@ -11,7 +11,7 @@ use Rattle.requests.proofs.Flags.{no_dashes}
 use Rattle.requests.proofs.RaceParts.{Pending, a_number, a_script, nothing, pending_of, settled_at, some_programs, walk_at}
 use Rattle.requests.proofs.RaceWords.{race}
 
--- a word leads the walk from one place to another without a fault
+-- a word leads the walk from one index to another without a fault
 pub record Turn (from : Walk) (word : Text) (to : Walk) : Type 0 where
   pub is : walked race.rules [] from word ≡ to
   pub quiet : turn_fault race [] from word ≡ []

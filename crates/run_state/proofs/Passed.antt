@@ -93,11 +93,11 @@ in_front true v xs = refl
 in_front false v xs = refl
 
 -- the next number, where it passes, comes before those after it
-pub next_passing : (block : Block) (place i : ℕ) (part : List ℕ) (b : Bool) → b ≡ passes_at block place → i < length part
-    → cond b (get_or part i 0 ∷ []) [] ++ passing block (place + 1) (drop (i + 1) part) ≡ passing block place (drop i part)
-next_passing block place i [] b same h = absurd (omega (arith, h))
-next_passing block place zero (x ∷ xs) b same h =
-    in_front b x (passing block (place + 1) xs) ∙ ap (λ (d : Bool). cond d (x ∷ passing block (place + 1) xs) (passing block (place + 1) xs)) same
-next_passing block place (suc i) (x ∷ xs) b same h =
+pub next_passing : (block : Block) (index i : ℕ) (part : List ℕ) (b : Bool) → b ≡ passes_at block index → i < length part
+    → cond b (get_or part i 0 ∷ []) [] ++ passing block (index + 1) (drop (i + 1) part) ≡ passing block index (drop i part)
+next_passing block index i [] b same h = absurd (omega (arith, h))
+next_passing block index zero (x ∷ xs) b same h =
+    in_front b x (passing block (index + 1) xs) ∙ ap (λ (d : Bool). cond d (x ∷ passing block (index + 1) xs) (passing block (index + 1) xs)) same
+next_passing block index (suc i) (x ∷ xs) b same h =
     let more : suc i + 1 ≡ suc (i + 1) = omega arith in
-    ap (λ (j : ℕ). cond b (get_or xs i 0 ∷ []) [] ++ passing block (place + 1) (drop j (x ∷ xs))) more ∙ next_passing block place i xs b same (omega (arith, h))
+    ap (λ (j : ℕ). cond b (get_or xs i 0 ∷ []) [] ++ passing block (index + 1) (drop j (x ∷ xs))) more ∙ next_passing block index i xs b same (omega (arith, h))

@@ -9,10 +9,10 @@ use Rattle.run_state.specs.declared.set_update.SetUpdate.TheVariants as update
 abbrev pub with_update : StateValue → SetUpdate → StateValue
 with_update s update.Nothing = s
 with_update s (update.New name set) = with_new_set s name set.members
-with_update s (update.Other place set) = with_members s place set.members
+with_update s (update.Other index set) = with_members s index set.members
 
 -- the set is one of so many vertices
 abbrev pub IsUpdateOf : ℕ → SetUpdate → Type 0
 IsUpdateOf n update.Nothing = Unit {0}
 IsUpdateOf n (update.New name set) = set.vertices ≡ n
-IsUpdateOf n (update.Other place set) = set.vertices ≡ n
+IsUpdateOf n (update.Other index set) = set.vertices ≡ n

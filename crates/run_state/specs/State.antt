@@ -9,7 +9,7 @@ use Rattle.flat_snapshot.specs.Digraph.{Digraph}
 use Rattle.vectors.specs.Vectors.{IsGrouping}
 use Rattle.vertex_sets.specs.VertexSet.{IsAscendingBelow}
 
--- what a run keeps: how many vertices there are, the groups of vectors that stand side by side, each by the places of its
+-- what a run keeps: how many vertices there are, the groups of vectors that stand side by side, each by the indices of its
 -- vectors, and the state of main
 pub record RunState : Type 0 where
   pub vertices : ℕ
@@ -22,7 +22,7 @@ with_state r s = record r { state = s }
 -- each vector has an entry for each vertex, the members of each set are ascending vertices, and main works on no edge
 pub record IsRunState (r : RunState) : Type 0 where
   pub vectors : (x : ℕ) → x < length r.state.vectors → length (slice_index_or r.state.vectors x []) ≡ r.vertices
-  pub sets : (place : ℕ) → IsAscendingBelow r.vertices (members_of (slice_get r.state.sets place))
+  pub sets : (index : ℕ) → IsAscendingBelow r.vertices (members_of (slice_get r.state.sets index))
   pub source : r.state.scope.source ≡ 0
   pub destination : r.state.scope.destination ≡ 0
   pub weight : r.state.scope.weight ≡ unit_weight

@@ -13,9 +13,9 @@ abbrev pub members_in : Option VertexSubset → List ℕ
 members_in None = []
 members_in (Some set) = set.members
 
--- at each place there are the members of a state's set
+-- at each index there are the members of a state's set
 abbrev pub HasSets : RunView → StateValue → Type 0
-HasSets run m = (place : ℕ) → members_in (slice_get run.sets.now place) ≡ members_of (slice_get m.sets place)
+HasSets run m = (index : ℕ) → members_in (slice_get run.sets.now index) ≡ members_of (slice_get m.sets index)
 
 -- each vector has an entry for each of so many vertices
 abbrev pub HasEntryForEach : (vertices : ℕ) → List (List ℤ) → Type 0

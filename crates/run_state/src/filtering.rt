@@ -55,8 +55,8 @@ fn keep_passing(block: &Block, part: &[u32], kept: &mut Vec<u32>) -> Result<(), 
     requires { length part.now ≤ 128 }
     ensures { OnOk result (kept.new.items ≡ kept.old.items ++ passing block.now 0 part.now) }
 {
-    'places: for (place, vertex) in part.iter().enumerate() {
-        keep_where(block.passes(place), *vertex, kept)?;
+    'indices: for (index, vertex) in part.iter().enumerate() {
+        keep_where(block.passes(index), *vertex, kept)?;
     }
     Ok(())
 }

@@ -19,7 +19,7 @@ use std::marker::Model;
 use typed_tree::Name;
 use vertex_sets::{Form, VertexSet};
 
-/// The vertex sets of a run by their places, with the places of their names and with their sizes. A contract sees how many
+/// The vertex sets of a run by their indices, with the indices of their names and with their sizes. A contract sees how many
 /// vertices there are, and the list of the sets.
 pub(crate) struct NamedSets {
     vertices: u32,
@@ -100,24 +100,24 @@ impl NamedSets {
 
     /// The sets without their names.
     pub(crate) fn members(&self) -> &[VertexSet]
-        ensures { (place : ℕ) → members_in (slice_get result.now place) ≡ members_of (slice_get self.now.state.sets place) }
+        ensures { (index : ℕ) → members_in (slice_get result.now index) ≡ members_of (slice_get self.now.state.sets index) }
     {
         self.members.as_slice()
     }
 
-    /// The set at a place, or `None` where there is none.
-    pub(crate) fn get(&self, place: usize) -> Option<&VertexSet>
-        ensures members { members_in (option_copied result) ≡ members_of (slice_get self.now.state.sets place) }
+    /// The set at an index, or `None` where there is none.
+    pub(crate) fn get(&self, index: usize) -> Option<&VertexSet>
+        ensures members { members_in (option_copied result) ≡ members_of (slice_get self.now.state.sets index) }
         ensures vertices { IfSome result (λ set. set.now.vertices ≡ self.now.vertices) }
     {
-        if place < self.members.len() {
-            Some(&self.members[place])
+        if index < self.members.len() {
+            Some(&self.members[index])
         } else {
             None
         }
     }
 
-    /// The names and the members of the sets up to a place. The only error is out of memory.
+    /// The names and the members of the sets up to an index. The only error is out of memory.
     pub(crate) fn shown(
         &self,
         alloc: Global,
@@ -167,33 +167,33 @@ impl NamedSets {
         Ok(())
     }
 
-    /// Gives the set at a place the members of another of as many vertices; where there is none nothing is changed.
-    pub(crate) fn replace(&mut self, place: usize, set: VertexSet)
+    /// Gives the set at an index the members of another of as many vertices; where there is none nothing is changed.
+    pub(crate) fn replace(&mut self, index: usize, set: VertexSet)
         requires { set.vertices ≡ self.old.vertices }
-        ensures { self.new ≡ with_state self.old (with_members self.old.state place set.members) }
+        ensures { self.new ≡ with_state self.old (with_members self.old.state index set.members) }
     {
-        if place < self.members.len() {
-            self.sizes[place] = size_of(&set);
-            self.members[place] = set;
+        if index < self.members.len() {
+            self.sizes[index] = size_of(&set);
+            self.members[index] = set;
         }
     }
 
-    /// Gives the set at a place a vertex; where there is none nothing is changed. The only error is out of memory, and
+    /// Gives the set at an index a vertex; where there is none nothing is changed. The only error is out of memory, and
     /// then nothing is changed.
-    pub(crate) fn insert(&mut self, place: usize, vertex: u32) -> Result<(), AllocError>
+    pub(crate) fn insert(&mut self, index: usize, vertex: u32) -> Result<(), AllocError>
         requires { vertex < self.old.vertices }
         ensures ok { OnOk result (self.new ≡ with_state self.old
-            (with_members self.old.state place (inserted vertex (members_of (slice_get self.old.state.sets place))))) }
+            (with_members self.old.state index (inserted vertex (members_of (slice_get self.old.state.sets index))))) }
         ensures err { OnErr result (self.new ≡ self.old) }
     {
-        if place < self.members.len() {
-            self.members[place].insert(vertex)?;
-            self.sizes[place] = size_of(&self.members[place]);
+        if index < self.members.len() {
+            self.members[index].insert(vertex)?;
+            self.sizes[index] = size_of(&self.members[index]);
         }
         Ok(())
     }
 
-    /// Forgets the sets from a place on.
+    /// Forgets the sets from an index on.
     pub(crate) fn truncate(&mut self, count: usize)
         ensures { self.new ≡ with_state self.old (with_first_sets count self.old.state) }
     {
@@ -258,10 +258,10 @@ fn update_set(
             sizes.push_reserved(size_of(&set));
             members.push_reserved(set);
         }
-        SetUpdate::Other { place, set } => {
-            if place < members.len() {
-                sizes[place] = size_of(&set);
-                members[place] = set;
+        SetUpdate::Other { index, set } => {
+            if index < members.len() {
+                sizes[index] = size_of(&set);
+                members[index] = set;
             }
         }
     }

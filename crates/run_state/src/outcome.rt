@@ -42,9 +42,9 @@ pub(crate) fn name_sets(
     ensures { IfOk result (λ v. v.items ≡ map (named_set names.now) (named set_names.now sets.now).sets) }
 {
     let mut shown = Vec::new(alloc);
-    'sets: for (place, set) in sets.iter().enumerate() {
+    'sets: for (position, set) in sets.iter().enumerate() {
         shown.push(NamedSet {
-            name: name_of(alloc, names, set_names[place])?,
+            name: name_of(alloc, names, set_names[position])?,
             members: members_of(alloc, set)?,
         })?;
     }
@@ -59,17 +59,17 @@ fn members_of(alloc: Global, set: &VertexSet) -> Result<Sequence<u32>, AllocErro
     Ok(Sequence::new(members))
 }
 
-/// A copy of the name at a place, the empty one where there is none.
-fn name_of(alloc: Global, names: &[Name], place: usize) -> Result<Name, AllocError>
-    ensures { IfOk result (λ name. name ≡ name_at names.now place) }
+/// A copy of the name at an index, the empty one where there is none.
+fn name_of(alloc: Global, names: &[Name], index: usize) -> Result<Name, AllocError>
+    ensures { IfOk result (λ name. name ≡ name_at names.now index) }
 {
-    match names.get(place) {
+    match names.get(index) {
         Some(name) => Ok(Sequence::new(Vec::from_slice(alloc, name.as_slice())?)),
         None => Ok(Sequence::new(Vec::new(alloc))),
     }
 }
 
-/// The items before a place.
+/// The items before an index.
 pub(crate) fn first<T>(items: &[T], count: usize) -> &[T]
     ensures { result.now ≡ take count items.now }
 {

@@ -4,7 +4,7 @@ use plans::FunctionKernels;
 use vectors::Vectors;
 use vertex_sets::VertexSet;
 
-/// What a run has for an edge apply: the kernels of its program, its vertex sets by their places, the sizes of these sets,
+/// What a run has for an edge apply: the kernels of its program, its vertex sets by their indices, the sizes of these sets,
 /// its vectors, and the graph.
 #[derive(Clone, Copy)]
 pub struct RunView<'a> {

@@ -143,11 +143,11 @@ impl State {
         }
     }
 
-    /// The `int` variable at a place, 0 where there is none.
-    pub fn integer(&self, place: usize) -> i64
-        ensures { result ≡ slice_index_or self.now.state.scope.integers place (pos 0) }
+    /// The `int` variable at an index, 0 where there is none.
+    pub fn integer(&self, index: usize) -> i64
+        ensures { result ≡ slice_index_or self.now.state.scope.integers index (pos 0) }
     {
-        match self.integers.get(place) {
+        match self.integers.get(index) {
             Some(n) => *n,
             None => 0,
         }
@@ -263,30 +263,30 @@ impl State {
         Ok(())
     }
 
-    /// Sets the `int` variable at a place; where there is none nothing is changed.
-    pub fn set_integer(&mut self, place: usize, n: i64)
-        ensures { self.new ≡ with_state self.old (with_scope self.old.state (set_integer self.old.state.scope place n)) }
+    /// Sets the `int` variable at an index; where there is none nothing is changed.
+    pub fn set_integer(&mut self, index: usize, n: i64)
+        ensures { self.new ≡ with_state self.old (with_scope self.old.state (set_integer self.old.state.scope index n)) }
     {
-        if place < self.integers.len() {
-            self.integers[place] = n;
+        if index < self.integers.len() {
+            self.integers[index] = n;
         }
     }
 
-    /// Sets the `bool` variable at a place; where there is none nothing is changed.
-    pub fn set_condition(&mut self, place: usize, b: bool)
-        ensures { self.new ≡ with_state self.old (with_scope self.old.state (set_condition self.old.state.scope place b)) }
+    /// Sets the `bool` variable at an index; where there is none nothing is changed.
+    pub fn set_condition(&mut self, index: usize, b: bool)
+        ensures { self.new ≡ with_state self.old (with_scope self.old.state (set_condition self.old.state.scope index b)) }
     {
-        if place < self.conditions.len() {
-            self.conditions[place] = b;
+        if index < self.conditions.len() {
+            self.conditions[index] = b;
         }
     }
 
-    /// Reduces the `int` variable at a place with a number; where there is none nothing is changed.
-    pub fn reduce_integer(&mut self, place: usize, reduction: Reduction, n: i64)
-        ensures { self.new ≡ with_state self.old (with_scope self.old.state (reduce_integer self.old.state.scope place reduction n)) }
+    /// Reduces the `int` variable at an index with a number; where there is none nothing is changed.
+    pub fn reduce_integer(&mut self, index: usize, reduction: Reduction, n: i64)
+        ensures { self.new ≡ with_state self.old (with_scope self.old.state (reduce_integer self.old.state.scope index reduction n)) }
     {
-        if place < self.integers.len() {
-            self.integers[place] = reduce(reduction, self.integers[place], n);
+        if index < self.integers.len() {
+            self.integers[index] = reduce(reduction, self.integers[index], n);
         }
     }
 
@@ -334,7 +334,7 @@ impl State {
         true
     }
 
-    /// A new set variable of this name, with these members; a place without a set has none. The only error is out of
+    /// A new set variable of this name, with these members; an index without a set has none. The only error is out of
     /// memory, and then nothing is changed.
     pub fn declare_set(
         &mut self,
@@ -355,25 +355,25 @@ impl State {
         self.sets.push(name, set)
     }
 
-    /// The set variable at a place gets these members; where there is none nothing is changed. The only error is out of
+    /// The set variable at an index gets these members; where there is none nothing is changed. The only error is out of
     /// memory, and then nothing is changed.
     pub fn assign_set(
         &mut self,
         alloc: Global,
-        place: usize,
+        index: usize,
         members: SetExpression,
         functions: &FunctionKernels,
         block: &mut Block,
     ) -> Result<(), AllocError>
         ensures ok { OnOk result ((p : ProgramTree) (g : GraphValue) → AreFunctionKernels functions.now p → g.vertices ≡ self.old.vertices
-            → self.new ≡ with_state self.old (after_assign_set p g place (set_value members) self.old.state)) }
+            → self.new ≡ with_state self.old (after_assign_set p g index (set_value members) self.old.state)) }
         ensures turns { self.new.state.turns ≡ self.old.state.turns }
         ensures vertices { self.new.vertices ≡ self.old.vertices }
         ensures groups { self.new.groups ≡ self.old.groups }
         ensures err { OnErr result (self.new ≡ self.old) }
     {
         let set = self.set_of(alloc, members, functions, block)?;
-        self.sets.replace(place, set);
+        self.sets.replace(index, set);
         Ok(())
     }
 
@@ -393,13 +393,13 @@ impl State {
         match members {
             SetExpression::Nothing => VertexSet::empty(alloc, vertices, Form::List),
             SetExpression::All => VertexSet::full(alloc, vertices, Form::Bits),
-            SetExpression::Copy(slot) => match self.sets.get(slot.place) {
+            SetExpression::Copy(slot) => match self.sets.get(slot.index) {
                 Some(set) => set.to_form(alloc, set.form()),
                 None => VertexSet::empty(alloc, vertices, Form::List),
             },
             SetExpression::Filter(slot, function) => {
                 let filter = functions.filter.get(function);
-                match self.sets.get(slot.place) {
+                match self.sets.get(slot.index) {
                     Some(set) => {
                         filtered(alloc, filter, set, self.sets.sizes(), &self.vectors, block)
                     }
@@ -409,18 +409,18 @@ impl State {
         }
     }
 
-    /// Gives the set at a place a vertex; where there is no set nothing is changed. The only error is out of memory, and
+    /// Gives the set at an index a vertex; where there is no set nothing is changed. The only error is out of memory, and
     /// then nothing is changed.
-    pub fn add_vertex(&mut self, place: usize, vertex: u32) -> Result<(), AllocError>
+    pub fn add_vertex(&mut self, index: usize, vertex: u32) -> Result<(), AllocError>
         requires { vertex < self.old.vertices }
         ensures ok { OnOk result (self.new ≡ with_state self.old
-            (with_members self.old.state place (inserted vertex (members_of (slice_get self.old.state.sets place))))) }
+            (with_members self.old.state index (inserted vertex (members_of (slice_get self.old.state.sets index))))) }
         ensures err { OnErr result (self.new ≡ self.old) }
     {
-        self.sets.insert(place, vertex)
+        self.sets.insert(index, vertex)
     }
 
-    /// Runs a vertex function for each member of a set, and then the second, where there is one, in the same way. A place
+    /// Runs a vertex function for each member of a set, and then the second, where there is one, in the same way. An index
     /// without a set has no members. The only error is out of memory, and then nothing is changed.
     pub fn apply_vertices(
         &mut self,

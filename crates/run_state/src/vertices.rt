@@ -20,11 +20,11 @@ pub(crate) fn take_part(vertices: &mut VertexIter<'_>, part: &mut [u32]) -> usiz
     ensures rest { vertices.new ≡ drop result vertices.old }
 {
     let room = part.len();
-    'places: for place in 0..room {
+    'positions: for position in 0..room {
         let Some(vertex) = vertices.next() else {
-            return place;
+            return position;
         };
-        part[place] = vertex;
+        part[position] = vertex;
     }
     room
 }

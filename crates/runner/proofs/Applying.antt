@@ -23,7 +23,7 @@ use Rattle.plans.specs.Operation.{ApplyEdgesOf}
 use Rattle.plans.specs.Fusing.{EdgeApplyTree, edge_apply_of}
 use Rattle.plans.specs.Instruction.{OperationTree}
 use Rattle.plans.specs.Machine.{At, act, go_on, with_result}
-use Rattle.plans.specs.Reducing.{AreReduced, OperationReduces, places_of, steps_at}
+use Rattle.plans.specs.Reducing.{AreReduced, OperationReduces, indices_of, steps_at}
 use Rattle.plans.proofs.EdgePairs.{after_part}
 use Rattle.plans.proofs.Results.{result_beside_vectors, vectors_of_result}
 use Rattle.run_state.specs.declared.set_update.SetUpdate.{SetUpdate}
@@ -85,7 +85,7 @@ written_behind n first second s a b cs after of_first of_second written =
 turns_stay : (s : StateValue) (a : SetUpdate) → (with_update s a).turns ≡ s.turns
 turns_stay s update.Nothing = refl
 turns_stay s (update.New name set) = refl
-turns_stay s (update.Other place set) = refl
+turns_stay s (update.Other index set) = refl
 
 pub turns_of_both : (s : StateValue) (a b : SetUpdate) → (with_update (with_update s a) b).turns ≡ s.turns
 turns_of_both s a b = turns_stay (with_update s a) b ∙ turns_stay s a
@@ -106,23 +106,23 @@ module _ (p : ProgramTree) (g : GraphValue) (number : ℕ) (s : StateValue) wher
   done_by a x is = subst (IsDoneBy a) is (is_done_by a)
 
 -- the functions of one part or two
-abbrev pub function_places : EdgePart → Option EdgePart → List ℕ
-function_places first second = places_of first.function (option_map (λ (part : EdgePart). part.function) second)
+abbrev pub function_indices : EdgePart → Option EdgePart → List ℕ
+function_indices first second = indices_of first.function (option_map (λ (part : EdgePart). part.function) second)
 
 -- an operation's functions give each vector numbers by one reduction
 pub are_reduced : (p : ProgramTree) (ends : ApplyEnds) (first : EdgePart) (second : Option EdgePart) (t : OperationTree) → ApplyEdgesOf ends first second t → OperationReduces p t
-    → (m : StateValue) → AreReduced (steps_at p.edge_functions (function_places first second)) m
+    → (m : StateValue) → AreReduced (steps_at p.edge_functions (function_indices first second)) m
 are_reduced p ends first None t is reduces = (subst (λ (o : OperationTree). OperationReduces p o) is.is reduces) _ is.applies
 are_reduced p ends first (Some second) t is reduces = subst (λ (o : OperationTree). OperationReduces p o) is reduces
 
 -- an apply of one edge function, or of two
 pub edges_done : (i : Instruction) (old new : Memory) (p : ProgramTree) (g : GraphValue) (ends : ApplyEnds) (first : EdgePart) (second : Option EdgePart) (t : OperationTree)
     → ApplyEdgesOf ends first second t
-    → ((place : ℕ) → At (place + 1) (loops_of new) new.state.state ≡ At (place + 1) (loops_of old)
-    (with_both g.vertices first.result (result_of_second second) (after_edge_apply p.filters p.edge_functions g ends (function_places first second) old.state.state) old.state.state))
+    → ((index : ℕ) → At (index + 1) (loops_of new) new.state.state ≡ At (index + 1) (loops_of old)
+    (with_both g.vertices first.result (result_of_second second) (after_edge_apply p.filters p.edge_functions g ends (function_indices first second) old.state.state) old.state.state))
     → HasDone i Next old new p g t
-edges_done i old new p g ends first None t is stands place =
-    stands place ∙ sym (ap (λ (o : OperationTree). act p g o i.number i.shown place (loops_of old) old.state.state) is.is
-    ∙ ap (λ (after : Stand). go_on (place + 1) (loops_of old) i.shown after) (done_by p g i.number old.state.state is.action _ is.applies))
-edges_done i old new p g ends first (Some second) t is stands place =
-    stands place ∙ sym (ap (λ (o : OperationTree). act p g o i.number i.shown place (loops_of old) old.state.state) is)
+edges_done i old new p g ends first None t is stands index =
+    stands index ∙ sym (ap (λ (o : OperationTree). act p g o i.number i.shown index (loops_of old) old.state.state) is.is
+    ∙ ap (λ (after : Stand). go_on (index + 1) (loops_of old) i.shown after) (done_by p g i.number old.state.state is.action _ is.applies))
+edges_done i old new p g ends first (Some second) t is stands index =
+    stands index ∙ sym (ap (λ (o : OperationTree). act p g o i.number i.shown index (loops_of old) old.state.state) is)

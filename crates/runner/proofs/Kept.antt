@@ -15,12 +15,12 @@ forgotten_twice d s = forgotten-less d d s (within_itself d)
 
 -- what stands level has as many steps left at most
 pub as_many_left : (plan : List InstructionTree) (c d : Configuration) → AreLevel c d → most_steps plan c ≡ most_steps plan d
-as_many_left plan (At place loops s) (At place' loops' s') level =
+as_many_left plan (At index loops s) (At index' loops' s') level =
     ap₂ (λ (n q : ℕ). n * (2 * length plan + 2) + rank plan q + 1) level.1 level.0
-as_many_left plan (At place loops s) (Ended s' end) level = absurd level
-as_many_left plan (Ended s end) (At place loops s') level = absurd level
+as_many_left plan (At index loops s) (Ended s' end) level = absurd level
+as_many_left plan (Ended s end) (At index loops s') level = absurd level
 as_many_left plan (Ended s end) (Ended s' end') level = refl
 
 pub level_itself : (c : Configuration) → AreLevel c c
-level_itself (At place loops s) = (refl, refl)
+level_itself (At index loops s) = (refl, refl)
 level_itself (Ended s end) = tt

@@ -73,19 +73,19 @@ ready_once keep shown (op.Jump to) x y = refl
 ready_once keep shown op.End x y = refl
 
 -- so each instruction of a plan is
-pub instruction_ready : (plan : Plan) (place : ℕ) (i : Instruction) → slice_get plan.instructions.items place ≡ Some i → IsReady i.keep i.shown i.operation
-instruction_ready plan place i found =
+pub instruction_ready : (plan : Plan) (index : ℕ) (i : Instruction) → slice_get plan.instructions.items index ≡ Some i → IsReady i.keep i.shown i.operation
+instruction_ready plan index i found =
     ∥∥₁_elim plan.lowered (ready_once i.keep i.shown i.operation) (λ of.
-    let partner = partner_at IsInstruction plan.instructions.items (plan_of (program_of plan) of.schedule) place i of.planned.instructions found in
+    let partner = partner_at IsInstruction plan.instructions.items (plan_of (program_of plan) of.schedule) index i of.planned.instructions found in
     ready i.keep i.shown i.operation partner.partner.operation partner.related.operation)
 
 pub functions_known : (plan : Plan) → ∥ HaveTrees plan.functions ∥₁
 functions_known plan = ∥∥₁_map plan.lowered (λ of. record { program = program_of plan; are = of.planned.functions })
 
 -- each vertex kernel of a plan is that of a function
-pub vertex_kernel : (f : FunctionKernels) (place : ℕ) (k : VertexKernel) → k ≡ kernel_at f.vertex place → ∥ HaveTrees f ∥₁ → ∥ IsVertexKernel k ∥₁
-vertex_kernel f place k is known =
+pub vertex_kernel : (f : FunctionKernels) (index : ℕ) (k : VertexKernel) → k ≡ kernel_at f.vertex index → ∥ HaveTrees f ∥₁ → ∥ IsVertexKernel k ∥₁
+vertex_kernel f index k is known =
     ∥∥₁_map known (λ h. record {
-      steps = steps_of (slice_get h.program.vertex_functions place);
-      code = subst (λ (z : VertexKernel). IsVertexCode z.code.items (steps_of (slice_get h.program.vertex_functions place))) (sym is) (h.are.vertex place);
+      steps = steps_of (slice_get h.program.vertex_functions index);
+      code = subst (λ (z : VertexKernel). IsVertexCode z.code.items (steps_of (slice_get h.program.vertex_functions index))) (sym is) (h.are.vertex index);
     })

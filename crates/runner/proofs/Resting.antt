@@ -22,37 +22,37 @@ use Rattle.runner.proofs.Kept.{forgotten_twice}
 use Rattle.runner.proofs.Partners.{partner_at}
 use Rattle.typed_tree.specs.ProgramTree.{ProgramTree}
 
--- what rests at a place is what stands there, where a fact of both holds at each instruction
-at_place : (P : Configuration → Type 0) (is : List Instruction) (place : ℕ) (loops : List LoopCounter) (s : StateValue) (o : Option Instruction) → slice_get is place ≡ o
-    → P (At place loops s) → ((i : Instruction) → slice_get is place ≡ Some i → P (At place loops (forget_beyond i.keep s))) → P (kept_at o place loops s)
-at_place P is place loops s None found here there = here
-at_place P is place loops s (Some i) found here there = there i found
+-- what rests at an index is what stands there, where a fact of both holds at each instruction
+at_index : (P : Configuration → Type 0) (is : List Instruction) (index : ℕ) (loops : List LoopCounter) (s : StateValue) (o : Option Instruction) → slice_get is index ≡ o
+    → P (At index loops s) → ((i : Instruction) → slice_get is index ≡ Some i → P (At index loops (forget_beyond i.keep s))) → P (kept_at o index loops s)
+at_index P is index loops s None found here there = here
+at_index P is index loops s (Some i) found here there = there i found
 
 pub step_resting : (p : ProgramTree) (g : GraphValue) (plan : Plan) (schedule : ScheduleTree) → IsPlan plan p schedule → (c : Configuration)
     → step p g (plan_of p schedule) (resting plan.instructions.items c) ≡ step p g (plan_of p schedule) c
-step_resting p g plan schedule planned (At place loops s) =
+step_resting p g plan schedule planned (At index loops s) =
     let code = plan_of p schedule in
     let is = plan.instructions.items in
-    at_place (λ (c : Configuration). step p g code c ≡ step p g code (At place loops s)) is place loops s (slice_get is place) refl refl (λ i found.
-    let partner = partner_at IsInstruction is code place i planned.instructions found in
+    at_index (λ (c : Configuration). step p g code c ≡ step p g code (At index loops s)) is index loops s (slice_get is index) refl refl (λ i found.
+    let partner = partner_at IsInstruction is code index i planned.instructions found in
     let t = partner.partner in
     let kept : forget_beyond t.keep (forget_beyond i.keep s) ≡ forget_beyond t.keep s =
     ap (λ (d : Depth). forget_beyond t.keep (forget_beyond d s)) partner.related.keep ∙ forgotten_twice t.keep s in
-    ap (λ (o : Option InstructionTree). act_at p g o place loops (forget_beyond i.keep s)) partner.is_there
-    ∙ (ap (λ (u : StateValue). act p g t.operation t.number t.shown place loops u) kept
-    ∙ sym (ap (λ (o : Option InstructionTree). act_at p g o place loops s) partner.is_there)))
+    ap (λ (o : Option InstructionTree). act_at p g o index loops (forget_beyond i.keep s)) partner.is_there
+    ∙ (ap (λ (u : StateValue). act p g t.operation t.number t.shown index loops u) kept
+    ∙ sym (ap (λ (o : Option InstructionTree). act_at p g o index loops s) partner.is_there)))
 step_resting p g plan schedule planned (Ended s end) = refl
 
 -- a job shows where it rests what it shows where it stands
 pub outcome_resting : (p : ProgramTree) (turns : ℕ) (plan : Plan) (schedule : ScheduleTree) → IsPlan plan p schedule → (c : Configuration)
     → outcome_so_far p turns (plan_of p schedule) (resting plan.instructions.items c) ≡ outcome_so_far p turns (plan_of p schedule) c
-outcome_resting p turns plan schedule planned (At place loops s) =
+outcome_resting p turns plan schedule planned (At index loops s) =
     let code = plan_of p schedule in
     let is = plan.instructions.items in
-    at_place (λ (c : Configuration). outcome_so_far p turns code c ≡ outcome_so_far p turns code (At place loops s)) is place loops s (slice_get is place) refl refl (λ i found.
-    let partner = partner_at IsInstruction is code place i planned.instructions found in
+    at_index (λ (c : Configuration). outcome_so_far p turns code c ≡ outcome_so_far p turns code (At index loops s)) is index loops s (slice_get is index) refl refl (λ i found.
+    let partner = partner_at IsInstruction is code index i planned.instructions found in
     let t = partner.partner in
-    let within : IsWithin t.shown i.keep = subst (IsWithin t.shown) (sym partner.related.keep) (shows_within p schedule place t partner.is_there) in
+    let within : IsWithin t.shown i.keep = subst (IsWithin t.shown) (sym partner.related.keep) (shows_within p schedule index t partner.is_there) in
     ap (λ (o : Option InstructionTree). shown_where p turns o (forget_beyond i.keep s)) partner.is_there
     ∙ (ap (λ (u : StateValue). shown p turns u TurnsOver) (forgotten-less t.shown i.keep s within)
     ∙ sym (ap (λ (o : Option InstructionTree). shown_where p turns o s) partner.is_there)))

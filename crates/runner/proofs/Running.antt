@@ -42,15 +42,15 @@ module _ (p : ProgramTree) (g : GraphValue) (plan : List InstructionTree) where
 
 -- a run has ended
 abbrev pub HasEnded : Configuration → Type 0
-HasEnded (At place loops s) = ⊥
+HasEnded (At index loops s) = ⊥
 HasEnded (Ended s end) = Unit {0}
 
 no_end : (plan : List InstructionTree) (c : Configuration) → HasEnded c → GoesOn plan c → ⊥
-no_end plan (At place loops s) end on = end
+no_end plan (At index loops s) end on = end
 no_end plan (Ended s e) end on = on
 
 shows_later : (p : ProgramTree) (g : GraphValue) (plan : List InstructionTree) (turns n : ℕ) (c : Configuration) (o : Outcome) → Shows p turns c o → Shows p turns (steps p g plan n c) o
-shows_later p g plan turns n (At place loops s) o is = absurd is
+shows_later p g plan turns n (At index loops s) o is = absurd is
 shows_later p g plan turns n (Ended s end) o is = subst (λ d. Shows p turns d o) (sym (stays p g plan n s end)) is
 
 -- a run that has ended has done all its steps
@@ -87,7 +87,7 @@ pub reached_next : (p : ProgramTree) (g : GraphValue) (plan : List InstructionTr
 reached_next p g plan turns c next r is = record { count = suc r.count; is = is ∙ ap (step p g plan) r.is ∙ sym (steps_next p g plan r.count (first_configuration (opening p g turns))) }
 
 shows_so : (p : ProgramTree) (plan : List InstructionTree) (turns : ℕ) (c : Configuration) (o : Outcome) → Shows p turns c o → outcome_so_far p turns plan c ≡ o
-shows_so p plan turns (At place loops s) o is = absurd is
+shows_so p plan turns (At index loops s) o is = absurd is
 shows_so p plan turns (Ended s end) o is = is
 
 -- a run that has ended shows what the program means
@@ -96,9 +96,9 @@ means p s g turns c r end =
     let there = shows_the_meaning p s g turns r.count (subst HasEnded r.is end) in
     shows_so p (plan_of p s) turns c (meaning p g turns) (subst (λ (d : Configuration). Shows p turns d (meaning p g turns)) (sym r.is) there)
 
-pub has_ended : (end : Option Ending) (place : ℕ) (loops : List LoopCounter) (s : StateValue) → is_some end ≡ true → HasEnded (position end place loops s)
-has_ended None place loops s is = let bad : true ≡ false = sym is in cc
-has_ended (Some end) place loops s is = tt
+pub has_ended : (end : Option Ending) (index : ℕ) (loops : List LoopCounter) (s : StateValue) → is_some end ≡ true → HasEnded (position end index loops s)
+has_ended None index loops s is = let bad : true ≡ false = sym is in cc
+has_ended (Some end) index loops s is = tt
 
 pub goes_on : (end : Option Ending) → is_some end ≡ false → end ≡ None
 goes_on None is = refl

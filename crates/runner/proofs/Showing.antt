@@ -16,10 +16,10 @@ shown_here : (p : ProgramTree) (turns : ℕ) (o : Option InstructionTree) (s : S
 shown_here p turns None s d is = ap (λ (t : StateValue). shown p turns t TurnsOver) is
 shown_here p turns (Some i) s d is = ap (λ (e : Depth). shown p turns (forget_beyond e s) TurnsOver) is
 
-pub shows_so_far : (p : ProgramTree) (turns : ℕ) (plan : List InstructionTree) (end : Option Ending) (place : ℕ) (loops : List LoopCounter) (s : StateValue) (d : Depth)
-    → IsShown plan (position end place loops s) d → shown p turns (forget_beyond d s) (unwrap_or end TurnsOver) ≡ outcome_so_far p turns plan (position end place loops s)
-shows_so_far p turns plan None place loops s d is = shown_here p turns (slice_get plan place) s d is
-shows_so_far p turns plan (Some end) place loops s d is = ap (λ (t : StateValue). shown p turns t end) is
+pub shows_so_far : (p : ProgramTree) (turns : ℕ) (plan : List InstructionTree) (end : Option Ending) (index : ℕ) (loops : List LoopCounter) (s : StateValue) (d : Depth)
+    → IsShown plan (position end index loops s) d → shown p turns (forget_beyond d s) (unwrap_or end TurnsOver) ≡ outcome_so_far p turns plan (position end index loops s)
+shows_so_far p turns plan None index loops s d is = shown_here p turns (slice_get plan index) s d is
+shows_so_far p turns plan (Some end) index loops s d is = ap (λ (t : StateValue). shown p turns t end) is
 
 -- what follows from a fact of a result
 pub if_ok : {A E : Type 0} (P Q : A → Type 0) (r : Result A E) → ((a : A) → P a → Q a) → IfOk r P → IfOk r Q

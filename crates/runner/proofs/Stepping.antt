@@ -37,28 +37,28 @@ use Rattle.runner.proofs.Kept.{as_many_left, forgotten_twice}
 use Rattle.runner.proofs.Partners.{partner_at}
 
 -- to act on what is kept is to step
-pub act_steps : (p : ProgramTree) (g : GraphValue) (plan : List InstructionTree) (place : ℕ) (loops : List LoopCounter) (s t : StateValue) (i : Instruction) (tree : InstructionTree)
-    → slice_get plan place ≡ Some tree → IsInstruction i tree → t ≡ forget_beyond i.keep s
-    → act p g tree.operation i.number i.shown place loops t ≡ step p g plan (At place loops s)
-act_steps p g plan place loops s t i tree at is kept =
-    ap (λ (u : StateValue). act p g tree.operation i.number i.shown place loops u) kept
-    ∙ ((λ j. act p g tree.operation (is.number j) (is.shown j) place loops (forget_beyond (is.keep j) s))
-    ∙ sym (ap (λ (o : Option InstructionTree). act_at p g o place loops s) at))
+pub act_steps : (p : ProgramTree) (g : GraphValue) (plan : List InstructionTree) (index : ℕ) (loops : List LoopCounter) (s t : StateValue) (i : Instruction) (tree : InstructionTree)
+    → slice_get plan index ≡ Some tree → IsInstruction i tree → t ≡ forget_beyond i.keep s
+    → act p g tree.operation i.number i.shown index loops t ≡ step p g plan (At index loops s)
+act_steps p g plan index loops s t i tree at is kept =
+    ap (λ (u : StateValue). act p g tree.operation i.number i.shown index loops u) kept
+    ∙ ((λ j. act p g tree.operation (is.number j) (is.shown j) index loops (forget_beyond (is.keep j) s))
+    ∙ sym (ap (λ (o : Option InstructionTree). act_at p g o index loops s) at))
 
 -- what stands level with the next step of a plan has fewer steps left
-pub level_falls : (plan : Plan) (g : GraphValue) (place : ℕ) (loops : List LoopCounter) (s : StateValue) (i : Instruction) (next : Configuration)
-    → slice_get plan.instructions.items place ≡ Some i
-    → ((p : ProgramTree) (schedule : ScheduleTree) → IsPlan plan p schedule → AreLevel next (step p g (plan_of p schedule) (At place loops s)))
-    → most_steps_of plan.instructions.items next < most_steps_of plan.instructions.items (At place loops s)
-level_falls plan g place loops s i next found level =
+pub level_falls : (plan : Plan) (g : GraphValue) (index : ℕ) (loops : List LoopCounter) (s : StateValue) (i : Instruction) (next : Configuration)
+    → slice_get plan.instructions.items index ≡ Some i
+    → ((p : ProgramTree) (schedule : ScheduleTree) → IsPlan plan p schedule → AreLevel next (step p g (plan_of p schedule) (At index loops s)))
+    → most_steps_of plan.instructions.items next < most_steps_of plan.instructions.items (At index loops s)
+level_falls plan g index loops s i next found level =
     ∥∥₁_elim plan.lowered le_prop (λ of.
     let p = program_of plan in
     let ts = plan_of p of.schedule in
     let is = plan.instructions.items in
     let are = of.planned.instructions in
-    let now = At place loops s in
-    let partner = partner_at IsInstruction is ts place i are found in
-    let inside = is_inside ts place partner.partner partner.is_there in
+    let now = At index loops s in
+    let partner = partner_at IsInstruction is ts index i are found in
+    let inside = is_inside ts index partner.partner partner.is_there in
     let fewer = steps_lower p of.schedule g now inside in
     let before : most_steps_of is now ≡ most_steps ts now = same_bound is ts are now in
     let after : most_steps_of is next ≡ most_steps ts (step p g ts now) = same_bound is ts are next ∙ as_many_left ts next (step p g ts now) (level p of.schedule of.planned) in
@@ -79,23 +79,23 @@ loop_goes_on here loops old new x s was is =
 pub vertices_done : (i : Instruction) (old new : Memory) (p : ProgramTree) (g : GraphValue) (keep shown : Depth) (set : VarRef) (first : ℕ) (second : Option ℕ) (t : OperationTree)
     → IsOperation keep shown (op.ApplyVertices set first second) t → FitTogether p t
     → (second ≡ None → HasDone i Next old new p g (Do (ApplyVertex set first)))
-    → ((place : ℕ) → second ≡ Some place → FitTogether p (ApplyVerticesTogether set first place) → HasDone i Next old new p g (ApplyVerticesTogether set first place))
+    → ((index : ℕ) → second ≡ Some index → FitTogether p (ApplyVerticesTogether set first index) → HasDone i Next old new p g (ApplyVerticesTogether set first index))
     → HasDone i Next old new p g t
 vertices_done i old new p g keep shown set first None t is fit one two = subst (λ (o : OperationTree). HasDone i Next old new p g o) (sym is) (one refl)
-vertices_done i old new p g keep shown set first (Some place) t is fit one two =
-    subst (λ (o : OperationTree). HasDone i Next old new p g o) (sym is) (two place refl (subst (λ (o : OperationTree). FitTogether p o) is fit))
+vertices_done i old new p g keep shown set first (Some index) t is fit one two =
+    subst (λ (o : OperationTree). HasDone i Next old new p g o) (sym is) (two index refl (subst (λ (o : OperationTree). FitTogether p o) is fit))
 
--- at the next place, in a state that was made of another
-pub stands : (place : ℕ) (loops : List LoopCounter) (r new : RunState) (s : StateValue) → new ≡ with_state r s → At place loops new.state ≡ At place loops s
-stands place loops r new s made = ap (λ (t : RunState). At place loops t.state) made
+-- at the next index, in a state that was made of another
+pub stands : (index : ℕ) (loops : List LoopCounter) (r new : RunState) (s : StateValue) → new ≡ with_state r s → At index loops new.state ≡ At index loops s
+stands index loops r new s made = ap (λ (t : RunState). At index loops t.state) made
 
 -- a run that goes on rests where it would if what its instruction does not see were forgotten
-pub rests : (is : List Instruction) (end : Option Ending) (place : ℕ) (loops : List LoopCounter) (s t : StateValue) (i : Instruction) (new : Configuration)
-    → slice_get is place ≡ Some i → t ≡ forget_beyond i.keep s → end ≡ None → new ≡ position end place loops t → resting is new ≡ resting is (position end place loops s)
-rests is end place loops s t i new found kept going stays =
-    ap (resting is) (stays ∙ ap (λ (e : Option Ending). position e place loops t) going)
-    ∙ (ap (λ (o : Option Instruction). kept_at o place loops t) found
-    ∙ (ap (λ (u : StateValue). At place loops (forget_beyond i.keep u)) kept
-    ∙ (ap (λ (u : StateValue). At place loops u) (forgotten_twice i.keep s)
-    ∙ (sym (ap (λ (o : Option Instruction). kept_at o place loops s) found)
-    ∙ sym (ap (λ (e : Option Ending). resting is (position e place loops s)) going)))))
+pub rests : (is : List Instruction) (end : Option Ending) (index : ℕ) (loops : List LoopCounter) (s t : StateValue) (i : Instruction) (new : Configuration)
+    → slice_get is index ≡ Some i → t ≡ forget_beyond i.keep s → end ≡ None → new ≡ position end index loops t → resting is new ≡ resting is (position end index loops s)
+rests is end index loops s t i new found kept going stays =
+    ap (resting is) (stays ∙ ap (λ (e : Option Ending). position e index loops t) going)
+    ∙ (ap (λ (o : Option Instruction). kept_at o index loops t) found
+    ∙ (ap (λ (u : StateValue). At index loops (forget_beyond i.keep u)) kept
+    ∙ (ap (λ (u : StateValue). At index loops u) (forgotten_twice i.keep s)
+    ∙ (sym (ap (λ (o : Option Instruction). kept_at o index loops s) found)
+    ∙ sym (ap (λ (e : Option Ending). resting is (position e index loops s)) going)))))

@@ -22,12 +22,12 @@ use Rattle.runner.specs.Position.{loops_of}
 abbrev pub IsKept : Depth → StateValue → Type 0
 IsKept d s = forget_beyond d s ≡ s
 
--- where a run stands after an instruction at a place
-abbrev pub after_flow : Flow → (number : ℕ) → (shown : Depth) → (place : ℕ) → List LoopCounter → StateValue → Configuration
-after_flow flow.Next number shown place loops s = At (place + 1) loops s
-after_flow (flow.Goto to) number shown place loops s = At to loops s
-after_flow flow.Fault number shown place loops s = faulty number shown s
-after_flow (flow.Ended end) number shown place loops s = Ended (forget_beyond shown s) end
+-- where a run stands after an instruction at an index
+abbrev pub after_flow : Flow → (number : ℕ) → (shown : Depth) → (index : ℕ) → List LoopCounter → StateValue → Configuration
+after_flow flow.Next number shown index loops s = At (index + 1) loops s
+after_flow (flow.Goto to) number shown index loops s = At to loops s
+after_flow flow.Fault number shown index loops s = faulty number shown s
+after_flow (flow.Ended end) number shown index loops s = Ended (forget_beyond shown s) end
 
 -- its kernels are made for what is visible
 abbrev pub IsReady : (keep shown : Depth) → PlanOperation → Type 0
@@ -64,7 +64,7 @@ IsControl (op.Jump to) = Unit {0}
 IsControl op.End = Unit {0}
 IsControl other = ⊥
 
--- it takes values of expressions, and the run goes on at the next place
+-- it takes values of expressions, and the run goes on at the next index
 abbrev pub TakesValues : PlanOperation → Type 0
 TakesValues (op.DeclareInteger name k) = Unit {0}
 TakesValues (op.DeclareCondition name k) = Unit {0}
@@ -85,22 +85,22 @@ pub record HaveTrees (f : FunctionKernels) : Type 0 where
 
 -- an operation is done, and the run goes on so, wherever the instruction stands
 abbrev pub HasDone : Instruction → Flow → (old new : Memory) → ProgramTree → GraphValue → OperationTree → Type 0
-HasDone i f old new p g t = (place : ℕ)
-    → after_flow f i.number i.shown place (loops_of new) new.state.state ≡ act p g t i.number i.shown place (loops_of old) old.state.state
+HasDone i f old new p g t = (index : ℕ)
+    → after_flow f i.number i.shown index (loops_of new) new.state.state ≡ act p g t i.number i.shown index (loops_of old) old.state.state
 
 -- the state and the loops are as they were
 pub record IsAsBefore (old new : Memory) : Type 0 where
   pub state : new.state ≡ old.state
   pub loops : new.loops.items ≡ old.loops.items
 
--- two runs stand before the same place with as many turns left, or have both ended
+-- two runs stand before the same index with as many turns left, or have both ended
 abbrev pub AreLevel : Configuration → Configuration → Type 0
-AreLevel (At place loops s) (At place' loops' s') = (place ≡ place') × (s.turns ≡ s'.turns)
-AreLevel (At place loops s) (Ended s' end) = ⊥
-AreLevel (Ended s end) (At place loops s') = ⊥
+AreLevel (At index loops s) (At index' loops' s') = (index ≡ index') × (s.turns ≡ s'.turns)
+AreLevel (At index loops s) (Ended s' end) = ⊥
+AreLevel (Ended s end) (At index loops s') = ⊥
 AreLevel (Ended s end) (Ended s' end') = Unit {0}
 
 -- the run goes on where the operation leads, with as many turns left
 abbrev pub IsLevel : Instruction → Flow → (old new : Memory) → ProgramTree → GraphValue → OperationTree → Type 0
-IsLevel i f old new p g t = (place : ℕ)
-    → AreLevel (after_flow f i.number i.shown place (loops_of new) new.state.state) (act p g t i.number i.shown place (loops_of old) old.state.state)
+IsLevel i f old new p g t = (index : ℕ)
+    → AreLevel (after_flow f i.number i.shown index (loops_of new) new.state.state) (act p g t i.number i.shown index (loops_of old) old.state.state)

@@ -8,7 +8,7 @@ use Rattle.edge_fold.specs.Changed.{changed, changes_of}
 use Rattle.edge_fold.specs.Ends.{IsEndTest}
 use Rattle.edge_fold.specs.Folded.{AreKernels}
 use Rattle.plans.specs.Functions.{AreFunctionKernels}
-use Rattle.plans.specs.Reducing.{AreReduced, places_of, steps_at}
+use Rattle.plans.specs.Reducing.{AreReduced, indices_of, steps_at}
 use Rattle.run_state.specs.declared.run_view.RunView.{RunView}
 use Rattle.run_state.specs.View.{HasEntryForEach, HasSets, IsViewOf}
 use Rattle.edge_apply.specs.declared.apply.Apply.{Apply}
@@ -26,13 +26,13 @@ pub record AreChangesTo (vertices : ℕ) (before after : List (List ℤ)) (cs : 
 -- each vector numbers by one reduction
 abbrev pub AreChangesOfApply : RunView → EdgeMap → List VectorChanges → Type 0
 AreChangesOfApply run asked cs = (p : ProgramTree) (m : StateValue) (g : GraphValue) → IsViewOf run p m g → HasEntryForEach g.vertices m.vectors
-    → AreReduced (steps_at p.edge_functions (places_of asked.first asked.second)) m
-    → AreChangesTo g.vertices m.vectors (after_edge_apply p.filters p.edge_functions g asked.ends (places_of asked.first asked.second) m) cs
+    → AreReduced (steps_at p.edge_functions (indices_of asked.first asked.second)) m
+    → AreChangesTo g.vertices m.vectors (after_edge_apply p.filters p.edge_functions g asked.ends (indices_of asked.first asked.second) m) cs
 
 -- an apply of the engines has the functions and the ends of an edge apply, whatever program and state the run shows
 abbrev pub HasFunctionsAndEnds : RunView → EdgeMap → Apply → Type 0
 HasFunctionsAndEnds run asked apply = (p : ProgramTree) (m : StateValue) → AreFunctionKernels run.functions.now p → HasSets run m
-    → AreKernels apply.first.now apply.second (steps_at p.edge_functions (places_of asked.first asked.second))
+    → AreKernels apply.first.now apply.second (steps_at p.edge_functions (indices_of asked.first asked.second))
     × IsEndTest apply.from m (passes p.filters m asked.ends.from) × IsEndTest apply.to m (passes p.filters m asked.ends.to)
 
 -- an apply of the engines is an edge apply of a run

@@ -16,17 +16,17 @@ use Rattle.algorithm_meaning.specs.Shown.{shown}
 use Rattle.runner.specs.declared.memory.Memory.{Memory}
 use Rattle.runner.specs.declared.plan_run.PlanRun.{PlanRun}
 
--- before the instruction at a place, or at an end
-abbrev pub position : Option End → (place : ℕ) → List LoopCounter → StateValue → Configuration
-position None place loops s = At place loops s
-position (Some end) place loops s = Ended s end
+-- before the instruction at an index, or at an end
+abbrev pub position : Option End → (index : ℕ) → List LoopCounter → StateValue → Configuration
+position None index loops s = At index loops s
+position (Some end) index loops s = Ended s end
 
--- the loops around the place, the innermost first
+-- the loops around the index, the innermost first
 abbrev pub loops_of : Memory → List LoopCounter
 loops_of m = reverse m.loops.items
 
 abbrev pub configuration_of : PlanRun → Configuration
-configuration_of r = position r.end r.place (loops_of r.memory) r.memory.state.state
+configuration_of r = position r.end r.index (loops_of r.memory) r.memory.state.state
 
 -- the run is on a graph of so many vertices
 abbrev pub IsOn : GraphValue → Memory → Type 0
@@ -42,12 +42,12 @@ shown_where p turns None s = shown p turns s TurnsOver
 shown_where p turns (Some i) s = shown p turns (forget_beyond i.shown s) TurnsOver
 
 abbrev pub outcome_so_far : ProgramTree → (turns : ℕ) → List InstructionTree → Configuration → Outcome
-outcome_so_far p turns plan (At place loops s) = shown_where p turns (slice_get plan place) s
+outcome_so_far p turns plan (At index loops s) = shown_where p turns (slice_get plan index) s
 outcome_so_far p turns plan (Ended s end) = shown p turns s end
 
 -- to forget what is beyond this leaves what such a run shows
 abbrev pub IsShown : List InstructionTree → Configuration → Depth → Type 0
-IsShown plan (At place loops s) d = IsShownWhere (slice_get plan place) s d
+IsShown plan (At index loops s) d = IsShownWhere (slice_get plan index) s d
 IsShown plan (Ended s end) d = forget_beyond d s ≡ s
 
 -- so many steps a run takes at most from here

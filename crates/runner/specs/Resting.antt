@@ -9,12 +9,12 @@ use Rattle.plans.specs.Machine.{Configuration, At, Ended}
 use Rattle.flat_snapshot.specs.Digraph.{Digraph}
 
 -- a run before an instruction, without what that does not see
-abbrev pub kept_at : Option Instruction → (place : ℕ) → List LoopCounter → StateValue → Configuration
-kept_at None place loops s = At place loops s
-kept_at (Some i) place loops s = At place loops (forget_beyond i.keep s)
+abbrev pub kept_at : Option Instruction → (index : ℕ) → List LoopCounter → StateValue → Configuration
+kept_at None index loops s = At index loops s
+kept_at (Some i) index loops s = At index loops (forget_beyond i.keep s)
 
 abbrev pub resting : List Instruction → Configuration → Configuration
-resting is (At place loops s) = kept_at (slice_get is place) place loops s
+resting is (At index loops s) = kept_at (slice_get is index) index loops s
 resting is (Ended s end) = Ended s end
 
 -- a run of a plan on a graph, for at most so many turns, and where it stands

@@ -68,7 +68,7 @@ impl Memory {
         let first = functions.vertex.get(first);
         let second = second_kernel(functions, second);
         self.state
-            .apply_vertices(set.place, first, second, &mut self.block)?;
+            .apply_vertices(set.index, first, second, &mut self.block)?;
         Ok(())
     }
 
@@ -180,9 +180,9 @@ fn set_update(
             Ok(SetUpdate::New { name, set })
         }
         PartResult::Assigned { set, vector } => {
-            let place = set.place;
+            let index = set.index;
             let set = modified(alloc, state, changes, choice, vector)?;
-            Ok(SetUpdate::Other { place, set })
+            Ok(SetUpdate::Other { index, set })
         }
     }
 }
@@ -206,13 +206,13 @@ fn modified(
     }
 }
 
-/// The kernel of the function at the second place, where there is one.
+/// The kernel of the function at the second index, where there is one.
 fn second_kernel(functions: &FunctionKernels, second: Option<usize>) -> Option<&VertexKernel>
     ensures none { second ≡ None → result ≡ None }
-    ensures some { (p : ProgramTree) (place : ℕ) → AreFunctionKernels functions.now p → second ≡ Some place
-        → IsSomeAnd result (λ k. IsVertexCode k.now.code.items (steps_of (slice_get p.vertex_functions place))) }
+    ensures some { (p : ProgramTree) (index : ℕ) → AreFunctionKernels functions.now p → second ≡ Some index
+        → IsSomeAnd result (λ k. IsVertexCode k.now.code.items (steps_of (slice_get p.vertex_functions index))) }
     ensures known { ∥ HaveTrees functions.now ∥₁ → ForSome result (λ k. ∥ IsVertexKernel k.now ∥₁) }
 {
-    let place = second?;
-    Some(functions.vertex.get(place))
+    let index = second?;
+    Some(functions.vertex.get(index))
 }

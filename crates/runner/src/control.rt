@@ -16,7 +16,7 @@ use std::alloc::AllocError;
 use typed_tree::Operator;
 
 impl Memory {
-    /// Goes on at the place unless the test holds.
+    /// Goes on at the index unless the test holds.
     pub(crate) fn unless(
         &mut self,
         instruction: &Instruction,
@@ -69,7 +69,7 @@ impl Memory {
         }
     }
 
-    /// Leaves the innermost loop for the place unless its value is below its bound.
+    /// Leaves the innermost loop for the index unless its value is below its bound.
     pub(crate) fn unless_below(&mut self, instruction: &Instruction, to: usize) -> Flow
         ensures done { (p : ProgramTree) (g : GraphValue) (name : ℕ) → HasDone instruction.now result self.old self.new p g (UnlessBelow name to) }
         ensures vertices { self.new.state.vertices ≡ self.old.state.vertices }

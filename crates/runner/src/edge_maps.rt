@@ -6,7 +6,7 @@ ghost use Rattle.edge_fold.specs.Folded.{AreKernels};
 ghost use Rattle.kernels.specs.Kernels.{IsEdgeKernel};
 ghost use Rattle.kernels.specs.declared.kernel.EdgeKernel.{EdgeKernel};
 ghost use Rattle.plans.specs.Functions.{AreFunctionKernels};
-ghost use Rattle.plans.specs.Reducing.{places_of, steps_at};
+ghost use Rattle.plans.specs.Reducing.{indices_of, steps_at};
 ghost use Rattle.runner.specs.EdgeMap.{AreChangesOfApply, IsApplyOfRun};
 
 use crate::direction::push_or_pull;
@@ -21,8 +21,8 @@ use typed_tree::ApplyEnds;
 use vectors::Changes;
 use vertex_sets::{Form, VertexSet};
 
-/// An edge apply of a plan: the edge functions at one or two places, on the edges between two ends, and what the schedule
-/// says of how it is done. An end names a vertex set by its place.
+/// An edge apply of a plan: the edge functions at one or two indices, on the edges between two ends, and what the schedule
+/// says of how it is done. An end names a vertex set by its index.
 #[derive(Clone, Copy)]
 pub struct EdgeMap {
     pub ends: ApplyEnds,
@@ -31,8 +31,8 @@ pub struct EdgeMap {
     pub schedule: ApplySchedule,
 }
 
-/// What an edge apply changes: written to the vectors of the run, the changes make those after the apply. A place without
-/// a set has no members; a place without a function has one that does nothing. It promises so where the functions give
+/// What an edge apply changes: written to the vectors of the run, the changes make those after the apply. An index without
+/// a set has no members; an index without a function has one that does nothing. It promises so where the functions give
 /// each vector numbers by one reduction, and each vector has an entry for each vertex.
 ///
 /// Where the schedule says nothing, a sparse push is done, in one piece. The changes do not depend on it. The vectors,
@@ -52,7 +52,7 @@ pub fn edge_map(
     push_or_pull(alloc, &apply, scratch)
 }
 
-/// The apply as the engines take it, a sparse push in one piece where the schedule says nothing. A place without a set has
+/// The apply as the engines take it, a sparse push in one piece where the schedule says nothing. An index without a set has
 /// the members of `no_members`, which has none.
 pub(crate) fn apply_of<'a>(run: RunView<'a>, asked: EdgeMap, no_members: &'a VertexSet) -> Apply<'a>
     requires { no_members.now.members ≡ [] }
@@ -72,12 +72,12 @@ pub(crate) fn apply_of<'a>(run: RunView<'a>, asked: EdgeMap, no_members: &'a Ver
     }
 }
 
-/// The kernel of the function at the second place, where there is one.
+/// The kernel of the function at the second index, where there is one.
 fn second_kernel<'a>(run: RunView<'a>, second: Option<usize>) -> Option<&'a EdgeKernel>
     ensures { (p : ProgramTree) (kernel : EdgeKernel) (first : ℕ) → AreFunctionKernels run.entry.functions.now p
         → IsEdgeKernel kernel (steps_of (slice_get p.edge_functions first))
-        → AreKernels kernel result (steps_at p.edge_functions (places_of first second)) }
+        → AreKernels kernel result (steps_at p.edge_functions (indices_of first second)) }
 {
-    let place = second?;
-    Some(run.functions.edge.get(place))
+    let index = second?;
+    Some(run.functions.edge.get(index))
 }

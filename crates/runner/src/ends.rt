@@ -12,7 +12,7 @@ use run_state::RunView;
 use typed_tree::VertexFilter;
 use vertex_sets::VertexSet;
 
-/// The end of an apply that a program names: a set where it stands, or the kernel of a filter. A place without a set has
+/// The end of an apply that a program names: a set where it stands, or the kernel of a filter. An index without a set has
 /// the members of `no_members`, which has none.
 pub(crate) fn end_of<'a>(
     end: Option<VertexFilter>,
@@ -26,11 +26,11 @@ pub(crate) fn end_of<'a>(
     match end {
         None => None,
         Some(VertexFilter::Members(slot)) => {
-            let set = run.sets.get(slot.place).unwrap_or(no_members);
+            let set = run.sets.get(slot.index).unwrap_or(no_members);
             Some(EndpointFilter::Members(set))
         }
-        Some(VertexFilter::Function(place)) => Some(EndpointFilter::Filter(
-            run.functions.filter.get(place),
+        Some(VertexFilter::Function(index)) => Some(EndpointFilter::Filter(
+            run.functions.filter.get(index),
         )),
     }
 }

@@ -103,7 +103,7 @@ impl Memory {
             .vertex(vertex, instruction.keep, &mut self.registers)?
         {
             Some(vertex) => {
-                self.state.add_vertex(slot.place, vertex)?;
+                self.state.add_vertex(slot.index, vertex)?;
                 Ok(Flow::Next)
             }
             None => Ok(Flow::Fault),

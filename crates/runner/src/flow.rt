@@ -6,7 +6,7 @@ use algorithm_meaning::End;
 pub(crate) enum Flow {
     /// At the instruction after it.
     Next,
-    /// At the instruction at this place.
+    /// At the instruction at this index.
     Goto(usize),
     /// An index was no vertex: the run ends by a fault of the instruction's statement.
     Fault,

@@ -15,7 +15,7 @@
 //! those of Ligra (Shun, Blelloch, PPoPP 2013).
 //!
 //! Every value of a plan is that of some program, and so a run ends: its turns are bounded, and between two turns each
-//! step leads to a place of lower rank.
+//! step leads to an index of lower rank.
 #![tactic(auto)]
 
 mod applies;

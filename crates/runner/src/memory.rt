@@ -6,7 +6,7 @@ use kernels::{Block, Registers};
 use run_state::State;
 
 /// What the instructions of a run work on, wherever they stand: the state, the values of the `for` loops around the
-/// place, the innermost last, and memory for kernels of functions and of expressions.
+/// index, the innermost last, and memory for kernels of functions and of expressions.
 pub(crate) struct Memory {
     pub(crate) loops: Vec<LoopCounter>,
     pub(crate) state: State,

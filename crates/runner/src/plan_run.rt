@@ -24,8 +24,8 @@ use std::alloc::{AllocError, Global};
 
 /// Where a run of a plan stands, and what its instructions work on.
 pub(crate) struct PlanRun {
-    /// The place of the next instruction.
-    pub(crate) place: usize,
+    /// The index of the next instruction.
+    pub(crate) index: usize,
     /// How it ended, where it has.
     pub(crate) end: Option<End>,
     pub(crate) memory: Memory,
@@ -34,7 +34,7 @@ pub(crate) struct PlanRun {
 impl Drop for PlanRun {
     fn drop(self) {
         let PlanRun {
-            place: _,
+            index: _,
             end: _,
             memory: _,
         } = self;
@@ -64,7 +64,7 @@ impl PlanRun {
             registers: Registers::new(alloc),
         };
         Ok(PlanRun {
-            place: 0,
+            index: 0,
             end: None,
             memory,
         })
@@ -73,15 +73,15 @@ impl PlanRun {
     /// Goes on where an instruction leads, or ends there.
     pub(crate) fn follow(&mut self, flow: Flow, instruction: &Instruction)
         requires going { self.old.end ≡ None }
-        requires room { self.old.place + 1 < 2 ^ 64 }
+        requires room { self.old.index + 1 < 2 ^ 64 }
         ensures configuration { configuration_of self.new
-            ≡ after_flow flow instruction.now.number instruction.now.shown self.old.place (loops_of self.old.memory) self.old.memory.state.state }
+            ≡ after_flow flow instruction.now.number instruction.now.shown self.old.index (loops_of self.old.memory) self.old.memory.state.state }
         ensures vertices { self.new.memory.state.vertices ≡ self.old.memory.state.vertices }
         ensures groups { self.new.memory.state.groups ≡ self.old.memory.state.groups }
     {
         match flow {
-            Flow::Next => self.place += 1,
-            Flow::Goto(to) => self.place = to,
+            Flow::Next => self.index += 1,
+            Flow::Goto(to) => self.index = to,
             Flow::Fault => self.finish(instruction.shown, End::Fault(401, instruction.number)),
             Flow::Ended(end) => self.finish(instruction.shown, end),
         }
@@ -122,7 +122,7 @@ impl PlanRun {
         let end = self.shown_end();
         let shown = self.shown(plan);
         let PlanRun {
-            place: _,
+            index: _,
             end: _,
             memory,
         } = self;
@@ -143,7 +143,7 @@ impl PlanRun {
     {
         match self.end {
             Some(_) => self.memory.state.depth(),
-            None => match plan.instructions.get(self.place) {
+            None => match plan.instructions.get(self.index) {
                 Some(instruction) => instruction.shown,
                 None => self.memory.state.depth(),
             },

@@ -54,7 +54,7 @@ impl Memory {
         ensures err { OnErr result (IsAsBefore self.old self.new) }
     {
         self.state
-            .assign_set(alloc, slot.place, members, functions, &mut self.block)?;
+            .assign_set(alloc, slot.index, members, functions, &mut self.block)?;
         Ok(())
     }
 }

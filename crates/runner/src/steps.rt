@@ -51,7 +51,7 @@ impl PlanRun {
     {
         match self.end {
             Some(_) => Ok(()),
-            None => match plan.instructions.get(self.place) {
+            None => match plan.instructions.get(self.index) {
                 Some(instruction) => {
                     self.memory.state.forget_beyond(instruction.keep);
                     let flow = self.memory.act(alloc, plan, graph, instruction, by)?;
@@ -155,7 +155,7 @@ impl Memory {
         }
     }
 
-    /// Does an instruction that takes values of expressions and goes on at the next place.
+    /// Does an instruction that takes values of expressions and goes on at the next index.
     fn evaluate(&mut self, i: &Instruction) -> Result<Flow, AllocError>
         requires kept { IsKept i.now.keep self.old.state.state }
         requires ready { IsReady i.now.keep i.now.shown i.now.operation }

@@ -89,7 +89,7 @@ impl Memory {
             .eval_int(value, instruction.keep, &mut self.registers)?
         {
             Some(n) => {
-                self.state.set_integer(slot.place, n);
+                self.state.set_integer(slot.index, n);
                 Ok(Flow::Next)
             }
             None => Ok(Flow::Fault),
@@ -116,7 +116,7 @@ impl Memory {
             .eval_bool(value, instruction.keep, &mut self.registers)?
         {
             Some(b) => {
-                self.state.set_condition(slot.place, b);
+                self.state.set_condition(slot.index, b);
                 Ok(Flow::Next)
             }
             None => Ok(Flow::Fault),
@@ -144,7 +144,7 @@ impl Memory {
             .eval_int(value, instruction.keep, &mut self.registers)?
         {
             Some(n) => {
-                self.state.reduce_integer(slot.place, reduction, n);
+                self.state.reduce_integer(slot.index, reduction, n);
                 Ok(Flow::Next)
             }
             None => Ok(Flow::Fault),

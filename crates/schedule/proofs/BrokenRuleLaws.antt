@@ -19,7 +19,7 @@ use Rattle.schedule.specs.declared.error.ScheduleRule.{ScheduleRule}
 use Rattle.schedule.specs.declared.error.ScheduleRule.TheVariants as rule
 use Rattle.schedule.specs.BrokenRules.{AppliesNoEdges, BreakNoRule, BreaksConfigRule, BreaksFields, BreaksFieldsRule, BreaksFuseRule, BreaksRule, BreaksRuleOf, HasNoVector, HasValueOf, InGroup, IsFusedTwice, IsLeastBroken, IsNoValue, IsRefused, NamedTwice, NamesOneTwice, NamesVector, NoVector, OnApplies, OnLabel, OnLabels, TooFew, WithTwo}
 use Rattle.schedule.specs.Calls.{after_call, and_then, apply_at, first_given, fuse_at, fuse_or, fusing_fault_of, fusing_of_two, given, grown, grown_by, is_followed_by, schedule_of, two_of, value_at, value_of_two, value_on, with_call, with_call_of, with_calls, with_group}
-use Rattle.schedule.specs.Names.{label_place, vector_place}
+use Rattle.schedule.specs.Names.{label_index, vector_index}
 use Rattle.schedule.specs.Refusal.{number_of_rule}
 use Rattle.schedule.specs.Schedule.{empty_schedule, is_fused, with_choice}
 use Rattle.schedule.specs.Values.{dense_vertex_set_of, direction_of, parallelization_of}
@@ -30,8 +30,8 @@ abbrev Tells : {A : Type 0} → (ScheduleRule → Type 0) → Result A ScheduleR
 Tells Breaks (Ok new) = (r : ScheduleRule) → Breaks r → ⊥
 Tells Breaks (Err r) = IsLeastBroken Breaks r
 
-two_places : (o : Option ℕ) (a b : ℕ) → o ≡ Some a → o ≡ Some b → a ≡ b
-two_places o a b is e = cc
+two_indices : (o : Option ℕ) (a b : ℕ) → o ≡ Some a → o ≡ Some b → a ≡ b
+two_indices o a b is e = cc
 
 two_applies : (o : Option StatementApply) (a b : StatementApply) → o ≡ Some a → o ≡ Some b → a ≡ b
 two_applies o a b is e = cc
@@ -54,18 +54,18 @@ least_number rule.NotIndependent = lit≤ tt
 least_number rule.BadFields = lit≤ tt
 
 -- a `config` call
-label_is : (p : ProgramTree) (name : List ℕ) (label : ℕ) (P : ℕ → Type 0) → label_place p name ≡ Some label → OnLabel p name P → P label
-label_is p name label P is on = subst P (two_places (label_place p name) on.label label on.named is) on.holds
+label_is : (p : ProgramTree) (name : List ℕ) (label : ℕ) (P : ℕ → Type 0) → label_index p name ≡ Some label → OnLabel p name P → P label
+label_is p name label P is on = subst P (two_indices (label_index p name) on.label label on.named is) on.holds
 
-no_label : (p : ProgramTree) (name : List ℕ) (P : ℕ → Type 0) → label_place p name ≡ None → OnLabel p name P → ⊥
-no_label p name P is on = nowhere (label_place p name) on.label is on.named
+no_label : (p : ProgramTree) (name : List ℕ) (P : ℕ → Type 0) → label_index p name ≡ None → OnLabel p name P → ⊥
+no_label p name P is on = nowhere (label_index p name) on.label is on.named
 
-unknown_label : (p : ProgramTree) (s : ScheduleTree) (which : Setting) (name text : List ℕ) → label_place p name ≡ None → IsLeastBroken (BreaksConfigRule p s which name text) rule.UnknownLabel
+unknown_label : (p : ProgramTree) (s : ScheduleTree) (which : Setting) (name text : List ℕ) → label_index p name ≡ None → IsLeastBroken (BreaksConfigRule p s which name text) rule.UnknownLabel
 unknown_label p s which name text is = record { broken = is; least = λ other breaks. least_number other }
 
-no_edges_least : (p : ProgramTree) (s : ScheduleTree) (which : Setting) (name text : List ℕ) (label : ℕ) → label_place p name ≡ Some label
+no_edges_least : (p : ProgramTree) (s : ScheduleTree) (which : Setting) (name text : List ℕ) (label : ℕ) → label_index p name ≡ Some label
     → (other : ScheduleRule) → BreaksConfigRule p s which name text other → 302 ≤ number_of_rule other
-no_edges_least p s which name text label is rule.UnknownLabel breaks = absurd (nowhere (label_place p name) label breaks is)
+no_edges_least p s which name text label is rule.UnknownLabel breaks = absurd (nowhere (label_index p name) label breaks is)
 no_edges_least p s which name text label is rule.NoApply breaks = lit≤ tt
 no_edges_least p s which name text label is rule.BadArgument breaks = lit≤ tt
 no_edges_least p s which name text label is rule.GivenTwice breaks = lit≤ tt
@@ -74,7 +74,7 @@ no_edges_least p s which name text label is rule.DifferentSets breaks = absurd b
 no_edges_least p s which name text label is rule.NotIndependent breaks = absurd breaks
 no_edges_least p s which name text label is rule.BadFields breaks = absurd breaks
 
-no_edges : (p : ProgramTree) (s : ScheduleTree) (which : Setting) (name text : List ℕ) (label : ℕ) → label_place p name ≡ Some label → AppliesNoEdges (apply_at p label)
+no_edges : (p : ProgramTree) (s : ScheduleTree) (which : Setting) (name text : List ℕ) (label : ℕ) → label_index p name ≡ Some label → AppliesNoEdges (apply_at p label)
     → IsLeastBroken (BreaksConfigRule p s which name text) rule.NoApply
 no_edges p s which name text label is none = record {
   broken = record { label = label; named = is; holds = none };
@@ -83,12 +83,12 @@ no_edges p s which name text label is none = record {
 
 -- what is known of a `config` call on an edge apply, of which only its value and the one before are open
 record OnEdges (p : ProgramTree) (s : ScheduleTree) (which : Setting) (name text : List ℕ) (label : ℕ) : Type 0 where
-  named : label_place p name ≡ Some label
+  named : label_index p name ≡ Some label
   edges : AppliesNoEdges (apply_at p label) → ⊥
 
 config_breaks_none : (p : ProgramTree) (s : ScheduleTree) (which : Setting) (name text : List ℕ) (label : ℕ) → OnEdges p s which name text label
     → (IsNoValue which text → ⊥) → (HasValueOf which (choice_of label s) → ⊥) → (r : ScheduleRule) → BreaksConfigRule p s which name text r → ⊥
-config_breaks_none p s which name text label on value before rule.UnknownLabel breaks = nowhere (label_place p name) label breaks on.named
+config_breaks_none p s which name text label on value before rule.UnknownLabel breaks = nowhere (label_index p name) label breaks on.named
 config_breaks_none p s which name text label on value before rule.NoApply breaks = on.edges (label_is p name label (λ label. AppliesNoEdges (apply_at p label)) on.named breaks)
 config_breaks_none p s which name text label on value before rule.BadArgument breaks = value breaks
 config_breaks_none p s which name text label on value before rule.GivenTwice breaks = before (label_is p name label (λ label. HasValueOf which (choice_of label s)) on.named breaks)
@@ -99,7 +99,7 @@ config_breaks_none p s which name text label on value before rule.BadFields brea
 
 bad_value_least : (p : ProgramTree) (s : ScheduleTree) (which : Setting) (name text : List ℕ) (label : ℕ) → OnEdges p s which name text label
     → (other : ScheduleRule) → BreaksConfigRule p s which name text other → 303 ≤ number_of_rule other
-bad_value_least p s which name text label on rule.UnknownLabel breaks = absurd (nowhere (label_place p name) label breaks on.named)
+bad_value_least p s which name text label on rule.UnknownLabel breaks = absurd (nowhere (label_index p name) label breaks on.named)
 bad_value_least p s which name text label on rule.NoApply breaks = absurd (on.edges (label_is p name label (λ label. AppliesNoEdges (apply_at p label)) on.named breaks))
 bad_value_least p s which name text label on rule.BadArgument breaks = lit≤ tt
 bad_value_least p s which name text label on rule.GivenTwice breaks = lit≤ tt
@@ -110,7 +110,7 @@ bad_value_least p s which name text label on rule.BadFields breaks = lit≤ tt
 
 given_twice_least : (p : ProgramTree) (s : ScheduleTree) (which : Setting) (name text : List ℕ) (label : ℕ) → OnEdges p s which name text label → (IsNoValue which text → ⊥)
     → (other : ScheduleRule) → BreaksConfigRule p s which name text other → 304 ≤ number_of_rule other
-given_twice_least p s which name text label on value rule.UnknownLabel breaks = absurd (nowhere (label_place p name) label breaks on.named)
+given_twice_least p s which name text label on value rule.UnknownLabel breaks = absurd (nowhere (label_index p name) label breaks on.named)
 given_twice_least p s which name text label on value rule.NoApply breaks = absurd (on.edges (label_is p name label (λ label. AppliesNoEdges (apply_at p label)) on.named breaks))
 given_twice_least p s which name text label on value rule.BadArgument breaks = absurd (value breaks)
 given_twice_least p s which name text label on value rule.GivenTwice breaks = lit≤ tt
@@ -167,17 +167,17 @@ given_tells p s setting.DenseVertexSet name text label config on =
 given_tells p s setting.FuseFunctions name text label config on = absurd config
 given_tells p s setting.FuseFields name text label config on = absurd config
 
-apply_tells : (p : ProgramTree) (s : ScheduleTree) (which : Setting) (name text : List ℕ) (label : ℕ) → IsConfigSetting which → label_place p name ≡ Some label
+apply_tells : (p : ProgramTree) (s : ScheduleTree) (which : Setting) (name text : List ℕ) (label : ℕ) → IsConfigSetting which → label_index p name ≡ Some label
     → (apply : Option StatementApply) → apply_at p label ≡ apply → Tells (BreaksConfigRule p s which name text) (value_on which text s label apply)
 apply_tells p s which name text label config named None is = no_edges p s which name text label named (subst AppliesNoEdges (sym is) tt)
 apply_tells p s which name text label config named (Some (Vertices set function)) is = no_edges p s which name text label named (subst AppliesNoEdges (sym is) tt)
 apply_tells p s which name text label config named (Some (Edges ends function changes)) is =
     given_tells p s which name text label config (record { named = named; edges = λ none. subst AppliesNoEdges is none })
 
-place_tells : (p : ProgramTree) (s : ScheduleTree) (which : Setting) (name text : List ℕ) → IsConfigSetting which → (place : Option ℕ) → label_place p name ≡ place
-    → Tells (BreaksConfigRule p s which name text) (value_at p which text s place)
-place_tells p s which name text config None is = unknown_label p s which name text is
-place_tells p s which name text config (Some label) is = apply_tells p s which name text label config is (apply_at p label) refl
+index_tells : (p : ProgramTree) (s : ScheduleTree) (which : Setting) (name text : List ℕ) → IsConfigSetting which → (index : Option ℕ) → label_index p name ≡ index
+    → Tells (BreaksConfigRule p s which name text) (value_at p which text s index)
+index_tells p s which name text config None is = unknown_label p s which name text is
+index_tells p s which name text config (Some label) is = apply_tells p s which name text label config is (apply_at p label) refl
 
 wrong_count : (Breaks : List ℕ → List ℕ → ScheduleRule → Type 0) → IsLeastBroken (WithTwo Breaks None) rule.BadArgument
 wrong_count Breaks = record { broken = refl; least = λ other is. subst (λ r. 303 ≤ number_of_rule r) (sym is) (lit≤ tt) }
@@ -185,31 +185,31 @@ wrong_count Breaks = record { broken = refl; least = λ other is. subst (λ r. 3
 config_tells : (p : ProgramTree) (s : ScheduleTree) (which : Setting) → IsConfigSetting which → (two : Option (List ℕ × List ℕ))
     → Tells (WithTwo (BreaksConfigRule p s which) two) (value_of_two p which two s)
 config_tells p s which config None = wrong_count (BreaksConfigRule p s which)
-config_tells p s which config (Some two) = place_tells p s which two.0 two.1 config (label_place p two.0) refl
+config_tells p s which config (Some two) = index_tells p s which two.0 two.1 config (label_index p two.0) refl
 
 -- a fusing
-record OnPlaces (p : ProgramTree) (first second : List ℕ) (a b : ℕ) : Type 0 where
-  one : label_place p first ≡ Some a
-  other : label_place p second ≡ Some b
+record OnIndices (p : ProgramTree) (first second : List ℕ) (a b : ℕ) : Type 0 where
+  one : label_index p first ≡ Some a
+  other : label_index p second ≡ Some b
 
-both_are : (p : ProgramTree) (first second : List ℕ) (a b : ℕ) (P : ℕ → ℕ → Type 0) → OnPlaces p first second a b → OnLabels p first second P → P a b
+both_are : (p : ProgramTree) (first second : List ℕ) (a b : ℕ) (P : ℕ → ℕ → Type 0) → OnIndices p first second a b → OnLabels p first second P → P a b
 both_are p first second a b P at on =
-    subst (P a) (two_places (label_place p second) on.holds.label b on.holds.named at.other)
-    (subst (λ x. P x on.holds.label) (two_places (label_place p first) on.label a on.named at.one) on.holds.holds)
+    subst (P a) (two_indices (label_index p second) on.holds.label b on.holds.named at.other)
+    (subst (λ x. P x on.holds.label) (two_indices (label_index p first) on.label a on.named at.one) on.holds.holds)
 
-both_on : (p : ProgramTree) (first second : List ℕ) (a b : ℕ) (P : ℕ → ℕ → Type 0) → OnPlaces p first second a b → P a b → OnLabels p first second P
+both_on : (p : ProgramTree) (first second : List ℕ) (a b : ℕ) (P : ℕ → ℕ → Type 0) → OnIndices p first second a b → P a b → OnLabels p first second P
 both_on p first second a b P at holds = record { label = a; named = at.one; holds = record { label = b; named = at.other; holds = holds } }
 
-first_unknown : (p : ProgramTree) (s : ScheduleTree) (first second : List ℕ) → (label_place p first ≡ None) ⊎ (label_place p second ≡ None)
+first_unknown : (p : ProgramTree) (s : ScheduleTree) (first second : List ℕ) → (label_index p first ≡ None) ⊎ (label_index p second ≡ None)
     → IsLeastBroken (BreaksFuseRule p s first second) rule.UnknownLabel
 first_unknown p s first second is = record { broken = is; least = λ other breaks. least_number other }
 
 -- both labels are there, so the rule on labels is kept
-labels_kept : (p : ProgramTree) (first second : List ℕ) (a b : ℕ) → OnPlaces p first second a b → (label_place p first ≡ None) ⊎ (label_place p second ≡ None) → ⊥
+labels_kept : (p : ProgramTree) (first second : List ℕ) (a b : ℕ) → OnIndices p first second a b → (label_index p first ≡ None) ⊎ (label_index p second ≡ None) → ⊥
 labels_kept p first second a b at none =
-    elim none [ inl is ↦ nowhere (label_place p first) a is at.one | inr is ↦ nowhere (label_place p second) b is at.other ]
+    elim none [ inl is ↦ nowhere (label_index p first) a is at.one | inr is ↦ nowhere (label_index p second) b is at.other ]
 
-nothing_applied_least : (p : ProgramTree) (s : ScheduleTree) (first second : List ℕ) (a b : ℕ) → OnPlaces p first second a b
+nothing_applied_least : (p : ProgramTree) (s : ScheduleTree) (first second : List ℕ) (a b : ℕ) → OnIndices p first second a b
     → (other : ScheduleRule) → BreaksFuseRule p s first second other → 302 ≤ number_of_rule other
 nothing_applied_least p s first second a b at rule.UnknownLabel breaks = absurd (labels_kept p first second a b at breaks)
 nothing_applied_least p s first second a b at rule.NoApply breaks = lit≤ tt
@@ -222,7 +222,7 @@ nothing_applied_least p s first second a b at rule.BadFields breaks = lit≤ tt
 
 -- both labels are there, and their statements apply something
 record OnBoth (p : ProgramTree) (first second : List ℕ) (a b : ℕ) (x y : StatementApply) : Type 0 where
-  places : OnPlaces p first second a b
+  indices : OnIndices p first second a b
   one : apply_at p a ≡ Some x
   other : apply_at p b ≡ Some y
 
@@ -230,13 +230,13 @@ applies_kept : (p : ProgramTree) (first second : List ℕ) (a b : ℕ) (x y : St
     → OnLabel p first (λ label. apply_at p label ≡ None) ⊎ OnLabel p second (λ label. apply_at p label ≡ None) → ⊥
 applies_kept p first second a b x y on none =
     elim none [
-      | inl is ↦ nowhere (apply_at p a) x (label_is p first a (λ label. apply_at p label ≡ None) on.places.one is) on.one
-      | inr is ↦ nowhere (apply_at p b) y (label_is p second b (λ label. apply_at p label ≡ None) on.places.other is) on.other
+      | inl is ↦ nowhere (apply_at p a) x (label_is p first a (λ label. apply_at p label ≡ None) on.indices.one is) on.one
+      | inr is ↦ nowhere (apply_at p b) y (label_is p second b (λ label. apply_at p label ≡ None) on.indices.other is) on.other
     ]
 
 twice_least : (p : ProgramTree) (s : ScheduleTree) (first second : List ℕ) (a b : ℕ) (x y : StatementApply) → OnBoth p first second a b x y
     → (other : ScheduleRule) → BreaksFuseRule p s first second other → 304 ≤ number_of_rule other
-twice_least p s first second a b x y on rule.UnknownLabel breaks = absurd (labels_kept p first second a b on.places breaks)
+twice_least p s first second a b x y on rule.UnknownLabel breaks = absurd (labels_kept p first second a b on.indices breaks)
 twice_least p s first second a b x y on rule.NoApply breaks = absurd (applies_kept p first second a b x y on breaks)
 twice_least p s first second a b x y on rule.BadArgument breaks = absurd breaks
 twice_least p s first second a b x y on rule.GivenTwice breaks = lit≤ tt
@@ -247,10 +247,10 @@ twice_least p s first second a b x y on rule.BadFields breaks = lit≤ tt
 
 adjacent_least : (p : ProgramTree) (s : ScheduleTree) (first second : List ℕ) (a b : ℕ) (x y : StatementApply) → OnBoth p first second a b x y → (IsFusedTwice s a b → ⊥)
     → (other : ScheduleRule) → BreaksFuseRule p s first second other → 305 ≤ number_of_rule other
-adjacent_least p s first second a b x y on once rule.UnknownLabel breaks = absurd (labels_kept p first second a b on.places breaks)
+adjacent_least p s first second a b x y on once rule.UnknownLabel breaks = absurd (labels_kept p first second a b on.indices breaks)
 adjacent_least p s first second a b x y on once rule.NoApply breaks = absurd (applies_kept p first second a b x y on breaks)
 adjacent_least p s first second a b x y on once rule.BadArgument breaks = absurd breaks
-adjacent_least p s first second a b x y on once rule.GivenTwice breaks = absurd (once (both_are p first second a b (IsFusedTwice s) on.places breaks))
+adjacent_least p s first second a b x y on once rule.GivenTwice breaks = absurd (once (both_are p first second a b (IsFusedTwice s) on.indices breaks))
 adjacent_least p s first second a b x y on once rule.NotAdjacent breaks = lit≤ tt
 adjacent_least p s first second a b x y on once rule.DifferentSets breaks = lit≤ tt
 adjacent_least p s first second a b x y on once rule.NotIndependent breaks = lit≤ tt
@@ -264,12 +264,12 @@ record Neighbours (p : ProgramTree) (s : ScheduleTree) (first second : List ℕ)
 
 sets_least : (p : ProgramTree) (s : ScheduleTree) (first second : List ℕ) (a b : ℕ) (x y : StatementApply) → Neighbours p s first second a b x y
     → (other : ScheduleRule) → BreaksFuseRule p s first second other → 306 ≤ number_of_rule other
-sets_least p s first second a b x y n rule.UnknownLabel breaks = absurd (labels_kept p first second a b n.on.places breaks)
+sets_least p s first second a b x y n rule.UnknownLabel breaks = absurd (labels_kept p first second a b n.on.indices breaks)
 sets_least p s first second a b x y n rule.NoApply breaks = absurd (applies_kept p first second a b x y n.on breaks)
 sets_least p s first second a b x y n rule.BadArgument breaks = absurd breaks
-sets_least p s first second a b x y n rule.GivenTwice breaks = absurd (n.once (both_are p first second a b (IsFusedTwice s) n.on.places breaks))
+sets_least p s first second a b x y n rule.GivenTwice breaks = absurd (n.once (both_are p first second a b (IsFusedTwice s) n.on.indices breaks))
 sets_least p s first second a b x y n rule.NotAdjacent breaks =
-    absurd (true_is_false (is_followed_by p a b) n.adjacent (both_are p first second a b (λ a b. is_followed_by p a b ≡ false) n.on.places breaks))
+    absurd (true_is_false (is_followed_by p a b) n.adjacent (both_are p first second a b (λ a b. is_followed_by p a b ≡ false) n.on.indices breaks))
 sets_least p s first second a b x y n rule.DifferentSets breaks = lit≤ tt
 sets_least p s first second a b x y n rule.NotIndependent breaks = lit≤ tt
 sets_least p s first second a b x y n rule.BadFields breaks = lit≤ tt
@@ -278,22 +278,22 @@ sets_least p s first second a b x y n rule.BadFields breaks = lit≤ tt
 applies_are : (p : ProgramTree) (first second : List ℕ) (a b : ℕ) (x y : StatementApply) (P : StatementApply → StatementApply → Type 0) → OnBoth p first second a b x y
     → OnLabels p first second (λ a b. OnApplies p a b P) → P x y
 applies_are p first second a b x y P on breaks =
-    let at = both_are p first second a b (λ a b. OnApplies p a b P) on.places breaks in
+    let at = both_are p first second a b (λ a b. OnApplies p a b P) on.indices breaks in
     subst (P x) (two_applies (apply_at p b) at.other y at.second_applies on.other) (subst (λ z. P z at.other) (two_applies (apply_at p a) at.one x at.first_applies on.one) at.holds)
 
 applies_on : (p : ProgramTree) (first second : List ℕ) (a b : ℕ) (x y : StatementApply) (P : StatementApply → StatementApply → Type 0) → OnBoth p first second a b x y → P x y
     → OnLabels p first second (λ a b. OnApplies p a b P)
 applies_on p first second a b x y P on holds =
-    both_on p first second a b (λ a b. OnApplies p a b P) on.places (record { one = x; other = y; first_applies = on.one; second_applies = on.other; holds = holds })
+    both_on p first second a b (λ a b. OnApplies p a b P) on.indices (record { one = x; other = y; first_applies = on.one; second_applies = on.other; holds = holds })
 
 dependence_least : (p : ProgramTree) (s : ScheduleTree) (first second : List ℕ) (a b : ℕ) (x y : StatementApply) → Neighbours p s first second a b x y → have_same_sets p.names x y ≡ true
     → (other : ScheduleRule) → BreaksFuseRule p s first second other → 307 ≤ number_of_rule other
-dependence_least p s first second a b x y n same rule.UnknownLabel breaks = absurd (labels_kept p first second a b n.on.places breaks)
+dependence_least p s first second a b x y n same rule.UnknownLabel breaks = absurd (labels_kept p first second a b n.on.indices breaks)
 dependence_least p s first second a b x y n same rule.NoApply breaks = absurd (applies_kept p first second a b x y n.on breaks)
 dependence_least p s first second a b x y n same rule.BadArgument breaks = absurd breaks
-dependence_least p s first second a b x y n same rule.GivenTwice breaks = absurd (n.once (both_are p first second a b (IsFusedTwice s) n.on.places breaks))
+dependence_least p s first second a b x y n same rule.GivenTwice breaks = absurd (n.once (both_are p first second a b (IsFusedTwice s) n.on.indices breaks))
 dependence_least p s first second a b x y n same rule.NotAdjacent breaks =
-    absurd (true_is_false (is_followed_by p a b) n.adjacent (both_are p first second a b (λ a b. is_followed_by p a b ≡ false) n.on.places breaks))
+    absurd (true_is_false (is_followed_by p a b) n.adjacent (both_are p first second a b (λ a b. is_followed_by p a b ≡ false) n.on.indices breaks))
 dependence_least p s first second a b x y n same rule.DifferentSets breaks =
     absurd (true_is_false (have_same_sets p.names x y) same (applies_are p first second a b x y (λ x y. have_same_sets p.names x y ≡ false) n.on breaks))
 dependence_least p s first second a b x y n same rule.NotIndependent breaks = lit≤ tt
@@ -301,12 +301,12 @@ dependence_least p s first second a b x y n same rule.BadFields breaks = lit≤ 
 
 fuse_breaks_none : (p : ProgramTree) (s : ScheduleTree) (first second : List ℕ) (a b : ℕ) (x y : StatementApply) → Neighbours p s first second a b x y → have_same_sets p.names x y ≡ true
     → are_independent p x y ≡ true → (r : ScheduleRule) → BreaksFuseRule p s first second r → ⊥
-fuse_breaks_none p s first second a b x y n same apart rule.UnknownLabel breaks = labels_kept p first second a b n.on.places breaks
+fuse_breaks_none p s first second a b x y n same apart rule.UnknownLabel breaks = labels_kept p first second a b n.on.indices breaks
 fuse_breaks_none p s first second a b x y n same apart rule.NoApply breaks = applies_kept p first second a b x y n.on breaks
 fuse_breaks_none p s first second a b x y n same apart rule.BadArgument breaks = breaks
-fuse_breaks_none p s first second a b x y n same apart rule.GivenTwice breaks = n.once (both_are p first second a b (IsFusedTwice s) n.on.places breaks)
+fuse_breaks_none p s first second a b x y n same apart rule.GivenTwice breaks = n.once (both_are p first second a b (IsFusedTwice s) n.on.indices breaks)
 fuse_breaks_none p s first second a b x y n same apart rule.NotAdjacent breaks =
-    true_is_false (is_followed_by p a b) n.adjacent (both_are p first second a b (λ a b. is_followed_by p a b ≡ false) n.on.places breaks)
+    true_is_false (is_followed_by p a b) n.adjacent (both_are p first second a b (λ a b. is_followed_by p a b ≡ false) n.on.indices breaks)
 fuse_breaks_none p s first second a b x y n same apart rule.DifferentSets breaks =
     true_is_false (have_same_sets p.names x y) same (applies_are p first second a b x y (λ x y. have_same_sets p.names x y ≡ false) n.on breaks)
 fuse_breaks_none p s first second a b x y n same apart rule.NotIndependent breaks =
@@ -371,7 +371,7 @@ adjacent_tells : (p : ProgramTree) (s : ScheduleTree) (first second : List ℕ) 
     if not (have_same_sets p.names x y) then Some rule.DifferentSets else if not (are_independent p x y) then Some rule.NotIndependent else None) a b s)
 adjacent_tells p s first second a b x y on once true is = sets_tell p s first second a b x y (record { on = on; once = once; adjacent = is }) (have_same_sets p.names x y) refl
 adjacent_tells p s first second a b x y on once false is = record {
-  broken = both_on p first second a b (λ a b. is_followed_by p a b ≡ false) on.places is;
+  broken = both_on p first second a b (λ a b. is_followed_by p a b ≡ false) on.indices is;
   least = adjacent_least p s first second a b x y on once;
 }
 
@@ -380,22 +380,22 @@ twice_tells : (p : ProgramTree) (s : ScheduleTree) (first second : List ℕ) (a 
     → Tells (BreaksFuseRule p s first second) (fuse_or (if twice then Some rule.GivenTwice else if not (is_followed_by p a b) then Some rule.NotAdjacent else
     if not (have_same_sets p.names x y) then Some rule.DifferentSets else if not (are_independent p x y) then Some rule.NotIndependent else None) a b s)
 twice_tells p s first second a b x y on true is = record {
-  broken = both_on p first second a b (IsFusedTwice s) on.places (is_twice s a b is);
+  broken = both_on p first second a b (IsFusedTwice s) on.indices (is_twice s a b is);
   least = twice_least p s first second a b x y on;
 }
 twice_tells p s first second a b x y on false is =
     adjacent_tells p s first second a b x y on (λ twice. true_is_false (nat_eq a b || (is_fused a s || is_fused b s)) (twice_is s a b twice) is) (is_followed_by p a b) refl
 
-second_applies_tells : (p : ProgramTree) (s : ScheduleTree) (first second : List ℕ) (a b : ℕ) (x : StatementApply) → OnPlaces p first second a b → apply_at p a ≡ Some x
+second_applies_tells : (p : ProgramTree) (s : ScheduleTree) (first second : List ℕ) (a b : ℕ) (x : StatementApply) → OnIndices p first second a b → apply_at p a ≡ Some x
     → (apply : Option StatementApply) → apply_at p b ≡ apply → Tells (BreaksFuseRule p s first second) (fuse_or (fusing_fault_of p s a b (Some x) apply) a b s)
 second_applies_tells p s first second a b x at one None is = record {
   broken = inr (record { label = b; named = at.other; holds = is });
   least = nothing_applied_least p s first second a b at;
 }
 second_applies_tells p s first second a b x at one (Some y) is =
-    twice_tells p s first second a b x y (record { places = at; one = one; other = is }) (nat_eq a b || (is_fused a s || is_fused b s)) refl
+    twice_tells p s first second a b x y (record { indices = at; one = one; other = is }) (nat_eq a b || (is_fused a s || is_fused b s)) refl
 
-first_applies_tells : (p : ProgramTree) (s : ScheduleTree) (first second : List ℕ) (a b : ℕ) → OnPlaces p first second a b → (apply : Option StatementApply) → apply_at p a ≡ apply
+first_applies_tells : (p : ProgramTree) (s : ScheduleTree) (first second : List ℕ) (a b : ℕ) → OnIndices p first second a b → (apply : Option StatementApply) → apply_at p a ≡ apply
     → Tells (BreaksFuseRule p s first second) (fuse_or (fusing_fault_of p s a b apply (apply_at p b)) a b s)
 first_applies_tells p s first second a b at None is = record {
   broken = inl (record { label = a; named = at.one; holds = is });
@@ -403,15 +403,15 @@ first_applies_tells p s first second a b at None is = record {
 }
 first_applies_tells p s first second a b at (Some x) is = second_applies_tells p s first second a b x at is (apply_at p b) refl
 
-places_tell : (p : ProgramTree) (s : ScheduleTree) (first second : List ℕ) (one other : Option ℕ) → label_place p first ≡ one → label_place p second ≡ other
+indices_tell : (p : ProgramTree) (s : ScheduleTree) (first second : List ℕ) (one other : Option ℕ) → label_index p first ≡ one → label_index p second ≡ other
     → Tells (BreaksFuseRule p s first second) (fuse_at p s one other)
-places_tell p s first second None other is also = first_unknown p s first second (inl is)
-places_tell p s first second (Some a) None is also = first_unknown p s first second (inr also)
-places_tell p s first second (Some a) (Some b) is also = first_applies_tells p s first second a b (record { one = is; other = also }) (apply_at p a) refl
+indices_tell p s first second None other is also = first_unknown p s first second (inl is)
+indices_tell p s first second (Some a) None is also = first_unknown p s first second (inr also)
+indices_tell p s first second (Some a) (Some b) is also = first_applies_tells p s first second a b (record { one = is; other = also }) (apply_at p a) refl
 
 fusing_tells : (p : ProgramTree) (s : ScheduleTree) (two : Option (List ℕ × List ℕ)) → Tells (WithTwo (BreaksFuseRule p s) two) (fusing_of_two p two s)
 fusing_tells p s None = wrong_count (BreaksFuseRule p s)
-fusing_tells p s (Some two) = places_tell p s two.0 two.1 (label_place p two.0) (label_place p two.1) refl refl
+fusing_tells p s (Some two) = indices_tell p s two.0 two.1 (label_index p two.0) (label_index p two.1) refl refl
 
 -- fields
 taken_in : (v : ℕ) (taken : List ℕ) → list_any (nat_eq v) taken ≡ true → Contains taken v
@@ -424,7 +424,7 @@ in_taken v taken is = list_any-from_Contains {eq = nat_eq} nat_eq_equiv v taken 
 abbrev AreBad : ProgramTree → List ℕ → List (List ℕ) → Type 0
 AreBad p taken names = HasNoVector p names ⊎ (((v : ℕ) × Contains taken v × NamesVector p v names) ⊎ NamesOneTwice p names)
 
-further_bad : (p : ProgramTree) (taken : List ℕ) (v : ℕ) (name : List ℕ) (names : List (List ℕ)) → vector_place p name ≡ Some v → AreBad p (taken ++ v ∷ []) names → AreBad p taken (name ∷ names)
+further_bad : (p : ProgramTree) (taken : List ℕ) (v : ℕ) (name : List ℕ) (names : List (List ℕ)) → vector_index p name ≡ Some v → AreBad p (taken ++ v ∷ []) names → AreBad p taken (name ∷ names)
 further_bad p taken v name names is bad =
     elim bad [
       | inl none ↦ inl (inr none)
@@ -437,18 +437,18 @@ further_bad p taken v name names is bad =
       ]
     ]
 
-first_bad : (p : ProgramTree) (taken : List ℕ) (v : ℕ) (name : List ℕ) (names : List (List ℕ)) → vector_place p name ≡ Some v → AreBad p taken (name ∷ names)
+first_bad : (p : ProgramTree) (taken : List ℕ) (v : ℕ) (name : List ℕ) (names : List (List ℕ)) → vector_index p name ≡ Some v → AreBad p taken (name ∷ names)
     → Contains taken v ⊎ AreBad p (taken ++ v ∷ []) names
 first_bad p taken v name names is bad =
     elim bad [
-      | inl none ↦ elim none [ inl here ↦ absurd (nowhere (vector_place p name) v here is) | inr there ↦ inr (inl there) ]
+      | inl none ↦ elim none [ inl here ↦ absurd (nowhere (vector_index p name) v here is) | inr there ↦ inr (inl there) ]
       | inr other ↦ elim other [
         | inl named ↦ elim named.2 [
-          | inl here ↦ inl (subst (Contains taken) (two_places (vector_place p name) named.0 v here is) named.1)
+          | inl here ↦ inl (subst (Contains taken) (two_indices (vector_index p name) named.0 v here is) named.1)
           | inr there ↦ inr (inr (inl (named.0, Contains-append_left taken (v ∷ []) named.0 named.1, there)))
         ]
         | inr twice ↦ elim twice [
-          | inl here ↦ inr (inr (inl (v, Contains-push taken v, subst (λ w. NamesVector p w names) (two_places (vector_place p name) here.0 v here.1 is) here.2)))
+          | inl here ↦ inr (inr (inl (v, Contains-push taken v, subst (λ w. NamesVector p w names) (two_indices (vector_index p name) here.0 v here.1 is) here.2)))
           | inr there ↦ inr (inr (inr there))
         ]
       ]
@@ -456,9 +456,9 @@ first_bad p taken v name names is bad =
 
 grown_none : (p : ProgramTree) (taken group : List ℕ) (names : List (List ℕ)) → grown p taken group names ≡ None → AreBad p (taken ++ group) names
 grown_none p taken group [] none = cc
-grown_none p taken group (name ∷ names) none = at_place (vector_place p name) refl (λ more none. grown_none p taken more names none) none
+grown_none p taken group (name ∷ names) none = at_index (vector_index p name) refl (λ more none. grown_none p taken more names none) none
   where
-    untaken : (v : ℕ) (any : Bool) → list_any (nat_eq v) (taken ++ group) ≡ any → vector_place p name ≡ Some v
+    untaken : (v : ℕ) (any : Bool) → list_any (nat_eq v) (taken ++ group) ≡ any → vector_index p name ≡ Some v
         → ((more : List ℕ) → grown p taken more names ≡ None → AreBad p (taken ++ more) names)
         → (if any then None else grown p taken (group ++ v ∷ []) names) ≡ None → AreBad p (taken ++ group) (name ∷ names)
     untaken v true any is others none = inr (inl (v, taken_in v (taken ++ group) any, inl is))
@@ -466,16 +466,16 @@ grown_none p taken group (name ∷ names) none = at_place (vector_place p name) 
         further_bad p (taken ++ group) v name names is
         (subst (λ t. AreBad p t names) (sym (append_assoc taken group (v ∷ []))) (others (group ++ v ∷ []) none))
 
-    at_place : (place : Option ℕ) → vector_place p name ≡ place → ((more : List ℕ) → grown p taken more names ≡ None → AreBad p (taken ++ more) names)
-        → grown_by taken group place (λ more. grown p taken more names) ≡ None → AreBad p (taken ++ group) (name ∷ names)
-    at_place None is others none = inl (inl is)
-    at_place (Some v) is others none = untaken v (list_any (nat_eq v) (taken ++ group)) refl is others none
+    at_index : (index : Option ℕ) → vector_index p name ≡ index → ((more : List ℕ) → grown p taken more names ≡ None → AreBad p (taken ++ more) names)
+        → grown_by taken group index (λ more. grown p taken more names) ≡ None → AreBad p (taken ++ group) (name ∷ names)
+    at_index None is others none = inl (inl is)
+    at_index (Some v) is others none = untaken v (list_any (nat_eq v) (taken ++ group)) refl is others none
 
 grown_some : (p : ProgramTree) (taken group end : List ℕ) (names : List (List ℕ)) → grown p taken group names ≡ Some end → AreBad p (taken ++ group) names → ⊥
 grown_some p taken group end [] some bad = elim bad [ inl none ↦ none | inr other ↦ elim other [ inl named ↦ named.2 | inr twice ↦ twice ] ]
-grown_some p taken group end (name ∷ names) some bad = at_place (vector_place p name) refl (λ more some bad. grown_some p taken more end names some bad) some
+grown_some p taken group end (name ∷ names) some bad = at_index (vector_index p name) refl (λ more some bad. grown_some p taken more end names some bad) some
   where
-    untaken : (v : ℕ) (any : Bool) → list_any (nat_eq v) (taken ++ group) ≡ any → vector_place p name ≡ Some v
+    untaken : (v : ℕ) (any : Bool) → list_any (nat_eq v) (taken ++ group) ≡ any → vector_index p name ≡ Some v
         → ((more : List ℕ) → grown p taken more names ≡ Some end → AreBad p (taken ++ more) names → ⊥)
         → (if any then None else grown p taken (group ++ v ∷ []) names) ≡ Some end → ⊥
     untaken v true any is others some = nowhere {A = List ℕ} None end refl some
@@ -485,10 +485,10 @@ grown_some p taken group end (name ∷ names) some bad = at_place (vector_place 
           | inr further ↦ others (group ++ v ∷ []) some (subst (λ t. AreBad p t names) (append_assoc taken group (v ∷ [])) further)
         ]
 
-    at_place : (place : Option ℕ) → vector_place p name ≡ place → ((more : List ℕ) → grown p taken more names ≡ Some end → AreBad p (taken ++ more) names → ⊥)
-        → grown_by taken group place (λ more. grown p taken more names) ≡ Some end → ⊥
-    at_place None is others some = nowhere {A = List ℕ} None end refl some
-    at_place (Some v) is others some = untaken v (list_any (nat_eq v) (taken ++ group)) refl is others some
+    at_index : (index : Option ℕ) → vector_index p name ≡ index → ((more : List ℕ) → grown p taken more names ≡ Some end → AreBad p (taken ++ more) names → ⊥)
+        → grown_by taken group index (λ more. grown p taken more names) ≡ Some end → ⊥
+    at_index None is others some = nowhere {A = List ℕ} None end refl some
+    at_index (Some v) is others some = untaken v (list_any (nat_eq v) (taken ++ group)) refl is others some
 
 bad_fields : (p : ProgramTree) (taken : List ℕ) (names : List (List ℕ)) → AreBad p taken names → BreaksFields p taken names
 bad_fields p taken names bad =

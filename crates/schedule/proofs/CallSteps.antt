@@ -12,7 +12,7 @@ use Rattle.schedule.specs.declared.error.ScheduleRule.TheVariants as rule
 use Rattle.typed_tree.specs.declared.apply.StatementApply.{StatementApply}
 use Rattle.typed_tree.specs.declared.apply.StatementApply.TheVariants.{Vertices, Edges}
 use Rattle.schedule.specs.Calls.{after_call, and_then, apply_at, fuse_at, fuse_or, fusing_fault, fusing_of_two, given, grown, two_of, value_at, value_of_two, value_on, with_call, with_call_of, with_calls, with_fields, with_group}
-use Rattle.schedule.specs.Names.{label_place}
+use Rattle.schedule.specs.Names.{label_index}
 use Rattle.apply_options.specs.ScheduleTree.{ScheduleTree, choice_of}
 use Rattle.schedule.specs.Schedule.{with_choice, with_fused, with_one_group}
 
@@ -44,7 +44,7 @@ value_at_step p setting text s new (Some label) e = value_on_step p setting text
 two_step : (p : ProgramTree) (setting : Setting) (two : Option (List ℕ × List ℕ)) (s new : ScheduleTree)
     → value_of_two p setting two s ≡ Ok new → Step p s new
 two_step p setting None s new e = cc
-two_step p setting (Some (label, text)) s new e = value_at_step p setting text s new (label_place p label) e
+two_step p setting (Some (label, text)) s new e = value_at_step p setting text s new (label_index p label) e
 
 fuse_step : (p : ProgramTree) (s new : ScheduleTree) (first second : ℕ) (fault : Option ScheduleRule)
     → fusing_fault p s first second ≡ fault → fuse_or fault first second s ≡ Ok new → Step p s new
@@ -58,7 +58,7 @@ fuse_at_step p s new None second e = cc
 
 fusing_step : (p : ProgramTree) (two : Option (List ℕ × List ℕ)) (s new : ScheduleTree) → fusing_of_two p two s ≡ Ok new → Step p s new
 fusing_step p None s new e = cc
-fusing_step p (Some (first, second)) s new e = fuse_at_step p s new (label_place p first) (label_place p second) e
+fusing_step p (Some (first, second)) s new e = fuse_at_step p s new (label_index p first) (label_index p second) e
 
 group_step : (p : ProgramTree) (names : List (List ℕ)) (s new : ScheduleTree) (group : Option (List ℕ))
     → grown p (concat s.groups) [] names ≡ group → with_group group s ≡ Ok new → Step p s new

@@ -15,7 +15,7 @@ use Rattle.typed_tree.specs.declared.apply.StatementApply.{StatementApply}
 use Rattle.typed_tree.specs.declared.apply.StatementApply.TheVariants.{Vertices, Edges}
 use Rattle.schedule.specs.Calls.{after_call, apply_at, fuse_at, fuse_or, fusing_fault, fusing_of_two, given, grown, schedule_of, two_of, value_at, value_of_two, value_on, with_call, with_call_of, with_calls, with_fields, with_group}
 use Rattle.schedule.specs.Laws.{AreOnceOnLabels, HasDefault, HasDefaults, IsConfig, IsGiven, IsGivenByTwo, IsGivenTo, IsOnLabel, NoneIsOnLabel}
-use Rattle.schedule.specs.Names.{label_place}
+use Rattle.schedule.specs.Names.{label_index}
 use Rattle.apply_options.specs.ScheduleTree.{ScheduleTree, choice_of, fused_as}
 use Rattle.schedule.specs.Schedule.{empty_schedule, with_choice, with_fused}
 use Rattle.schedule.proofs.CallSteps.{call_step, ok_is}
@@ -56,28 +56,28 @@ record IsValueOf (p : ProgramTree) (which : Setting) (two : Option (List ℕ × 
   label : ℕ
   choice : ApplySchedule
   arguments : two ≡ Some (name, text)
-  named : label_place p name ≡ Some label
+  named : label_index p name ≡ Some label
   gives : given which text (choice_of label s) ≡ Ok choice
   after : with_choice label choice s ≡ new
 
 value_from : (p : ProgramTree) (which : Setting) (two : Option (List ℕ × List ℕ)) (s new : ScheduleTree) → value_of_two p which two s ≡ Ok new → IsValueOf p which two s new
 value_from p which None s new e = cc
-value_from p which (Some (name, text)) s new e = at (label_place p name) refl e
+value_from p which (Some (name, text)) s new e = at (label_index p name) refl e
   where
-    on : (label : ℕ) (apply : Option StatementApply) → label_place p name ≡ Some label → value_on which text s label apply ≡ Ok new → IsValueOf p which (Some (name, text)) s new
+    on : (label : ℕ) (apply : Option StatementApply) → label_index p name ≡ Some label → value_on which text s label apply ≡ Ok new → IsValueOf p which (Some (name, text)) s new
     on label (Some (Edges ends function r)) named e =
         let from = and_then_from _ _ new e in
         record { name = name; text = text; label = label; choice = from.0; arguments = refl; named = named; gives = from.1; after = from.2 }
     on label (Some (Vertices set function)) named e = cc
     on label None named e = cc
 
-    at : (l : Option ℕ) → label_place p name ≡ l → value_at p which text s l ≡ Ok new → IsValueOf p which (Some (name, text)) s new
+    at : (l : Option ℕ) → label_index p name ≡ l → value_at p which text s l ≡ Ok new → IsValueOf p which (Some (name, text)) s new
     at None named e = cc
     at (Some label) named e = on label (apply_at p label) named e
 
 -- a `config` call leaves the defaults of other labels and of other kinds
 value_leaves : (p : ProgramTree) (k which : Setting) (two : Option (List ℕ × List ℕ)) (q : ℕ) (s new : ScheduleTree)
-    → ((name text : List ℕ) → k ≡ which → two ≡ Some (name, text) → label_place p name ≡ Some q → ⊥)
+    → ((name text : List ℕ) → k ≡ which → two ≡ Some (name, text) → label_index p name ≡ Some q → ⊥)
     → HasDefault which (choice_of q s) → value_of_two p k two s ≡ Ok new → HasDefault which (choice_of q new)
 value_leaves p k which two q s new other none e =
     let is = value_from p k two s new e in
@@ -102,7 +102,7 @@ with_fused_leaves which q label fused s none =
 fusing_leaves : (p : ProgramTree) (which : Setting) (two : Option (List ℕ × List ℕ)) (q : ℕ) (s new : ScheduleTree)
     → HasDefault which (choice_of q s) → fusing_of_two p two s ≡ Ok new → HasDefault which (choice_of q new)
 fusing_leaves p which None q s new none e = cc
-fusing_leaves p which (Some (one, other)) q s new none e = at (label_place p one) (label_place p other) e
+fusing_leaves p which (Some (one, other)) q s new none e = at (label_index p one) (label_index p other) e
   where
     or : (first second : ℕ) (fault : Option ScheduleRule) → fuse_or fault first second s ≡ Ok new → HasDefault which (choice_of q new)
     or first second (Some r) e = cc
@@ -128,7 +128,7 @@ fields_leave p which names q s new none e = few (nat_lt (length names) 2) refl
     few false is = group (grown p (concat s.groups) [] names) (rw is at e)
 
 call_leaves : (p : ProgramTree) (k which : Setting) (arguments : List (List ℕ)) (q : ℕ) (s new : ScheduleTree)
-    → ((name text : List ℕ) → k ≡ which → two_of arguments ≡ Some (name, text) → label_place p name ≡ Some q → ⊥)
+    → ((name text : List ℕ) → k ≡ which → two_of arguments ≡ Some (name, text) → label_index p name ≡ Some q → ⊥)
     → HasDefault which (choice_of q s) → with_call_of p k arguments s ≡ Ok new → HasDefault which (choice_of q new)
 call_leaves p setting.Direction which arguments q s new other none e = value_leaves p setting.Direction which (two_of arguments) q s new other none e
 call_leaves p setting.Parallelization which arguments q s new other none e = value_leaves p setting.Parallelization which (two_of arguments) q s new other none e
@@ -192,10 +192,10 @@ some_is : {A : Type 0} (a b : A) → Some a ≡ Some b → a ≡ b
 some_is a b e = cc
 
 value_twice : (p : ProgramTree) (which : Setting) (text : List ℕ) (label : ℕ) (two : Option (List ℕ × List ℕ)) (s new : ScheduleTree) (name other : List ℕ) → IsConfig which
-    → IsGiven which text (choice_of label s) → two ≡ Some (name, other) → label_place p name ≡ Some label → IsValueOf p which two s new → ⊥
+    → IsGiven which text (choice_of label s) → two ≡ Some (name, other) → label_index p name ≡ Some label → IsValueOf p which two s new → ⊥
 value_twice p which text label two s new name other config has arguments named is =
     let names = first_is name is.name other is.text (sym arguments ∙ is.arguments) in
-    let labels = some_is label is.label (sym named ∙ ap (label_place p) names ∙ is.named) in
+    let labels = some_is label is.label (sym named ∙ ap (label_index p) names ∙ is.named) in
     given_twice which text is.text (choice_of is.label s) is.choice config (subst (λ l. IsGiven which text (choice_of l s)) labels has) is.gives
 
 -- a call on a label that has a value of its kind is refused

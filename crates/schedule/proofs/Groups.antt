@@ -8,11 +8,11 @@ use Rattle.std.specs.Prelude.{Option, Some, None, Ok, if◌then◌else◌}
 use Rattle.typed_tree.specs.ProgramTree.{ProgramTree}
 use Rattle.schedule.specs.Calls.{grown, grown_by, schedule_of}
 use Rattle.schedule.specs.Laws.{GroupsAreDistinct}
-use Rattle.schedule.specs.Names.{vector_place}
+use Rattle.schedule.specs.Names.{vector_index}
 use Rattle.apply_options.specs.ScheduleTree.{ScheduleTree}
 use Rattle.schedule.specs.Schedule.{empty_schedule}
 use Rattle.schedule.proofs.CallSteps.{Step, GivesValue, Fuses, PutsGroup, kept_by_calls}
-use Rattle.schedule.proofs.Places.{concat_last}
+use Rattle.schedule.proofs.Indices.{concat_last}
 
 some_is : (o : Option (List ℕ)) (a b : List ℕ) → o ≡ Some a → o ≡ Some b → a ≡ b
 some_is o a b is e = cc
@@ -22,7 +22,7 @@ grown_is_distinct : (p : ProgramTree) (taken group end : List ℕ) (names : List
     → IsDistinct nat_eq (taken ++ group) → grown p taken group names ≡ Some end → IsDistinct nat_eq (taken ++ end)
 grown_is_distinct p taken group end [] distinct e = subst (λ (g : List ℕ). IsDistinct nat_eq (taken ++ g)) (some_is _ _ _ refl e) distinct
 grown_is_distinct p taken group end (name ∷ names) distinct e =
-    at_place (vector_place p name) (λ more before. grown_is_distinct p taken more end names before) e
+    at_index (vector_index p name) (λ more before. grown_is_distinct p taken more end names before) e
   where
     untaken : (v : ℕ) (any : Bool) → list_any (nat_eq v) (taken ++ group) ≡ any
         → ((more : List ℕ) → IsDistinct nat_eq (taken ++ more) → grown p taken more names ≡ Some end → IsDistinct nat_eq (taken ++ end))
@@ -31,11 +31,11 @@ grown_is_distinct p taken group end (name ∷ names) distinct e =
     untaken v false is others e =
         others (group ++ v ∷ []) (subst (IsDistinct nat_eq) (append_assoc taken group (v ∷ [])) (IsDistinct-push nat_eq_equiv (taken ++ group) v distinct is)) e
 
-    at_place : (place : Option ℕ)
+    at_index : (index : Option ℕ)
         → ((more : List ℕ) → IsDistinct nat_eq (taken ++ more) → grown p taken more names ≡ Some end → IsDistinct nat_eq (taken ++ end))
-        → grown_by taken group place (λ more. grown p taken more names) ≡ Some end → IsDistinct nat_eq (taken ++ end)
-    at_place None others e = cc
-    at_place (Some v) others e = untaken v (list_any (nat_eq v) (taken ++ group)) refl others e
+        → grown_by taken group index (λ more. grown p taken more names) ≡ Some end → IsDistinct nat_eq (taken ++ end)
+    at_index None others e = cc
+    at_index (Some v) others e = untaken v (list_any (nat_eq v) (taken ++ group)) refl others e
 
 step_keeps_distinct : (p : ProgramTree) (s new : ScheduleTree) → GroupsAreDistinct s → Step p s new → GroupsAreDistinct new
 step_keeps_distinct p s new old (GivesValue setting text label c is after) = subst GroupsAreDistinct after old

@@ -6,6 +6,6 @@ pub mod FusedOnce
 pub mod FusedPairs
 pub mod Groups
 pub mod Growing
-pub mod Places
+pub mod Indices
 pub mod Values
 pub mod Uses

@@ -10,9 +10,9 @@ use Rattle.typed_tree.specs.Access.{are_apart, end_reads, function_uses, is_none
 use Rattle.typed_tree.specs.Fold.{all_pass, end_fold, function_fold}
 use Rattle.typed_tree.proofs.Gathered.{end_gathered, function_gathered}
 
-pub function_is_apart : (vectors : List ℕ) (functions : List FunctionTree) (place : ℕ)
-    → function_fold (all_pass (λ access. are_apart (vector_of access) vectors)) functions place ≡ are_apart (function_uses functions place) vectors
-function_is_apart vectors functions place = function_gathered (λ access. are_apart (vector_of access) vectors) vector_of (λ v. is_none_of v vectors) (λ access. refl) functions place
+pub function_is_apart : (vectors : List ℕ) (functions : List FunctionTree) (index : ℕ)
+    → function_fold (all_pass (λ access. are_apart (vector_of access) vectors)) functions index ≡ are_apart (function_uses functions index) vectors
+function_is_apart vectors functions index = function_gathered (λ access. are_apart (vector_of access) vectors) vector_of (λ v. is_none_of v vectors) (λ access. refl) functions index
 
 pub end_is_apart : (vectors : List ℕ) (filters : List FunctionTree) (end : Option VertexFilter)
     → end_fold (all_pass (λ access. are_apart (vector_of access) vectors)) filters end ≡ are_apart (end_reads filters end) vectors

@@ -12,7 +12,7 @@ use Rattle.typed_tree.specs.declared.apply.StatementApply.{StatementApply}
 use Rattle.typed_tree.specs.declared.apply.StatementApply.TheVariants.{Vertices, Edges}
 use Rattle.schedule.specs.Calls.{after_call, and_then, apply_at, first_given, given, schedule_of, two_of, value_at, value_of_two, value_on, with_call, with_call_of, with_calls}
 use Rattle.schedule.specs.Laws.{IsGiven, IsGivenByTwo, IsGivenTo, HasValues}
-use Rattle.schedule.specs.Names.{label_place}
+use Rattle.schedule.specs.Names.{label_index}
 use Rattle.apply_options.specs.ScheduleTree.{ScheduleTree, choice_of, fused_as}
 use Rattle.schedule.specs.Schedule.{empty_schedule, with_choice, with_fused}
 use Rattle.schedule.proofs.CallSteps.{Step, GivesValue, Fuses, PutsGroup, kept_by_calls, ok_is}
@@ -116,12 +116,12 @@ at_has p which text s new (Some label) e = on_has which text s new label (apply_
 
 two_has : (p : ProgramTree) (which : Setting) (two : Option (List ℕ × List ℕ)) (s new : ScheduleTree) → value_of_two p which two s ≡ Ok new → IsGivenByTwo p new which two
 two_has p which None s new e = cc
-two_has p which (Some (name, text)) s new e = at_has p which text s new (label_place p name) e
+two_has p which (Some (name, text)) s new e = at_has p which text s new (label_index p name) e
 
 call_has : (p : ProgramTree) (which : Setting) (two : Option (List ℕ × List ℕ)) (s end : ScheduleTree)
     → ((text : List ℕ) (label : ℕ) → IsGiven which text (choice_of label s) → IsGiven which text (choice_of label end)) → IsGivenByTwo p s which two → IsGivenByTwo p end which two
 call_has p which None s end stays is = is
-call_has p which (Some (name, text)) s end stays is = at (label_place p name) is
+call_has p which (Some (name, text)) s end stays is = at (label_index p name) is
   where
     at : (label : Option ℕ) → IsGivenTo s which text label → IsGivenTo end which text label
     at None is = is
@@ -138,11 +138,11 @@ nothing_to s text (Some label) = (tt, tt)
 
 nothing_by_fusing : (p : ProgramTree) (s : ScheduleTree) (two : Option (List ℕ × List ℕ)) → IsGivenByTwo p s setting.FuseFunctions two
 nothing_by_fusing p s None = tt
-nothing_by_fusing p s (Some (name, text)) = (nothing_to s text (label_place p name)).0
+nothing_by_fusing p s (Some (name, text)) = (nothing_to s text (label_index p name)).0
 
 nothing_by_fields : (p : ProgramTree) (s : ScheduleTree) (two : Option (List ℕ × List ℕ)) → IsGivenByTwo p s setting.FuseFields two
 nothing_by_fields p s None = tt
-nothing_by_fields p s (Some (name, text)) = (nothing_to s text (label_place p name)).1
+nothing_by_fields p s (Some (name, text)) = (nothing_to s text (label_index p name)).1
 
 pub made : (p : ProgramTree) (which : Setting) (arguments : List (List ℕ)) (s new : ScheduleTree) → with_call_of p which arguments s ≡ Ok new
     → IsGivenByTwo p new which (two_of arguments)

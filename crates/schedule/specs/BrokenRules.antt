@@ -12,7 +12,7 @@ use Rattle.typed_tree.specs.ProgramTree.{ProgramTree, ScheduleCallTree}
 use Rattle.schedule.specs.declared.error.ScheduleRule.{ScheduleRule}
 use Rattle.schedule.specs.declared.error.ScheduleRule.TheVariants as rule
 use Rattle.schedule.specs.Calls.{apply_at, is_followed_by, two_of, with_call}
-use Rattle.schedule.specs.Names.{label_place, vector_place}
+use Rattle.schedule.specs.Names.{label_index, vector_index}
 use Rattle.schedule.specs.Refusal.{number_of_rule}
 use Rattle.schedule.specs.Schedule.{is_fused}
 use Rattle.schedule.specs.Values.{dense_vertex_set_of, direction_of, parallelization_of}
@@ -42,12 +42,12 @@ AppliesNoEdges (Some (Vertices set function)) = Unit {0}
 -- what holds of a name's label, where the program has it
 pub record OnLabel (p : ProgramTree) (name : List ℕ) (P : ℕ → Type 0) : Type 0 where
   pub label : ℕ
-  pub named : label_place p name ≡ Some label
+  pub named : label_index p name ≡ Some label
   pub holds : P label
 
 -- a `config` call with two arguments
 abbrev pub BreaksConfigRule : ProgramTree → ScheduleTree → Setting → (name text : List ℕ) → ScheduleRule → Type 0
-BreaksConfigRule p s which name text rule.UnknownLabel = label_place p name ≡ None
+BreaksConfigRule p s which name text rule.UnknownLabel = label_index p name ≡ None
 BreaksConfigRule p s which name text rule.NoApply = OnLabel p name (λ label. AppliesNoEdges (apply_at p label))
 BreaksConfigRule p s which name text rule.BadArgument = IsNoValue which text
 BreaksConfigRule p s which name text rule.GivenTwice = OnLabel p name (λ label. HasValueOf which (choice_of label s))
@@ -73,7 +73,7 @@ IsFusedTwice s a b = (a ≡ b) ⊎ (IsTrue (is_fused a s) ⊎ IsTrue (is_fused b
 
 -- a call of `fuseApplyFunctions` with two arguments
 abbrev pub BreaksFuseRule : ProgramTree → ScheduleTree → (first second : List ℕ) → ScheduleRule → Type 0
-BreaksFuseRule p s first second rule.UnknownLabel = (label_place p first ≡ None) ⊎ (label_place p second ≡ None)
+BreaksFuseRule p s first second rule.UnknownLabel = (label_index p first ≡ None) ⊎ (label_index p second ≡ None)
 BreaksFuseRule p s first second rule.NoApply = OnLabel p first (λ label. apply_at p label ≡ None) ⊎ OnLabel p second (λ label. apply_at p label ≡ None)
 BreaksFuseRule p s first second rule.BadArgument = ⊥
 BreaksFuseRule p s first second rule.GivenTwice = OnLabels p first second (IsFusedTwice s)
@@ -87,17 +87,17 @@ BreaksFuseRule p s first second rule.BadFields = ⊥
 -- one of the names is that of no vector
 abbrev pub HasNoVector : ProgramTree → List (List ℕ) → Type 0
 HasNoVector p [] = ⊥
-HasNoVector p (name ∷ names) = (vector_place p name ≡ None) ⊎ HasNoVector p names
+HasNoVector p (name ∷ names) = (vector_index p name ≡ None) ⊎ HasNoVector p names
 
 -- one of the names is that of this vector
 abbrev pub NamesVector : ProgramTree → ℕ → List (List ℕ) → Type 0
 NamesVector p v [] = ⊥
-NamesVector p v (name ∷ names) = (vector_place p name ≡ Some v) ⊎ NamesVector p v names
+NamesVector p v (name ∷ names) = (vector_index p name ≡ Some v) ⊎ NamesVector p v names
 
 -- two of the names are those of one vector
 abbrev pub NamesOneTwice : ProgramTree → List (List ℕ) → Type 0
 NamesOneTwice p [] = ⊥
-NamesOneTwice p (name ∷ names) = ((v : ℕ) × (vector_place p name ≡ Some v) × NamesVector p v names) ⊎ NamesOneTwice p names
+NamesOneTwice p (name ∷ names) = ((v : ℕ) × (vector_index p name ≡ Some v) × NamesVector p v names) ⊎ NamesOneTwice p names
 
 -- fused fields are two vectors at least, each in no group yet, and once
 pub data BreaksFields (p : ProgramTree) (taken : List ℕ) (names : List (List ℕ)) : Type 0 where

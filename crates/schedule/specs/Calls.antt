@@ -13,7 +13,7 @@ use Rattle.schedule.specs.declared.error.ScheduleError.TheVariants.{Faulty, NoMe
 use Rattle.typed_tree.specs.declared.apply.StatementApply.{StatementApply}
 use Rattle.typed_tree.specs.declared.apply.StatementApply.TheVariants.{Vertices, Edges}
 use Rattle.schedule.specs.declared.site.Site.{Site}
-use Rattle.schedule.specs.Names.{label_place, vector_place}
+use Rattle.schedule.specs.Names.{label_index, vector_index}
 use Rattle.typed_tree.specs.Independence.{have_same_sets, are_independent}
 use Rattle.apply_options.specs.ScheduleTree.{ScheduleTree, choice_of}
 use Rattle.schedule.specs.Schedule.{with_choice, with_fused, with_one_group, is_fused, empty_schedule}
@@ -69,7 +69,7 @@ two_of _ = None
 
 -- a `config` call
 abbrev pub value_of_two : ProgramTree → Setting → Option (List ℕ × List ℕ) → ScheduleTree → Result ScheduleTree ScheduleRule
-value_of_two p setting (Some (label, text)) s = value_at p setting text s (label_place p label)
+value_of_two p setting (Some (label, text)) s = value_at p setting text s (label_index p label)
 value_of_two p setting None s = Err rule.BadArgument
 
 abbrev pub with_value : ProgramTree → Setting → List (List ℕ) → ScheduleTree → Result ScheduleTree ScheduleRule
@@ -110,7 +110,7 @@ fuse_at p s _ _ = Err rule.UnknownLabel
 
 -- a call of `fuseApplyFunctions`
 abbrev pub fusing_of_two : ProgramTree → Option (List ℕ × List ℕ) → ScheduleTree → Result ScheduleTree ScheduleRule
-fusing_of_two p (Some (first, second)) s = fuse_at p s (label_place p first) (label_place p second)
+fusing_of_two p (Some (first, second)) s = fuse_at p s (label_index p first) (label_index p second)
 fusing_of_two p None s = Err rule.BadArgument
 
 abbrev pub with_fusing : ProgramTree → List (List ℕ) → ScheduleTree → Result ScheduleTree ScheduleRule
@@ -123,7 +123,7 @@ grown_by taken group (Some v) rest = if list_any (nat_eq v) (taken ++ group) the
 
 abbrev pub grown : ProgramTree → (taken group : List ℕ) → List (List ℕ) → Option (List ℕ)
 grown p taken group [] = Some group
-grown p taken group (name ∷ names) = grown_by taken group (vector_place p name) λ more. grown p taken more names
+grown p taken group (name ∷ names) = grown_by taken group (vector_index p name) λ more. grown p taken more names
 
 abbrev pub with_group : Option (List ℕ) → ScheduleTree → Result ScheduleTree ScheduleRule
 with_group None s = Err rule.BadFields
@@ -143,7 +143,7 @@ with_call_of p which arguments s = with_value p which arguments s
 abbrev pub with_call : ProgramTree → ScheduleCallTree → ScheduleTree → Result ScheduleTree ScheduleRule
 with_call p call s = with_call_of p call.setting call.arguments s
 
--- the calls, one after the other; the first that breaks a rule is told, with its place
+-- the calls, one after the other; the first that breaks a rule is told, with its index
 abbrev pub after_call : ℕ → Result ScheduleTree ScheduleRule → (ScheduleTree → Result ScheduleTree (ScheduleRule × ℕ)) → Result ScheduleTree (ScheduleRule × ℕ)
 after_call at (Ok s) rest = rest s
 after_call at (Err r) rest = Err (r, at)

@@ -13,7 +13,7 @@ use Rattle.apply_options.specs.declared.apply_schedule.Fused.TheVariants.{With, 
 use Rattle.typed_tree.specs.declared.apply.StatementApply.{StatementApply}
 use Rattle.typed_tree.specs.declared.apply.StatementApply.TheVariants.{Edges}
 use Rattle.schedule.specs.Calls.{apply_at, is_followed_by, two_of}
-use Rattle.schedule.specs.Names.{label_place}
+use Rattle.schedule.specs.Names.{label_index}
 use Rattle.typed_tree.specs.Access.{end_reads, function_uses, function_writes}
 use Rattle.typed_tree.specs.Independence.{have_same_sets, is_end}
 use Rattle.apply_options.specs.ScheduleTree.{ScheduleTree, choice_of}
@@ -70,7 +70,7 @@ IsGivenTo s which text (Some label) = IsGiven which text (choice_of label s)
 
 abbrev pub IsGivenByTwo : ProgramTree → ScheduleTree → Setting → Option (List ℕ × List ℕ) → Type 0
 IsGivenByTwo p s which None = Unit {0}
-IsGivenByTwo p s which (Some (name, text)) = IsGivenTo s which text (label_place p name)
+IsGivenByTwo p s which (Some (name, text)) = IsGivenTo s which text (label_index p name)
 
 -- the label of each `config` call has the value of that call
 abbrev pub HasValues : ProgramTree → ScheduleTree → List ScheduleCallTree → Type 0
@@ -83,7 +83,7 @@ pub record IsOnLabel (p : ProgramTree) (which : Setting) (label : ℕ) (call : S
   pub text : List ℕ
   pub kind : call.setting ≡ which
   pub arguments : two_of call.arguments ≡ Some (name, text)
-  pub named : label_place p name ≡ Some label
+  pub named : label_index p name ≡ Some label
 
 -- no call is one of this kind on the label
 abbrev pub NoneIsOnLabel : ProgramTree → Setting → ℕ → List ScheduleCallTree → Type 0

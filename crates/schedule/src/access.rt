@@ -24,12 +24,12 @@ impl AccessTest for Avoids<'_> {
     }
 }
 
-/// Whether the function at this place neither reads nor writes an entry of these vectors. One that is not there
+/// Whether the function at this index neither reads nor writes an entry of these vectors. One that is not there
 /// does neither.
-pub(crate) fn function_does_avoid(functions: &[Function], place: usize, vectors: &[usize]) -> bool
-    ensures { result ≡ are_apart (function_uses (map function_tree functions.now) place) vectors.now }
+pub(crate) fn function_does_avoid(functions: &[Function], index: usize, vectors: &[usize]) -> bool
+    ensures { result ≡ are_apart (function_uses (map function_tree functions.now) index) vectors.now }
 {
-    function_passes(functions, place, &Avoids { vectors })
+    function_passes(functions, index, &Avoids { vectors })
 }
 
 /// Whether the filter of an end reads no entry of these vectors. A vertex set reads none.

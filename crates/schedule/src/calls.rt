@@ -5,12 +5,12 @@ ghost use Rattle.std.specs.List.{concat};
 ghost use Rattle.typed_tree.specs.ProgramTree.{call_tree, program_tree};
 ghost use Rattle.schedule.specs.Calls.{Accepts, apply_at as applied_at, fusing_fault as fault_of_fusing, grown, is_followed_by as has_behind};
 ghost use Rattle.schedule.specs.Calls.{two_of as two_in, with_call, with_calls, with_fields, with_fusing, with_value as value_put};
-ghost use Rattle.schedule.specs.Names.{label_place, vector_names, vector_place};
-ghost use Rattle.schedule.specs.inside.Putting.{ArePlaces, AreSites, Groups, Puts, PutsAll, bytes_of_two};
+ghost use Rattle.schedule.specs.Names.{label_index, vector_names, vector_index};
+ghost use Rattle.schedule.specs.inside.Putting.{AreIndices, AreSites, Groups, Puts, PutsAll, bytes_of_two};
 
 use crate::config_values::with_value;
 use crate::error::{ScheduleError, ScheduleRule};
-use crate::names::{places_of, vector_places};
+use crate::names::{indices_of, vector_indices};
 use crate::rules::{are_independent, have_same_sets};
 use crate::schedule::Schedule;
 use crate::site::Sites;
@@ -26,8 +26,8 @@ struct Tables<'a> {
     labels: Names<usize>,
     vectors: Names<usize>,
     sites: Sites,
-    ghost labels_found: { ArePlaces labels (program_tree program.now).labels },
-    ghost vectors_found: { ArePlaces vectors (vector_names (program_tree program.now).names (program_tree program.now).vectors) },
+    ghost labels_found: { AreIndices labels (program_tree program.now).labels },
+    ghost vectors_found: { AreIndices vectors (vector_names (program_tree program.now).names (program_tree program.now).vectors) },
     ghost sites_found: { AreSites sites (program_tree program.now).main },
 }
 
@@ -74,8 +74,8 @@ impl Tables<'_> {
     fn of(alloc: Global, program: &Typed) -> Result<Tables<'_>, AllocError>
         ensures { IfOk result (λ tables. tables.program.now ≡ program.now) }
     {
-        let labels = places_of(alloc, &program.labels)?;
-        let vectors = vector_places(alloc, &program.names, &program.vectors)?;
+        let labels = indices_of(alloc, &program.labels)?;
+        let vectors = vector_indices(alloc, &program.names, &program.vectors)?;
         let sites = Sites::of(alloc, &program.main)?;
         Ok(Tables {
             program,
@@ -151,16 +151,16 @@ impl Tables<'_> {
         }
     }
 
-    /// The place of the label with this name.
+    /// The index of the label with this name.
     fn label(&self, name: &[u8]) -> Option<usize>
-        ensures { result ≡ label_place (program_tree self.now.program.now) name.now }
+        ensures { result ≡ label_index (program_tree self.now.program.now) name.now }
     {
         self.labels.get(name)
     }
 
-    /// The place of the vector with this name.
+    /// The index of the vector with this name.
     fn vector(&self, name: &[u8]) -> Option<usize>
-        ensures { result ≡ vector_place (program_tree self.now.program.now) name.now }
+        ensures { result ≡ vector_index (program_tree self.now.program.now) name.now }
     {
         self.vectors.get(name)
     }

@@ -1,64 +1,64 @@
-//! Vector names: the places of the vectors that a `fuseFields` call names.
+//! Vector names: the indices of the vectors that a `fuseFields` call names.
 ghost use Rattle.std.specs.Prelude.{◌≡◌, IfOk, OnOk};
 ghost use Rattle.typed_tree.specs.Independence.{name_at as name_of};
 ghost use Rattle.schedule.specs.Names.{vector_names};
-ghost use Rattle.schedule.specs.inside.Putting.{ArePlaces, PutsPlace};
+ghost use Rattle.schedule.specs.inside.Putting.{AreIndices, PutsIndex};
 
 use expression_types::Names;
 use std::alloc::{AllocError, Global};
 use typed_tree::{Name, Vector};
 
-/// The places of these names, of each the first.
-pub(crate) fn places_of(alloc: Global, names: &[Name]) -> Result<Names<usize>, AllocError>
-    ensures { IfOk result (λ places. ArePlaces places names.now) }
+/// The indices of these names, of each the first.
+pub(crate) fn indices_of(alloc: Global, names: &[Name]) -> Result<Names<usize>, AllocError>
+    ensures { IfOk result (λ positions. AreIndices positions names.now) }
 {
-    let mut places = Names::new(alloc);
-    for place in 0..names.len() {
-        put_place(alloc, &mut places, names[place].as_slice(), place)?;
+    let mut positions = Names::new(alloc);
+    for position in 0..names.len() {
+        put_index(alloc, &mut positions, names[position].as_slice(), position)?;
     }
-    Ok(places)
+    Ok(positions)
 }
 
-/// The places of the vectors with these names.
-pub(crate) fn vector_places(
+/// The indices of the vectors with these names.
+pub(crate) fn vector_indices(
     alloc: Global,
     names: &[Name],
     vectors: &[Vector],
 ) -> Result<Names<usize>, AllocError>
-    ensures { IfOk result (λ places. ArePlaces places (vector_names names.now vectors.now)) }
+    ensures { IfOk result (λ positions. AreIndices positions (vector_names names.now vectors.now)) }
 {
-    let mut places = Names::new(alloc);
-    for place in 0..vectors.len() {
-        put_place(
+    let mut positions = Names::new(alloc);
+    for position in 0..vectors.len() {
+        put_index(
             alloc,
-            &mut places,
-            name_at(names, vectors[place].name),
-            place,
+            &mut positions,
+            name_at(names, vectors[position].name),
+            position,
         )?;
     }
-    Ok(places)
+    Ok(positions)
 }
 
-/// Puts the place of a name, unless the name has one.
-fn put_place(
+/// Puts the index of a name, unless the name has one.
+fn put_index(
     alloc: Global,
-    places: &mut Names<usize>,
+    indices: &mut Names<usize>,
     name: &[u8],
-    place: usize,
+    index: usize,
 ) -> Result<(), AllocError>
-    ensures { OnOk result (PutsPlace places.old name.now place places.new) }
+    ensures { OnOk result (PutsIndex indices.old name.now index indices.new) }
 {
-    if places.get(name).is_none() {
-        places.push(alloc, name, place)?;
+    if indices.get(name).is_none() {
+        indices.push(alloc, name, index)?;
     }
     Ok(())
 }
 
-/// The name at this place. One that is not there is empty.
-pub(crate) fn name_at(names: &[Name], place: usize) -> &[u8]
-    ensures { result.now ≡ name_of names.now place }
+/// The name at this index. One that is not there is empty.
+pub(crate) fn name_at(names: &[Name], index: usize) -> &[u8]
+    ensures { result.now ≡ name_of names.now index }
 {
-    match names.get(place) {
+    match names.get(index) {
         Some(name) => name.as_slice(),
         None => &[],
     }

@@ -14,7 +14,7 @@ use std::marker::Model;
 use typed_tree::Sequence;
 
 /// An accepted schedule: what its calls say of the applies with labels, and which vectors are kept together.
-/// Labels and vectors are named by their places in the program's lists.
+/// Labels and vectors are named by their indices in the program's lists.
 pub struct Schedule {
     choices: IndexMap<usize, ApplySchedule>,
     groups: Vec<Sequence<usize>>,

@@ -116,11 +116,11 @@ fn push_inner(action: &StatementKind, sites: &mut Vec<(usize, Site)>) -> Result<
     }
 }
 
-/// The label of the statement at this place, if it is there and has one.
-fn label_at(statements: &[MainStatement], place: usize) -> Option<usize>
-    ensures { result ≡ label_of (block_tree (drop place statements.now)) }
+/// The label of the statement at this index, if it is there and has one.
+fn label_at(statements: &[MainStatement], index: usize) -> Option<usize>
+    ensures { result ≡ label_of (block_tree (drop index statements.now)) }
 {
-    statements.get(place)?.label
+    statements.get(index)?.label
 }
 
 /// What a statement applies, if it does.

@@ -87,14 +87,14 @@ fault_joined : (number statement : ℕ) (rest : List ℕ) → fault_text number 
 fault_joined number statement rest =
     ap (λ (l : List ℕ). codes "fault " ++ l) (append_assoc (decimal number) (codes " statement " ++ decimal statement) rest)
 
-fault_cut : (number statement other place t u : ℕ) (rest more : List ℕ) → IsEnd (Fault number statement) → IsEnd (Fault other place) → t < 2 ^ 64 → u < 2 ^ 64
-    → fault_text number statement ++ turns_text t rest ≡ fault_text other place ++ turns_text u more → (number ≡ other) × (statement ≡ place) × (t ≡ u) × (rest ≡ more)
-fault_cut number statement other place t u rest more first second small also same =
-    let joined = sym (fault_joined number statement (turns_text t rest)) ∙ same ∙ fault_joined other place (turns_text u more) in
-    let behind = append_cancel_left (codes "fault ") (decimal number ++ (codes " statement " ++ (decimal statement ++ turns_text t rest))) (decimal other ++ (codes " statement " ++ (decimal place ++ turns_text u more))) joined in
-    let one = number_cut 32 number other (codes "statement " ++ (decimal statement ++ turns_text t rest)) (codes "statement " ++ (decimal place ++ turns_text u more)) (inl (omega arith)) first.0 second.0 behind in
-    let next = append_cancel_left (codes "statement ") (decimal statement ++ turns_text t rest) (decimal place ++ turns_text u more) one.1 in
-    let two = number_cut 32 statement place (codes "turns " ++ (decimal t ++ 10 ∷ rest)) (codes "turns " ++ (decimal u ++ 10 ∷ more)) (inl (omega arith)) first.1 second.1 next in
+fault_cut : (number statement other index t u : ℕ) (rest more : List ℕ) → IsEnd (Fault number statement) → IsEnd (Fault other index) → t < 2 ^ 64 → u < 2 ^ 64
+    → fault_text number statement ++ turns_text t rest ≡ fault_text other index ++ turns_text u more → (number ≡ other) × (statement ≡ index) × (t ≡ u) × (rest ≡ more)
+fault_cut number statement other index t u rest more first second small also same =
+    let joined = sym (fault_joined number statement (turns_text t rest)) ∙ same ∙ fault_joined other index (turns_text u more) in
+    let behind = append_cancel_left (codes "fault ") (decimal number ++ (codes " statement " ++ (decimal statement ++ turns_text t rest))) (decimal other ++ (codes " statement " ++ (decimal index ++ turns_text u more))) joined in
+    let one = number_cut 32 number other (codes "statement " ++ (decimal statement ++ turns_text t rest)) (codes "statement " ++ (decimal index ++ turns_text u more)) (inl (omega arith)) first.0 second.0 behind in
+    let next = append_cancel_left (codes "statement ") (decimal statement ++ turns_text t rest) (decimal index ++ turns_text u more) one.1 in
+    let two = number_cut 32 statement index (codes "turns " ++ (decimal t ++ 10 ∷ rest)) (codes "turns " ++ (decimal u ++ 10 ∷ more)) (inl (omega arith)) first.1 second.1 next in
     let three = turns_cut t u rest more small also (ap (λ (l : List ℕ). 32 ∷ l) two.1) in
     (one.0, two.0, three.0, three.1)
 
@@ -111,8 +111,8 @@ end_cut TurnsOver TurnsOver t u rest more first second small also same =
 end_cut TurnsOver (Fault number statement) t u rest more first second small also same = let head : ◌≡◌ {A = ℕ} 116 102 = cc in absurd (omega (arith, head))
 end_cut (Fault number statement) Finished t u rest more first second small also same = let head : ◌≡◌ {A = ℕ} 97 105 = cc in absurd (omega (arith, head))
 end_cut (Fault number statement) TurnsOver t u rest more first second small also same = let head : ◌≡◌ {A = ℕ} 102 116 = cc in absurd (omega (arith, head))
-end_cut (Fault number statement) (Fault other place) t u rest more first second small also same =
-    let all = fault_cut number statement other place t u rest more first second small also same in
+end_cut (Fault number statement) (Fault other index) t u rest more first second small also same =
+    let all = fault_cut number statement other index t u rest more first second small also same in
     (ap (λ (n : ℕ). Fault n statement) all.0 ∙ ap (Fault other) all.1, all.2, all.3)
 
 -- the line of the end, before what follows

@@ -88,12 +88,12 @@ pieces-JoinsAgain c bytes = record {
   only = λ others parts joined. sym (pieces-join_with_byte c others parts) ∙ ap (pieces c) joined;
 }
 
--- a text is what stands before place i, the byte there, and what stands after it
+-- a text is what stands before index i, the byte there, and what stands after it
 pub cut_at : (c : ℕ) (bytes : List ℕ) (i : ℕ) → i < length bytes → get_or bytes i 0 ≡ c → bytes ≡ take i bytes ++ c ∷ drop (i + 1) bytes
 cut_at c bytes i within found =
     sym (take-append-drop i bytes) ∙ ap (λ v. take i bytes ++ v) (drop_more bytes i 0 within ∙ ap (λ v. v ∷ drop (i + 1) bytes) found)
 
--- the front of a text has no c where no place in it has
+-- the front of a text has no c where no index in it has
 pub HasNone-take : (c : ℕ) (bytes : List ℕ) (i : ℕ) → ((k : ℕ) → k < i → get_or bytes k 0 ≢ c) → HasNone c (take i bytes)
 HasNone-take c [] zero none = tt
 HasNone-take c [] (suc i) none = tt

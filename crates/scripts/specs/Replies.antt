@@ -98,7 +98,7 @@ listing o g = record { state = o; text = listing_text g }
 -- the program of this number, from 1
 abbrev pub program_of : List ProgramTree → ℕ → Option ProgramTree
 program_of programs zero = None
-program_of programs (suc place) = slice_get programs place
+program_of programs (suc index) = slice_get programs index
 
 -- whether there may be so many workers
 abbrev pub is_worker_count : ℕ → Bool

@@ -31,11 +31,11 @@ const NO_PROGRAM: u16 = 412;
 /// The refusal of a number of workers that is not 1 to 64.
 const BAD_WORKERS: u16 = 411;
 
-/// A run that a line asks for: of the program at a place, within a bound of turns, by so many workers, on the version that
+/// A run that a line asks for: of the program at an index, within a bound of turns, by so many workers, on the version that
 /// a ticket holds, or on the newest.
 #[derive(Clone, Copy)]
 struct RunOrder {
-    place: usize,
+    index: usize,
     turns: u64,
     workers: u64,
     ticket: Option<u64>,
@@ -141,11 +141,11 @@ impl OpenGraph {
                 turns,
                 workers,
                 ticket,
-            } => match place_of(host.programs, program) {
+            } => match index_of(host.programs, program) {
                 None => replies.send_line(LineReply::Refused(NO_PROGRAM)),
-                Some(place) => {
+                Some(index) => {
                     let order = RunOrder {
-                        place,
+                        index,
                         turns,
                         workers,
                         ticket,
@@ -235,11 +235,11 @@ impl OpenGraph {
         replies: &mut ReplyWriter<'_, W>,
     ) -> Result<(), SendError>
         requires ready { P.are_ready host.now.programs.now }
-        requires place { order.place < length (P.trees host.now.programs.now) }
+        requires index { order.index < length (P.trees host.now.programs.now) }
         ensures emits { Emits replies.old replies.new (running self.old order.turns order.workers
-            (slice_get (P.trees host.now.programs.now) order.place) (graph_of self.old.versions order.ticket)).text result }
+            (slice_get (P.trees host.now.programs.now) order.index) (graph_of self.old.versions order.ticket)).text result }
         ensures state { OnOk result (self.new ≡ (running self.old order.turns order.workers
-            (slice_get (P.trees host.now.programs.now) order.place) (graph_of self.old.versions order.ticket)).state) }
+            (slice_get (P.trees host.now.programs.now) order.index) (graph_of self.old.versions order.ticket)).state) }
         ensures written { OnOk result (replies.new.kept ≡ []) }
     {
         self.send_run(host, order, replies)?;
@@ -254,14 +254,14 @@ impl OpenGraph {
         replies: &mut ReplyWriter<'_, W>,
     ) -> Result<(), SendError>
         requires ready { P.are_ready host.now.programs.now }
-        requires place { order.place < length (P.trees host.now.programs.now) }
+        requires index { order.index < length (P.trees host.now.programs.now) }
         ensures emits { Emits replies.old replies.new (running self.old order.turns order.workers
-            (slice_get (P.trees host.now.programs.now) order.place) (graph_of self.old.versions order.ticket)).text result }
+            (slice_get (P.trees host.now.programs.now) order.index) (graph_of self.old.versions order.ticket)).text result }
         ensures state { OnOk result (self.new ≡ (running self.old order.turns order.workers
-            (slice_get (P.trees host.now.programs.now) order.place) (graph_of self.old.versions order.ticket)).state) }
+            (slice_get (P.trees host.now.programs.now) order.index) (graph_of self.old.versions order.ticket)).state) }
     {
         let RunOrder {
-            place,
+            index,
             turns,
             workers,
             ticket,
@@ -273,7 +273,7 @@ impl OpenGraph {
             return replies.send_line(LineReply::Refused(BAD_WORKERS));
         }
         let flat = self.flats.flat(host.alloc, version, graph)?;
-        let outcome = host.programs.run(host.alloc, place, &flat, turns, workers)?;
+        let outcome = host.programs.run(host.alloc, index, &flat, turns, workers)?;
         self.faulted = self.faulted || is_fault(outcome.end);
         replies.send_outcome(&outcome)
     }
@@ -290,14 +290,14 @@ fn version_of(versions: &Versions, ticket: Option<u64>) -> Option<(u64, &Graph)>
     }
 }
 
-/// The place, from 0, of the program of this number, which counts from 1.
-fn place_of<P: Programs>(programs: &P, number: u64) -> Option<usize>
-    ensures within { IfSome result (λ place. place < length (P.trees programs.now)) }
+/// The index, from 0, of the program of this number, which counts from 1.
+fn index_of<P: Programs>(programs: &P, number: u64) -> Option<usize>
+    ensures within { IfSome result (λ index. index < length (P.trees programs.now)) }
     ensures program { MatchOption result (program_of (P.trees programs.now) number ≡ None)
-        (λ place. program_of (P.trees programs.now) number ≡ slice_get (P.trees programs.now) place) }
+        (λ index. program_of (P.trees programs.now) number ≡ slice_get (P.trees programs.now) index) }
 {
-    let place = usize::try_from(number.checked_sub(1)?).ok()?;
-    (place < programs.count()).then_some(place)
+    let index = usize::try_from(number.checked_sub(1)?).ok()?;
+    (index < programs.count()).then_some(index)
 }
 
 /// The reply to a step that was refused. `NoMemory` has no reply, and gives `AllocError`.

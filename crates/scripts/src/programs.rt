@@ -20,18 +20,18 @@ pub trait Programs {
     fn count(&self) -> usize
         ensures { result ≡ length (trees self.now) };
 
-    /// What the program at a place, counted from 0, shows on a snapshot of a graph within a bound of turns, by so many workers, 1 to 64.
+    /// What the program at an index, counted from 0, shows on a snapshot of a graph within a bound of turns, by so many workers, 1 to 64.
     /// The only error is out of memory.
     fn run(
         &self,
         alloc: Global,
-        place: usize,
+        index: usize,
         graph: &Flat,
         turns: u64,
         workers: u64,
     ) -> Result<Outcome, AllocError>
         requires ready { are_ready self.now }
-        requires place { place < length (trees self.now) }
+        requires index { index < length (trees self.now) }
         requires workers { is_worker_count workers ≡ true }
-        ensures { IfOk result (λ o. (program : ProgramTree) → slice_get (trees self.now) place ≡ Some program → o ≡ meaning_on graph.now program turns) };
+        ensures { IfOk result (λ o. (program : ProgramTree) → slice_get (trees self.now) index ≡ Some program → o ≡ meaning_on graph.now program turns) };
 }

@@ -12,27 +12,27 @@ use Rattle.runner.proofs.Running.{steps_more}
 use Rattle.version_list.specs.Machine.{ticket_graph}
 use Rattle.session.specs.declared.step.SessionStep.{SessionStep}
 use Rattle.session.specs.declared.step.SessionStep.TheVariants.{Commit, Acquire, Release, Start, JobStep}
-use Rattle.session.specs.World.{ScheduledProgram, WorldJob, World, place_after, place_of, one_more, after_its_step, numbered, start, job_step, answer, world_after}
+use Rattle.session.specs.World.{ScheduledProgram, WorldJob, World, index_after, index_of, one_more, after_its_step, numbered, start, job_step, answer, world_after}
 use Rattle.session.specs.Laws.{is_step_of, GoesOnAlone}
 use Rattle.session.proofs.Numbered.{numbered_same, numbered_other, numbered_append}
 
--- so many instructions from a place on
+-- so many instructions from an index on
 abbrev on_from : ScheduledProgram → Digraph → (n : ℕ) → Configuration → Configuration
 on_from p g n c = steps p.tree (graph_value g) (plan_of p.tree p.schedule) n c
 
 -- so many instructions more
-pub more_instructions : (p : ScheduledProgram) (g : Digraph) (turns m n : ℕ) → place_after p g turns (m + n) ≡ on_from p g n (place_after p g turns m)
+pub more_instructions : (p : ScheduledProgram) (g : Digraph) (turns m n : ℕ) → index_after p g turns (m + n) ≡ on_from p g n (index_after p g turns m)
 more_instructions p g turns m n = steps_more p.tree (graph_value g) (plan_of p.tree p.schedule) m n (first_configuration (opening p.tree (graph_value g) turns))
 
 -- a job that is left alone
 stays_there : (job : WorldJob) → GoesOnAlone job 0 job
 stays_there job =
     let same : job.count ≡ job.count + 0 = omega arith in
-    record { program = refl; graph = refl; turns = refl; stands = ap (λ (n : ℕ). place_after job.program job.graph job.turns n) same }
+    record { program = refl; graph = refl; turns = refl; stands = ap (λ (n : ℕ). index_after job.program job.graph job.turns n) same }
 
 -- a job after one step of its own, where it stands so
-pub steps_once : (job : WorldJob) (c : Configuration) → place_of job ≡ c → GoesOnAlone job 1 (one_more c job)
-steps_once job (At place loops s) is = record { program = refl; graph = refl; turns = refl; stands = refl }
+pub steps_once : (job : WorldJob) (c : Configuration) → index_of job ≡ c → GoesOnAlone job 1 (one_more c job)
+steps_once job (At index loops s) is = record { program = refl; graph = refl; turns = refl; stands = refl }
 steps_once job (Ended s end) is = record {
   program = refl;
   graph = refl;
@@ -50,11 +50,11 @@ goes_on_twice old mid new m n first second =
       turns = second.turns ∙ first.turns;
       stands =
           second.stands ∙ more_instructions mid.program mid.graph mid.turns mid.count n
-          ∙ ap (λ (p : ScheduledProgram). on_from p mid.graph n (place_of mid)) first.program
-          ∙ ap (λ (g : Digraph). on_from old.program g n (place_of mid)) first.graph
+          ∙ ap (λ (p : ScheduledProgram). on_from p mid.graph n (index_of mid)) first.program
+          ∙ ap (λ (g : Digraph). on_from old.program g n (index_of mid)) first.graph
           ∙ ap (λ (c : Configuration). on_from old.program old.graph n c) first.stands
           ∙ sym (more_instructions old.program old.graph old.turns (old.count + m) n)
-          ∙ ap (λ (k : ℕ). place_after old.program old.graph old.turns k) sum;
+          ∙ ap (λ (k : ℕ). index_after old.program old.graph old.turns k) sum;
     }
 
 some_and : {A : Type 0} (P : A → Type 0) (o : Option A) (x : A) → o ≡ Some x → P x → IsSomeAnd o P
@@ -91,7 +91,7 @@ at_a_job_step w stepped number (Some old) job found is =
           let there : numbered (job_step w stepped (Some old)).world.jobs number ≡ Some (after_its_step old) =
           ap (numbered (job_step w stepped (Some old)).world.jobs) (sym same) ∙ numbered_same w.jobs stepped old (after_its_step old) found in
           subst (λ (b : Bool). IsSomeAnd (numbered (job_step w stepped (Some old)).world.jobs number) (GoesOnAlone job (cond b 1 0))) (sym yes)
-          (some_and (GoesOnAlone job 1) _ (after_its_step old) there (subst (λ (j : WorldJob). GoesOnAlone j 1 (after_its_step old)) (sym this) (steps_once old (place_of old) refl)))
+          (some_and (GoesOnAlone job 1) _ (after_its_step old) there (subst (λ (j : WorldJob). GoesOnAlone j 1 (after_its_step old)) (sym this) (steps_once old (index_of old) refl)))
       | inr apart ↦
           let no : (stepped == number) ≡ false = ne_eqb stepped number apart in
           let there = numbered_other w.jobs stepped number (after_its_step old) apart ∙ is in

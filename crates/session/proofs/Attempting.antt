@@ -30,25 +30,25 @@ use Rattle.session.specs.declared.error.SessionError.TheVariants.{VertexRange, B
 use Rattle.session.specs.declared.step.SessionReply.{SessionReply}
 use Rattle.session.specs.declared.step.SessionReply.TheVariants.{Of, Job, Stands}
 use Rattle.session.specs.declared.step.SessionStep.{SessionStep}
-use Rattle.session.specs.World.{ScheduledProgram, WorldJob, World, Answer, place_after, place_of, after_its_step, numbered, with_numbered, refused, on_versions, start, job_step, answer}
+use Rattle.session.specs.World.{ScheduledProgram, WorldJob, World, Answer, index_after, index_of, after_its_step, numbered, with_numbered, refused, on_versions, start, job_step, answer}
 use Rattle.session.specs.Standing.{SessionValue, IsPlanOf, StandsAt, IsAt, Takes}
 use Rattle.session.specs.inside.Attempts.{StepsVersions, Attempts, told_of}
 use Rattle.session.proofs.Alone.{more_instructions, steps_once}
 
--- lists that agree place by place are as long as each other
+-- lists that agree index by index are as long as each other
 pairwise_length : {A B : Type 0} (R : A → B → Type 0) (xs : List A) (ys : List B) → ArePairwise R xs ys → length xs ≡ length ys
 pairwise_length R [] [] all = refl
 pairwise_length R [] (y ∷ ys) all = absurd all
 pairwise_length R (x ∷ xs) [] all = absurd all
 pairwise_length R (x ∷ xs) (y ∷ ys) all = ap suc (pairwise_length R xs ys all.1)
 
--- they agree when another pair that agrees is put at a place
-pairwise_set : {A B : Type 0} (R : A → B → Type 0) (xs : List A) (ys : List B) (place : ℕ) (x : A) (y : B) → ArePairwise R xs ys → R x y → ArePairwise R (slice_set xs place x) (slice_set ys place y)
-pairwise_set R [] [] place x y all one = tt
-pairwise_set R [] (b ∷ ys) place x y all one = absurd all
-pairwise_set R (a ∷ xs) [] place x y all one = absurd all
+-- they agree when another pair that agrees is put at an index
+pairwise_set : {A B : Type 0} (R : A → B → Type 0) (xs : List A) (ys : List B) (index : ℕ) (x : A) (y : B) → ArePairwise R xs ys → R x y → ArePairwise R (slice_set xs index x) (slice_set ys index y)
+pairwise_set R [] [] index x y all one = tt
+pairwise_set R [] (b ∷ ys) index x y all one = absurd all
+pairwise_set R (a ∷ xs) [] index x y all one = absurd all
 pairwise_set R (a ∷ xs) (b ∷ ys) zero x y all one = (one, all.1)
-pairwise_set R (a ∷ xs) (b ∷ ys) (suc place) x y all one = (all.0, pairwise_set R xs ys place x y all.1 one)
+pairwise_set R (a ∷ xs) (b ∷ ys) (suc index) x y all one = (all.0, pairwise_set R xs ys index x y all.1 one)
 
 pairwise_turned : {A B : Type 0} (R : A → B → Type 0) (xs : List A) (ys : List B) → ArePairwise R xs ys → ArePairwise (λ y x. R x y) ys xs
 pairwise_turned R [] [] all = tt
@@ -61,11 +61,11 @@ numbered_partner R xs ys zero x all is = absurd (none_is x is)
   where
     none_is : {A : Type 0} (x : A) → None ≡ Some x → ⊥
     none_is x e = cc
-numbered_partner R xs ys (suc place) x all is = partner_at R xs ys place x all is
+numbered_partner R xs ys (suc index) x all is = partner_at R xs ys index x all is
 
 numbered_none : {A B : Type 0} (R : A → B → Type 0) (xs : List A) (ys : List B) (number : ℕ) → ArePairwise R xs ys → numbered xs number ≡ None → numbered ys number ≡ None
 numbered_none R xs ys zero all is = refl
-numbered_none R xs ys (suc place) all is = none_at R xs ys place all is
+numbered_none R xs ys (suc index) all is = none_at R xs ys index all is
 
 -- the job of a session that stands where the world's job of a number stands
 pub numbered_job : (js : List JobValue) (jobs : List WorldJob) (number : ℕ) (job : WorldJob) → ArePairwise StandsAt js jobs → numbered jobs number ≡ Some job → HasPartner (λ job j. StandsAt j job) job (numbered js number)
@@ -122,11 +122,11 @@ IsNewJob plan graph turns j = (p : ProgramTree) (s : ScheduleTree) → IsPlan pl
 stands_new : (plan : Plan) (graph : Digraph) (turns : ℕ) (j : JobValue) (program : ScheduledProgram) → IsPlanOf plan program → IsNewJob plan graph turns j
     → StandsAt j (record { program = program; graph = graph; turns = turns; count = 0 })
 stands_new plan graph turns j program of new =
-    let is : j ≡ job_value plan graph turns (place_after program graph turns 0) = new program.tree program.schedule of.planned in
+    let is : j ≡ job_value plan graph turns (index_after program graph turns 0) = new program.tree program.schedule of.planned in
     let same : j.plan ≡ plan = ap (λ (v : JobValue). v.plan) is in
     record {
       plan = subst (λ (q : Plan). IsPlanOf q program) (sym same) of;
-      is = is ∙ ap (λ (q : Plan). job_value q graph turns (place_after program graph turns 0)) (sym same);
+      is = is ∙ ap (λ (q : Plan). job_value q graph turns (index_after program graph turns 0)) (sym same);
     }
 
 pub starts : (programs : List ScheduledProgram) (w : World) (old new : SessionValue) (program turns : ℕ) (plan : Plan) (graph : Digraph) (asked : Option Digraph) (j : JobValue) → IsAt programs w old
@@ -155,50 +155,50 @@ abbrev pub IsNextOf : JobValue → JobValue → Type 0
 IsNextOf old new = (p : ProgramTree) (s : ScheduleTree) → IsPlan old.plan p s → AppliesReduce p (plan_of p s)
     → new ≡ job_value old.plan old.graph old.turns (step p (graph_value old.graph) (plan_of p s) old.stands)
 
-stand_kept : (i : Option Instruction) (place : ℕ) (loops : List LoopCounter) (s : StateValue) → stand_of (kept_at i place loops s) ≡ stand_of (At place loops s)
-stand_kept None place loops s = refl
-stand_kept (Some i) place loops s = refl
+stand_kept : (i : Option Instruction) (index : ℕ) (loops : List LoopCounter) (s : StateValue) → stand_of (kept_at i index loops s) ≡ stand_of (At index loops s)
+stand_kept None index loops s = refl
+stand_kept (Some i) index loops s = refl
 
 -- how a job stands does not depend on what it forgets where it rests
 pub stand_resting : (is : List Instruction) (c : Configuration) → stand_of (resting is c) ≡ stand_of c
-stand_resting is (At place loops s) = stand_kept (slice_get is place) place loops s
+stand_resting is (At index loops s) = stand_kept (slice_get is index) index loops s
 stand_resting is (Ended s end) = refl
 
 -- one instruction from where a job stands leads to where it stands after its step
-next_place : (job : WorldJob) → step job.program.tree (graph_value job.graph) (plan_of job.program.tree job.program.schedule) (place_of job) ≡ place_of (after_its_step job)
-next_place job = sym (more_instructions job.program job.graph job.turns job.count 1) ∙ sym (steps_once job (place_of job) refl).stands
+next_index : (job : WorldJob) → step job.program.tree (graph_value job.graph) (plan_of job.program.tree job.program.schedule) (index_of job) ≡ index_of (after_its_step job)
+next_index job = sym (more_instructions job.program job.graph job.turns job.count 1) ∙ sym (steps_once job (index_of job) refl).stands
 
-stands_next : (old new : JobValue) (job : WorldJob) → StandsAt old job → IsNextOf old new → new ≡ job_value old.plan job.graph job.turns (place_of (after_its_step job))
+stands_next : (old new : JobValue) (job : WorldJob) → StandsAt old job → IsNextOf old new → new ≡ job_value old.plan job.graph job.turns (index_of (after_its_step job))
 stands_next old new job at next =
     let p = job.program.tree in
     let s = job.program.schedule in
     let graph : old.graph ≡ job.graph = ap (λ (v : JobValue). v.graph) at.is in
     let turns : old.turns ≡ job.turns = ap (λ (v : JobValue). v.turns) at.is in
-    let stands : old.stands ≡ resting old.plan.instructions.items (place_of job) = ap (λ (v : JobValue). v.stands) at.is in
+    let stands : old.stands ≡ resting old.plan.instructions.items (index_of job) = ap (λ (v : JobValue). v.stands) at.is in
     next p s at.plan.planned at.plan.reducing
     ∙ ap (λ (c : Configuration). job_value old.plan old.graph old.turns (step p (graph_value old.graph) (plan_of p s) c)) stands
-    ∙ ap (λ (c : Configuration). job_value old.plan old.graph old.turns c) (step_resting p (graph_value old.graph) old.plan s at.plan.planned (place_of job))
-    ∙ ap (λ (g : Digraph). job_value old.plan g old.turns (step p (graph_value g) (plan_of p s) (place_of job))) graph
-    ∙ ap (λ (n : ℕ). job_value old.plan job.graph n (step p (graph_value job.graph) (plan_of p s) (place_of job))) turns
-    ∙ ap (λ (c : Configuration). job_value old.plan job.graph job.turns c) (next_place job)
+    ∙ ap (λ (c : Configuration). job_value old.plan old.graph old.turns c) (step_resting p (graph_value old.graph) old.plan s at.plan.planned (index_of job))
+    ∙ ap (λ (g : Digraph). job_value old.plan g old.turns (step p (graph_value g) (plan_of p s) (index_of job))) graph
+    ∙ ap (λ (n : ℕ). job_value old.plan job.graph n (step p (graph_value job.graph) (plan_of p s) (index_of job))) turns
+    ∙ ap (λ (c : Configuration). job_value old.plan job.graph job.turns c) (next_index job)
 
 stands_after : (old new : JobValue) (job : WorldJob) → StandsAt old job → IsNextOf old new → StandsAt new (after_its_step job)
 stands_after old new job at next =
     let after = after_its_step job in
-    let once = steps_once job (place_of job) refl in
+    let once = steps_once job (index_of job) refl in
     let is = stands_next old new job at next in
     let same : new.plan ≡ old.plan = ap (λ (v : JobValue). v.plan) is in
     record {
       plan = subst (λ (q : Plan). IsPlanOf q after.program) (sym same) (subst (λ (p : ScheduledProgram). IsPlanOf old.plan p) (sym once.program) at.plan);
       is =
-          is ∙ ap (λ (q : Plan). job_value q job.graph job.turns (place_of after)) (sym same)
-          ∙ ap (λ (g : Digraph). job_value new.plan g job.turns (place_of after)) (sym once.graph)
-          ∙ ap (λ (n : ℕ). job_value new.plan after.graph n (place_of after)) (sym once.turns);
+          is ∙ ap (λ (q : Plan). job_value q job.graph job.turns (index_of after)) (sym same)
+          ∙ ap (λ (g : Digraph). job_value new.plan g job.turns (index_of after)) (sym once.graph)
+          ∙ ap (λ (n : ℕ). job_value new.plan after.graph n (index_of after)) (sym once.turns);
     }
 
 pairwise_with : {A B : Type 0} (R : A → B → Type 0) (xs : List A) (ys : List B) (number : ℕ) (x : A) (y : B) → ArePairwise R xs ys → R x y → ArePairwise R (with_numbered xs number x) (with_numbered ys number y)
 pairwise_with R xs ys zero x y all one = all
-pairwise_with R xs ys (suc place) x y all one = pairwise_set R xs ys place x y all one
+pairwise_with R xs ys (suc index) x y all one = pairwise_set R xs ys index x y all one
 
 pub steps_job : (programs : List ScheduledProgram) (w : World) (old new : SessionValue) (number : ℕ) (j k : JobValue) → IsAt programs w old → numbered old.jobs number ≡ Some j → IsNextOf j k
     → new ≡ record old { jobs = with_numbered old.jobs number k } → Takes programs (job_step w number (numbered w.jobs number)) (Stands (stand_of k.stands)) new
@@ -207,7 +207,7 @@ steps_job programs w old new number j k at found next after =
     let job = partner.partner in
     let is = stands_next j k job partner.related next in
     let stepped : Takes programs (job_step w number (Some job)) (Stands (stand_of k.stands)) new = record {
-      reply_is = ap (λ (v : JobValue). Stands (stand_of v.stands)) is ∙ ap Stands (stand_resting j.plan.instructions.items (place_of (after_its_step job)));
+      reply_is = ap (λ (v : JobValue). Stands (stand_of v.stands)) is ∙ ap Stands (stand_resting j.plan.instructions.items (index_of (after_its_step job)));
       stands = subst (IsAt programs (job_step w number (Some job)).world) (sym after) (record {
         plans = at.plans;
         versions = at.versions;

@@ -1,6 +1,6 @@
 pub mod Numbered
 pub mod Alone
-pub mod Places
+pub mod Indices
 pub mod Folds
 pub mod Attempting
 pub mod Taking

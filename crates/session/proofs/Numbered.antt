@@ -43,29 +43,29 @@ set_length (y ∷ ys) (suc i) x = ap suc (set_length ys i x)
 -- what was put under a number stands there
 pub numbered_same : {A : Type 0} (xs : List A) (number : ℕ) (old x : A) → numbered xs number ≡ Some old → numbered (with_numbered xs number x) number ≡ Some x
 numbered_same xs zero old x is = absurd (none_is old is)
-numbered_same xs (suc place) old x is = get_set_same xs place old x is
+numbered_same xs (suc index) old x is = get_set_same xs index old x is
 
 -- what stands under another number stays
 pub numbered_other : {A : Type 0} (xs : List A) (number other : ℕ) (x : A) → number ≢ other → numbered (with_numbered xs number x) other ≡ numbered xs other
 numbered_other xs zero other x apart = refl
-numbered_other xs (suc place) zero x apart = refl
-numbered_other xs (suc place) (suc other) x apart = get_set_other xs place other x (λ same. apart (ap suc same))
+numbered_other xs (suc index) zero x apart = refl
+numbered_other xs (suc index) (suc other) x apart = get_set_other xs index other x (λ same. apart (ap suc same))
 
 -- a longer list has the same under the numbers of its beginning
 pub numbered_append : {A : Type 0} (xs more : List A) (number : ℕ) (x : A) → numbered xs number ≡ Some x → numbered (xs ++ more) number ≡ Some x
 numbered_append xs more zero x is = absurd (none_is x is)
-numbered_append xs more (suc place) x is = get_append xs more place x is
+numbered_append xs more (suc index) x is = get_append xs more index x is
 
 pub with_numbered_append : {A : Type 0} (xs more : List A) (number : ℕ) (old x : A) → numbered xs number ≡ Some old → with_numbered (xs ++ more) number x ≡ with_numbered xs number x ++ more
 with_numbered_append xs more zero old x is = absurd (none_is old is)
-with_numbered_append xs more (suc place) old x is = set_append xs more place old x is
+with_numbered_append xs more (suc index) old x is = set_append xs more index old x is
 
 -- items at two numbers may be put in either order
 pub with_numbered_twice : {A : Type 0} (xs : List A) (one other : ℕ) (x y : A) → one ≢ other → with_numbered (with_numbered xs one x) other y ≡ with_numbered (with_numbered xs other y) one x
 with_numbered_twice xs zero other x y apart = refl
-with_numbered_twice xs (suc place) zero x y apart = refl
-with_numbered_twice xs (suc place) (suc other) x y apart = set_set xs place other x y (λ same. apart (ap suc same))
+with_numbered_twice xs (suc index) zero x y apart = refl
+with_numbered_twice xs (suc index) (suc other) x y apart = set_set xs index other x y (λ same. apart (ap suc same))
 
 pub with_numbered_length : {A : Type 0} (xs : List A) (number : ℕ) (x : A) → length (with_numbered xs number x) ≡ length xs
 with_numbered_length xs zero x = refl
-with_numbered_length xs (suc place) x = set_length xs place x
+with_numbered_length xs (suc index) x = set_length xs index x

@@ -14,16 +14,16 @@ use Rattle.session.specs.World.{ScheduledProgram, World, numbered, with_numbered
 use Rattle.session.specs.Standing.{SessionValue, IsAt, Takes}
 use Rattle.session.proofs.Attempting.{IsNewJob, IsNextOf, no_program, no_ticket, starts, no_job, steps_job}
 
--- a number is one more than its place
-numbered_at : {A : Type 0} (xs : List A) (number place : ℕ) → number ≡ place + 1 → numbered xs number ≡ slice_get xs place
-numbered_at xs number place is = let next : number ≡ suc place = omega (arith, is) in ap (numbered xs) next
+-- a number is one more than its index
+numbered_at : {A : Type 0} (xs : List A) (number index : ℕ) → number ≡ index + 1 → numbered xs number ≡ slice_get xs index
+numbered_at xs number index is = let next : number ≡ suc index = omega (arith, is) in ap (numbered xs) next
 
-with_numbered_at : {A : Type 0} (xs : List A) (number place : ℕ) (x : A) → number ≡ place + 1 → with_numbered xs number x ≡ slice_set xs place x
-with_numbered_at xs number place x is = let next : number ≡ suc place = omega (arith, is) in ap (λ (n : ℕ). with_numbered xs n x) next
+with_numbered_at : {A : Type 0} (xs : List A) (number index : ℕ) (x : A) → number ≡ index + 1 → with_numbered xs number x ≡ slice_set xs index x
+with_numbered_at xs number index x is = let next : number ≡ suc index = omega (arith, is) in ap (λ (n : ℕ). with_numbered xs n x) next
 
 numbered_map : {A B : Type 0} (f : A → B) (xs : List A) (number : ℕ) → numbered (map f xs) number ≡ option_map f (numbered xs number)
 numbered_map f xs zero = refl
-numbered_map f xs (suc place) = slice_get-map f xs place
+numbered_map f xs (suc index) = slice_get-map f xs index
 
 -- the plan of a program, among plans that are shared
 plan_found : {A : Type 0} (plan_in : A → Plan) (plans : List Plan) (shared lent : List A) (program : ℕ) (found : Option A) → plans ≡ map plan_in shared → lent ≡ shared → found ≡ numbered lent program
@@ -63,16 +63,16 @@ starts_there plan_in shared lent programs w old new s program ticket version tur
     (starts programs w old new program turns (plan_in plan) graph (ticket_graph w.versions ticket) j at (plan_found plan_in old.plans shared lent program (Some plan) are lies is)
     (graph_there programs w old s ticket (Some version) at here held ∙ ap Some (sym graph_is)) (new_of own (plan_in plan) flat graph turns j own_is flat_is new_is) after)
 
-pub no_job_there : (programs : List ScheduledProgram) (w : World) (old : SessionValue) (jobs : List JobValue) (number place : ℕ) → IsAt programs w old → old.jobs ≡ jobs → number ≡ place + 1 → length jobs ≤ place
+pub no_job_there : (programs : List ScheduledProgram) (w : World) (old : SessionValue) (jobs : List JobValue) (number index : ℕ) → IsAt programs w old → old.jobs ≡ jobs → number ≡ index + 1 → length jobs ≤ index
     → job_step w number (numbered w.jobs number) ≡ refused w 413
-no_job_there programs w old jobs number place at are is past =
-    no_job programs w old number at (ap (λ (js : List JobValue). numbered js number) are ∙ numbered_at jobs number place is ∙ slice_get_past jobs place past)
+no_job_there programs w old jobs number index at are is past =
+    no_job programs w old number at (ap (λ (js : List JobValue). numbered js number) are ∙ numbered_at jobs number index is ∙ slice_get_past jobs index past)
 
-pub steps_job_there : (programs : List ScheduledProgram) (w : World) (old new : SessionValue) (jobs : List JobValue) (number place : ℕ) (j k : JobValue) (stand : Stand) → IsAt programs w old → old.jobs ≡ jobs → number ≡ place + 1
-    → place < length jobs → ((d : JobValue) → j ≡ get_or jobs place d) → IsNextOf j k → stand ≡ stand_of k.stands → new ≡ record old { jobs = slice_set jobs place k }
+pub steps_job_there : (programs : List ScheduledProgram) (w : World) (old new : SessionValue) (jobs : List JobValue) (number index : ℕ) (j k : JobValue) (stand : Stand) → IsAt programs w old → old.jobs ≡ jobs → number ≡ index + 1
+    → index < length jobs → ((d : JobValue) → j ≡ get_or jobs index d) → IsNextOf j k → stand ≡ stand_of k.stands → new ≡ record old { jobs = slice_set jobs index k }
     → Takes programs (job_step w number (numbered w.jobs number)) (Stands stand) new
-steps_job_there programs w old new jobs number place j k stand at are is within there next stands after =
-    let found : numbered old.jobs number ≡ Some j = ap (λ (js : List JobValue). numbered js number) are ∙ numbered_at jobs number place is ∙ slice_get_read jobs (length jobs) place j refl within (there j) in
-    let put : slice_set jobs place k ≡ with_numbered old.jobs number k = sym (ap (λ (js : List JobValue). with_numbered js number k) are ∙ with_numbered_at jobs number place k is) in
+steps_job_there programs w old new jobs number index j k stand at are is within there next stands after =
+    let found : numbered old.jobs number ≡ Some j = ap (λ (js : List JobValue). numbered js number) are ∙ numbered_at jobs number index is ∙ slice_get_read jobs (length jobs) index j refl within (there j) in
+    let put : slice_set jobs index k ≡ with_numbered old.jobs number k = sym (ap (λ (js : List JobValue). with_numbered js number k) are ∙ with_numbered_at jobs number index k is) in
     subst (λ (st : Stand). Takes programs (job_step w number (numbered w.jobs number)) (Stands st) new) (sym stands)
     (steps_job programs w old new number j k at found next (after ∙ ap (λ (js : List JobValue). record old { jobs = js }) put))

@@ -21,7 +21,7 @@ use Rattle.session.specs.declared.step.SessionStep.{SessionStep}
 use Rattle.session.specs.declared.step.SessionStep.TheVariants.{Commit, JobStep}
 use Rattle.session.specs.declared.step.SessionReply.{SessionReply}
 use Rattle.session.specs.declared.step.SessionReply.TheVariants.{Of}
-use Rattle.session.specs.World.{ScheduledProgram, WorldJob, World, place_after, place_of, answer, world_after}
+use Rattle.session.specs.World.{ScheduledProgram, WorldJob, World, index_after, index_of, answer, world_after}
 use Rattle.session.specs.Standing.{IsPlanOf}
 
 -- whether it is a step of the job of this number
@@ -34,12 +34,12 @@ pub record GoesOnAlone (old : WorldJob) (more : ℕ) (new : WorldJob) : Type 0 w
   pub program : new.program ≡ old.program
   pub graph : new.graph ≡ old.graph
   pub turns : new.turns ≡ old.turns
-  pub stands : place_of new ≡ place_after old.program old.graph old.turns (old.count + more)
+  pub stands : index_of new ≡ index_after old.program old.graph old.turns (old.count + more)
 
 -- The job of a session runs a plan of that program on that graph within that bound, and stands where the program's machine stands on it after so many instructions more.
 pub record RunsAlone (old : WorldJob) (more : ℕ) (new : JobValue) : Type 0 where
   pub plan : IsPlanOf new.plan old.program
-  pub is : new ≡ job_value new.plan old.graph old.turns (place_after old.program old.graph old.turns (old.count + more))
+  pub is : new ≡ job_value new.plan old.graph old.turns (index_after old.program old.graph old.turns (old.count + more))
 
 -- what a run of the job's program shows so far where it stands so
 abbrev pub shown_at : WorldJob → Configuration → Outcome
@@ -47,7 +47,7 @@ shown_at job c = outcome_so_far job.program.tree job.turns (plan_of job.program.
 
 -- The job of a session shows what the run of the program shows on the graph after the count of instructions, and at its end what the program means.
 pub record ShowsItsOwnRun (job : WorldJob) (j : JobValue) : Type 0 where
-  pub so_far : shown_at job j.stands ≡ shown_at job (place_of job)
+  pub so_far : shown_at job j.stands ≡ shown_at job (index_of job)
   pub at_end : (end : End) → stand_of j.stands ≡ Ended end → shown_at job j.stands ≡ meaning job.program.tree (graph_value job.graph) job.turns
 
 -- the two steps are answered alike and lead to one world, whichever is taken first

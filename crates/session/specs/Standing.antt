@@ -12,7 +12,7 @@ use Rattle.session.specs.declared.error.SessionError.{SessionError}
 use Rattle.session.specs.declared.error.SessionError.TheVariants.{VertexRange, BadChunkSize, NotKept, NotHeld, HistoryFull, NoProgram, NoJob, NoMemory}
 use Rattle.session.specs.declared.step.SessionStep.{SessionStep}
 use Rattle.session.specs.declared.step.SessionReply.{SessionReply}
-use Rattle.session.specs.World.{ScheduledProgram, WorldJob, World, Answer, place_of, replies_to, world_after}
+use Rattle.session.specs.World.{ScheduledProgram, WorldJob, World, Answer, index_of, replies_to, world_after}
 
 -- the plans of the programs, the state of the versions, and the jobs in the order in which they were started
 pub record SessionValue : Type 0 where
@@ -28,7 +28,7 @@ pub record IsPlanOf (plan : Plan) (program : ScheduledProgram) : Type 0 where
 -- the job runs a plan of the world's program on the world's graph, and stands where the machine stands after the world's count of instructions
 pub record StandsAt (j : JobValue) (job : WorldJob) : Type 0 where
   pub plan : IsPlanOf j.plan job.program
-  pub is : j ≡ job_value j.plan job.graph job.turns (place_of job)
+  pub is : j ≡ job_value j.plan job.graph job.turns (index_of job)
 
 -- the session has plans of these programs, and stands where the world stands
 pub record IsAt (programs : List ScheduledProgram) (w : World) (s : SessionValue) : Type 0 where

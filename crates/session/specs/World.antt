@@ -35,32 +35,32 @@ pub record World : Type 0 where
   pub jobs : List WorldJob
 
 -- where the machine of a program stands after so many instructions
-abbrev pub place_after : ScheduledProgram → Digraph → (turns count : ℕ) → Configuration
-place_after p g turns count =
+abbrev pub index_after : ScheduledProgram → Digraph → (turns count : ℕ) → Configuration
+index_after p g turns count =
     steps p.tree (graph_value g) (plan_of p.tree p.schedule) count (first_configuration (opening p.tree (graph_value g) turns))
 
 -- where a job stands
-abbrev pub place_of : WorldJob → Configuration
-place_of job = place_after job.program job.graph job.turns job.count
+abbrev pub index_of : WorldJob → Configuration
+index_of job = index_after job.program job.graph job.turns job.count
 
 -- a job that stands so, after one more instruction: one that has ended stays
 abbrev pub one_more : Configuration → WorldJob → WorldJob
-one_more (At place loops s) job = record job { count = job.count + 1 }
+one_more (At index loops s) job = record job { count = job.count + 1 }
 one_more (Ended s end) job = job
 
 -- a job after its next step
 abbrev pub after_its_step : WorldJob → WorldJob
-after_its_step job = one_more (place_of job) job
+after_its_step job = one_more (index_of job) job
 
 -- what has this number in a list, counted from 1
 abbrev pub numbered : {A : Type 0} → List A → ℕ → Option A
 numbered xs zero = None
-numbered xs (suc place) = slice_get xs place
+numbered xs (suc index) = slice_get xs index
 
 -- the list with another item at this number
 abbrev pub with_numbered : {A : Type 0} → List A → ℕ → A → List A
 with_numbered xs zero x = xs
-with_numbered xs (suc place) x = slice_set xs place x
+with_numbered xs (suc index) x = slice_set xs index x
 
 -- what a step is answered, and the world after it
 pub record Answer : Type 0 where
@@ -88,7 +88,7 @@ start w turns (Some program) (Some graph) = record {
 abbrev pub job_step : World → (number : ℕ) → Option WorldJob → Answer
 job_step w number None = refused w 413
 job_step w number (Some job) = record {
-  reply = Stands (stand_of (place_of (after_its_step job)));
+  reply = Stands (stand_of (index_of (after_its_step job)));
   world = record w { jobs = with_numbered w.jobs number (after_its_step job) };
 }
 

@@ -219,10 +219,10 @@ impl Session {
             → Attempts programs w (answer programs w (JobStep number)) self.old result self.new }
         ensures err { OnErr result (self.new ≡ self.old) }
     {
-        let Some(place) = place_of(number) else {
+        let Some(index) = index_of(number) else {
             return Err(SessionError::NoJob);
         };
-        let Some(job) = self.jobs.get_mut(place) else {
+        let Some(job) = self.jobs.get_mut(index) else {
             return Err(SessionError::NoJob);
         };
         let stand = job.step(alloc, &mut self.alone)?;
@@ -253,9 +253,9 @@ fn shared(alloc: Global, plans: Vec<Plan>) -> Result<Vec<Arc<Plan>>, SessionErro
     Ok(shared)
 }
 
-/// The place, from 0, of what has this number, which counts from 1.
-fn place_of(number: u64) -> Option<usize>
-    ensures { MatchOption result (number ≡ 0) (λ place. number ≡ place + 1) }
+/// The index, from 0, of what has this number, which counts from 1.
+fn index_of(number: u64) -> Option<usize>
+    ensures { MatchOption result (number ≡ 0) (λ index. number ≡ index + 1) }
 {
     usize::try_from(number.checked_sub(1)?).ok()
 }
@@ -264,5 +264,5 @@ fn place_of(number: u64) -> Option<usize>
 fn numbered_in<T>(items: &[T], number: u64) -> Option<&T>
     ensures { option_copied result ≡ numbered items.now number }
 {
-    items.get(place_of(number)?)
+    items.get(index_of(number)?)
 }

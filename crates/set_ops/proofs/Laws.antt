@@ -16,7 +16,7 @@ use Rattle.ascending_lists.proofs.MapDifferences.{keys_without}
 use Rattle.tail_codec.specs.declared.operation.MapOperation.{MapOperation}
 use Rattle.tail_codec.specs.declared.operation.MapOperation.TheVariants.{Union, UnionKeepingFirst, Difference}
 use Rattle.tail_codec.specs.Operations.{combined, on_keys}
-use Rattle.tail_codec.proofs.MapPlaces.{entries_below_none, entries_above_all, no_value}
+use Rattle.tail_codec.proofs.MapPositions.{entries_below_none, entries_above_all, no_value}
 use Rattle.tail_codec.proofs.MapMerging.{second_nothing, without_nothing}
 use Rattle.tail_codec.proofs.Writing.{length_keys, few_entries}
 use Rattle.set_ops.specs.inside.Answers.{kept, around}

@@ -196,11 +196,11 @@ fn without_common(
 {
     let first_keys = first.keys();
     let (mut keys, mut weights) = (Vec::new(alloc), Vec::new(alloc));
-    for place in 0..first_keys.len() {
-        let key = first_keys[place];
+    for position in 0..first_keys.len() {
+        let key = first_keys[position];
         if !second.contains(key) {
             keys.push(key)?;
-            weights.push(first.weight(place))?;
+            weights.push(first.weight(position))?;
         }
     }
     Ok(EntryList::new(keys, weights))

@@ -126,8 +126,8 @@ fn are_same(some: &Entries<'_>, others: &Entries<'_>) -> bool {
     if some.keys() != others.keys() || some.len() != others.len() {
         return false;
     }
-    for place in 0..some.len() {
-        if some.weight(place) != others.weight(place) {
+    for index in 0..some.len() {
+        if some.weight(index) != others.weight(index) {
             return false;
         }
     }
@@ -136,9 +136,9 @@ fn are_same(some: &Entries<'_>, others: &Entries<'_>) -> bool {
 
 fn entries_of(alloc: Global, (from, step, count, weight): Shape) -> Result<Vec<(u32, i64)>, Fail> {
     let mut entries = Vec::new(alloc);
-    for place in 0..count {
-        let key = from.wrapping_add(step.wrapping_mul(place));
-        entries.push((key, weight.wrapping_add(i64::from(place))))?;
+    for index in 0..count {
+        let key = from.wrapping_add(step.wrapping_mul(index));
+        entries.push((key, weight.wrapping_add(i64::from(index))))?;
     }
     Ok(entries)
 }

@@ -70,8 +70,8 @@ module _ {V : Type 0} (es : List (ℕ × V)) (i : ℕ) (x : ℕ × V) (map : IsM
 
 module _ {V : Type 0} where
   -- entries cut at one of them, with so many before it
-  pub cut_at_place : (es f b : List (ℕ × V)) (x : ℕ × V) (r : List (ℕ × V)) → IsMap es → es ≡ f ++ b → b ≡ x ∷ r → IsSplit x.0 es f (Some x.1) r
-  cut_at_place es f b x r map w e =
+  pub cut_at_index : (es f b : List (ℕ × V)) (x : ℕ × V) (r : List (ℕ × V)) → IsMap es → es ≡ f ++ b → b ≡ x ∷ r → IsSplit x.0 es f (Some x.1) r
+  cut_at_index es f b x r map w e =
       let is : es ≡ f ++ x ∷ r = w ∙ ap (λ b. f ++ b) e in
       let m = rw is at map in
       record { whole = is; below = rises_left 0 (2 ^ 32) f x.0 x.1 r m; above = rises_right 0 (2 ^ 32) f x.0 x.1 r m }

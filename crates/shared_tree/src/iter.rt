@@ -49,7 +49,7 @@ impl<V> Tree<V> {
 /// Puts the way down the left side below a link on top of a stack, and gives the new height.
 #[inline]
 fn descend<'a, V>(links: &mut [&'a Link<V>], height: usize, link: &'a Link<V>) -> usize
-    requires places { length links.old ≡ 64 }
+    requires indices { length links.old ≡ 64 }
     requires balanced { IsBalanced link.now }
     requires room { height + (seen link.now).depth ≤ 64 }
     requires stack { HasRoom 0 (take height links.old) }

@@ -31,11 +31,11 @@ fn ascends<V>(entries: &[(u32, V)]) -> bool
 {
     let mut low = 0u64;
     for (key, _) in entries {
-        let place = u64::from(*key);
-        if place < low {
+        let position = u64::from(*key);
+        if position < low {
             return false;
         }
-        low = place + 1;
+        low = position + 1;
     }
     true
 }

@@ -83,7 +83,7 @@ appended_ones old keys new old' new' m n same m_is n_is is is' =
     let column : new' ≡ old' ++ replicate (length keys) (pos 1) = is' ∙ ap (λ v. v ++ replicate (n - m) (pos 1)) front ∙ ap (λ (k : ℕ). old' ++ replicate k (pos 1)) more in
     rw (← zip_ones keys) (appended_column old keys new old' (replicate (length keys) (pos 1)) new' same (length-replicate (length keys) (pos 1)) is column)
 
--- both columns are changed at one place
+-- both columns are changed at one position
 pub set_zip : (n : ℕ) (keys : List ℕ) (weights : List ℤ) (k : ℕ) (w : ℤ) → zip (slice_set keys n k) (slice_set weights n w) ≡ slice_set (zip keys weights) n (k, w)
 set_zip n [] ws k w = refl
 set_zip zero (x ∷ ks) [] k w = refl

@@ -12,7 +12,7 @@ use Rattle.tail_codec.proofs.Weights.{number_of, weight_of, one_is}
 first_number : (j k : ℕ) (js ks : List ℕ) → j ∷ js ≡ k ∷ ks → j ≡ k
 first_number j k js ks is = cc
 
--- Bytes begin with one number at most, and it ends at one place.
+-- Bytes begin with one number at most, and it ends at one position.
 pub same_begin : (j k : ℕ) (rest other bytes : List ℕ) → BeginsWith j rest bytes → BeginsWith k other bytes → j ≡ k
 same_begin j k rest other bytes a b =
     first_number j k (numbers_from 0 1 rest) (numbers_from 0 1 other)

@@ -32,6 +32,6 @@ module _ {A : Type 0} (part : ℕ × ℤ → A) (none : A) where
       let here : part x ≡ get_or (map part whole) n none = ap part is ∙ sym (part_at n whole within) in
       take_more_set block n (part x) room ∙ rw (here, same) (sym (take_more (map part whole) n none within'))
 
--- what stands after the place is as it was
+-- what stands after the position is as it was
 pub untouched : {A : Type 0} (block old : List A) (n : ℕ) (x : A) → drop n block ≡ drop n old → drop (n + 1) (slice_set block n x) ≡ drop (n + 1) old
 untouched block old n x same = drop-set-lt (n + 1) block n x (omega arith) ∙ sym (drop-drop 1 n block) ∙ ap (drop 1) same ∙ drop-drop 1 n old

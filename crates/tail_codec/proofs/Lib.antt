@@ -1,5 +1,5 @@
 pub mod Columns
-pub mod MapPlaces
+pub mod MapPositions
 pub mod Numbers
 pub mod Weights
 pub mod Lists

@@ -65,7 +65,7 @@ begins_decoded low e rest bytes b =
     ∙ ap (entries_from false low) (numbers_first (entry_numbers (e.0 - low) e.1) b.first rest b.spells)
     ∙ entry_first low e.0 e.1 (numbers_from 0 1 rest) b.least
 
--- the same entry ends at the same place
+-- the same entry ends at the same position
 same_rest : (low : ℕ) (e : ℕ × ℤ) (rest other bytes : List ℕ) → BeginsWithEntry low e rest bytes → BeginsWithEntry low e other bytes → rest ≡ other
 same_rest low e rest other bytes a b =
     let same : a.first ≡ b.first = same_numbers (entry_numbers (e.0 - low) e.1) a.first b.first a.spells b.spells in

@@ -19,7 +19,7 @@ use Rattle.tail_codec.specs.inside.Merging.{merged}
 use Rattle.ascending_lists.proofs.Merging as merging
 use Rattle.tail_codec.proofs.Columns.{set_zip}
 use Rattle.tail_codec.proofs.Writing.{key_of, length_keys}
-use Rattle.tail_codec.proofs.MapPlaces.{entries_below_none, entries_above_all, no_value}
+use Rattle.tail_codec.proofs.MapPositions.{entries_below_none, entries_above_all, no_value}
 
 module _ {V : Type 0} where
   -- first entries of a union

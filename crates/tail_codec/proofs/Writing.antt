@@ -64,7 +64,7 @@ module _ (low n : ℕ) (xs : List ℕ) (within : n < length xs) where
   pub next_least : least_after low (take (n + 1) xs) ≡ get_or xs n 0 + 1
   next_least = rw (take_more xs n 0 within) (least_after-push low (take n xs) (get_or xs n 0))
 
--- keys of entries at a place
+-- keys of entries at a position
 pub take_keys : (n : ℕ) (es : List (ℕ × ℤ)) → keys_of (take n es) ≡ take n (keys_of es)
 take_keys zero es = refl
 take_keys (suc n) [] = refl
@@ -92,18 +92,18 @@ entry_next low n es within =
     ap (least_after low) (take_keys (n + 1) es) ∙ next_least low n (keys_of es) within' ∙ ap (λ (k : ℕ). k + 1) (key_of n es within)
 
 -- the bytes of one entry more
-pub written : (low n : ℕ) (es : List (ℕ × ℤ)) (g place next : ℕ) (old new : List ℕ) → n < length es → AscendsFrom low (keys_of es) → SpellsFrom low (take n es) (take place old) → g ≡ (get_or es n (0, pos 0)).0 - least_after low (keys_of (take n es)) → weight_number (get_or es n (0, pos 0)).1 < 2 ^ 64 → WritesEntry g (get_or es n (0, pos 0)).1 place old next new → SpellsFrom low (take (n + 1) es) (take next new)
-written low n es g place next old new within ascends spells is fits writes =
+pub written : (low n : ℕ) (es : List (ℕ × ℤ)) (g position next : ℕ) (old new : List ℕ) → n < length es → AscendsFrom low (keys_of es) → SpellsFrom low (take n es) (take position old) → g ≡ (get_or es n (0, pos 0)).0 - least_after low (keys_of (take n es)) → weight_number (get_or es n (0, pos 0)).1 < 2 ^ 64 → WritesEntry g (get_or es n (0, pos 0)).1 position old next new → SpellsFrom low (take (n + 1) es) (take next new)
+written low n es g position next old new within ascends spells is fits writes =
     let e = get_or es n (0, pos 0) in
     let small = entry_fits low n es within ascends in
     rw (take_more es n (0, pos 0) within, writes.front)
-    (subst (λ v. SpellsFrom low (take n es ++ e ∷ []) (take place old ++ v)) (append-nil writes.bytes) (spells-joined low (take n es) e [] (take place old) writes.bytes [] spells small.0 small.1 fits (rw is at writes.spells) (spells_nothing (e.0 + 1))))
+    (subst (λ v. SpellsFrom low (take n es ++ e ∷ []) (take position old ++ v)) (append-nil writes.bytes) (spells-joined low (take n es) e [] (take position old) writes.bytes [] spells small.0 small.1 fits (rw is at writes.spells) (spells_nothing (e.0 + 1))))
 
 -- the room for an entry
 pub room_small : (w : ℤ) → entry_room w ≤ 15
 room_small w = elim (cases_Bool (is_one w)) [ inl h ↦ rw h (omega arith) | inr h ↦ rw h (omega arith) ]
 
--- the room for entries, for those of weight 1, and for those from a place on
+-- the room for entries, for those of weight 1, and for those from a position on
 pub list_room_small : (es : List (ℕ × ℤ)) → list_room es ≤ 15 * length es
 list_room_small [] = omega arith
 list_room_small (e ∷ es) = omega (arith, room_small e.1, list_room_small es)

@@ -42,7 +42,7 @@ impl<'a> Entries<'a> {
         }
     }
 
-    /// These keys, each with the weight at its place.
+    /// These keys, each with the weight at its position.
     #[inline]
     pub fn new(keys: &'a [u32], weights: &'a [i64]) -> Entries<'a>
         requires { length weights.now ≡ length keys.now }
@@ -107,47 +107,47 @@ impl<'a> Entries<'a> {
 
     /// The first entries, so many.
     #[inline]
-    pub fn up_to(&self, place: usize) -> Entries<'a>
-        requires { place ≤ length self.now }
-        ensures { result ≡ take place self.now }
+    pub fn up_to(&self, position: usize) -> Entries<'a>
+        requires { position ≤ length self.now }
+        ensures { result ≡ take position self.now }
     {
-        prove!(place <= self.keys.len());
+        prove!(position <= self.keys.len());
         match self.weights {
-            None => Entries::of_keys(&self.keys[..place]),
+            None => Entries::of_keys(&self.keys[..position]),
             Some(weights) => {
-                prove!(place <= weights.len());
-                Entries::new(&self.keys[..place], &weights[..place])
+                prove!(position <= weights.len());
+                Entries::new(&self.keys[..position], &weights[..position])
             }
         }
     }
 
-    /// The entries from a place on.
+    /// The entries from a position on.
     #[inline]
-    pub fn from(&self, place: usize) -> Entries<'a>
-        requires { place ≤ length self.now }
-        ensures { result ≡ drop place self.now }
+    pub fn from(&self, position: usize) -> Entries<'a>
+        requires { position ≤ length self.now }
+        ensures { result ≡ drop position self.now }
     {
-        prove!(place <= self.keys.len());
+        prove!(position <= self.keys.len());
         match self.weights {
-            None => Entries::of_keys(&self.keys[place..]),
+            None => Entries::of_keys(&self.keys[position..]),
             Some(weights) => {
-                prove!(place <= weights.len());
-                Entries::new(&self.keys[place..], &weights[place..])
+                prove!(position <= weights.len());
+                Entries::new(&self.keys[position..], &weights[position..])
             }
         }
     }
 
-    /// The weight at a place.
+    /// The weight at a position.
     #[inline]
-    pub fn weight(&self, place: usize) -> i64
-        requires { place < length self.now }
-        ensures { result ≡ (get_or self.now place (0, pos 0)).1 }
+    pub fn weight(&self, position: usize) -> i64
+        requires { position < length self.now }
+        ensures { result ≡ (get_or self.now position (0, pos 0)).1 }
     {
         match self.weights {
             None => 1,
             Some(weights) => {
-                prove!(place < weights.len());
-                weights[place]
+                prove!(position < weights.len());
+                weights[position]
             }
         }
     }
@@ -160,10 +160,14 @@ pub fn cut_entries<'a>(entries: &Entries<'a>, key: u32) -> (Entries<'a>, Option<
     ensures { CutsEntries key entries.now result.0 result.1 result.2 }
 {
     let (below, found, _) = cut_list(entries.keys(), key);
-    let place = below.len();
-    let front = entries.up_to(place);
+    let position = below.len();
+    let front = entries.up_to(position);
     if found {
-        return (front, Some(entries.weight(place)), entries.from(place + 1));
+        return (
+            front,
+            Some(entries.weight(position)),
+            entries.from(position + 1),
+        );
     }
-    (front, None, entries.from(place))
+    (front, None, entries.from(position))
 }

@@ -38,7 +38,7 @@ impl Model for EntryList {
 }
 
 impl EntryList {
-    /// These keys, each with the weight at its place. The weights are let go where all of them are 1.
+    /// These keys, each with the weight at its position. The weights are let go where all of them are 1.
     pub fn new(keys: Vec<u32>, weights: Vec<i64>) -> EntryList
         requires { length weights.items ≡ length keys.items }
         ensures { result ≡ zip keys.items weights.items }
@@ -75,10 +75,10 @@ impl EntryList {
         keys.resize(pairs.len(), 0)?;
         let mut weights = Vec::new(alloc);
         weights.resize(pairs.len(), 1)?;
-        for place in 0..pairs.len() {
-            let (key, weight) = pairs[place];
-            keys[place] = key;
-            weights[place] = weight;
+        for position in 0..pairs.len() {
+            let (key, weight) = pairs[position];
+            keys[position] = key;
+            weights[position] = weight;
         }
         Ok(EntryList::new(keys, weights))
     }

@@ -64,11 +64,11 @@ impl<'a> TailIter<'a> {
             rest: self.rest,
         };
         let mut filled = 0usize;
-        for place in block.iter_mut() {
+        for position in block.iter_mut() {
             let Some(entry) = entries.next() else {
                 break;
             };
-            *place = entry.0;
+            *position = entry.0;
             filled += 1;
         }
         *self = entries;
@@ -93,12 +93,12 @@ impl<'a> TailIter<'a> {
             rest: self.rest,
         };
         let mut filled = 0usize;
-        for place in 0..keys.len() {
+        for position in 0..keys.len() {
             let Some((key, weight)) = left.next() else {
                 break;
             };
-            keys[place] = key;
-            weights[place] = weight;
+            keys[position] = key;
+            weights[position] = weight;
             filled += 1;
         }
         *self = left;

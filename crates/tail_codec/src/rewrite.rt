@@ -52,8 +52,8 @@ impl Tail {
         keys.resize(len, 0)?;
         let mut weights = Vec::new(alloc);
         weights.resize(len, 1)?;
-        let place = self.read_into(&mut keys, &mut weights, 0);
-        more.read_into(&mut keys, &mut weights, place);
+        let position = self.read_into(&mut keys, &mut weights, 0);
+        more.read_into(&mut keys, &mut weights, position);
         let entries = EntryList::new(keys, weights);
         Tail::from_ascending(alloc, base, &entries.lent())
     }

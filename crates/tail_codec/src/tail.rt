@@ -186,21 +186,21 @@ impl Tail {
         Ok(EntryList::new(keys, weights))
     }
 
-    /// Reads the entries into columns from a place on, and gives the place after them.
-    pub(crate) fn read_into(&self, keys: &mut [u32], weights: &mut [i64], place: usize) -> usize
+    /// Reads the entries into columns from a position on, and gives the position after them.
+    pub(crate) fn read_into(&self, keys: &mut [u32], weights: &mut [i64], position: usize) -> usize
         requires columns { length weights.old ≡ length keys.old }
-        requires room { place + length self.now.entries ≤ length keys.old }
-        ensures place { result ≡ place + length self.now.entries }
+        requires room { position + length self.now.entries ≤ length keys.old }
+        ensures position { result ≡ position + length self.now.entries }
         ensures read { take result (zip keys.new weights.new)
-            ≡ take place (zip keys.old weights.old) ++ self.now.entries }
+            ≡ take position (zip keys.old weights.old) ++ self.now.entries }
     {
-        let mut place = place;
+        let mut position = position;
         for (key, weight) in self.iter() {
-            keys[place] = key;
-            weights[place] = weight;
-            place += 1;
+            keys[position] = key;
+            weights[position] = weight;
+            position += 1;
         }
-        place
+        position
     }
 
     /// One more owner of the same bytes. The only error is out of memory.

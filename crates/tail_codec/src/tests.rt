@@ -204,8 +204,8 @@ fn are_entries(entries: &Entries<'_>, list: &[(u32, i64)]) -> bool {
     if keys.len() != list.len() || entries.len() != list.len() {
         return false;
     }
-    for place in 0..list.len() {
-        if list[place] != (keys[place], entries.weight(place)) {
+    for position in 0..list.len() {
+        if list[position] != (keys[position], entries.weight(position)) {
             return false;
         }
     }
@@ -334,8 +334,8 @@ const MERGES: [Merge; 8] = [
 
 #[test]
 fn merges_entries(rt: HostRuntime) -> Result<(), Fail> {
-    for (place, merge) in MERGES.iter().enumerate() {
-        assert!(rt; is_merged(rt.alloc(), *merge)?, "merge {place}");
+    for (position, merge) in MERGES.iter().enumerate() {
+        assert!(rt; is_merged(rt.alloc(), *merge)?, "merge {position}");
     }
     Ok(())
 }

@@ -103,42 +103,42 @@ fn write_list(low: u64, entries: &Entries<'_>, buffer: &mut [u8]) -> usize
     let mut low = low;
     let mut len = 0usize;
     let keys = entries.keys();
-    for place in 0..keys.len() {
-        let key = u64::from(keys[place]);
-        len = write_entry(key - low, entries.weight(place), buffer, len);
+    for position in 0..keys.len() {
+        let key = u64::from(keys[position]);
+        len = write_entry(key - low, entries.weight(position), buffer, len);
         low = key + 1;
     }
     len
 }
 
-/// Writes the bytes of an entry into a buffer from a place on, and gives the place after them.
+/// Writes the bytes of an entry into a buffer from a position on, and gives the position after them.
 #[inline]
-fn write_entry(distance: u64, weight: i64, buffer: &mut [u8], place: usize) -> usize
+fn write_entry(distance: u64, weight: i64, buffer: &mut [u8], position: usize) -> usize
     requires small { distance < 2 ^ 32 }
-    requires room { place + entry_room weight ≤ length buffer.old }
-    ensures { WritesEntry distance weight place buffer.old result buffer.new }
+    requires room { position + entry_room weight ≤ length buffer.old }
+    ensures { WritesEntry distance weight position buffer.old result buffer.new }
 {
     let number = number_of_weight(weight);
     if number == ONE {
-        return write_number(2 * distance, buffer, place);
+        return write_number(2 * distance, buffer, position);
     }
-    let place = write_number(2 * distance + 1, buffer, place);
-    write_number(number, buffer, place)
+    let position = write_number(2 * distance + 1, buffer, position);
+    write_number(number, buffer, position)
 }
 
-/// Writes the bytes of a number into a buffer from a place on, and gives the place after them.
+/// Writes the bytes of a number into a buffer from a position on, and gives the position after them.
 #[inline(always)]
-fn write_number(number: u64, buffer: &mut [u8], place: usize) -> usize
-    requires { (n : ℕ) × Fits number n × (place + n ≤ length buffer.old) }
-    ensures { WritesNumber number place buffer.old result buffer.new }
+fn write_number(number: u64, buffer: &mut [u8], position: usize) -> usize
+    requires { (n : ℕ) × Fits number n × (position + n ≤ length buffer.old) }
+    ensures { WritesNumber number position buffer.old result buffer.new }
 {
     let mut rest = number;
-    let mut place = place;
+    let mut position = position;
     while rest >= 128 {
-        buffer[place] = (128 + rest % 128) as u8;
-        place += 1;
+        buffer[position] = (128 + rest % 128) as u8;
+        position += 1;
         rest /= 128;
     }
-    buffer[place] = rest as u8;
-    place + 1
+    buffer[position] = rest as u8;
+    position + 1
 }

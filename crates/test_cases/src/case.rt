@@ -61,12 +61,12 @@ impl Files for Folder<'_> {
 pub fn differences<T: Threads + Wait + Sync>(
     rt: &HostRuntime,
     threads: &T,
-    place: &CaseName,
+    index: &CaseName,
 ) -> io::Result<String> {
-    let name = place.name.as_str();
+    let name = index.name.as_str();
     let folder = &Folder {
         rt,
-        name: place.folder.as_str(),
+        name: index.folder.as_str(),
     };
     let words = words_of(folder, name)?;
     let got = outcome_of(threads, folder, name, &words)?;

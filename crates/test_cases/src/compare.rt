@@ -20,10 +20,10 @@ pub fn add_differences(
 ) -> Result<(), AllocError> {
     let wanted = lines_of(alloc, output.wanted)?;
     let got = lines_of(alloc, output.got)?;
-    for place in 0..wanted.len().max(got.len()) {
-        let (wanted, got) = (line_at(&wanted, place), line_at(&got, place));
+    for index in 0..wanted.len().max(got.len()) {
+        let (wanted, got) = (line_at(&wanted, index), line_at(&got, index));
         if wanted != got {
-            let number = place.saturating_add(1);
+            let number = index.saturating_add(1);
             let line = format!(in alloc;
                 "{}: {}, line {number}: wanted {wanted}, got {got}\n",
                 output.case, output.name
@@ -39,9 +39,9 @@ fn lines_of(alloc: Global, bytes: &[u8]) -> Result<Vec<&[u8]>, AllocError> {
     bytes.split(|byte| *byte == b'\n').collect(alloc)
 }
 
-// The line at this place, from 0.
-fn line_at<'a>(lines: &[&'a [u8]], place: usize) -> &'a str {
-    match lines.get(place) {
+// The line at this index, from 0.
+fn line_at<'a>(lines: &[&'a [u8]], index: usize) -> &'a str {
+    match lines.get(index) {
         Some(line) => str::from_utf8(line).unwrap_or("(bytes that are no text)"),
         None => "(no line)",
     }

@@ -10,23 +10,23 @@ pub struct CaseName {
     pub name: String,
 }
 
-/// The cases in the folders of this folder, in order of their places: all, or those of these names where some are given.
+/// The cases in the folders of this folder, in order of their indices: all, or those of these names where some are given.
 ///
 /// Errors: that of the listing, and `NotFound` where there is none of these names.
 pub fn cases(rt: &HostRuntime, names: &[String]) -> io::Result<Vec<CaseName>> {
-    let mut places = Vec::new(rt.alloc());
+    let mut indices = Vec::new(rt.alloc());
     for entry in fs::read_dir(rt, ".")? {
         let entry = entry?;
         if entry.path().is_dir(rt) {
-            add_cases(rt, entry.file_name(), names, &mut places)?;
+            add_cases(rt, entry.file_name(), names, &mut indices)?;
         }
     }
-    places.sort()?;
-    places.dedup();
-    if places.is_empty() {
+    indices.sort()?;
+    indices.dedup();
+    if indices.is_empty() {
         return Err(io::Error::from(ErrorKind::NotFound));
     }
-    Ok(places)
+    Ok(indices)
 }
 
 // Adds the cases in this folder, all or those of these names.
@@ -34,7 +34,7 @@ fn add_cases(
     rt: &HostRuntime,
     folder: &str,
     names: &[String],
-    places: &mut Vec<CaseName>,
+    indices: &mut Vec<CaseName>,
 ) -> io::Result<()> {
     for entry in fs::read_dir(rt, folder)? {
         let entry = entry?;
@@ -44,7 +44,7 @@ fn add_cases(
         if names.is_empty() || names.iter().any(|wanted| wanted.as_str() == name) {
             let folder = String::from_str(rt.alloc(), folder)?;
             let name = String::from_str(rt.alloc(), name)?;
-            places.push(CaseName { folder, name })?;
+            indices.push(CaseName { folder, name })?;
         }
     }
     Ok(())

@@ -50,8 +50,8 @@ fn run_all(rt: &HostRuntime, threads: &(impl Threads + Wait + Sync)) -> io::Resu
     let mut agree = 0usize;
     let mut differ = 0usize;
     let names: Vec<String> = env::args(rt)?.skip(1).collect(rt.alloc())?;
-    for place in listing::cases(rt, &names)? {
-        let differences = case::differences(rt, threads, &place)?;
+    for index in listing::cases(rt, &names)? {
+        let differences = case::differences(rt, threads, &index)?;
         print!(rt; "{differences}")?;
         if differences.is_empty() {
             agree = agree.saturating_add(1);

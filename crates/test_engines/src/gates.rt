@@ -135,11 +135,11 @@ impl Roll {
         let most = ONCE.wrapping_add(workers as u64);
         let mut all = self.others.load(Ordering::SeqCst) == 0;
         let mut own = 0;
-        for (place, entry) in (0..MOST_PIECES as u64).zip(&self.entered) {
+        for (index, entry) in (0..MOST_PIECES as u64).zip(&self.entered) {
             let noted = entry.load(Ordering::SeqCst);
             own = if own < workers as u64 { own + 1 } else { 1 };
             let is_right = match share {
-                _ if pieces <= place => noted == 0,
+                _ if pieces <= index => noted == 0,
                 PieceAssignment::Claimed => ONCE < noted && noted <= most,
                 PieceAssignment::Fixed => noted == ONCE.wrapping_add(own),
             };

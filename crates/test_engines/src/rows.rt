@@ -168,8 +168,8 @@ pub(crate) fn pieces_of(
     scratch: &mut Scratch,
 ) -> Result<Vec<Found<Gathered>>, Fail> {
     let mut found = Vec::new(alloc);
-    for place in 0..work.pieces() {
-        let piece = place + 1;
+    for index in 0..work.pieces() {
+        let piece = index + 1;
         let out = work.piece(alloc, scratch, piece)?;
         found.push(Found { piece, out })?;
     }
@@ -183,8 +183,8 @@ pub(crate) fn pulled_pieces_of(
     scratch: &mut Scratch,
 ) -> Result<Vec<Found<Gathered>>, Fail> {
     let mut found = Vec::new(alloc);
-    for place in 0..work.pieces() {
-        let piece = work.pieces() - place;
+    for index in 0..work.pieces() {
+        let piece = work.pieces() - index;
         let out = work.piece(alloc, scratch, piece)?;
         found.push(Found { piece, out })?;
     }

@@ -120,8 +120,8 @@ pub(crate) fn shown<R: Threads + AllocGlobal + Sync, G: Gate + Sync>(
 }
 
 // Whether the first vector has these entries.
-fn has_entries(outcome: &Outcome, place: usize, wanted: &[i64]) -> bool {
-    let vector = outcome.vectors.as_slice().get(place);
+fn has_entries(outcome: &Outcome, index: usize, wanted: &[i64]) -> bool {
+    let vector = outcome.vectors.as_slice().get(index);
     vector.is_some_and(|vector| vector.entries.as_slice() == wanted)
 }
 

@@ -58,7 +58,7 @@ impl Programs for CompiledProgram {
     fn run(
         &self,
         alloc: Global,
-        _place: usize,
+        _index: usize,
         graph: &Flat,
         turns: u64,
         _workers: u64,

@@ -140,8 +140,8 @@ fn two_hubs(alloc: Global) -> Result<Graph, Fail> {
 
 // Adds 300 neighbours of a hub and removes as many, by turns.
 fn change_hub(batch: &mut Batch, hub: u32) -> Result<(), Fail> {
-    for place in 0..300u32 {
-        let first = place.wrapping_mul(20);
+    for index in 0..300u32 {
+        let first = index.wrapping_mul(20);
         batch.push(Entry::Add(hub, first.wrapping_add(1), 1))?;
         batch.push(Entry::Remove(hub, first.wrapping_add(10)))?;
     }

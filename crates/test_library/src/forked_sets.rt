@@ -100,9 +100,9 @@ fn at_level(level: u32) -> u64 {
 // Every second number below 2,000, from the first on, each with a weight.
 fn every_second(alloc: Global, first: u32) -> Result<Vec<(u32, i64)>, Fail> {
     let mut entries = Vec::new(alloc);
-    for place in 0..1_000u32 {
-        let key = place.wrapping_mul(2).wrapping_add(first);
-        entries.push((key, i64::from(place) - 50))?;
+    for index in 0..1_000u32 {
+        let key = index.wrapping_mul(2).wrapping_add(first);
+        entries.push((key, i64::from(index) - 50))?;
     }
     Ok(entries)
 }

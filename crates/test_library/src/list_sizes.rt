@@ -69,9 +69,9 @@ impl Hub {
     }
 }
 
-// The one of the others that stands at a place in the order in which they become neighbours.
-fn other_at(place: u32) -> u32 {
-    (place % OTHERS).wrapping_mul(STRIDE) % OTHERS
+// The one of the others that stands at an index in the order in which they become neighbours.
+fn other_at(index: u32) -> u32 {
+    (index % OTHERS).wrapping_mul(STRIDE) % OTHERS
 }
 
 // A graph beside a table that tells of each of the others the weight of its edge, if that is there.
@@ -80,7 +80,7 @@ struct Beside {
     hub: Hub,
     graph: Graph,
     table: Vec<Option<i64>>,
-    // The neighbours are the others from one place to before another.
+    // The neighbours are the others from one index to before another.
     first: u32,
     end: u32,
 }
@@ -96,9 +96,9 @@ impl Beside {
         })
     }
 
-    // Notes the edge of the other at a place in the table and in the batch.
-    fn put(&mut self, batch: &mut Batch, place: u32, weight: Option<i64>) -> Result<(), Fail> {
-        let other = other_at(place);
+    // Notes the edge of the other at an index in the table and in the batch.
+    fn put(&mut self, batch: &mut Batch, index: u32, weight: Option<i64>) -> Result<(), Fail> {
+        let other = other_at(index);
         if let Some(cell) = self.table.get_mut(other as usize) {
             *cell = weight;
         }
@@ -113,12 +113,12 @@ impl Beside {
     // Notes that one neighbour in seven has another weight.
     fn reweigh(&mut self, batch: &mut Batch) -> Result<(), Fail> {
         let weights = self.hub.weights;
-        for place in self.first..self.end {
-            if place % 7 == 0 {
+        for index in self.first..self.end {
+            if index % 7 == 0 {
                 self.put(
                     batch,
-                    place,
-                    Some(weights.weight(place.wrapping_add(self.end))),
+                    index,
+                    Some(weights.weight(index.wrapping_add(self.end))),
                 )?;
             }
         }
@@ -133,11 +133,11 @@ impl Beside {
         let (first, end) = (self.first, self.end);
         self.first = first.max(end.saturating_sub(count));
         self.end = end.max(first.saturating_add(count));
-        for place in first..self.first {
-            self.put(&mut batch, place, None)?;
+        for index in first..self.first {
+            self.put(&mut batch, index, None)?;
         }
-        for place in end..self.end {
-            self.put(&mut batch, place, Some(weights.weight(place)))?;
+        for index in end..self.end {
+            self.put(&mut batch, index, Some(weights.weight(index)))?;
         }
         self.graph = self.graph.apply(alloc, &batch)?;
         Ok(())

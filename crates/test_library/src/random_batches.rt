@@ -31,14 +31,14 @@ impl Beside {
     }
 
     // Where the table tells of an edge.
-    fn place(&self, source: u32, destination: u32) -> usize {
+    fn index(&self, source: u32, destination: u32) -> usize {
         source.wrapping_mul(self.vertices).wrapping_add(destination) as usize
     }
 
     // Notes an edge in the table.
     fn put(&mut self, source: u32, destination: u32, weight: Option<i64>) {
-        let place = self.place(source, destination);
-        if let Some(cell) = self.table.get_mut(place) {
+        let index = self.index(source, destination);
+        if let Some(cell) = self.table.get_mut(index) {
             *cell = weight;
         }
     }
@@ -73,13 +73,13 @@ impl Beside {
     fn listed(&self) -> usize {
         let (mut edges, mut next) = (0usize, 0usize);
         for (source, destination, weight) in self.graph.edges() {
-            let place = self.place(source, destination);
-            let noted = self.table.get(place).copied().unwrap_or(None);
-            if place < next || noted != Some(weight) || !self.is_in(source, destination, weight) {
+            let index = self.index(source, destination);
+            let noted = self.table.get(index).copied().unwrap_or(None);
+            if index < next || noted != Some(weight) || !self.is_in(source, destination, weight) {
                 break;
             }
             edges = edges.wrapping_add(1);
-            next = place.wrapping_add(1);
+            next = index.wrapping_add(1);
         }
         edges
     }

@@ -28,7 +28,7 @@ impl Programs for StarvedProgram {
     fn run(
         &self,
         _alloc: Global,
-        _place: usize,
+        _index: usize,
         _graph: &Flat,
         _turns: u64,
         _workers: u64,

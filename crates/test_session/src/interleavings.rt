@@ -62,8 +62,8 @@ fn is_order_of_no_matter(
         };
         session.step(alloc, step)?;
     }
-    for place in 0..12u32 {
-        let is_second = order >> place & 1 == 1;
+    for index in 0..12u32 {
+        let is_second = order >> index & 1 == 1;
         let job = if is_second { second } else { first };
         session.step(alloc, SessionStep::JobStep(job))?;
     }

@@ -1,4 +1,4 @@
-//! Tests of sessions: jobs beside commits and growth, whose places were worked out by hand, two jobs in every order of their
+//! Tests of sessions: jobs beside commits and growth, whose indices were worked out by hand, two jobs in every order of their
 //! first steps, random steps beside a plain world, and steps that memory may run out for.
 #![tactic(auto)]
 

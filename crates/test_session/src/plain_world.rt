@@ -23,7 +23,7 @@ struct PlainVersion {
     table: Vec<Option<i64>>,
 }
 
-// A job: the place of its program, the number of its version, its turns, and how many steps were asked of it.
+// A job: the index of its program, the number of its version, its turns, and how many steps were asked of it.
 #[derive(Clone, Copy)]
 struct PlainJob {
     program: usize,
@@ -96,8 +96,8 @@ fn note(table: &mut [Option<i64>], entry: Entry) {
     }
 }
 
-// The place of what has this number, which counts from 1.
-fn place_of(number: u64) -> Option<usize> {
+// The index of what has this number, which counts from 1.
+fn index_of(number: u64) -> Option<usize> {
     usize::try_from(number.checked_sub(1)?).ok()
 }
 
@@ -143,7 +143,7 @@ impl PlainWorld {
 
     // The version that a ticket holds.
     fn held(&self, ticket: u64) -> Option<usize> {
-        self.tickets.get(place_of(ticket)?).copied().flatten()
+        self.tickets.get(index_of(ticket)?).copied().flatten()
     }
 
     fn commit(&mut self, alloc: Global, entries: &[Entry]) -> Result<SessionReply, Fail> {
@@ -182,8 +182,8 @@ impl PlainWorld {
         if self.held(ticket).is_none() {
             return refused(122);
         }
-        if let Some(place) = place_of(ticket)
-            && let Some(held) = self.tickets.get_mut(place)
+        if let Some(index) = index_of(ticket)
+            && let Some(held) = self.tickets.get_mut(index)
         {
             *held = None;
         }
@@ -197,8 +197,8 @@ impl PlainWorld {
         ticket: u64,
         turns: u64,
     ) -> Result<SessionReply, Fail> {
-        let program = match place_of(program) {
-            Some(place) if place < programs => place,
+        let program = match index_of(program) {
+            Some(index) if index < programs => index,
             _ => return Ok(refused(412)),
         };
         let Some(version) = self.held(ticket) else {
@@ -219,8 +219,8 @@ impl PlainWorld {
         plans: &[Arc<Plan>],
         number: u64,
     ) -> Result<SessionReply, Fail> {
-        if let Some(place) = place_of(number)
-            && let Some(job) = self.jobs.get_mut(place)
+        if let Some(index) = index_of(number)
+            && let Some(job) = self.jobs.get_mut(index)
         {
             job.count = job.count.wrapping_add(1);
         }
@@ -237,10 +237,10 @@ impl PlainWorld {
         plans: &[Arc<Plan>],
         number: u64,
     ) -> Result<Option<(Stand, Outcome)>, Fail> {
-        let Some(place) = place_of(number) else {
+        let Some(index) = index_of(number) else {
             return Ok(None);
         };
-        let Some(asked) = self.jobs.get(place) else {
+        let Some(asked) = self.jobs.get(index) else {
             return Ok(None);
         };
         let (Some(plan), Some(version)) = (

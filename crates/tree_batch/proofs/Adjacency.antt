@@ -11,23 +11,23 @@ use Rattle.edge_lists.specs.Edge.{Edge}
 use Rattle.pages.specs.Vertices.{neighbours_of}
 use Rattle.pages.proofs.Ranks.{none_below}
 use Rattle.vertex_blocks.specs.Blocks.{Block, AreNeighbourLists, edge_total, numbered, lists_of}
-use Rattle.tree_batch.specs.Edge.{Ends, ends_of, place, weight_in, Rises, edges_from}
+use Rattle.tree_batch.specs.Edge.{Ends, ends_of, index, weight_in, Rises, edges_from}
 use Rattle.tree_batch.specs.Neighbours.{destinations_of, edges_of, weight_between}
 use Rattle.tree_batch.proofs.Rising.{weight_in-append, rises_from, rises_joined}
 use Rattle.tree_batch.proofs.Deciding.{option_or-none}
 
 -- the edges from a vertex to ascending neighbours rise
-pub rises_from_list : (u low : ℕ) (xs : List (ℕ × ℤ)) → low ≤ 2 ^ 32 → AscendsFrom low (keys_of xs) → Rises (place (u, low)) ((u + 1) * 2 ^ 32) (edges_from u xs)
+pub rises_from_list : (u low : ℕ) (xs : List (ℕ × ℤ)) → low ≤ 2 ^ 32 → AscendsFrom low (keys_of xs) → Rises (index (u, low)) ((u + 1) * 2 ^ 32) (edges_from u xs)
 rises_from_list u low [] le s = omega arith
 rises_from_list u low (x ∷ xs) le s =
-    (omega (arith, s.0), s.1, rises_from (place (u, x.0 + 1)) (place (u, x.0) + 1) ((u + 1) * 2 ^ 32) (edges_from u xs) (omega arith) (rises_from_list u (x.0 + 1) xs (omega (arith, s.1)) s.2))
+    (omega (arith, s.0), s.1, rises_from (index (u, x.0 + 1)) (index (u, x.0) + 1) ((u + 1) * 2 ^ 32) (edges_from u xs) (omega arith) (rises_from_list u (x.0 + 1) xs (omega (arith, s.1)) s.2))
 
 -- the edges rise
 pub rises_edges : (low high : ℕ) (es : List (ℕ × List (ℕ × ℤ))) → maps.Rises low high es → AreNeighbourLists es → Rises (low * 2 ^ 32) (high * 2 ^ 32) (edges_of es)
 rises_edges low high [] s ok = omega (arith, s)
 rises_edges low high (e ∷ es) s ok =
     rises_joined (low * 2 ^ 32) ((e.0 + 1) * 2 ^ 32) (high * 2 ^ 32) (edges_from e.0 e.1) (edges_of es)
-    (rises_from (place (e.0, 0)) (low * 2 ^ 32) ((e.0 + 1) * 2 ^ 32) (edges_from e.0 e.1) (omega (arith, s.0)) (rises_from_list e.0 0 e.1 (omega arith) ok.0.ascends))
+    (rises_from (index (e.0, 0)) (low * 2 ^ 32) ((e.0 + 1) * 2 ^ 32) (edges_from e.0 e.1) (omega (arith, s.0)) (rises_from_list e.0 0 e.1 (omega arith) ok.0.ascends))
     (rises_edges (e.0 + 1) high es s.1 ok.1)
 
 -- the edges from a vertex have the weights of the neighbours
@@ -93,4 +93,4 @@ destinations_are low high u (e ∷ es) s = elim (cases_eq e.0 u) [
 -- how many edges there is room for
 pub rises_room : (low high : ℕ) (es : List Edge) → Rises low high es → low + length es ≤ high
 rises_room low high [] s = omega arith
-rises_room low high (e ∷ es) s = omega (arith, s.0, rises_room (place (ends_of e) + 1) high es s.2)
+rises_room low high (e ∷ es) s = omega (arith, s.0, rises_room (index (ends_of e) + 1) high es s.2)

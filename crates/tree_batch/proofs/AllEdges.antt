@@ -5,7 +5,7 @@ use Rattle.std.proofs.lemmas.Grind.{flat_map-append}
 use Rattle.std.specs.List.{flat_map, list_any}
 use Rattle.edge_lists.specs.Edge.{Edge}
 use Rattle.tree_batch.specs.declared.batch.Entry.{Entry}
-use Rattle.tree_batch.specs.Edge.{Ends, place, ends_eq, weight_in, edge_at, Rises, IsAscending, IsWithin, numbers_from, ends_from, all_ends}
+use Rattle.tree_batch.specs.Edge.{Ends, index, ends_eq, weight_in, edge_at, Rises, IsAscending, IsWithin, numbers_from, ends_from, all_ends}
 use Rattle.tree_batch.specs.Entry.{decision, vertices_after, misfits, weight_after, AreEdgesAfter}
 use Rattle.tree_batch.specs.Digraph.{Digraph, IsDigraph, is_vertex_count, graph_after}
 use Rattle.tree_batch.proofs.Rising.{ends_eq-refl, ends_eq-true, rises_from, rises_wider, rises_joined, same_edges}
@@ -20,18 +20,18 @@ abbrev pub are_among : List Ends → Ends → Bool
 are_among ps p = list_any (λ q. ends_eq q p) ps
 
 -- an edge in front, if there is one
-rises_one : (low high : ℕ) (p : Ends) (o : Option ℤ) (es : List Edge) → low ≤ place p → p.1 < 2 ^ 32 → Rises (place p + 1) high es → Rises low high (edge_at p o ++ es)
-rises_one low high p None es le small h = rises_from (place p + 1) low high es (omega arith) h
+rises_one : (low high : ℕ) (p : Ends) (o : Option ℤ) (es : List Edge) → low ≤ index p → p.1 < 2 ^ 32 → Rises (index p + 1) high es → Rises low high (edge_at p o ++ es)
+rises_one low high p None es le small h = rises_from (index p + 1) low high es (omega arith) h
 rises_one low high p (Some w) es le small h = (le, small, h)
 
 module _ (f : Ends → Option ℤ) where
   -- a row of edges rises
-  rises_row : (u a k : ℕ) → a + k ≤ 2 ^ 32 → Rises (place (u, a)) (place (u, a) + k) (weighed f (ends_from u (numbers_from a k)))
+  rises_row : (u a k : ℕ) → a + k ≤ 2 ^ 32 → Rises (index (u, a)) (index (u, a) + k) (weighed f (ends_from u (numbers_from a k)))
   rises_row u a zero fits = omega arith
   rises_row u a (suc k) fits =
-      rises_one (place (u, a)) (place (u, a) + suc k) (u, a) (f (u, a)) (weighed f (ends_from u (numbers_from (a + 1) k))) (omega arith) (omega arith)
-      (rises_from (place (u, a + 1)) (place (u, a) + 1) (place (u, a) + suc k) _ (omega arith)
-      (rises_wider (place (u, a + 1)) (place (u, a + 1) + k) (place (u, a) + suc k) _ (omega arith) (rises_row u (a + 1) k (omega arith))))
+      rises_one (index (u, a)) (index (u, a) + suc k) (u, a) (f (u, a)) (weighed f (ends_from u (numbers_from (a + 1) k))) (omega arith) (omega arith)
+      (rises_from (index (u, a + 1)) (index (u, a) + 1) (index (u, a) + suc k) _ (omega arith)
+      (rises_wider (index (u, a + 1)) (index (u, a + 1) + k) (index (u, a) + suc k) _ (omega arith) (rises_row u (a + 1) k (omega arith))))
 
   abbrev rows : ℕ → ℕ → ℕ → List Ends
   rows n u k = flat_map (λ v. ends_from v (numbers_from 0 n)) (numbers_from u k)
@@ -41,7 +41,7 @@ module _ (f : Ends → Option ℤ) where
   rises_rows n u (suc k) fits =
       subst (Rises (u * 2 ^ 32) ((u + suc k) * 2 ^ 32)) (sym (flat_map-append (λ p. edge_at p (f p)) (ends_from u (numbers_from 0 n)) (rows n (u + 1) k)))
       (rises_joined (u * 2 ^ 32) ((u + 1) * 2 ^ 32) ((u + suc k) * 2 ^ 32) (weighed f (ends_from u (numbers_from 0 n))) (weighed f (rows n (u + 1) k))
-      (rises_from (place (u, 0)) (u * 2 ^ 32) ((u + 1) * 2 ^ 32) _ (omega arith) (rises_wider (place (u, 0)) (place (u, 0) + n) ((u + 1) * 2 ^ 32) _ (omega arith) (rises_row u 0 n (omega arith))))
+      (rises_from (index (u, 0)) (u * 2 ^ 32) ((u + 1) * 2 ^ 32) _ (omega arith) (rises_wider (index (u, 0)) (index (u, 0) + n) ((u + 1) * 2 ^ 32) _ (omega arith) (rises_row u 0 n (omega arith))))
       (rises_wider ((u + 1) * 2 ^ 32) ((u + 1 + k) * 2 ^ 32) ((u + suc k) * 2 ^ 32) _ (omega arith) (rises_rows n (u + 1) k fits)))
 
   pub rises_all : (n : ℕ) → n ≤ 2 ^ 32 → IsAscending (weighed f (all_ends n))

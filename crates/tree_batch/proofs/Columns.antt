@@ -7,7 +7,7 @@ use Rattle.ascending_lists.specs.Maps.{lookup}
 use Rattle.ascending_lists.proofs.MapKeys.{entries_rise}
 use Rattle.ascending_lists.proofs.MapValues as values
 use Rattle.edge_lists.specs.Edge.{Edge}
-use Rattle.tree_batch.specs.Edge.{ends_of, place, weight_in, Rises}
+use Rattle.tree_batch.specs.Edge.{ends_of, index, weight_in, Rises}
 use Rattle.tree_batch.specs.Neighbours.{destinations_of, sources_of}
 use Rattle.tree_batch.proofs.Rising.{rises_within}
 
@@ -41,9 +41,9 @@ sources_ascend v low high least [] top s from = tt
 sources_ascend v low high least (e ∷ es) top s from = elim (cases_Bool (e.1 == v)) [
   | inl at ↦
       let is : e.1 ≡ v = eqb-true e.1 v at in
-      let room = rises_within (place (ends_of e) + 1) high es s.2 in
-      rw at (from e.0 (omega (arith, s.0)), omega arith, sources_ascend v (place (ends_of e) + 1) high (e.0 + 1) es top s.2 (λ w le. omega arith))
-  | inr other ↦ rw other (sources_ascend v (place (ends_of e) + 1) high least es top s.2 (λ w le. from w (omega (arith, s.0))))
+      let room = rises_within (index (ends_of e) + 1) high es s.2 in
+      rw at (from e.0 (omega (arith, s.0)), omega arith, sources_ascend v (index (ends_of e) + 1) high (e.0 + 1) es top s.2 (λ w le. omega arith))
+  | inr other ↦ rw other (sources_ascend v (index (ends_of e) + 1) high least es top s.2 (λ w le. from w (omega (arith, s.0))))
 ]
 
 -- ascending lists with the same weights are the same

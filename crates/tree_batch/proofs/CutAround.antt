@@ -99,7 +99,7 @@ tightened a b low high (e ∷ es) s at le =
       ]) (omega (arith, here.1)),
     )
 
--- updates that ascend do so on both sides of a place
+-- updates that ascend do so on both sides of an index
 ascend_front : (xs ys : List (EdgeUpdate × ℤ)) → Ascend (keys_of (xs ++ ys)) → Ascend (keys_of xs)
 ascend_front [] ys t = tt
 ascend_front (x ∷ xs) ys t = front_ascends x xs ys t

@@ -11,8 +11,8 @@ abbrev pub ends_of : Edge → Ends
 ends_of e = (e.0, e.1)
 
 -- where ends stand in the order by source and then by destination, for destinations below 2 ^ 32
-abbrev pub place : Ends → ℕ
-place p = p.0 * 2 ^ 32 + p.1
+abbrev pub index : Ends → ℕ
+index p = p.0 * 2 ^ 32 + p.1
 
 -- whether the two are the same ends
 abbrev pub ends_eq : Ends → Ends → Bool
@@ -27,10 +27,10 @@ weight_in p (e ∷ es) = if ends_eq (ends_of e) p then Some e.2 else weight_in p
 abbrev pub IsWithin : ℕ → Ends → Type 0
 IsWithin n p = (p.0 < n) × (p.1 < n)
 
--- the edges stand in order, each once, at places from low up to high
+-- the edges stand in order, each once, at indices from low up to high
 abbrev pub Rises : ℕ → ℕ → List Edge → Type 0
 Rises low high [] = low ≤ high
-Rises low high (e ∷ es) = (low ≤ place (ends_of e)) × (e.1 < 2 ^ 32) × Rises (place (ends_of e) + 1) high es
+Rises low high (e ∷ es) = (low ≤ index (ends_of e)) × (e.1 < 2 ^ 32) × Rises (index (ends_of e) + 1) high es
 
 -- each edge stands after the one before it
 abbrev pub IsAscending : List Edge → Type 0

@@ -17,7 +17,7 @@ use Rattle.expression_types.specs.declared.scope.Entity.{Entity}
 use Rattle.expression_types.specs.declared.scope.Entity.TheVariants as entity
 use Rattle.expression_types.specs.declared.scope.Inside.{Inside}
 use Rattle.expression_types.specs.declared.scope.Inside.TheVariants as inside
-use Rattle.expression_types.specs.Expression.{as_size, as_vector, used, vector_place}
+use Rattle.expression_types.specs.Expression.{as_size, as_vector, used, vector_index}
 use Rattle.expression_types.specs.WithFaults.{fault_at, sure}
 use Rattle.expression_types.specs.Operators.{IntegersTree, Integers, MixedIntegers, ErrorIntegers, ConditionsTree, Conditions, MixedConditions, ErrorConditions, beside_condition, beside_integer, compared, condition_index, entry_value, equated, first_condition, first_integer, function_entry, given, grouped_conditions, grouped_integers, main_entry, related_value, signed_value}
 use Rattle.expression_types.specs.ScopeTree.{ScopeTree}
@@ -179,15 +179,15 @@ size_clear At at name _ known none = absurd (not_empty _ _ none)
 -- a vector that is used is there
 abbrev pub IsThere : Option ℕ → Type 0
 IsThere None = ⊥
-IsThere (Some place) = Unit {0}
+IsThere (Some index) = Unit {0}
 
 vector_is_there : (At : Vertices) (at : ℕ) (name : List ℕ) (e : Entity) → EntityIsKnown At name e → (as_vector at e).faults ≡ [] → IsThere (as_vector at e).value
 vector_is_there At at name entity.Error known none = known
-vector_is_there At at name (entity.Vector place) known none = tt
+vector_is_there At at name (entity.Vector index) known none = tt
 vector_is_there At at name _ known none = absurd (not_empty _ _ none)
 
-pub vector_there : (At : Vertices) (i : Inside) (scope : ScopeTree) (at : ℕ) (name : Identifier) → IsKnown At i scope → (vector_place scope at name).faults ≡ []
-    → IsThere (vector_place scope at name).value
+pub vector_there : (At : Vertices) (i : Inside) (scope : ScopeTree) (at : ℕ) (name : Identifier) → IsKnown At i scope → (vector_index scope at name).faults ≡ []
+    → IsThere (vector_index scope at name).value
 vector_there At i scope at name known none =
     let e = used scope name in
     vector_is_there At at name.bytes e.value (used_known At i scope name known (no_left e.faults _ none)) (no_right e.faults _ none)
@@ -216,8 +216,8 @@ function_entry_clear at vector (Vertex p) clear none = tt
 function_entry_clear at vector (Set slot) clear none = absurd (not_empty _ _ none)
 function_entry_clear at vector ErrorValue clear none = clear
 
-pub entry_clear : (i : Inside) (at : ℕ) (place : Option ℕ) (v : ValueTree) → IsThere place → IsClear v → (entry_value i at place v).faults ≡ []
-    → IsClear (entry_value i at place v).value
+pub entry_clear : (i : Inside) (at : ℕ) (index : Option ℕ) (v : ValueTree) → IsThere index → IsClear v → (entry_value i at index v).faults ≡ []
+    → IsClear (entry_value i at index v).value
 entry_clear i at None v there clear none = absurd there
 entry_clear inside.Main at (Some vector) v there clear none = main_entry_clear at vector v clear none
 entry_clear inside.EdgeFunction at (Some vector) v there clear none = function_entry_clear at vector v clear none

@@ -16,7 +16,7 @@ use Rattle.typed_tree.specs.Access.{step_writes, steps_write}
 use Rattle.typed_tree.specs.IntegerTree.{IntegerTree}
 use Rattle.typed_tree.specs.StepTree.{StepTree, StepsTree, NoStep, StepThen}
 use Rattle.expression_types.specs.declared.scope.Inside.TheVariants as inside
-use Rattle.expression_types.specs.Expression.{index_value, value_of, vector_place}
+use Rattle.expression_types.specs.Expression.{index_value, value_of, vector_index}
 use Rattle.expression_types.specs.Names.{found}
 use Rattle.expression_types.specs.ValueTree.{ValueTree, Integer, Condition, Vertex, Set, ErrorValue}
 use Rattle.types.specs.Checker.{CheckerTree, labelled, new_label}
@@ -47,15 +47,15 @@ last_is : (b : Bool) (by : Reduction) → is_some (cond b (Some by) None) ≡ tr
 last_is true by is = refl
 last_is false by is = cc
 
-first_or_last : (b : Bool) (first by : Reduction) (vector place : ℕ) (writes : Writes) → is_some (cond b (Some first) (lookup (nat_eq vector) (writes ++ (place, by) ∷ []))) ≡ true
-    → (is_written (writes ++ (place, by) ∷ []) vector ≡ true → (is_written writes vector ≡ true) ⊎ (vector ≡ place))
-    → (is_some (cond b (Some first) (lookup (nat_eq vector) writes)) ≡ true) ⊎ (vector ≡ place)
-first_or_last true first by vector place writes is further = inl refl
-first_or_last false first by vector place writes is further = further is
+first_or_last : (b : Bool) (first by : Reduction) (vector index : ℕ) (writes : Writes) → is_some (cond b (Some first) (lookup (nat_eq vector) (writes ++ (index, by) ∷ []))) ≡ true
+    → (is_written (writes ++ (index, by) ∷ []) vector ≡ true → (is_written writes vector ≡ true) ⊎ (vector ≡ index))
+    → (is_some (cond b (Some first) (lookup (nat_eq vector) writes)) ≡ true) ⊎ (vector ≡ index)
+first_or_last true first by vector index writes is further = inl refl
+first_or_last false first by vector index writes is further = further is
 
-one_more : (vector place : ℕ) (by : Reduction) (writes : Writes) → is_written (writes ++ (place, by) ∷ []) vector ≡ true → (is_written writes vector ≡ true) ⊎ (vector ≡ place)
-one_more vector place by [] is = inr (eqb-true vector place (last_is (nat_eq vector place) by is))
-one_more vector place by (w ∷ writes) is = first_or_last (nat_eq vector w.0) w.1 by vector place writes is (one_more vector place by writes)
+one_more : (vector index : ℕ) (by : Reduction) (writes : Writes) → is_written (writes ++ (index, by) ∷ []) vector ≡ true → (is_written writes vector ≡ true) ⊎ (vector ≡ index)
+one_more vector index by [] is = inr (eqb-true vector index (last_is (nat_eq vector index) by is))
+one_more vector index by (w ∷ writes) is = first_or_last (nat_eq vector w.0) w.1 by vector index writes is (one_more vector index by writes)
 
 reduced_adds : (at vector : ℕ) (by : Reduction) (writes : Writes) (b : Bool) (x : IntegerTree) → (reduced_as at b writes).faults ≡ []
     → Adds writes (reduced_as at b writes).value.1 (step_writes (reduction_step (reduced_as at b writes).value.0 true (Some vector) by x))
@@ -86,9 +86,9 @@ written_own at own (Vertex p) clear none = at_own_vertex at (same_endpoint p own
 written_own at own (Set slot) clear none = absurd (not_empty _ _ none)
 written_own at own ErrorValue clear none = absurd clear
 
-new_label_writes : (c : CheckerTree) (label : Identifier) (place : Option ℕ) → (new_label c label place).value.1.writes ≡ c.writes
+new_label_writes : (c : CheckerTree) (label : Identifier) (index : Option ℕ) → (new_label c label index).value.1.writes ≡ c.writes
 new_label_writes c label None = refl
-new_label_writes c label (Some place) = refl
+new_label_writes c label (Some index) = refl
 
 labelled_writes : (c : CheckerTree) (label : Option Identifier) → (labelled c label).value.1.writes ≡ c.writes
 labelled_writes c None = refl
@@ -118,23 +118,23 @@ behind_writes (StepThen s others) step vector (inl is) =
 behind_writes (StepThen s others) step vector (inr is) = Contains-append_right (step_writes s) (steps_write (step_behind others step)) vector (behind_writes others step vector (inr is))
 
 module _ {At : Vertices} {Read Write : ExpressionTree → Type 0} (body : Body At inside.EdgeFunction Read Write) where
-  entry_adds : (c : CheckerTree) (vector : Identifier) (index : ExpressionTree) (by : Reduction) (e : ExpressionTree) → IsKnown At inside.EdgeFunction c.scope
-      → (reduce_entry_step c vector.at vector index by e).faults ≡ []
-      → Adds c.writes (reduce_entry_step c vector.at vector index by e).value.1.writes (step_writes (reduce_entry_step c vector.at vector index by e).value.0)
-  entry_adds c vector index by e known none =
+  entry_adds : (c : CheckerTree) (vector : Identifier) (subscript : ExpressionTree) (by : Reduction) (e : ExpressionTree) → IsKnown At inside.EdgeFunction c.scope
+      → (reduce_entry_step c vector.at vector subscript by e).faults ≡ []
+      → Adds c.writes (reduce_entry_step c vector.at vector subscript by e).value.1.writes (step_writes (reduce_entry_step c vector.at vector subscript by e).value.0)
+  entry_adds c vector subscript by e known none =
       let at = vector.at in
-      let place = vector_place c.scope at vector in
-      let may = may_reduce at c.scope.inside place.value by c.writes in
-      let v = index_value c.scope at index in
+      let index = vector_index c.scope at vector in
+      let may = may_reduce at c.scope.inside index.value by c.writes in
+      let v = index_value c.scope at subscript in
       let w = written_at at (own_vertex c.scope.inside) v.value in
       let x = (integer_in c.scope at e).value in
-      let behind_vector = no_right place.faults _ none in
+      let behind_vector = no_right index.faults _ none in
       let behind_may = no_right may.faults _ behind_vector in
       let behind_index = no_right v.faults _ behind_may in
-      let clear = index_clear c.scope index (value_of c.scope at index) (λ fine. (expression_reads c.scope at (body.reads c.scope at known) index fine).1) (no_left v.faults _ behind_may) in
+      let clear = index_clear c.scope subscript (value_of c.scope at subscript) (λ fine. (expression_reads c.scope at (body.reads c.scope at known) subscript fine).1) (no_left v.faults _ behind_may) in
       let own = written_own at (own_vertex c.scope.inside) v.value clear (no_left w.faults _ behind_index) in
-      subst (λ i. (may_reduce at i place.value by c.writes).faults ≡ [] → Adds c.writes (may_reduce at i place.value by c.writes).value.1 (step_writes (reduction_step (may_reduce at i place.value by c.writes).value.0 w.value place.value by x)))
-      (sym known.0) (one_adds at place.value by c.writes w.value x own) (no_left may.faults _ behind_vector)
+      subst (λ i. (may_reduce at i index.value by c.writes).faults ≡ [] → Adds c.writes (may_reduce at i index.value by c.writes).value.1 (step_writes (reduction_step (may_reduce at i index.value by c.writes).value.0 w.value index.value by x)))
+      (sym known.0) (one_adds at index.value by c.writes w.value x own) (no_left may.faults _ behind_vector)
 
   mutual
     step_adds : (c : CheckerTree) (action : source.ActionTree) → IsKnown At inside.EdgeFunction c.scope → (step_typed c action).faults ≡ []
@@ -164,8 +164,8 @@ module _ {At : Vertices} {Read Write : ExpressionTree → Type 0} (body : Body A
     step_adds c (source.Print at e) known none = absurd (not_empty _ _ none)
     step_adds c (source.Assign name initial) known none = same_adds _ _ _ refl
     step_adds c (source.Reduce name by e) known none = same_adds _ _ _ refl
-    step_adds c (source.SetEntry vector index e) known none = same_adds _ _ _ refl
-    step_adds c (source.ReduceEntry vector index by e) known none = entry_adds c vector index by e known none
+    step_adds c (source.SetEntry vector subscript e) known none = same_adds _ _ _ refl
+    step_adds c (source.ReduceEntry vector subscript by e) known none = entry_adds c vector subscript by e known none
     step_adds c (source.AddVertex set e) known none = absurd (not_empty _ _ none)
     step_adds c (source.Apply target ends function) known none = absurd (not_empty _ _ none)
 

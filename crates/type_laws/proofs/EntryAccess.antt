@@ -14,7 +14,7 @@ use Rattle.expression_types.specs.declared.fault.TypeRule.TheVariants as rule
 use Rattle.expression_types.specs.declared.scope.Entity.TheVariants as entity
 use Rattle.expression_types.specs.declared.scope.Inside.{Inside}
 use Rattle.expression_types.specs.declared.scope.Inside.TheVariants as inside
-use Rattle.expression_types.specs.Expression.{index_lacks_value, index_value, no_vertex, used, value_of, vector_place}
+use Rattle.expression_types.specs.Expression.{index_lacks_value, index_value, no_vertex, used, value_of, vector_index}
 use Rattle.expression_types.specs.WithFaults.{WithFaults, fault_at, sure}
 use Rattle.expression_types.specs.Operators.{entry_value, function_entry, main_entry}
 use Rattle.expression_types.specs.ScopeTree.{ScopeTree}
@@ -94,23 +94,23 @@ mutual
   step_accesses body c (source.Reduce name by e) known none =
       let all = no_left (reduce_step c.scope name.at name by e).faults [] none in
       (expression_reads c.scope name.at (body.reads c.scope name.at known) e (no_left (value_of c.scope name.at e).faults _ (no_right (used c.scope name).faults _ all))).0
-  step_accesses body c (source.SetEntry vector index e) known none =
-      let place = vector_place c.scope vector.at vector in
-      let v = index_value c.scope vector.at index in
+  step_accesses body c (source.SetEntry vector subscript e) known none =
+      let index = vector_index c.scope vector.at vector in
+      let v = index_value c.scope vector.at subscript in
       let w = written_at vector.at (own_vertex c.scope.inside) v.value in
-      let all = no_right (may_set vector.at c.scope.inside).faults _ (no_left (set_entry_step c.scope vector.at vector index e).faults [] none) in
-      let behind_place = no_right place.faults _ all in
-      let behind_index = no_right v.faults _ behind_place in (
-        body.writes c.scope vector.at index known (no_left v.faults _ behind_place) (no_left w.faults _ behind_index),
+      let all = no_right (may_set vector.at c.scope.inside).faults _ (no_left (set_entry_step c.scope vector.at vector subscript e).faults [] none) in
+      let behind_vector = no_right index.faults _ all in
+      let behind_index = no_right v.faults _ behind_vector in (
+        body.writes c.scope vector.at subscript known (no_left v.faults _ behind_vector) (no_left w.faults _ behind_index),
         integer_reads c.scope vector.at (body.reads c.scope vector.at known) e (no_left (integer_in c.scope vector.at e).faults _ (no_right w.faults _ behind_index)),
       )
-  step_accesses body c (source.ReduceEntry vector index by e) known none =
-      let place = vector_place c.scope vector.at vector in
-      let v = index_value c.scope vector.at index in
+  step_accesses body c (source.ReduceEntry vector subscript by e) known none =
+      let index = vector_index c.scope vector.at vector in
+      let v = index_value c.scope vector.at subscript in
       let w = written_at vector.at (own_vertex c.scope.inside) v.value in
-      let behind_place = no_right (may_reduce vector.at c.scope.inside place.value by c.writes).faults _ (no_right place.faults _ none) in
-      let behind_index = no_right v.faults _ behind_place in (
-        body.writes c.scope vector.at index known (no_left v.faults _ behind_place) (no_left w.faults _ behind_index),
+      let behind_vector = no_right (may_reduce vector.at c.scope.inside index.value by c.writes).faults _ (no_right index.faults _ none) in
+      let behind_index = no_right v.faults _ behind_vector in (
+        body.writes c.scope vector.at subscript known (no_left v.faults _ behind_vector) (no_left w.faults _ behind_index),
         integer_reads c.scope vector.at (body.reads c.scope vector.at known) e (no_left (integer_in c.scope vector.at e).faults _ (no_right w.faults _ behind_index)),
       )
   step_accesses body c (source.AddVertex set e) known none = absurd (not_empty _ _ none)
@@ -222,22 +222,22 @@ mutual
   action_accesses c (source.Reduce name by e) known none =
       let all = no_left (reduce c.scope name.at name by e).faults [] none in
       (expression_reads c.scope name.at (main_reads c.scope name.at known) e (no_left (value_of c.scope name.at e).faults _ (no_right (used c.scope name).faults _ all))).0
-  action_accesses c (source.SetEntry vector index e) known none =
-      let place = vector_place c.scope vector.at vector in
-      let v = value_of c.scope vector.at index in
+  action_accesses c (source.SetEntry vector subscript e) known none =
+      let index = vector_index c.scope vector.at vector in
+      let v = value_of c.scope vector.at subscript in
       let w = as_index vector.at v.value in
-      let behind_place = no_right place.faults _ (no_left (set_entry c.scope vector.at vector index e).faults [] none) in
-      let behind_index = no_right v.faults _ behind_place in (
-        main_writes c.scope vector.at index known (no_left v.faults _ behind_place) (no_left w.faults _ behind_index),
+      let behind_vector = no_right index.faults _ (no_left (set_entry c.scope vector.at vector subscript e).faults [] none) in
+      let behind_index = no_right v.faults _ behind_vector in (
+        main_writes c.scope vector.at subscript known (no_left v.faults _ behind_vector) (no_left w.faults _ behind_index),
         integer_reads c.scope vector.at (main_reads c.scope vector.at known) e (no_left (integer_in c.scope vector.at e).faults _ (no_right w.faults _ behind_index)),
       )
-  action_accesses c (source.ReduceEntry vector index by e) known none =
-      let place = vector_place c.scope vector.at vector in
-      let v = value_of c.scope vector.at index in
+  action_accesses c (source.ReduceEntry vector subscript by e) known none =
+      let index = vector_index c.scope vector.at vector in
+      let v = value_of c.scope vector.at subscript in
       let w = as_index vector.at v.value in
-      let behind_place = no_right place.faults _ (no_left (reduce_entry c.scope vector.at vector index by e).faults [] none) in
-      let behind_index = no_right v.faults _ behind_place in (
-        main_writes c.scope vector.at index known (no_left v.faults _ behind_place) (no_left w.faults _ behind_index),
+      let behind_vector = no_right index.faults _ (no_left (reduce_entry c.scope vector.at vector subscript by e).faults [] none) in
+      let behind_index = no_right v.faults _ behind_vector in (
+        main_writes c.scope vector.at subscript known (no_left v.faults _ behind_vector) (no_left w.faults _ behind_index),
         integer_reads c.scope vector.at (main_reads c.scope vector.at known) e (no_left (integer_in c.scope vector.at e).faults _ (no_right w.faults _ behind_index)),
       )
   action_accesses c (source.AddVertex set e) known none =

@@ -6,7 +6,7 @@ use Rattle.syntax.specs.ExpressionTrees as tree
 use Rattle.syntax.specs.ExpressionTrees.{ExpressionTree, ConjunctionTree, ComparisonTree, SumTree, TermTree, UnaryTree, PrimaryTree}
 use Rattle.typed_tree.specs.declared.expression.Connective.TheVariants as connective
 use Rattle.expression_types.specs.declared.scope.Inside.{Inside}
-use Rattle.expression_types.specs.Expression.{comparison_value, conjunction_value, conjuncts, disjuncts, factors, index_as, index_lacks_value, index_value, no_vertex, primary_value, sum_value, summands, term_value, unary_value, used, value_of, vector_place}
+use Rattle.expression_types.specs.Expression.{comparison_value, conjunction_value, conjuncts, disjuncts, factors, index_as, index_lacks_value, index_value, no_vertex, primary_value, sum_value, summands, term_value, unary_value, used, value_of, vector_index}
 use Rattle.expression_types.specs.Operators.{ConditionsTree, IntegersTree, added, beside_condition, beside_integer, entry_value, first_condition, first_integer, multiplied}
 use Rattle.expression_types.specs.WithFaults.{WithFaults, sure}
 use Rattle.expression_types.specs.ScopeTree.{ScopeTree}
@@ -16,17 +16,17 @@ use Rattle.type_laws.proofs.ClearValues.{ConditionsAreClear, IntegersAreClear, I
 use Rattle.type_laws.proofs.Faultless.{no_left, no_right}
 use Rattle.type_laws.proofs.KnownScopes.{IsKnown, Vertices, used_known}
 
--- the names at a place are known, and an entry without a fault is read at such an index
+-- the names at an index are known, and an entry without a fault is read at such an index
 pub record Reads (At : Vertices) (i : Inside) (Index : ExpressionTree → Type 0) (scope : ScopeTree) (at : ℕ) : Type 0 where
   pub known : IsKnown At i scope
   pub entry : (vector : ℕ) (index : ExpressionTree) → (index_value scope at index).faults ≡ [] → IsClear (index_value scope at index).value
       → (entry_value scope.inside at (Some vector) (index_value scope at index).value).faults ≡ [] → Index index
 
-entry_index : {At : Vertices} {i : Inside} {Index : ExpressionTree → Type 0} (scope : ScopeTree) (at : ℕ) → Reads At i Index scope at → (place : Option ℕ) (index : ExpressionTree)
-    → IsThere place → (index_value scope at index).faults ≡ [] → IsClear (index_value scope at index).value
-    → (entry_value scope.inside at place (index_value scope at index).value).faults ≡ [] → Index index
-entry_index scope at r None index there clear_index clear none = absurd there
-entry_index scope at r (Some vector) index there clear_index clear none = r.entry vector index clear_index clear none
+entry_index : {At : Vertices} {i : Inside} {Index : ExpressionTree → Type 0} (scope : ScopeTree) (at : ℕ) → Reads At i Index scope at → (index : Option ℕ) (subscript : ExpressionTree)
+    → IsThere index → (index_value scope at subscript).faults ≡ [] → IsClear (index_value scope at subscript).value
+    → (entry_value scope.inside at index (index_value scope at subscript).value).faults ≡ [] → Index subscript
+entry_index scope at r None subscript there clear_index clear none = absurd there
+entry_index scope at r (Some vector) subscript there clear_index clear none = r.entry vector subscript clear_index clear none
 
 -- an index without a fault has no faulty part
 if_clear : (value : WithFaults ValueTree) (lacks : Bool) → (value.faults ≡ [] → IsClear value.value) → (if lacks then sure no_vertex else value).faults ≡ []
@@ -161,15 +161,15 @@ mutual
   primary_reads {At = At} {i = i} scope at r (tree.Variable name) none =
       let e = used scope name in
       (tt, named_clear At at name.bytes e.value (used_known At i scope name r.known (no_left e.faults _ none)) (no_right e.faults _ none))
-  primary_reads {At = At} {i = i} scope at r (tree.Entry vector index) none =
-      let place = vector_place scope at vector in
-      let v = index_value scope at index in
-      let behind = no_right place.faults _ none in
-      let there = vector_there At i scope at vector r.known (no_left place.faults _ none) in
+  primary_reads {At = At} {i = i} scope at r (tree.Entry vector subscript) none =
+      let index = vector_index scope at vector in
+      let v = index_value scope at subscript in
+      let behind = no_right index.faults _ none in
+      let there = vector_there At i scope at vector r.known (no_left index.faults _ none) in
       let sound = no_left v.faults _ behind in
-      let clear = index_clear scope index (value_of scope at index) (λ none. (expression_reads scope at r index none).1) sound in (
-        entry_index scope at r place.value index there sound clear (no_right v.faults _ behind),
-        entry_clear scope.inside at place.value v.value there clear (no_right v.faults _ behind),
+      let clear = index_clear scope subscript (value_of scope at subscript) (λ none. (expression_reads scope at r subscript none).1) sound in (
+        entry_index scope at r index.value subscript there sound clear (no_right v.faults _ behind),
+        entry_clear scope.inside at index.value v.value there clear (no_right v.faults _ behind),
       )
   primary_reads {At = At} {i = i} scope at r (tree.Size set) none =
       let e = used scope set in

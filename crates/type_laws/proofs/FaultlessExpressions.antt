@@ -22,7 +22,7 @@ use Rattle.expression_types.specs.declared.scope.Entity.{Entity}
 use Rattle.expression_types.specs.declared.scope.Entity.TheVariants as entity
 use Rattle.expression_types.specs.declared.scope.Inside.{Inside}
 use Rattle.expression_types.specs.declared.scope.Inside.TheVariants as inside
-use Rattle.expression_types.specs.Expression.{as_size, as_vector, comparison_value, conjunction_value, conjuncts, disjuncts, factors, index_lacks_value, index_value, no_vertex, primary_value, sum_value, summands, term_value, unary_value, used, used_as, value_of, vector_place}
+use Rattle.expression_types.specs.Expression.{as_size, as_vector, comparison_value, conjunction_value, conjuncts, disjuncts, factors, index_lacks_value, index_value, no_vertex, primary_value, sum_value, summands, term_value, unary_value, used, used_as, value_of, vector_index}
 use Rattle.expression_types.specs.Names.{found}
 use Rattle.expression_types.specs.Operators.{ConditionsTree, Conditions, MixedConditions, ErrorConditions, IntegersTree, Integers, MixedIntegers, ErrorIntegers, added, beside_condition, beside_integer, compared, compared_value, condition_index, entry_value, equated, equated_value, first_condition, first_integer, function_entry, given, grouped_conditions, grouped_integers, main_entry, multiplied, related_value, signed_value}
 use Rattle.expression_types.specs.ScopeTree.{ScopeTree}
@@ -74,7 +74,7 @@ pub record Typed (m : WithFaults ValueTree) (Has : ExpressionType → Type 0) : 
 named_typed : (at : ℕ) (e : Entity) → (e ≡ entity.Error → ⊥) → (given at rule.WrongType (named_value e)).faults ≡ []
     → Typed (given at rule.WrongType (named_value e)) (λ type. type_named (Some (meaning_of e)) ≡ Some type)
 named_typed at (entity.Edges weights) clear none = absurd (not_empty _ _ none)
-named_typed at (entity.Vector place) clear none = absurd (not_empty _ _ none)
+named_typed at (entity.Vector index) clear none = absurd (not_empty _ _ none)
 named_typed at (entity.ConstantSet slot) clear none = record { type = Set; has = refl; is = tt }
 named_typed at (entity.IntegerConstant name n) clear none = record { type = Number; has = refl; is = tt }
 named_typed at (entity.ConditionConstant name b) clear none = record { type = Truth; has = refl; is = tt }
@@ -84,20 +84,20 @@ named_typed at (entity.SetVariable slot) clear none = record { type = Set; has =
 named_typed at (entity.LoopVariable slot) clear none = record { type = Number; has = refl; is = tt }
 named_typed at (entity.Parameter p) clear none = record { type = Vertex p; has = refl; is = refl }
 named_typed at entity.Weight clear none = record { type = Number; has = refl; is = tt }
-named_typed at (entity.EdgeFunction place weighted) clear none = absurd (not_empty _ _ none)
-named_typed at (entity.VertexFunction place) clear none = absurd (not_empty _ _ none)
-named_typed at (entity.Filter place) clear none = absurd (not_empty _ _ none)
+named_typed at (entity.EdgeFunction index weighted) clear none = absurd (not_empty _ _ none)
+named_typed at (entity.VertexFunction index) clear none = absurd (not_empty _ _ none)
+named_typed at (entity.Filter index) clear none = absurd (not_empty _ _ none)
 named_typed at entity.Main clear none = absurd (not_empty _ _ none)
 named_typed at entity.Error clear none = absurd (clear refl)
 
 pub record VectorFound (m : WithFaults (Option ℕ)) (names : Meanings) (name : Identifier) : Type 0 where
   pub vector : ℕ
   pub means : found name.bytes names ≡ Some (meaning.Vector vector)
-  pub place : m.value ≡ Some vector
+  pub index : m.value ≡ Some vector
 
 vector_typed : (at : ℕ) (names : Meanings) (name : Identifier) (e : Entity) → IsMeant names name e → (as_vector at e).faults ≡ [] → VectorFound (as_vector at e) names name
 vector_typed at names name (entity.Edges weights) m none = absurd (not_empty _ _ none)
-vector_typed at names name (entity.Vector place) m none = record { vector = place; means = m.means; place = refl }
+vector_typed at names name (entity.Vector index) m none = record { vector = index; means = m.means; index = refl }
 vector_typed at names name (entity.ConstantSet slot) m none = absurd (not_empty _ _ none)
 vector_typed at names name (entity.IntegerConstant x n) m none = absurd (not_empty _ _ none)
 vector_typed at names name (entity.ConditionConstant x b) m none = absurd (not_empty _ _ none)
@@ -107,18 +107,18 @@ vector_typed at names name (entity.SetVariable slot) m none = absurd (not_empty 
 vector_typed at names name (entity.LoopVariable slot) m none = absurd (not_empty _ _ none)
 vector_typed at names name (entity.Parameter p) m none = absurd (not_empty _ _ none)
 vector_typed at names name entity.Weight m none = absurd (not_empty _ _ none)
-vector_typed at names name (entity.EdgeFunction place weighted) m none = absurd (not_empty _ _ none)
-vector_typed at names name (entity.VertexFunction place) m none = absurd (not_empty _ _ none)
-vector_typed at names name (entity.Filter place) m none = absurd (not_empty _ _ none)
+vector_typed at names name (entity.EdgeFunction index weighted) m none = absurd (not_empty _ _ none)
+vector_typed at names name (entity.VertexFunction index) m none = absurd (not_empty _ _ none)
+vector_typed at names name (entity.Filter index) m none = absurd (not_empty _ _ none)
 vector_typed at names name entity.Main m none = absurd (not_empty _ _ none)
 vector_typed at names name entity.Error m none = absurd (m.clear refl)
 
-pub vector_found : (scope : ScopeTree) (at : ℕ) (name : Identifier) → AreMeant scope.visible → (vector_place scope at name).faults ≡ []
-    → VectorFound (vector_place scope at name) (meanings_of scope.visible) name
+pub vector_found : (scope : ScopeTree) (at : ℕ) (name : Identifier) → AreMeant scope.visible → (vector_index scope at name).faults ≡ []
+    → VectorFound (vector_index scope at name) (meanings_of scope.visible) name
 vector_found scope at name meant none =
     let e = used scope name in
     let x = vector_typed at (meanings_of scope.visible) name e.value (used_meant scope name meant (no_left e.faults _ none)) (no_right e.faults _ none) in
-    record { vector = x.vector; means = x.means; place = x.place }
+    record { vector = x.vector; means = x.means; index = x.index }
 
 size_typed : (at : ℕ) (e : Entity) → (e ≡ entity.Error → ⊥) → (as_size at e).faults ≡ [] → (type_named (Some (meaning_of e)) ≡ Some Set) × IsOf Number (as_size at e).value
 size_typed at (entity.ConstantSet slot) clear none = (refl, tt)
@@ -362,17 +362,17 @@ index_typed inside.VertexFunction scope at vector index names typed sound none =
 index_typed inside.Filter scope at vector index names typed sound none =
     if_index (ExpressionHas names inside.Filter index) at vector (value_of scope at index) (index_lacks_value inside.Filter scope index) typed sound none
 
--- at the place of a vector that is there
-entry_typed : (scope : ScopeTree) (at vector : ℕ) (place : Option ℕ) (index : ExpressionTree) → place ≡ Some vector
-    → ((value_of scope at index).faults ≡ [] → Typed (value_of scope at index) (ExpressionHas (meanings_of scope.visible) scope.inside index))
-    → (index_value scope at index).faults ≡ [] → (entry_value scope.inside at place (index_value scope at index).value).faults ≡ []
-    → IndexFits scope.inside (ReadsAsNumber (ExpressionHas (meanings_of scope.visible) scope.inside index)) (HasNoEntry index)
-    ((p : Endpoint) × ExpressionHas (meanings_of scope.visible) scope.inside index (Vertex p))
-    × IsOf Number (entry_value scope.inside at place (index_value scope at index).value).value
-entry_typed scope at vector place index is typed sound none =
-    let all = index_typed scope.inside scope at vector index (meanings_of scope.visible) typed sound
-    (subst (λ o. (entry_value scope.inside at o (index_value scope at index).value).faults ≡ []) is none) in
-    (all.0, subst (λ o. IsOf Number (entry_value scope.inside at o (index_value scope at index).value).value) (sym is) all.1)
+-- at the index of a vector that is there
+entry_typed : (scope : ScopeTree) (at vector : ℕ) (index : Option ℕ) (subscript : ExpressionTree) → index ≡ Some vector
+    → ((value_of scope at subscript).faults ≡ [] → Typed (value_of scope at subscript) (ExpressionHas (meanings_of scope.visible) scope.inside subscript))
+    → (index_value scope at subscript).faults ≡ [] → (entry_value scope.inside at index (index_value scope at subscript).value).faults ≡ []
+    → IndexFits scope.inside (ReadsAsNumber (ExpressionHas (meanings_of scope.visible) scope.inside subscript)) (HasNoEntry subscript)
+    ((p : Endpoint) × ExpressionHas (meanings_of scope.visible) scope.inside subscript (Vertex p))
+    × IsOf Number (entry_value scope.inside at index (index_value scope at subscript).value).value
+entry_typed scope at vector index subscript is typed sound none =
+    let all = index_typed scope.inside scope at vector subscript (meanings_of scope.visible) typed sound
+    (subst (λ o. (entry_value scope.inside at o (index_value scope at subscript).value).faults ≡ []) is none) in
+    (all.0, subst (λ o. IsOf Number (entry_value scope.inside at o (index_value scope at subscript).value).value) (sym is) all.1)
 
 abbrev RowTyped : ConditionsTree → ConditionsTree → Type 0 → Type 0
 RowTyped left result Has = NoError result × (AreConditions result → AreConditions left × Has)
@@ -562,12 +562,12 @@ mutual
       let m = used_meant scope name meant (no_left e.faults _ none) in
       let t = named_typed at e.value m.clear (no_right e.faults _ none) in
       record { type = t.type; has = subst (λ o. type_named o ≡ Some t.type) (sym m.means) t.has; is = t.is }
-  primary_typed scope at meant (tree.Entry vector index) none =
-      let place = vector_place scope at vector in
-      let v = vector_found scope at vector meant (no_left place.faults _ none) in
-      let behind = no_right place.faults _ none in
-      let all = entry_typed scope at v.vector place.value index v.place (expression_typed scope at meant index) (no_left (index_value scope at index).faults _ behind)
-      (no_right (index_value scope at index).faults _ behind) in
+  primary_typed scope at meant (tree.Entry vector subscript) none =
+      let index = vector_index scope at vector in
+      let v = vector_found scope at vector meant (no_left index.faults _ none) in
+      let behind = no_right index.faults _ none in
+      let all = entry_typed scope at v.vector index.value subscript v.index (expression_typed scope at meant subscript) (no_left (index_value scope at subscript).faults _ behind)
+      (no_right (index_value scope at subscript).faults _ behind) in
       record { type = Number; has = (refl, record { vector = v.vector; means = v.means }, all.0); is = all.1 }
   primary_typed scope at meant (tree.Size set) none =
       let e = used scope set in

@@ -112,7 +112,7 @@ if_plain false x y first second = second
 filtered_by_plain : (at : ℕ) (s : Option VarRef) (f : Option ℕ) → Plain (filtered_by at s f).value
 filtered_by_plain at None f = (refl, refl, refl)
 filtered_by_plain at (Some slot) None = (refl, refl, refl)
-filtered_by_plain at (Some slot) (Some place) = (refl, refl, refl)
+filtered_by_plain at (Some slot) (Some index) = (refl, refl, refl)
 
 filtered_plain : (at : ℕ) (s f : Entity) → Plain (filtered at s f).value
 filtered_plain at s f =
@@ -146,9 +146,9 @@ wanted_is at false b is none = absurd cc
 never : (b : Bool) → b ≡ false → b ≡ true → ⊥
 never b first second = cc
 
-only_first : (name : Identifier) (place : ℕ) (o : Option ℕ) → (only_edges name place o).faults ≡ [] → is_some o ≡ false
-only_first name place None none = refl
-only_first name place (Some x) none = absurd (not_empty _ _ none)
+only_first : (name : Identifier) (index : ℕ) (o : Option ℕ) → (only_edges name index o).faults ≡ [] → is_some o ≡ false
+only_first name index None none = refl
+only_first name index (Some x) none = absurd (not_empty _ _ none)
 
 vertices_wanted : (d : DeclaredTree) (k : Declarations) → SeesAll d k → (at : ℕ) (initial : InitialTree) → (initializer_of d.checker at initial).faults ≡ [] → is_all (initializer_of d.checker at initial).value ≡ true
     → ConstantKeeps k declared.VertexSet initial
@@ -256,7 +256,7 @@ constant_keeps d k s at p initial declared.VertexSet none =
     let behind_g = no_right g.faults _ none in
     let x = has_all at g.value in
     let sound = given_sound d.checker (record k.known { reduced = d.checker.writes }) (checker_sees d.checker k.known s.agrees.checker s.some) at initial given in
-    let e = entity.ConstantSet (record { place = length d.sets; name = next_name d }) in (
+    let e = entity.ConstantSet (record { index = length d.sets; name = next_name d }) in (
       vertices_wanted d k s at initial given (wanted_is at (is_sound g.value) (is_all g.value) sound (no_left x.faults _ behind_g)),
       constant_is_new d k s p.name e (no_left (declare_name d p.name e).faults [] (no_right x.faults _ behind_g)),
     )

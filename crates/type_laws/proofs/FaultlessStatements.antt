@@ -23,7 +23,7 @@ use Rattle.expression_types.specs.declared.scope.Entity.{Entity}
 use Rattle.expression_types.specs.declared.scope.Entity.TheVariants as entity
 use Rattle.expression_types.specs.declared.scope.Inside.{Inside}
 use Rattle.expression_types.specs.declared.scope.Inside.TheVariants as inside
-use Rattle.expression_types.specs.Expression.{used, value_of, vector_place}
+use Rattle.expression_types.specs.Expression.{used, value_of, vector_index}
 use Rattle.expression_types.specs.Names.{found}
 use Rattle.expression_types.specs.Operators.{first_condition, first_integer}
 use Rattle.expression_types.specs.ScopeTree.{ScopeTree, declared_over}
@@ -63,7 +63,7 @@ AreSome (x ∷ others) = IsSome x.1 × AreSome others
 some_clear : (e : Entity) → IsSome (meaning_of e) → e ≡ entity.Error → ⊥
 some_clear entity.Error is error = is
 some_clear (entity.Edges weights) is error = cc
-some_clear (entity.Vector place) is error = cc
+some_clear (entity.Vector index) is error = cc
 some_clear (entity.ConstantSet slot) is error = cc
 some_clear (entity.IntegerConstant name n) is error = cc
 some_clear (entity.ConditionConstant name b) is error = cc
@@ -73,9 +73,9 @@ some_clear (entity.SetVariable slot) is error = cc
 some_clear (entity.LoopVariable slot) is error = cc
 some_clear (entity.Parameter p) is error = cc
 some_clear entity.Weight is error = cc
-some_clear (entity.EdgeFunction place weighted) is error = cc
-some_clear (entity.VertexFunction place) is error = cc
-some_clear (entity.Filter place) is error = cc
+some_clear (entity.EdgeFunction index weighted) is error = cc
+some_clear (entity.VertexFunction index) is error = cc
+some_clear (entity.Filter index) is error = cc
 some_clear entity.Main is error = cc
 
 all_meant : (visible : List (List ℕ × Entity)) → AreSome (meanings_of visible) → AreMeant visible
@@ -154,10 +154,10 @@ pub used_is : (i : Inside) (c : CheckerTree) (k : Known) → Sees i c k → (nam
 used_is i c k s name none =
     let m = used_meant c.scope name (meant i c k s) none in record { means = subst (λ n. found name.bytes n ≡ Some (meaning_of (used c.scope name).value)) s.matches.names m.means; clear = m.clear }
 
-pub vector_is_found : (i : Inside) (c : CheckerTree) (k : Known) → Sees i c k → (at : ℕ) (name : Identifier) → (vector_place c.scope at name).faults ≡ [] → VectorFound (vector_place c.scope at name) k.names name
+pub vector_is_found : (i : Inside) (c : CheckerTree) (k : Known) → Sees i c k → (at : ℕ) (name : Identifier) → (vector_index c.scope at name).faults ≡ [] → VectorFound (vector_index c.scope at name) k.names name
 vector_is_found i c k s at name none =
     let v = vector_found c.scope at name (meant i c k s) none in
-    record { vector = v.vector; means = subst (λ n. found name.bytes n ≡ Some (meaning.Vector v.vector)) s.matches.names v.means; place = v.place }
+    record { vector = v.vector; means = subst (λ n. found name.bytes n ≡ Some (meaning.Vector v.vector)) s.matches.names v.means; index = v.index }
 
 clear_no_error : (e : Entity) → (e ≡ entity.Error → ⊥) → names_error e ≡ false
 clear_no_error entity.Error clear = absurd (clear refl)
@@ -169,16 +169,16 @@ set_means (entity.ConstantSet x) slot is = refl
 set_means (entity.SetVariable x) slot is = refl
 set_means _ slot is = absurd cc
 
-filter_means : (e : Entity) (place : ℕ) → filter_function e ≡ Some place → meaning_of e ≡ meaning.Filter
-filter_means (entity.Filter x) place is = refl
-filter_means _ place is = absurd cc
+filter_means : (e : Entity) (index : ℕ) → filter_function e ≡ Some index → meaning_of e ≡ meaning.Filter
+filter_means (entity.Filter x) index is = refl
+filter_means _ index is = absurd cc
 
 -- edges, and an edge function that goes with them
-pub record EdgesFit (e f : Entity) (place : ℕ) : Type 0 where
+pub record EdgesFit (e f : Entity) (index : ℕ) : Type 0 where
   pub weights : Bool
   pub weighted : Bool
   pub edges : meaning_of e ≡ meaning.Edges weights
-  pub function : meaning_of f ≡ meaning.EdgeFunction place weighted
+  pub function : meaning_of f ≡ meaning.EdgeFunction index weighted
   pub sees : SeesWeights weights weighted
 
 weights_are_seen : (weights weighted : Bool) → (not weights && weighted) ≡ false → SeesWeights weights weighted
@@ -186,21 +186,21 @@ weights_are_seen true true lacks = refl
 weights_are_seen false true lacks = absurd (false_is_not_true (sym lacks))
 weights_are_seen weights false lacks = tt
 
-function_fits_edges : (weights : Bool) (f : Entity) (place : ℕ) → edge_function f ≡ Some place → (not weights && reads_weight f) ≡ false → EdgesFit (entity.Edges weights) f place
-function_fits_edges weights (entity.EdgeFunction x weighted) place is lacks = record { weights = weights; weighted = weighted; edges = refl; function = cc; sees = weights_are_seen weights weighted lacks }
-function_fits_edges weights _ place is lacks = absurd cc
+function_fits_edges : (weights : Bool) (f : Entity) (index : ℕ) → edge_function f ≡ Some index → (not weights && reads_weight f) ≡ false → EdgesFit (entity.Edges weights) f index
+function_fits_edges weights (entity.EdgeFunction x weighted) index is lacks = record { weights = weights; weighted = weighted; edges = refl; function = cc; sees = weights_are_seen weights weighted lacks }
+function_fits_edges weights _ index is lacks = absurd cc
 
-edges_fit : (e f : Entity) (place : ℕ) → is_edges e ≡ true → edge_function f ≡ Some place → lacks_weights e f ≡ false → EdgesFit e f place
-edges_fit (entity.Edges weights) f place are is lacks = function_fits_edges weights f place is lacks
-edges_fit _ f place are is lacks = absurd (false_is_not_true are)
+edges_fit : (e f : Entity) (index : ℕ) → is_edges e ≡ true → edge_function f ≡ Some index → lacks_weights e f ≡ false → EdgesFit e f index
+edges_fit (entity.Edges weights) f index are is lacks = function_fits_edges weights f index is lacks
+edges_fit _ f index are is lacks = absurd (false_is_not_true are)
 
-vertex_function_means : (e : Entity) (place : ℕ) → initial_value.vertex_function e ≡ Some place → meaning_of e ≡ meaning.VertexFunction
-vertex_function_means (entity.VertexFunction x) place is = refl
-vertex_function_means _ place is = absurd cc
+vertex_function_means : (e : Entity) (index : ℕ) → initial_value.vertex_function e ≡ Some index → meaning_of e ≡ meaning.VertexFunction
+vertex_function_means (entity.VertexFunction x) index is = refl
+vertex_function_means _ index is = absurd cc
 
-vector_means : (e : Entity) (place : ℕ) → vector_of e ≡ Some place → meaning_of e ≡ meaning.Vector place
-vector_means (entity.Vector x) place is = cc
-vector_means _ place is = absurd cc
+vector_means : (e : Entity) (index : ℕ) → vector_of e ≡ Some index → meaning_of e ≡ meaning.Vector index
+vector_means (entity.Vector x) index is = cc
+vector_means _ index is = absurd cc
 
 means_as : (names : Meanings) (name : Identifier) (e : Entity) (m : Meaning) → IsMeant names name e → meaning_of e ≡ m → found name.bytes names ≡ Some m
 means_as names name e m is same = is.means ∙ ap Some same
@@ -227,7 +227,7 @@ pub record Filters (m : WithFaults InitializerTree) (s f : Entity) : Type 0 wher
 filtered_by_is : (at : ℕ) (s f : Entity) (a : Option VarRef) (b : Option ℕ) → named_set s ≡ a → filter_function f ≡ b → (filtered_by at a b).faults ≡ [] → Filters (filtered_by at a b) s f
 filtered_by_is at s f None b one other none = absurd (not_empty _ _ none)
 filtered_by_is at s f (Some slot) None one other none = absurd (not_empty _ _ none)
-filtered_by_is at s f (Some slot) (Some place) one other none = record { set = set_means s slot one; filter = filter_means f place other; members = tt }
+filtered_by_is at s f (Some slot) (Some index) one other none = record { set = set_means s slot one; filter = filter_means f index other; members = tt }
 
 filtered_is : (at : ℕ) (s f : Entity) → (s ≡ entity.Error → ⊥) → (f ≡ entity.Error → ⊥) → (filtered at s f).faults ≡ [] → Filters (filtered at s f) s f
 filtered_is at s f clear also none =
@@ -249,7 +249,7 @@ end_is_clear i c k s (Some name) none = named_end_is_clear (used c.scope name).v
 named_end_fits : (names : Meanings) (name : Identifier) (e : Entity) → IsMeant names name e → is_wrong (filter_named e) ≡ false → NameHas names name Set ⊎ (found name.bytes names ≡ Some meaning.Filter)
 named_end_fits names name (entity.ConstantSet slot) is right = inl (has_as names name (entity.ConstantSet slot) Set is refl)
 named_end_fits names name (entity.SetVariable slot) is right = inl (has_as names name (entity.SetVariable slot) Set is refl)
-named_end_fits names name (entity.Filter place) is right = inr is.means
+named_end_fits names name (entity.Filter index) is right = inr is.means
 named_end_fits names name entity.Error is right = absurd (is.clear refl)
 named_end_fits names name _ is right = absurd cc
 
@@ -261,12 +261,12 @@ end_fits i c k s (Some name) none right = named_end_fits k.names name (used c.sc
 pub record ModifiesBy (m : WithFaults InitializerTree) (c : CheckerTree) (e f v : Entity) (a b : ApplyEndTree) : Type 0 where
   pub from : is_wrong a ≡ false
   pub to : is_wrong b ≡ false
-  pub place : ℕ
+  pub index : ℕ
   pub vector : ℕ
   pub by : Reduction
-  pub fit : EdgesFit e f place
+  pub fit : EdgesFit e f index
   pub vector_means_it : meaning_of v ≡ meaning.Vector vector
-  pub writes : lookup (nat_eq vector) (slice_index_or c.written place []) ≡ Some by
+  pub writes : lookup (nat_eq vector) (slice_index_or c.written index []) ≡ Some by
   pub members : AreMembers m.value
 
 some_value : (o : Option Reduction) → is_some o ≡ true → (by : Reduction) × (o ≡ Some by)
@@ -276,15 +276,15 @@ some_value (Some by) is = (by, refl)
 modified_by_is : (c : CheckerTree) (at : ℕ) (e f v : Entity) (a b : ApplyEndTree) → is_edges e ≡ true → lacks_weights e f ≡ false → is_wrong a ≡ false → is_wrong b ≡ false → (g : Option ℕ) (w : Option ℕ)
     → edge_function f ≡ g → vector_of v ≡ w → (modified_by c at (ends_given a b) g w).faults ≡ [] → ModifiesBy (modified_by c at (ends_given a b) g w) c e f v a b
 modified_by_is c at e f v a b edges lacks from to None w one other none = absurd (not_empty _ _ none)
-modified_by_is c at e f v a b edges lacks from to (Some place) None one other none = absurd (not_empty _ _ none)
-modified_by_is c at e f v a b edges lacks from to (Some place) (Some vector) one other none = at_test (writes_vector c.written place vector) refl none
+modified_by_is c at e f v a b edges lacks from to (Some index) None one other none = absurd (not_empty _ _ none)
+modified_by_is c at e f v a b edges lacks from to (Some index) (Some vector) one other none = at_test (writes_vector c.written index vector) refl none
   where
-    at_test : (x : Bool) → writes_vector c.written place vector ≡ x
-        → (if x then sure (initial_value.Members (set.Modified (ends_given a b) place vector)) else fault_at at rule.WrongType ErrorInitializer).faults ≡ []
-        → ModifiesBy (if x then sure (initial_value.Members (set.Modified (ends_given a b) place vector)) else fault_at at rule.WrongType ErrorInitializer) c e f v a b
+    at_test : (x : Bool) → writes_vector c.written index vector ≡ x
+        → (if x then sure (initial_value.Members (set.Modified (ends_given a b) index vector)) else fault_at at rule.WrongType ErrorInitializer).faults ≡ []
+        → ModifiesBy (if x then sure (initial_value.Members (set.Modified (ends_given a b) index vector)) else fault_at at rule.WrongType ErrorInitializer) c e f v a b
     at_test true is none =
-        let by = some_value (lookup (nat_eq vector) (slice_index_or c.written place [])) is in
-        record { from = from; to = to; place = place; vector = vector; by = by.0; fit = edges_fit e f place edges one lacks; vector_means_it = vector_means v vector other; writes = by.1; members = tt }
+        let by = some_value (lookup (nat_eq vector) (slice_index_or c.written index [])) is in
+        record { from = from; to = to; index = index; vector = vector; by = by.0; fit = edges_fit e f index edges one lacks; vector_means_it = vector_means v vector other; writes = by.1; members = tt }
     at_test false is none = absurd (not_empty _ _ none)
 
 abbrev modified_at : CheckerTree → ℕ → (f v : Entity) → (a b : ApplyEndTree) → (error edges wrong : Bool) → WithFaults InitializerTree
@@ -372,15 +372,15 @@ initial_gives i c k s at (source.ApplyModified edges ends f v) none =
         (end_fits i c k s ends.from from x.from, end_fits i c k s ends.to to x.to),
         record {
           weights = x.fit.weights;
-          place = x.place;
+          index = x.index;
           weighted = x.fit.weighted;
           edges_mean = means_as k.names edges e.value (meaning.Edges x.fit.weights) m x.fit.edges;
           sees = x.fit.sees;
           written = x.vector;
           by = x.by;
-          function_means = means_as k.names f g.value (meaning.EdgeFunction x.place x.fit.weighted) n x.fit.function;
+          function_means = means_as k.names f g.value (meaning.EdgeFunction x.index x.fit.weighted) n x.fit.function;
           vector_means = means_as k.names v w.value (meaning.Vector x.vector) o x.vector_means_it;
-          writes = subst (λ ws. lookup (nat_eq x.vector) (slice_index_or ws x.place []) ≡ Some x.by) s.matches.written x.writes;
+          writes = subst (λ ws. lookup (nat_eq x.vector) (slice_index_or ws x.index []) ≡ Some x.by) s.matches.written x.writes;
         },
       ),
       x.members,
@@ -560,25 +560,25 @@ pub record KeepsEntry (k : Known) (name : Identifier) (index e : ExpressionTree)
   pub plain : HasNoEntry index
   pub value : IsNumber k.names inside.Main e
 
-entry_keeps : (c : CheckerTree) (k : Known) → Sees inside.Main c k → (at : ℕ) (name : Identifier) (index e : ExpressionTree)
-    → (vector_place c.scope at name).faults ++ ((value_of c.scope at index).faults ++ ((as_index at (value_of c.scope at index).value).faults ++ ((integer_in c.scope at e).faults ++ []))) ≡ []
-    → KeepsEntry k name index e
-entry_keeps c k s at name index e none =
-    let place = vector_place c.scope at name in
-    let v = value_of c.scope at index in
+entry_keeps : (c : CheckerTree) (k : Known) → Sees inside.Main c k → (at : ℕ) (name : Identifier) (subscript e : ExpressionTree)
+    → (vector_index c.scope at name).faults ++ ((value_of c.scope at subscript).faults ++ ((as_index at (value_of c.scope at subscript).value).faults ++ ((integer_in c.scope at e).faults ++ []))) ≡ []
+    → KeepsEntry k name subscript e
+entry_keeps c k s at name subscript e none =
+    let index = vector_index c.scope at name in
+    let v = value_of c.scope at subscript in
     let i = as_index at v.value in
     let x = integer_in c.scope at e in
-    let behind_place = no_right place.faults _ none in
-    let behind_v = no_right v.faults _ behind_place in
+    let behind_vector = no_right index.faults _ none in
+    let behind_v = no_right v.faults _ behind_vector in
     let behind_i = no_right i.faults _ behind_v in
-    let there = vector_is_found inside.Main c k s at name (no_left place.faults _ none) in
-    let t = value_typed inside.Main c k s at index (no_left v.faults _ behind_place) in
+    let there = vector_is_found inside.Main c k s at name (no_left index.faults _ none) in
+    let t = value_typed inside.Main c k s at subscript (no_left v.faults _ behind_vector) in
     let fits = index_is at t.type v.value t.is (no_left i.faults _ behind_v) in
     record {
       vector = there.vector;
       means = there.means;
-      number = as_number v (ExpressionHas k.names inside.Main index) t fits.0;
-      plain = expression_plain c.scope at index fits.1;
+      number = as_number v (ExpressionHas k.names inside.Main subscript) t fits.0;
+      plain = expression_plain c.scope at subscript fits.1;
       value = integer_number inside.Main c k s at e (no_left x.faults [] behind_i);
     }
 
@@ -601,16 +601,16 @@ print_keeps c k s at e none =
 
 -- applies
 pub record AppliesTo (t f : Entity) (a b : ApplyEndTree) (ends : Bool) : Type 0 where
-  pub edges : ((is_wrong a ≡ false) × (is_wrong b ≡ false) × ((place : ℕ) × EdgesFit t f place))
+  pub edges : ((is_wrong a ≡ false) × (is_wrong b ≡ false) × ((index : ℕ) × EdgesFit t f index))
       ⊎ ((type_named (Some (meaning_of t)) ≡ Some Set) × (ends ≡ false) × (meaning_of f ≡ meaning.VertexFunction))
 
-edge_function_there : (at : ℕ) (a b : ApplyEndTree) (f : Entity) (o : Option ℕ) → edge_function f ≡ o → (edges_applied at a b false o).faults ≡ [] → (place : ℕ) × (edge_function f ≡ Some place)
+edge_function_there : (at : ℕ) (a b : ApplyEndTree) (f : Entity) (o : Option ℕ) → edge_function f ≡ o → (edges_applied at a b false o).faults ≡ [] → (index : ℕ) × (edge_function f ≡ Some index)
 edge_function_there at a b f None is none = absurd (not_empty _ _ none)
-edge_function_there at a b f (Some place) is none = (place, is)
+edge_function_there at a b f (Some index) is none = (index, is)
 
 vertex_function_there : (at : ℕ) (slot : VarRef) (f : Entity) (o : Option ℕ) → initial_value.vertex_function f ≡ o → (vertices_applied at slot false o).faults ≡ [] → meaning_of f ≡ meaning.VertexFunction
 vertex_function_there at slot f None is none = absurd (not_empty _ _ none)
-vertex_function_there at slot f (Some place) is none = vertex_function_means f place is
+vertex_function_there at slot f (Some index) is none = vertex_function_means f index is
 
 set_applies : (at : ℕ) (t f : Entity) (a b : ApplyEndTree) (ends : Bool) (o : Option VarRef) → names_error f ≡ false → named_set t ≡ o → (set_applied at ends f o).faults ≡ [] → AppliesTo t f a b ends
 set_applies at t f a b ends None clear is none = absurd (not_empty _ _ none)
@@ -659,9 +659,9 @@ apply_keeps c k s at target ends function none =
     ]
 
 -- labels
-is_first : (b : Bool) (place : ℕ) (o : Option ℕ) → (if b then Some place else o) ≡ None → (b ≡ false) × (o ≡ None)
-is_first true place o is = absurd cc
-is_first false place o is = (refl, is)
+is_first : (b : Bool) (index : ℕ) (o : Option ℕ) → (if b then Some index else o) ≡ None → (b ≡ false) × (o ≡ None)
+is_first true index o is = absurd cc
+is_first false index o is = (refl, is)
 
 found_nowhere : (label : List ℕ) (labels : List (List ℕ × ℕ)) → found label labels ≡ None → list_any (bytes_eq label) (labels_named labels) ≡ false
 found_nowhere label [] none = refl
@@ -680,7 +680,7 @@ label_keeps i c k m (Some label) none = subst (λ ls. Contains ls label.bytes �
   where
     at_found : (o : Option ℕ) → found label.bytes c.labels ≡ o → (new_label c label o).faults ≡ [] → Contains (labels_named c.labels) label.bytes → ⊥
     at_found None is none there = contained_nowhere label.bytes c.labels is there
-    at_found (Some place) is none there = not_empty _ _ none
+    at_found (Some index) is none there = not_empty _ _ none
 
 -- what is known after a statement that keeps the rules means something
 variable_some : (i : Inside) (k : Known) (type : DeclaredType) (initial : InitialTree) → VariableFits i k type initial → IsSome (variable_meaning type)
@@ -763,12 +763,12 @@ mutual
   action_keeps c k s (source.Print at e) none = (tt, print_keeps c k s at e (no_left (print c.scope at e).faults [] none))
   action_keeps c k s (source.Assign name initial) none = assign_keeps c k s name.at name initial (no_left (assign c name.at name initial).faults [] none)
   action_keeps c k s (source.Reduce name by e) none = reduce_keeps c k s name.at name by e (no_left (reduce c.scope name.at name by e).faults [] none)
-  action_keeps c k s (source.SetEntry vector index e) none =
-      let x = entry_keeps c k s vector.at vector index e (no_left (set_entry c.scope vector.at vector index e).faults [] none) in
+  action_keeps c k s (source.SetEntry vector subscript e) none =
+      let x = entry_keeps c k s vector.at vector subscript e (no_left (set_entry c.scope vector.at vector subscript e).faults [] none) in
       (tt, record { vector = x.vector; means = x.means }, (x.number, x.plain), x.value)
-  action_keeps c k s (source.ReduceEntry vector index by e) none =
-      let x = entry_keeps c k s vector.at vector index e (no_left (reduce_entry c.scope vector.at vector index by e).faults [] none) in
-      record { place = x.vector; means = x.means; may = tt; at = (x.number, x.plain); value = x.value }
+  action_keeps c k s (source.ReduceEntry vector subscript by e) none =
+      let x = entry_keeps c k s vector.at vector subscript e (no_left (reduce_entry c.scope vector.at vector subscript by e).faults [] none) in
+      record { index = x.vector; means = x.means; may = tt; at = (x.number, x.plain); value = x.value }
   action_keeps c k s (source.AddVertex set e) none =
       let x = add_keeps c k s set.at set e (no_left (add_vertex c.scope set.at set e).faults [] none) in (tt, x.0, x.1)
   action_keeps c k s (source.Apply target ends function) none = (tt, apply_keeps c k s target.at target ends function (no_left (apply c.scope target.at target ends function).faults [] none))

@@ -16,7 +16,7 @@ use Rattle.expression_types.specs.declared.scope.Entity.{Entity}
 use Rattle.expression_types.specs.declared.scope.Entity.TheVariants as entity
 use Rattle.expression_types.specs.declared.scope.Inside.{Inside}
 use Rattle.expression_types.specs.declared.scope.Inside.TheVariants as inside
-use Rattle.expression_types.specs.Expression.{index_lacks_value, index_value, no_vertex, used, value_of, vector_place}
+use Rattle.expression_types.specs.Expression.{index_lacks_value, index_value, no_vertex, used, value_of, vector_index}
 use Rattle.expression_types.specs.Names.{found}
 use Rattle.expression_types.specs.ValueTree as value
 use Rattle.expression_types.specs.ValueTree.{ValueTree}
@@ -184,20 +184,20 @@ index_and_value_keep i c k s at index e none =
       integer_number i c k s at e (no_left (integer_in c.scope at e).faults [] (no_right w.faults _ behind_v)),
     )
 
-reduce_entry_keeps : (i : Inside) (c : CheckerTree) (k : Known) → IsUser i → Sees i c k → (at : ℕ) (name : Identifier) (index : ExpressionTree) (by : Reduction) (e : ExpressionTree)
-    → (reduce_entry_step c at name index by e).faults ≡ [] → ReducesEntry i k name index by e
-reduce_entry_keeps i c k user s at name index by e none =
-    let place = vector_place c.scope at name in
-    let may = may_reduce at c.scope.inside place.value by c.writes in
-    let behind_place = no_right place.faults _ none in
-    let there = vector_is_found i c k s at name (no_left place.faults _ none) in
+reduce_entry_keeps : (i : Inside) (c : CheckerTree) (k : Known) → IsUser i → Sees i c k → (at : ℕ) (name : Identifier) (subscript : ExpressionTree) (by : Reduction) (e : ExpressionTree)
+    → (reduce_entry_step c at name subscript by e).faults ≡ [] → ReducesEntry i k name subscript by e
+reduce_entry_keeps i c k user s at name subscript by e none =
+    let index = vector_index c.scope at name in
+    let may = may_reduce at c.scope.inside index.value by c.writes in
+    let behind_vector = no_right index.faults _ none in
+    let there = vector_is_found i c k s at name (no_left index.faults _ none) in
     let allowed : (may_reduce at i (Some there.vector) by k.reduced).faults ≡ [] =
     subst (λ w. (may_reduce at i (Some there.vector) by w).faults ≡ []) s.matches.reduced
-    (subst (λ p. (may_reduce at i p by c.writes).faults ≡ []) there.place
-    (subst (λ j. (may_reduce at j place.value by c.writes).faults ≡ []) s.matches.inside (no_left may.faults _ behind_place))) in
+    (subst (λ p. (may_reduce at i p by c.writes).faults ≡ []) there.index
+    (subst (λ j. (may_reduce at j index.value by c.writes).faults ≡ []) s.matches.inside (no_left may.faults _ behind_vector))) in
     let reduces = may_reduce_is i k at there.vector by allowed in
-    let both = index_and_value_keep i c k s at index e (no_right may.faults _ behind_place) in
-    record { place = there.vector; means = there.means; may = reduces; at = reduced_at i k there.vector by index user reduces both.0; value = both.1 }
+    let both = index_and_value_keep i c k s at subscript e (no_right may.faults _ behind_vector) in
+    record { index = there.vector; means = there.means; may = reduces; at = reduced_at i k there.vector by subscript user reduces both.0; value = both.1 }
 
 mutual
   pub step_keeps : (i : Inside) (c : CheckerTree) (k : Known) → IsUser i → Sees i c k → (action : source.ActionTree) → (step_typed c action).faults ≡ [] → ActionKeeps i k action
@@ -223,16 +223,16 @@ mutual
   step_keeps i c k user s (source.Print at e) none = absurd (not_empty _ _ none)
   step_keeps i c k user s (source.Assign name initial) none = assign_step_keeps i c k s name.at name initial (no_left (assign_step c name.at name initial).faults [] none)
   step_keeps i c k user s (source.Reduce name by e) none = reduce_step_keeps i c k s name.at name by e (no_left (reduce_step c.scope name.at name by e).faults [] none)
-  step_keeps i c k user s (source.SetEntry vector index e) none =
-      let all = no_left (set_entry_step c.scope vector.at vector index e).faults [] none in
+  step_keeps i c k user s (source.SetEntry vector subscript e) none =
+      let all = no_left (set_entry_step c.scope vector.at vector subscript e).faults [] none in
       let may = may_set vector.at c.scope.inside in
-      let place = vector_place c.scope vector.at vector in
+      let index = vector_index c.scope vector.at vector in
       let behind_may = no_right may.faults _ all in
-      let there = vector_is_found i c k s vector.at vector (no_left place.faults _ behind_may) in
+      let there = vector_is_found i c k s vector.at vector (no_left index.faults _ behind_may) in
       let allowed = may_set_is vector.at i user (subst (λ j. (may_set vector.at j).faults ≡ []) s.matches.inside (no_left may.faults _ all)) in
-      let both = index_and_value_keep i c k s vector.at index e (no_right place.faults _ behind_may) in
-      (allowed, record { vector = there.vector; means = there.means }, set_at i k.names index user allowed both.0, both.1)
-  step_keeps i c k user s (source.ReduceEntry vector index by e) none = reduce_entry_keeps i c k user s vector.at vector index by e none
+      let both = index_and_value_keep i c k s vector.at subscript e (no_right index.faults _ behind_may) in
+      (allowed, record { vector = there.vector; means = there.means }, set_at i k.names subscript user allowed both.0, both.1)
+  step_keeps i c k user s (source.ReduceEntry vector subscript by e) none = reduce_entry_keeps i c k user s vector.at vector subscript by e none
   step_keeps i c k user s (source.AddVertex set e) none = absurd (not_empty _ _ none)
   step_keeps i c k user s (source.Apply target ends function) none = absurd (not_empty _ _ none)
 

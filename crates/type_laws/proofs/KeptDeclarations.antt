@@ -159,7 +159,7 @@ truth_constant d k a at p initial given type is new =
 set_constant : (d : DeclaredTree) (k : Declarations) → Agrees d k → (at : ℕ) (p : ParameterTree) (initial : InitialTree) → p.declared ≡ declared.VertexSet → IsNew k.known p.name
     → Fits (declare_constant_as d at p.name initial declared.VertexSet (Members set.All)) (behind_constant k p)
 set_constant d k a at p initial type new =
-    let e = entity.ConstantSet (record { place = length d.sets; name = next_name d }) in
+    let e = entity.ConstantSet (record { index = length d.sets; name = next_name d }) in
     let c = constant_declared d k a p.name e meaning.ConstantSet refl new in (
       both_none (declare_name d p.name e).faults [] c.0 refl,
       subst (λ t. Agrees (declare_constant_as d at p.name initial declared.VertexSet (Members set.All)).value (behind_constant k (record p { declared = t }))) (sym type)
@@ -183,9 +183,9 @@ none_there : (o : Option ℕ) → is_some o ≡ false → o ≡ None
 none_there None is = refl
 none_there (Some x) is = cc
 
-first_edges : (name : Identifier) (place : ℕ) (o : Option ℕ) → o ≡ None → ((only_edges name place o).faults ≡ []) × (is_some (only_edges name place o).value ≡ true)
-first_edges name place None is = (refl, refl)
-first_edges name place (Some x) is = absurd cc
+first_edges : (name : Identifier) (index : ℕ) (o : Option ℕ) → o ≡ None → ((only_edges name index o).faults ≡ []) × (is_some (only_edges name index o).value ≡ true)
+first_edges name index None is = (refl, refl)
+first_edges name index (Some x) is = absurd cc
 
 abbrev behind_edges : Declarations → ParameterTree → (weights : Bool) → Declarations
 behind_edges k p weights = record { known = with_name k.known p.name (meaning.Edges weights); vectors = k.vectors; edges = true; main = k.main }

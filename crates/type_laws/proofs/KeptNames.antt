@@ -11,7 +11,7 @@ use Rattle.typed_tree.specs.declared.expression.VarRef.{VarRef}
 use Rattle.expression_types.specs.declared.scope.Entity.{Entity}
 use Rattle.expression_types.specs.declared.scope.Entity.TheVariants as entity
 use Rattle.expression_types.specs.declared.scope.Inside.{Inside}
-use Rattle.expression_types.specs.Expression.{used, used_as, value_of, vector_place}
+use Rattle.expression_types.specs.Expression.{used, used_as, value_of, vector_index}
 use Rattle.expression_types.specs.Names.{found}
 use Rattle.expression_types.specs.ScopeTree.{declared_over}
 use Rattle.expression_types.specs.ValueTree as value
@@ -72,7 +72,7 @@ pub used_kept : (i : Inside) (c : CheckerTree) (k : Known) → Matches i c k →
 used_kept i c k m name n is = used_means c.scope name n (subst (λ ns. found name.bytes ns ≡ Some n) (sym m.names) is)
 
 pub vector_kept : (i : Inside) (c : CheckerTree) (k : Known) → Matches i c k → (at : ℕ) (name : Identifier) (vector : ℕ) → found name.bytes k.names ≡ Some (meaning.Vector vector)
-    → ((vector_place c.scope at name).faults ≡ []) × ((vector_place c.scope at name).value ≡ Some vector)
+    → ((vector_index c.scope at name).faults ≡ []) × ((vector_index c.scope at name).value ≡ Some vector)
 vector_kept i c k m at name vector is = vector_fine c.scope at name vector (subst (λ ns. found name.bytes ns ≡ Some (meaning.Vector vector)) (sym m.names) is)
 
 no_type_set : (a : ExpressionType) → None ≡ Some a → ⊥
@@ -95,7 +95,7 @@ edges_are (entity.Edges w) weights is = cc
 edges_are _ weights is = absurd cc
 
 pub vector_entity : (e : Entity) (n : ℕ) → meaning_of e ≡ meaning.Vector n → e ≡ entity.Vector n
-vector_entity (entity.Vector place) n is = cc
+vector_entity (entity.Vector index) n is = cc
 vector_entity _ n is = absurd cc
 
 pub number_variable : (e : Entity) → meaning_of e ≡ meaning.NumberVariable → (slot : VarRef) × (e ≡ entity.IntegerVariable slot)
@@ -111,15 +111,15 @@ set_variable (entity.SetVariable slot) is = (slot, refl)
 set_variable _ is = absurd cc
 
 pub edge_function_entity : (e : Entity) (n : ℕ) (weighted : Bool) → meaning_of e ≡ meaning.EdgeFunction n weighted → e ≡ entity.EdgeFunction n weighted
-edge_function_entity (entity.EdgeFunction place w) n weighted is = cc
+edge_function_entity (entity.EdgeFunction index w) n weighted is = cc
 edge_function_entity _ n weighted is = absurd cc
 
-pub vertex_function_entity : (e : Entity) → meaning_of e ≡ meaning.VertexFunction → (place : ℕ) × (e ≡ entity.VertexFunction place)
-vertex_function_entity (entity.VertexFunction place) is = (place, refl)
+pub vertex_function_entity : (e : Entity) → meaning_of e ≡ meaning.VertexFunction → (index : ℕ) × (e ≡ entity.VertexFunction index)
+vertex_function_entity (entity.VertexFunction index) is = (index, refl)
 vertex_function_entity _ is = absurd cc
 
-pub filter_entity : (e : Entity) → meaning_of e ≡ meaning.Filter → (place : ℕ) × (e ≡ entity.Filter place)
-filter_entity (entity.Filter place) is = (place, refl)
+pub filter_entity : (e : Entity) → meaning_of e ≡ meaning.Filter → (index : ℕ) × (e ≡ entity.Filter index)
+filter_entity (entity.Filter index) is = (index, refl)
 filter_entity _ is = absurd cc
 
 -- declarations
@@ -155,9 +155,9 @@ declared_kept i c k m name e n is new = at_found (found name.bytes c.scope.visib
     at_found (Some old) none = absurd cc
 
 -- labels
-labels_more : (labels : List (List ℕ × ℕ)) (label : List ℕ) (place : ℕ) → labels_named (labels ++ (label, place) ∷ []) ≡ labels_named labels ++ label ∷ []
-labels_more [] label place = refl
-labels_more (x ∷ others) label place = ap (λ more. x.0 ∷ more) (labels_more others label place)
+labels_more : (labels : List (List ℕ × ℕ)) (label : List ℕ) (index : ℕ) → labels_named (labels ++ (label, index) ∷ []) ≡ labels_named labels ++ label ∷ []
+labels_more [] label index = refl
+labels_more (x ∷ others) label index = ap (λ more. x.0 ∷ more) (labels_more others label index)
 
 not_there : (label : List ℕ) (labels : List (List ℕ × ℕ)) → list_any (bytes_eq label) (labels_named labels) ≡ false → found label labels ≡ None
 not_there label [] is = refl
@@ -192,7 +192,7 @@ labelled_kept i c k m (Some label) new =
         inside = m.inside;
       },
     )
-    at_found (Some place) none = absurd cc
+    at_found (Some index) none = absurd cc
 
 pub counted_kept : (i : Inside) (c : CheckerTree) (k : Known) → Matches i c k → Matches i (counted c) k
 counted_kept i c k m = record { names = m.names; labels = m.labels; reduced = m.reduced; written = m.written; inside = m.inside }

@@ -17,7 +17,7 @@ use Rattle.expression_types.specs.declared.scope.Entity.{Entity}
 use Rattle.expression_types.specs.declared.scope.Entity.TheVariants as entity
 use Rattle.expression_types.specs.declared.scope.Inside.{Inside}
 use Rattle.expression_types.specs.declared.scope.Inside.TheVariants as inside
-use Rattle.expression_types.specs.Expression.{used, value_of, vector_place}
+use Rattle.expression_types.specs.Expression.{used, value_of, vector_index}
 use Rattle.expression_types.specs.Names.{found}
 use Rattle.expression_types.specs.ValueTree as value
 use Rattle.expression_types.specs.ValueTree.{ValueTree, named_set, reads_entry}
@@ -73,10 +73,10 @@ new_set_fine at size is = subst (λ z. GivesSet at (new_set at z)) (sym is) (ref
 pub of_edges_fine : (at : ℕ) (e : Entity) (weights : Bool) → meaning_of e ≡ meaning.Edges weights → (x : InitializerTree) → ((of_edges at x e).faults ≡ []) × ((of_edges at x e).value ≡ x)
 of_edges_fine at e weights is x = subst (λ e. ((of_edges at x e).faults ≡ []) × ((of_edges at x e).value ≡ x)) (sym (edges_are e weights is)) (refl, refl)
 
-set_passes : (at : ℕ) (s : Entity) (place : ℕ) → type_named (Some (meaning_of s)) ≡ Some Set → GivesSet at (filtered at s (entity.Filter place))
-set_passes at (entity.ConstantSet slot) place is = (refl, refl)
-set_passes at (entity.SetVariable slot) place is = (refl, refl)
-set_passes at _ place is = absurd cc
+set_passes : (at : ℕ) (s : Entity) (index : ℕ) → type_named (Some (meaning_of s)) ≡ Some Set → GivesSet at (filtered at s (entity.Filter index))
+set_passes at (entity.ConstantSet slot) index is = (refl, refl)
+set_passes at (entity.SetVariable slot) index is = (refl, refl)
+set_passes at _ index is = absurd cc
 
 filtered_fine : (at : ℕ) (s f : Entity) → type_named (Some (meaning_of s)) ≡ Some Set → meaning_of f ≡ meaning.Filter → GivesSet at (filtered at s f)
 filtered_fine at s f set filter =
@@ -95,7 +95,7 @@ set_end (entity.SetVariable slot) is = tt
 set_end _ is = absurd cc
 
 filter_end : (e : Entity) → meaning_of e ≡ meaning.Filter → IsGood (filter_named e)
-filter_end (entity.Filter place) is = tt
+filter_end (entity.Filter index) is = tt
 filter_end _ is = absurd cc
 
 pub end_kept : (i : Inside) (c : CheckerTree) (k : Known) → Matches i c k → (name : Option Identifier) → EndFits k.names name
@@ -123,26 +123,26 @@ if_seen : (at : ℕ) (m : WithFaults InitializerTree) (b : Bool) → b ≡ false
 if_seen at m true is fine = absurd cc
 if_seen at m false is fine = fine
 
-modified_good : (c : CheckerTree) (at : ℕ) (a b : ApplyEndTree) (weights : Bool) (place : ℕ) (weighted : Bool) (vector : ℕ) → IsGood a → IsGood b → SeesWeights weights weighted
-    → writes_vector c.written place vector ≡ true → GivesSet at (modified c at (entity.Edges weights) a b (entity.EdgeFunction place weighted) (entity.Vector vector))
-modified_good c at Absent Absent weights place weighted vector first second sees writes =
-    if_seen at (modified_by c at (ends_given Absent Absent) (Some place) (Some vector)) (not weights && weighted) (weights_seen weights weighted sees)
-    (if_writes at (initial_value.Members (set.Modified (ends_given Absent Absent) place vector)) (writes_vector c.written place vector) writes refl)
-modified_good c at Absent (initial_value.Given f) weights place weighted vector first second sees writes =
-    if_seen at (modified_by c at (ends_given Absent (initial_value.Given f)) (Some place) (Some vector)) (not weights && weighted) (weights_seen weights weighted sees)
-    (if_writes at (initial_value.Members (set.Modified (ends_given Absent (initial_value.Given f)) place vector)) (writes_vector c.written place vector) writes refl)
-modified_good c at (initial_value.Given f) Absent weights place weighted vector first second sees writes =
-    if_seen at (modified_by c at (ends_given (initial_value.Given f) Absent) (Some place) (Some vector)) (not weights && weighted) (weights_seen weights weighted sees)
-    (if_writes at (initial_value.Members (set.Modified (ends_given (initial_value.Given f) Absent) place vector)) (writes_vector c.written place vector) writes refl)
-modified_good c at (initial_value.Given f) (initial_value.Given g) weights place weighted vector first second sees writes =
-    if_seen at (modified_by c at (ends_given (initial_value.Given f) (initial_value.Given g)) (Some place) (Some vector)) (not weights && weighted) (weights_seen weights weighted sees)
-    (if_writes at (initial_value.Members (set.Modified (ends_given (initial_value.Given f) (initial_value.Given g)) place vector)) (writes_vector c.written place vector) writes refl)
-modified_good c at Absent Wrong weights place weighted vector first second sees writes = absurd second
-modified_good c at Absent ErrorEnd weights place weighted vector first second sees writes = absurd second
-modified_good c at (initial_value.Given f) Wrong weights place weighted vector first second sees writes = absurd second
-modified_good c at (initial_value.Given f) ErrorEnd weights place weighted vector first second sees writes = absurd second
-modified_good c at Wrong b weights place weighted vector first second sees writes = absurd first
-modified_good c at ErrorEnd b weights place weighted vector first second sees writes = absurd first
+modified_good : (c : CheckerTree) (at : ℕ) (a b : ApplyEndTree) (weights : Bool) (index : ℕ) (weighted : Bool) (vector : ℕ) → IsGood a → IsGood b → SeesWeights weights weighted
+    → writes_vector c.written index vector ≡ true → GivesSet at (modified c at (entity.Edges weights) a b (entity.EdgeFunction index weighted) (entity.Vector vector))
+modified_good c at Absent Absent weights index weighted vector first second sees writes =
+    if_seen at (modified_by c at (ends_given Absent Absent) (Some index) (Some vector)) (not weights && weighted) (weights_seen weights weighted sees)
+    (if_writes at (initial_value.Members (set.Modified (ends_given Absent Absent) index vector)) (writes_vector c.written index vector) writes refl)
+modified_good c at Absent (initial_value.Given f) weights index weighted vector first second sees writes =
+    if_seen at (modified_by c at (ends_given Absent (initial_value.Given f)) (Some index) (Some vector)) (not weights && weighted) (weights_seen weights weighted sees)
+    (if_writes at (initial_value.Members (set.Modified (ends_given Absent (initial_value.Given f)) index vector)) (writes_vector c.written index vector) writes refl)
+modified_good c at (initial_value.Given f) Absent weights index weighted vector first second sees writes =
+    if_seen at (modified_by c at (ends_given (initial_value.Given f) Absent) (Some index) (Some vector)) (not weights && weighted) (weights_seen weights weighted sees)
+    (if_writes at (initial_value.Members (set.Modified (ends_given (initial_value.Given f) Absent) index vector)) (writes_vector c.written index vector) writes refl)
+modified_good c at (initial_value.Given f) (initial_value.Given g) weights index weighted vector first second sees writes =
+    if_seen at (modified_by c at (ends_given (initial_value.Given f) (initial_value.Given g)) (Some index) (Some vector)) (not weights && weighted) (weights_seen weights weighted sees)
+    (if_writes at (initial_value.Members (set.Modified (ends_given (initial_value.Given f) (initial_value.Given g)) index vector)) (writes_vector c.written index vector) writes refl)
+modified_good c at Absent Wrong weights index weighted vector first second sees writes = absurd second
+modified_good c at Absent ErrorEnd weights index weighted vector first second sees writes = absurd second
+modified_good c at (initial_value.Given f) Wrong weights index weighted vector first second sees writes = absurd second
+modified_good c at (initial_value.Given f) ErrorEnd weights index weighted vector first second sees writes = absurd second
+modified_good c at Wrong b weights index weighted vector first second sees writes = absurd first
+modified_good c at ErrorEnd b weights index weighted vector first second sees writes = absurd first
 
 modified_fine : (i : Inside) (c : CheckerTree) (k : Known) → Matches i c k → (at : ℕ) (edges : Identifier) (ends : EndsTree) (f v : Identifier)
     → EndsFit k.names ends → Modifies k edges f v → GivesSet at (initializer_of c at (source.ApplyModified edges ends f v))
@@ -150,16 +150,16 @@ modified_fine i c k m at edges ends f v fit modifies =
     let e = used_kept i c k m edges (meaning.Edges modifies.weights) modifies.edges_mean in
     let a = end_kept i c k m ends.from fit.0 in
     let b = end_kept i c k m ends.to fit.1 in
-    let g = used_kept i c k m f (meaning.EdgeFunction modifies.place modifies.weighted) modifies.function_means in
+    let g = used_kept i c k m f (meaning.EdgeFunction modifies.index modifies.weighted) modifies.function_means in
     let w = used_kept i c k m v (meaning.Vector modifies.written) modifies.vector_means in
     let x = (end_of c.scope ends.from).value in
     let y = (end_of c.scope ends.to).value in
-    let writes : writes_vector c.written modifies.place modifies.written ≡ true =
-    ap is_some (subst (λ ws. lookup (nat_eq modifies.written) (slice_index_or ws modifies.place []) ≡ Some modifies.by) (sym m.written) modifies.writes) in
+    let writes : writes_vector c.written modifies.index modifies.written ≡ true =
+    ap is_some (subst (λ ws. lookup (nat_eq modifies.written) (slice_index_or ws modifies.index []) ≡ Some modifies.by) (sym m.written) modifies.writes) in
     let all = subst (λ e. GivesSet at (modified c at e x y (used c.scope f).value (used c.scope v).value)) (sym (edges_are (used c.scope edges).value modifies.weights e.1))
-    (subst (λ g. GivesSet at (modified c at (entity.Edges modifies.weights) x y g (used c.scope v).value)) (sym (edge_function_entity (used c.scope f).value modifies.place modifies.weighted g.1))
-    (subst (λ w. GivesSet at (modified c at (entity.Edges modifies.weights) x y (entity.EdgeFunction modifies.place modifies.weighted) w)) (sym (vector_entity (used c.scope v).value modifies.written w.1))
-    (modified_good c at x y modifies.weights modifies.place modifies.weighted modifies.written a.1 b.1 modifies.sees writes))) in (
+    (subst (λ g. GivesSet at (modified c at (entity.Edges modifies.weights) x y g (used c.scope v).value)) (sym (edge_function_entity (used c.scope f).value modifies.index modifies.weighted g.1))
+    (subst (λ w. GivesSet at (modified c at (entity.Edges modifies.weights) x y (entity.EdgeFunction modifies.index modifies.weighted) w)) (sym (vector_entity (used c.scope v).value modifies.written w.1))
+    (modified_good c at x y modifies.weights modifies.index modifies.weighted modifies.written a.1 b.1 modifies.sees writes))) in (
       both_none (used c.scope edges).faults _ e.0 (both_none (end_of c.scope ends.from).faults _ a.0 (both_none (end_of c.scope ends.to).faults _ b.0
           (both_none (used c.scope f).faults _ g.0 (both_none (used c.scope v).faults _ w.0 all.0)))),
       all.1,
@@ -270,11 +270,11 @@ index_fits at value.ErrorValue is plain = absurd is
 -- a vector, an index and a value
 entry_kept : (c : CheckerTree) (k : Known) → Matches inside.Main c k → (at : ℕ) (name : Identifier) (vector : ℕ) (index e : ExpressionTree) → found name.bytes k.names ≡ Some (meaning.Vector vector)
     → IsNumber k.names inside.Main index → HasNoEntry index → IsNumber k.names inside.Main e
-    → (vector_place c.scope at name).faults ++ ((value_of c.scope at index).faults ++ ((as_index at (value_of c.scope at index).value).faults ++ ((integer_in c.scope at e).faults ++ []))) ≡ []
+    → (vector_index c.scope at name).faults ++ ((value_of c.scope at index).faults ++ ((as_index at (value_of c.scope at index).value).faults ++ ((integer_in c.scope at e).faults ++ []))) ≡ []
 entry_kept c k m at name vector index e means number plain gives =
     let v = value_of c.scope at index in
     let x = number_value inside.Main c k m at index number in
-    both_none (vector_place c.scope at name).faults _ (vector_kept inside.Main c k m at name vector means).0
+    both_none (vector_index c.scope at name).faults _ (vector_kept inside.Main c k m at name vector means).0
     (both_none v.faults _ x.none (both_none (as_index at v.value).faults _ (index_fits at v.value x.is (expression_reads_none c.scope at index plain))
     (both_none (integer_in c.scope at e).faults [] (number_kept inside.Main c k m at e gives) refl)))
 
@@ -315,27 +315,27 @@ if_applied : (at : ℕ) (m : WithFaults ActionTree) (b : Bool) → b ≡ false �
 if_applied at m true is none = absurd cc
 if_applied at m false is none = none
 
-edges_applied_fine : (at : ℕ) (a b : ApplyEndTree) (ends weights : Bool) (place : ℕ) (weighted : Bool) → IsGood a → IsGood b → SeesWeights weights weighted
-    → (applied at (entity.Edges weights) a b ends (entity.EdgeFunction place weighted)).faults ≡ []
-edges_applied_fine at Absent Absent ends weights place weighted first second sees =
-    if_applied at (edges_applied at Absent Absent false (Some place)) (not weights && weighted) (weights_seen weights weighted sees) refl
-edges_applied_fine at Absent (initial_value.Given f) ends weights place weighted first second sees =
-    if_applied at (edges_applied at Absent (initial_value.Given f) false (Some place)) (not weights && weighted) (weights_seen weights weighted sees) refl
-edges_applied_fine at (initial_value.Given f) Absent ends weights place weighted first second sees =
-    if_applied at (edges_applied at (initial_value.Given f) Absent false (Some place)) (not weights && weighted) (weights_seen weights weighted sees) refl
-edges_applied_fine at (initial_value.Given f) (initial_value.Given g) ends weights place weighted first second sees =
-    if_applied at (edges_applied at (initial_value.Given f) (initial_value.Given g) false (Some place)) (not weights && weighted) (weights_seen weights weighted sees) refl
-edges_applied_fine at Absent Wrong ends weights place weighted first second sees = absurd second
-edges_applied_fine at Absent ErrorEnd ends weights place weighted first second sees = absurd second
-edges_applied_fine at (initial_value.Given f) Wrong ends weights place weighted first second sees = absurd second
-edges_applied_fine at (initial_value.Given f) ErrorEnd ends weights place weighted first second sees = absurd second
-edges_applied_fine at Wrong b ends weights place weighted first second sees = absurd first
-edges_applied_fine at ErrorEnd b ends weights place weighted first second sees = absurd first
+edges_applied_fine : (at : ℕ) (a b : ApplyEndTree) (ends weights : Bool) (index : ℕ) (weighted : Bool) → IsGood a → IsGood b → SeesWeights weights weighted
+    → (applied at (entity.Edges weights) a b ends (entity.EdgeFunction index weighted)).faults ≡ []
+edges_applied_fine at Absent Absent ends weights index weighted first second sees =
+    if_applied at (edges_applied at Absent Absent false (Some index)) (not weights && weighted) (weights_seen weights weighted sees) refl
+edges_applied_fine at Absent (initial_value.Given f) ends weights index weighted first second sees =
+    if_applied at (edges_applied at Absent (initial_value.Given f) false (Some index)) (not weights && weighted) (weights_seen weights weighted sees) refl
+edges_applied_fine at (initial_value.Given f) Absent ends weights index weighted first second sees =
+    if_applied at (edges_applied at (initial_value.Given f) Absent false (Some index)) (not weights && weighted) (weights_seen weights weighted sees) refl
+edges_applied_fine at (initial_value.Given f) (initial_value.Given g) ends weights index weighted first second sees =
+    if_applied at (edges_applied at (initial_value.Given f) (initial_value.Given g) false (Some index)) (not weights && weighted) (weights_seen weights weighted sees) refl
+edges_applied_fine at Absent Wrong ends weights index weighted first second sees = absurd second
+edges_applied_fine at Absent ErrorEnd ends weights index weighted first second sees = absurd second
+edges_applied_fine at (initial_value.Given f) Wrong ends weights index weighted first second sees = absurd second
+edges_applied_fine at (initial_value.Given f) ErrorEnd ends weights index weighted first second sees = absurd second
+edges_applied_fine at Wrong b ends weights index weighted first second sees = absurd first
+edges_applied_fine at ErrorEnd b ends weights index weighted first second sees = absurd first
 
-set_applied_fine : (at : ℕ) (t : Entity) (a b : ApplyEndTree) (place : ℕ) → type_named (Some (meaning_of t)) ≡ Some Set → (applied at t a b false (entity.VertexFunction place)).faults ≡ []
-set_applied_fine at (entity.ConstantSet slot) a b place is = refl
-set_applied_fine at (entity.SetVariable slot) a b place is = refl
-set_applied_fine at _ a b place is = absurd cc
+set_applied_fine : (at : ℕ) (t : Entity) (a b : ApplyEndTree) (index : ℕ) → type_named (Some (meaning_of t)) ≡ Some Set → (applied at t a b false (entity.VertexFunction index)).faults ≡ []
+set_applied_fine at (entity.ConstantSet slot) a b index is = refl
+set_applied_fine at (entity.SetVariable slot) a b index is = refl
+set_applied_fine at _ a b index is = absurd cc
 
 no_ends : (from to : Option Identifier) → from ≡ None → to ≡ None → (is_some from || is_some to) ≡ false
 no_ends None None first second = refl
@@ -344,17 +344,17 @@ no_ends (Some from) to first second = absurd cc
 
 apply_kept : (c : CheckerTree) (k : Known) → Matches inside.Main c k → (at : ℕ) (target : Identifier) (ends : EndsTree) (function : Identifier) → ApplyFits k target ends function
     → (apply c.scope at target ends function).faults ≡ []
-apply_kept c k m at target ends function (AppliesEdges weights place weighted edges fit means sees) =
+apply_kept c k m at target ends function (AppliesEdges weights index weighted edges fit means sees) =
     let t = used_kept inside.Main c k m target (meaning.Edges weights) edges in
     let a = end_kept inside.Main c k m ends.from fit.0 in
     let b = end_kept inside.Main c k m ends.to fit.1 in
-    let f = used_kept inside.Main c k m function (meaning.EdgeFunction place weighted) means in
+    let f = used_kept inside.Main c k m function (meaning.EdgeFunction index weighted) means in
     let x = (end_of c.scope ends.from).value in
     let y = (end_of c.scope ends.to).value in
     both_none (used c.scope target).faults _ t.0 (both_none (end_of c.scope ends.from).faults _ a.0 (both_none (end_of c.scope ends.to).faults _ b.0 (both_none (used c.scope function).faults _ f.0
     (subst (λ t. (applied at t x y (has_ends ends) (used c.scope function).value).faults ≡ []) (sym (edges_are (used c.scope target).value weights t.1))
-    (subst (λ f. (applied at (entity.Edges weights) x y (has_ends ends) f).faults ≡ []) (sym (edge_function_entity (used c.scope function).value place weighted f.1))
-    (edges_applied_fine at x y (has_ends ends) weights place weighted a.1 b.1 sees))))))
+    (subst (λ f. (applied at (entity.Edges weights) x y (has_ends ends) f).faults ≡ []) (sym (edge_function_entity (used c.scope function).value index weighted f.1))
+    (edges_applied_fine at x y (has_ends ends) weights index weighted a.1 b.1 sees))))))
 apply_kept c k m at target ends function (AppliesVertices set from to means) =
     let t = set_kept inside.Main c k m target set in
     let f = used_kept inside.Main c k m function meaning.VertexFunction means in
@@ -410,10 +410,10 @@ mutual
   action_kept c k m (source.Print at e) keeps = in_place_kept c k m (print c.scope at e) (print_kept c k m at e keeps.1)
   action_kept c k m (source.Assign name initial) keeps = in_place_kept c k m (assign c name.at name initial) (assign_kept c k m name.at name initial keeps)
   action_kept c k m (source.Reduce name by e) keeps = in_place_kept c k m (reduce c.scope name.at name by e) (reduce_kept c k m name.at name by e keeps.0 keeps.1)
-  action_kept c k m (source.SetEntry vector index e) keeps =
-      in_place_kept c k m (set_entry c.scope vector.at vector index e) (entry_kept c k m vector.at vector keeps.1.vector index e keeps.1.means keeps.2.0 keeps.2.1 keeps.3)
-  action_kept c k m (source.ReduceEntry vector index by e) keeps =
-      in_place_kept c k m (reduce_entry c.scope vector.at vector index by e) (entry_kept c k m vector.at vector keeps.place index e keeps.means keeps.at.0 keeps.at.1 keeps.value)
+  action_kept c k m (source.SetEntry vector subscript e) keeps =
+      in_place_kept c k m (set_entry c.scope vector.at vector subscript e) (entry_kept c k m vector.at vector keeps.1.vector subscript e keeps.1.means keeps.2.0 keeps.2.1 keeps.3)
+  action_kept c k m (source.ReduceEntry vector subscript by e) keeps =
+      in_place_kept c k m (reduce_entry c.scope vector.at vector subscript by e) (entry_kept c k m vector.at vector keeps.index subscript e keeps.means keeps.at.0 keeps.at.1 keeps.value)
   action_kept c k m (source.AddVertex set e) keeps = in_place_kept c k m (add_vertex c.scope set.at set e) (add_kept c k m set.at set e keeps.1 keeps.2)
   action_kept c k m (source.Apply target ends function) keeps = in_place_kept c k m (apply c.scope target.at target ends function) (apply_kept c k m target.at target ends function keeps.1)
 

@@ -15,7 +15,7 @@ use Rattle.typed_tree.specs.declared.expression.Endpoint.TheVariants as endpoint
 use Rattle.expression_types.specs.declared.scope.Entity.TheVariants as entity
 use Rattle.expression_types.specs.declared.scope.Inside.{Inside}
 use Rattle.expression_types.specs.declared.scope.Inside.TheVariants as inside
-use Rattle.expression_types.specs.Expression.{index_value, used, value_of, vector_place}
+use Rattle.expression_types.specs.Expression.{index_value, used, value_of, vector_index}
 use Rattle.expression_types.specs.Names.{found}
 use Rattle.expression_types.specs.ValueTree as value
 use Rattle.expression_types.specs.ValueTree.{ValueTree}
@@ -136,7 +136,7 @@ set_entry_kept : (i : Inside) (c : CheckerTree) (k : Known) → IsUser i → Mat
     → found name.bytes k.names ≡ Some (meaning.Vector vector) → WrittenAt i k.names index → IsNumber k.names i e → (set_entry_step c.scope at name index e).faults ≡ []
 set_entry_kept i c k user m at name vector index e may means written number =
     both_none (may_set at c.scope.inside).faults _ (subst (λ j. (may_set at j).faults ≡ []) (sym m.inside) (may_set_fine at i may))
-    (both_none (vector_place c.scope at name).faults _ (vector_kept i c k m at name vector means).0
+    (both_none (vector_index c.scope at name).faults _ (vector_kept i c k m at name vector means).0
     (index_and_value i c k m at index e (at_own_vertex i k.names index user written) number))
 
 -- one reduction of a vector
@@ -172,18 +172,18 @@ with_reduced inside.EdgeFunction c k name by writes m is = record { names = m.na
 with_reduced inside.VertexFunction c k name by writes m is = record { names = m.names; labels = m.labels; reduced = is; written = m.written; inside = m.inside }
 with_reduced inside.Filter c k name by writes m is = record { names = m.names; labels = m.labels; reduced = is; written = m.written; inside = m.inside }
 
-reduce_entry_kept : (i : Inside) (c : CheckerTree) (k : Known) → IsUser i → Matches i c k → (at : ℕ) (name : Identifier) (index : ExpressionTree) (by : Reduction) (e : ExpressionTree)
-    → ReducesEntry i k name index by e → StepKeeps i (reduce_entry_step c at name index by e) (reduced_in i k name by)
-reduce_entry_kept i c k user m at name index by e keeps =
-    let place = vector_place c.scope at name in
-    let there = vector_kept i c k m at name keeps.place keeps.means in
-    let may = may_reduce at c.scope.inside place.value by c.writes in
+reduce_entry_kept : (i : Inside) (c : CheckerTree) (k : Known) → IsUser i → Matches i c k → (at : ℕ) (name : Identifier) (subscript : ExpressionTree) (by : Reduction) (e : ExpressionTree)
+    → ReducesEntry i k name subscript by e → StepKeeps i (reduce_entry_step c at name subscript by e) (reduced_in i k name by)
+reduce_entry_kept i c k user m at name subscript by e keeps =
+    let index = vector_index c.scope at name in
+    let there = vector_kept i c k m at name keeps.index keeps.means in
+    let may = may_reduce at c.scope.inside index.value by c.writes in
     let is : Reduced may (reduced_in i k name by).reduced =
-    subst (λ j. Reduced (may_reduce at j place.value by c.writes) (reduced_in i k name by).reduced) (sym m.inside)
+    subst (λ j. Reduced (may_reduce at j index.value by c.writes) (reduced_in i k name by).reduced) (sym m.inside)
     (subst (λ p. Reduced (may_reduce at i p by c.writes) (reduced_in i k name by).reduced) (sym there.1)
-    (subst (λ w. Reduced (may_reduce at i (Some keeps.place) by w) (reduced_in i k name by).reduced) (sym m.reduced)
-    (reduces i k at keeps.place name by user keeps.means keeps.may))) in (
-      both_none place.faults _ there.0 (both_none may.faults _ is.none (index_and_value i c k m at index e (at_own_vertex i k.names index user keeps.at) keeps.value)),
+    (subst (λ w. Reduced (may_reduce at i (Some keeps.index) by w) (reduced_in i k name by).reduced) (sym m.reduced)
+    (reduces i k at keeps.index name by user keeps.means keeps.may))) in (
+      both_none index.faults _ there.0 (both_none may.faults _ is.none (index_and_value i c k m at subscript e (at_own_vertex i k.names subscript user keeps.at) keeps.value)),
       with_reduced i c k name by may.value.1 m is.writes_are,
     )
 

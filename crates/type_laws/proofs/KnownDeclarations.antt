@@ -112,7 +112,7 @@ constant_known d at name initial declared.Bool initializer known none =
     name_known d name (entity.ConditionConstant (next_name d) b.value) known tt (no_right b.faults _ none)
 constant_known d at name initial declared.Vertex initializer known none = absurd (not_empty _ _ none)
 constant_known d at name initial declared.VertexSet initializer known none =
-    let e = entity.ConstantSet (record { place = length d.sets; name = next_name d }) in
+    let e = entity.ConstantSet (record { index = length d.sets; name = next_name d }) in
     name_known d name e known tt (no_left (declare_name d name e).faults [] (no_right (has_all at initializer).faults _ none))
 constant_known d at name initial declared.Vector initializer known none =
     let e = entity.Vector (length d.vectors) in

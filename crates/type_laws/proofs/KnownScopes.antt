@@ -32,7 +32,7 @@ nowhere p name = ⊥
 
 abbrev pub EntityIsKnown : Vertices → List ℕ → Entity → Type 0
 EntityIsKnown At name (entity.Edges weights) = Unit {0}
-EntityIsKnown At name (entity.Vector place) = Unit {0}
+EntityIsKnown At name (entity.Vector index) = Unit {0}
 EntityIsKnown At name (entity.ConstantSet slot) = Unit {0}
 EntityIsKnown At name (entity.IntegerConstant own n) = Unit {0}
 EntityIsKnown At name (entity.ConditionConstant own b) = Unit {0}
@@ -42,9 +42,9 @@ EntityIsKnown At name (entity.SetVariable slot) = Unit {0}
 EntityIsKnown At name (entity.LoopVariable slot) = Unit {0}
 EntityIsKnown At name (entity.Parameter p) = At p name
 EntityIsKnown At name entity.Weight = Unit {0}
-EntityIsKnown At name (entity.EdgeFunction place weighted) = Unit {0}
-EntityIsKnown At name (entity.VertexFunction place) = Unit {0}
-EntityIsKnown At name (entity.Filter place) = Unit {0}
+EntityIsKnown At name (entity.EdgeFunction index weighted) = Unit {0}
+EntityIsKnown At name (entity.VertexFunction index) = Unit {0}
+EntityIsKnown At name (entity.Filter index) = Unit {0}
 EntityIsKnown At name entity.Main = Unit {0}
 EntityIsKnown At name entity.Error = ⊥
 
@@ -94,9 +94,9 @@ declared_known At i c name e known is none =
     declared_over_known At i o name e c.scope known is (no_left (declared_over o name e c.scope).faults [] none)
 
 -- a label stands for nothing
-new_label_scope : (c : CheckerTree) (label : Identifier) (place : Option ℕ) → (new_label c label place).value.1.scope ≡ c.scope
+new_label_scope : (c : CheckerTree) (label : Identifier) (index : Option ℕ) → (new_label c label index).value.1.scope ≡ c.scope
 new_label_scope c label None = refl
-new_label_scope c label (Some place) = refl
+new_label_scope c label (Some index) = refl
 
 pub labelled_scope : (c : CheckerTree) (label : Option Identifier) → (labelled c label).value.1.scope ≡ c.scope
 labelled_scope c None = refl

@@ -84,15 +84,15 @@ meets_like c d b e xs before before_names behind behind_names all = record {
       (all.distinct (subst (λ ls. IsDistinct bytes_eq (map (λ x. x.0) ls)) before distinct));
 }
 
-new_label_meets : (c : CheckerTree) (label : Identifier) (place : Option ℕ) → found label.bytes c.labels ≡ place → (new_label c label place).faults ≡ []
-    → Meets c (new_label c label place).value.1 (label.bytes ∷ [])
+new_label_meets : (c : CheckerTree) (label : Identifier) (index : Option ℕ) → found label.bytes c.labels ≡ index → (new_label c label index).faults ≡ []
+    → Meets c (new_label c label index).value.1 (label.bytes ∷ [])
 new_label_meets c label None is none = record {
   all = map-append (λ x. x.0) c.labels ((label.bytes, length c.labels) ∷ []);
   names = refl;
   distinct = λ distinct. subst (λ ls. IsDistinct bytes_eq ls) (sym (map-append (λ x. x.0) c.labels ((label.bytes, length c.labels) ∷ [])))
       (distinct_end (met c) label.bytes distinct (all_differ label.bytes c.labels is));
 }
-new_label_meets c label (Some place) is none = absurd (not_empty _ _ none)
+new_label_meets c label (Some index) is none = absurd (not_empty _ _ none)
 
 labelled_meets : (c : CheckerTree) (label : Option Identifier) → (labelled c label).faults ≡ [] → Meets c (labelled c label).value.1 (own_label label)
 labelled_meets c None none = meets_none c

@@ -12,7 +12,7 @@ use Rattle.typed_tree.specs.IntegerTree.{IntegerTree}
 use Rattle.typed_tree.specs.BlockTree.{ActionTree, BlockTree, Empty, Then}
 use Rattle.expression_types.specs.declared.scope.Entity.{Entity}
 use Rattle.expression_types.specs.declared.scope.Entity.TheVariants as entity
-use Rattle.expression_types.specs.Expression.{used, value_of, vector_place}
+use Rattle.expression_types.specs.Expression.{used, value_of, vector_index}
 use Rattle.expression_types.specs.Names.{found}
 use Rattle.expression_types.specs.WithFaults.{WithFaults}
 use Rattle.expression_types.specs.ValueTree as value
@@ -24,7 +24,7 @@ use Rattle.types.specs.Initial.{ApplyEndTree, InitializerTree, edge_function, en
 use Rattle.types.specs.Program.{main_of, opening, program_of, set_count}
 use Rattle.types.specs.Statement.{add_vertex, added, applied, apply, assign, assigned, declare_as, edges_applied, entry_reduced, entry_set, has_ends, print, printed, reduce, reduce_entry, reduced, set_applied, set_entry, vertices_applied}
 use Rattle.types.specs.Wanted.{as_index, condition_in, integer_in}
-use Rattle.type_laws.specs.LabelPlaces.{LabelsAreInOrder, inner_places, label_places, own_place}
+use Rattle.type_laws.specs.LabelIndices.{LabelsAreInOrder, inner_indices, label_indices, own_index}
 use Rattle.type_laws.specs.Numbers.{InOrder}
 use Rattle.type_laws.proofs.Faultless.{no_left, no_right, not_empty}
 use Rattle.type_laws.proofs.Numbers.{order-append}
@@ -46,17 +46,17 @@ then_labels a b c xs ys first second =
       count = omega (arith, h, k, length-append xs ys);
     }
 
-places_behind : (so_far : BlockTree) (number : ℕ) (label : Option ℕ) (action : ActionTree)
-    → label_places (behind so_far number label action) ≡ label_places so_far ++ (own_place label ++ (inner_places action ++ []))
-places_behind Empty number label action = refl
-places_behind (Then n l a others) number label action =
-    ap (λ ls. own_place l ++ (inner_places a ++ ls)) (places_behind others number label action)
-    ∙ ap (λ ls. own_place l ++ ls) (sym (append_assoc (inner_places a) (label_places others) (own_place label ++ (inner_places action ++ []))))
-    ∙ sym (append_assoc (own_place l) (inner_places a ++ label_places others) (own_place label ++ (inner_places action ++ [])))
+indices_behind : (so_far : BlockTree) (number : ℕ) (label : Option ℕ) (action : ActionTree)
+    → label_indices (behind so_far number label action) ≡ label_indices so_far ++ (own_index label ++ (inner_indices action ++ []))
+indices_behind Empty number label action = refl
+indices_behind (Then n l a others) number label action =
+    ap (λ ls. own_index l ++ (inner_indices a ++ ls)) (indices_behind others number label action)
+    ∙ ap (λ ls. own_index l ++ ls) (sym (append_assoc (inner_indices a) (label_indices others) (own_index label ++ (inner_indices action ++ []))))
+    ∙ sym (append_assoc (own_index l) (inner_indices a ++ label_indices others) (own_index label ++ (inner_indices action ++ [])))
 
 -- no statement is in it
 abbrev Plain : ActionTree → Type 0
-Plain a = inner_places a ≡ []
+Plain a = inner_indices a ≡ []
 
 if_plain : (b : Bool) (x y : WithFaults ActionTree) → Plain x.value → Plain y.value → Plain (if b then x else y).value
 if_plain true x y first second = first
@@ -116,20 +116,20 @@ abbrev met : CheckerTree → ℕ
 met c = length c.labels
 
 abbrev ActionFollows : ℕ → ActionTree × CheckerTree → Type 0
-ActionFollows n r = Follow n (inner_places r.0) (met r.1)
+ActionFollows n r = Follow n (inner_indices r.0) (met r.1)
 
 abbrev BlockFollows : ℕ → BlockTree × CheckerTree → Type 0
-BlockFollows n b = Follow n (label_places b.0) (met b.1)
+BlockFollows n b = Follow n (label_indices b.0) (met b.1)
 
-plain_follows : (n : ℕ) (a : ActionTree) → Plain a → Follow n (inner_places a) n
+plain_follows : (n : ℕ) (a : ActionTree) → Plain a → Follow n (inner_indices a) n
 plain_follows n a plain = subst (λ ls. Follow n ls n) (sym plain) (no_labels n)
 
-new_label_follows : (c : CheckerTree) (label : Identifier) (place : Option ℕ) → (new_label c label place).faults ≡ []
-    → Follow (met c) (own_place (new_label c label place).value.0) (met (new_label c label place).value.1)
+new_label_follows : (c : CheckerTree) (label : Identifier) (index : Option ℕ) → (new_label c label index).faults ≡ []
+    → Follow (met c) (own_index (new_label c label index).value.0) (met (new_label c label index).value.1)
 new_label_follows c label None none = record { ordered = (refl, tt); count = omega (arith, length-append c.labels ((label.bytes, length c.labels) ∷ [])) }
-new_label_follows c label (Some place) none = absurd (not_empty _ _ none)
+new_label_follows c label (Some index) none = absurd (not_empty _ _ none)
 
-labelled_follows : (c : CheckerTree) (label : Option Identifier) → (labelled c label).faults ≡ [] → Follow (met c) (own_place (labelled c label).value.0) (met (labelled c label).value.1)
+labelled_follows : (c : CheckerTree) (label : Option Identifier) → (labelled c label).faults ≡ [] → Follow (met c) (own_index (labelled c label).value.0) (met (labelled c label).value.1)
 labelled_follows c None none = no_labels (met c)
 labelled_follows c (Some label) none = new_label_follows c label (found label.bytes c.labels) none
 
@@ -161,7 +161,7 @@ mutual
       let d = closed c b.value.1 in
       let o = statements_typed d Empty otherwise in
       let both = no_right (condition_in c.scope at test).faults (b.faults ++ (o.faults ++ [])) none in
-      then_labels (met c) (met b.value.1) (met o.value.1) (label_places b.value.0) (label_places o.value.0)
+      then_labels (met c) (met b.value.1) (met o.value.1) (label_indices b.value.0) (label_indices o.value.0)
       (statements_follow (met c) c Empty body (no_left b.faults (o.faults ++ []) both) (no_labels (met c)))
       (statements_follow (met b.value.1) d Empty otherwise (no_left o.faults [] (no_right b.faults (o.faults ++ []) both)) (no_labels (met b.value.1)))
   action_follows c (source.Print at e) none = plain_follows (met c) (print c.scope at e).value (printed_plain at (value_of c.scope at e).value)
@@ -170,15 +170,15 @@ mutual
   action_follows c (source.Reduce name by e) none =
       plain_follows (met c) (reduce c.scope name.at name by e).value (reduced_plain name.at by (value_of c.scope name.at e).value (used c.scope name).value)
   action_follows c (source.SetEntry vector index e) none =
-      plain_follows (met c) (set_entry c.scope vector.at vector index e).value (set_plain (vector_place c.scope vector.at vector).value (as_index vector.at (value_of c.scope vector.at index).value).value (integer_in c.scope vector.at e).value)
+      plain_follows (met c) (set_entry c.scope vector.at vector index e).value (set_plain (vector_index c.scope vector.at vector).value (as_index vector.at (value_of c.scope vector.at index).value).value (integer_in c.scope vector.at e).value)
   action_follows c (source.ReduceEntry vector index by e) none =
-      plain_follows (met c) (reduce_entry c.scope vector.at vector index by e).value (entry_plain (vector_place c.scope vector.at vector).value (as_index vector.at (value_of c.scope vector.at index).value).value by (integer_in c.scope vector.at e).value)
+      plain_follows (met c) (reduce_entry c.scope vector.at vector index by e).value (entry_plain (vector_index c.scope vector.at vector).value (as_index vector.at (value_of c.scope vector.at index).value).value by (integer_in c.scope vector.at e).value)
   action_follows c (source.AddVertex set e) none =
       plain_follows (met c) (add_vertex c.scope set.at set e).value (added_plain set.at (value_of c.scope set.at e).value (used c.scope set).value)
   action_follows c (source.Apply target ends function) none =
       plain_follows (met c) (apply c.scope target.at target ends function).value (applied_plain target.at (used c.scope target).value (end_of c.scope ends.from).value (end_of c.scope ends.to).value (has_ends ends) (used c.scope function).value)
 
-  statements_follow : (n : ℕ) (c : CheckerTree) (so_far : BlockTree) (block : source.BlockTree) → (statements_typed c so_far block).faults ≡ [] → Follow n (label_places so_far) (met c)
+  statements_follow : (n : ℕ) (c : CheckerTree) (so_far : BlockTree) (block : source.BlockTree) → (statements_typed c so_far block).faults ≡ [] → Follow n (label_indices so_far) (met c)
       → BlockFollows n (statements_typed c so_far block).value
   statements_follow n c so_far source.Empty none follow = follow
   statements_follow n c so_far (source.Then label action others) none follow =
@@ -191,15 +191,15 @@ mutual
       let both = no_right l.faults (a.faults ++ rest.faults) none in
       let own = labelled_follows c label (no_left l.faults (a.faults ++ rest.faults) none) in
       let inner = action_follows d action (no_left a.faults rest.faults both) in
-      let inside = then_labels (met l.value.1) (met a.value.1) (met a.value.1) (inner_places a.value.0) [] inner (no_labels (met a.value.1)) in
-      let here = then_labels (met c) (met l.value.1) (met a.value.1) (own_place l.value.0) (inner_places a.value.0 ++ []) own inside in
-      let all = then_labels n (met c) (met a.value.1) (label_places so_far) (own_place l.value.0 ++ (inner_places a.value.0 ++ [])) follow here in
+      let inside = then_labels (met l.value.1) (met a.value.1) (met a.value.1) (inner_indices a.value.0) [] inner (no_labels (met a.value.1)) in
+      let here = then_labels (met c) (met l.value.1) (met a.value.1) (own_index l.value.0) (inner_indices a.value.0 ++ []) own inside in
+      let all = then_labels n (met c) (met a.value.1) (label_indices so_far) (own_index l.value.0 ++ (inner_indices a.value.0 ++ [])) follow here in
       statements_follow n a.value.1 next others (no_right a.faults rest.faults both)
-      (subst (λ ls. Follow n ls (met a.value.1)) (sym (places_behind so_far number l.value.0 a.value.0)) all)
+      (subst (λ ls. Follow n ls (met a.value.1)) (sym (indices_behind so_far number l.value.0 a.value.0)) all)
 
 -- the labels of what is main so far
 abbrev AreOrdered : BlockTree → Type 0
-AreOrdered main = (first : ℕ) × InOrder first (label_places main)
+AreOrdered main = (first : ℕ) × InOrder first (label_indices main)
 
 abbrev MainIsOrdered : Option BlockTree → Type 0
 MainIsOrdered None = Unit {0}

@@ -142,7 +142,7 @@ edge_adds d weighted parameters src dst body fits known first none =
     let nothing = parameters_write_nothing weighted e endpoint.Source parameters in
     steps_add (edge_body src dst) [] c.value NoStep body inner none (subst (λ writes. Adds [] writes []) (sym nothing) (adds_none []))
 
--- a list with one more, at a place
+-- a list with one more, at an index
 index_cases : {A : Type 0} (xs : List A) (last other : A) (k : ℕ) → (slice_index_or (xs ++ last ∷ []) k other ≡ slice_index_or xs k other) ⊎ ((k ≡ length xs) × (slice_index_or (xs ++ last ∷ []) k other ≡ last))
 index_cases [] last other zero = inr (refl, refl)
 index_cases [] last other (suc k) = inl refl
@@ -169,14 +169,14 @@ before_name zero (x ∷ sets) k a below is = absurd (omega (arith, below))
 before_name (suc count) (x ∷ sets) zero a below is = ap Some is
 before_name (suc count) (x ∷ sets) (suc k) a below is = before_name count sets k a (omega (arith, below)) is
 
--- places within a list have an element there
+-- indices within a list have an element there
 within_list : {A : Type 0} (xs : List A) (k : ℕ) → k < length xs → (x : A) × (slice_get xs k ≡ Some x)
 within_list [] k below = absurd (omega (arith, below))
 within_list (x ∷ xs) zero below = (x, refl)
 within_list (x ∷ xs) (suc k) below = within_list xs k (omega (arith, below))
 
 abbrev InSets : List ℕ → Visible
-InSets sets place name = slice_get sets place ≡ Some name
+InSets sets index name = slice_get sets index ≡ Some name
 
 module _ (p : ProgramTree) where
   -- the program has all that was declared
@@ -304,12 +304,12 @@ module _ (p : ProgramTree) where
         written = fits.written;
       }
 
-  new_set : (sets : List ℕ) (functions : ℕ) (c : CheckerTree) (name : Identifier) → (declared_in c name (entity.ConstantSet (record { place = length sets; name = length c.names }))).faults ≡ []
-      → Begins (declared_in c name (entity.ConstantSet (record { place = length sets; name = length c.names }))).value.names p.names → CheckerFits sets functions c
-      → CheckerFits (sets ++ length c.names ∷ []) functions (declared_in c name (entity.ConstantSet (record { place = length sets; name = length c.names }))).value
+  new_set : (sets : List ℕ) (functions : ℕ) (c : CheckerTree) (name : Identifier) → (declared_in c name (entity.ConstantSet (record { index = length sets; name = length c.names }))).faults ≡ []
+      → Begins (declared_in c name (entity.ConstantSet (record { index = length sets; name = length c.names }))).value.names p.names → CheckerFits sets functions c
+      → CheckerFits (sets ++ length c.names ∷ []) functions (declared_in c name (entity.ConstantSet (record { index = length sets; name = length c.names }))).value
   new_set sets functions c name none within fits =
       let new = length c.names in
-      let e = entity.ConstantSet (record { place = length sets; name = new }) in
+      let e = entity.ConstantSet (record { index = length sets; name = new }) in
       let V = InSets sets in
       let W = InSets (sets ++ new ∷ []) in
       let there = within (length c.names) name.bytes (get_last c.names name.bytes []) in
@@ -343,7 +343,7 @@ module _ (p : ProgramTree) where
       as_declared _ (no_set d.sets (length d.edge_functions) d.checker name e left within.names tt refl (checker_of d fits)) known fits.main
   constant_fits d at name initial declared.Vertex initializer none within known fits = absurd (not_empty _ _ none)
   constant_fits d at name initial declared.VertexSet initializer none within known fits =
-      let e = entity.ConstantSet (record { place = length d.sets; name = next_name d }) in
+      let e = entity.ConstantSet (record { index = length d.sets; name = next_name d }) in
       let named = no_left (declare_name d name e).faults [] (no_right (has_all at initializer).faults _ none) in
       let left = no_left (declared_in d.checker name e).faults [] named in
       as_declared _ (new_set d.sets (length d.edge_functions) d.checker name left within.names (checker_of d fits)) known fits.main
@@ -580,7 +580,7 @@ module _ (p : ProgramTree) where
   opening_fits n counted = record {
     sets = record {
       known = tt;
-      named = λ place name is. absurd (none-some name is);
+      named = λ index name is. absurd (none-some name is);
       apart = λ i j a b first second same. absurd (none-some a first);
     };
     count = counted;

@@ -22,7 +22,7 @@ use Rattle.typed_tree.specs.IntegerTree.{IntegerTree}
 use Rattle.typed_tree.specs.ProgramTree.{ProgramTree}
 use Rattle.expression_types.specs.declared.scope.Entity.{Entity}
 use Rattle.expression_types.specs.declared.scope.Entity.TheVariants as entity
-use Rattle.expression_types.specs.Expression.{used, used_as, value_of, vector_place}
+use Rattle.expression_types.specs.Expression.{used, used_as, value_of, vector_index}
 use Rattle.expression_types.specs.Names.{found}
 use Rattle.expression_types.specs.ScopeTree.{ScopeTree, declared_over, sets_of, with_entity}
 use Rattle.expression_types.specs.WithFaults.{WithFaults}
@@ -69,75 +69,75 @@ get_cases (z ∷ xs) y (suc k) x is =
     elim (get_cases xs y k x is) [ inl h ↦ inl h | inr h ↦ (let same : k ≡ length xs = h.0 in inr (omega (arith, same), h.1)) ]
 
 -- a label changes nothing that edge functions write
-new_label_written : (c : CheckerTree) (label : Identifier) (place : Option ℕ) → (new_label c label place).value.1.written ≡ c.written
+new_label_written : (c : CheckerTree) (label : Identifier) (index : Option ℕ) → (new_label c label index).value.1.written ≡ c.written
 new_label_written c label None = refl
-new_label_written c label (Some place) = refl
+new_label_written c label (Some index) = refl
 
 pub labelled_written : (c : CheckerTree) (label : Option Identifier) → (labelled c label).value.1.written ≡ c.written
 labelled_written c None = refl
 labelled_written c (Some label) = new_label_written c label (found label.bytes c.labels)
 
--- at which places vertex sets are visible, and by which names
+-- at which indices vertex sets are visible, and by which names
 abbrev pub Visible : Type 1
-Visible = (place name : ℕ) → Type 0
+Visible = (index name : ℕ) → Type 0
 
 abbrev pub InNames : SetNames → Visible
-InNames names place name = slice_get names place ≡ Some (Some name)
+InNames names index name = slice_get names index ≡ Some (Some name)
 
 module _ (p : ProgramTree) where
   -- a set that a name stands for is visible
   abbrev pub EntityStands : Visible → Entity → Type 0
   EntityStands V (entity.Edges weights) = Unit {0}
-  EntityStands V (entity.Vector place) = Unit {0}
-  EntityStands V (entity.ConstantSet slot) = V slot.place slot.name
+  EntityStands V (entity.Vector index) = Unit {0}
+  EntityStands V (entity.ConstantSet slot) = V slot.index slot.name
   EntityStands V (entity.IntegerConstant name n) = Unit {0}
   EntityStands V (entity.ConditionConstant name b) = Unit {0}
   EntityStands V (entity.IntegerVariable slot) = Unit {0}
   EntityStands V (entity.ConditionVariable slot) = Unit {0}
-  EntityStands V (entity.SetVariable slot) = V slot.place slot.name × (length p.sets ≤ slot.place)
+  EntityStands V (entity.SetVariable slot) = V slot.index slot.name × (length p.sets ≤ slot.index)
   EntityStands V (entity.LoopVariable slot) = Unit {0}
   EntityStands V (entity.Parameter at) = Unit {0}
   EntityStands V entity.Weight = Unit {0}
-  EntityStands V (entity.EdgeFunction place weighted) = Unit {0}
-  EntityStands V (entity.VertexFunction place) = Unit {0}
-  EntityStands V (entity.Filter place) = Unit {0}
+  EntityStands V (entity.EdgeFunction index weighted) = Unit {0}
+  EntityStands V (entity.VertexFunction index) = Unit {0}
+  EntityStands V (entity.Filter index) = Unit {0}
   EntityStands V entity.Main = Unit {0}
   EntityStands V entity.Error = Unit {0}
 
   -- the visible sets are those that visible names stand for, and have different names
   pub record SetsFit (V : Visible) (scope : ScopeTree) : Type 0 where
     pub known : AllByRecursion (λ x. EntityStands V x.1) scope.visible
-    pub named : (place name : ℕ) → V place name → IsAmong (name_at p.names name) (map (λ x. x.0) scope.visible)
+    pub named : (index name : ℕ) → V index name → IsAmong (name_at p.names name) (map (λ x. x.0) scope.visible)
     pub apart : (i j a b : ℕ) → V i a → V j b → are_same p.names a b ≡ true → i ≡ j
 
-  entity_stands : (V W : Visible) → ((place name : ℕ) → V place name → W place name) → (e : Entity) → EntityStands V e → EntityStands W e
-  entity_stands V W more (entity.ConstantSet slot) is = more slot.place slot.name is
-  entity_stands V W more (entity.SetVariable slot) is = (more slot.place slot.name is.0, is.1)
+  entity_stands : (V W : Visible) → ((index name : ℕ) → V index name → W index name) → (e : Entity) → EntityStands V e → EntityStands W e
+  entity_stands V W more (entity.ConstantSet slot) is = more slot.index slot.name is
+  entity_stands V W more (entity.SetVariable slot) is = (more slot.index slot.name is.0, is.1)
   entity_stands V W more _ is = tt
 
-  pub all_stand : (V W : Visible) → ((place name : ℕ) → V place name → W place name) → (visible : List (List ℕ × Entity)) → AllByRecursion (λ x. EntityStands V x.1) visible
+  pub all_stand : (V W : Visible) → ((index name : ℕ) → V index name → W index name) → (visible : List (List ℕ × Entity)) → AllByRecursion (λ x. EntityStands V x.1) visible
       → AllByRecursion (λ x. EntityStands W x.1) visible
   all_stand V W more [] all = tt
   all_stand V W more (x ∷ others) all = (entity_stands V W more x.1 all.0, all_stand V W more others all.1)
 
-  -- a declaration of a name, of a set at a place or of something else
-  module _ (V W : Visible) (c : CheckerTree) (name : Identifier) (e : Entity) (none : (declared_in c name e).faults ≡ []) (there : slice_get p.names (length c.names) ≡ Some name.bytes) (fits : SetsFit V c.scope) (more : (place own : ℕ) → V place own → W place own) (at : ℕ) (less : (place own : ℕ) → W place own → V place own ⊎ ((place ≡ at) × (own ≡ length c.names))) (stands : EntityStands W e) where
+  -- a declaration of a name, of a set at an index or of something else
+  module _ (V W : Visible) (c : CheckerTree) (name : Identifier) (e : Entity) (none : (declared_in c name e).faults ≡ []) (there : slice_get p.names (length c.names) ≡ Some name.bytes) (fits : SetsFit V c.scope) (more : (index own : ℕ) → V index own → W index own) (at : ℕ) (less : (index own : ℕ) → W index own → V index own ⊎ ((index ≡ at) × (own ≡ length c.names))) (stands : EntityStands W e) where
     is_name : name_at p.names (length c.names) ≡ name.bytes
     is_name = ap or_empty there
 
     is_own : (own : ℕ) → own ≡ length c.names → name_at p.names own ≡ name.bytes
     is_own own same = ap (name_at p.names) same ∙ is_name
 
-    new_named : (place own : ℕ) → W place own → IsAmong (name_at p.names own) (map (λ x. x.0) c.scope.visible ++ name.bytes ∷ [])
-    new_named place own is =
-        elim (less place own is) [
-          | inl old ↦ among_left (name_at p.names own) (map (λ x. x.0) c.scope.visible) (name.bytes ∷ []) (fits.named place own old)
+    new_named : (index own : ℕ) → W index own → IsAmong (name_at p.names own) (map (λ x. x.0) c.scope.visible ++ name.bytes ∷ [])
+    new_named index own is =
+        elim (less index own is) [
+          | inl old ↦ among_left (name_at p.names own) (map (λ x. x.0) c.scope.visible) (name.bytes ∷ []) (fits.named index own old)
           | inr new ↦ among_last (name_at p.names own) name.bytes (map (λ x. x.0) c.scope.visible) (is_own own new.1)
         ]
 
-    differ : (place a b : ℕ) → V place a → b ≡ length c.names → name_at p.names a ≡ name_at p.names b → ⊥
-    differ place a b old new same =
-        new_not_among name.bytes (name_at p.names a) (map (λ x. x.0) c.scope.visible) (declared_new c name e none).0 (same ∙ is_own b new) (fits.named place a old)
+    differ : (index a b : ℕ) → V index a → b ≡ length c.names → name_at p.names a ≡ name_at p.names b → ⊥
+    differ index a b old new same =
+        new_not_among name.bytes (name_at p.names a) (map (λ x. x.0) c.scope.visible) (declared_new c name e none).0 (same ∙ is_own b new) (fits.named index a old)
 
     equal_bytes : (a b : ℕ) → are_same p.names a b ≡ true → name_at p.names a ≡ name_at p.names b
     equal_bytes a b same = (bytes_eq-Decides (name_at p.names a) (name_at p.names b)).0 same
@@ -160,7 +160,7 @@ module _ (p : ProgramTree) where
     entity_fits : SetsFit W (with_entity name.bytes e c.scope)
     entity_fits = record {
       known = all_then (λ x. EntityStands W x.1) c.scope.visible (name.bytes, e) (all_stand V W more c.scope.visible fits.known) stands;
-      named = λ place own is. subst (IsAmong (name_at p.names own)) (sym (map-append (λ x. x.0) c.scope.visible ((name.bytes, e) ∷ []))) (new_named place own is);
+      named = λ index own is. subst (IsAmong (name_at p.names own)) (sym (map-append (λ x. x.0) c.scope.visible ((name.bytes, e) ∷ []))) (new_named index own is);
       apart = new_apart;
     }
 
@@ -185,7 +185,7 @@ module _ (p : ProgramTree) where
   used_among V name [] all = tt
   used_among V name (x ∷ others) all = used_first V name (bytes_eq name.bytes x.0) x.1 (found name.bytes others) all.0 (used_among V name others all.1)
 
-  -- in main: the names of the sets by their places, and what edge functions write
+  -- in main: the names of the sets by their indices, and what edge functions write
   abbrev pub AreWritten : List (List (ℕ × Reduction)) → Type 0
   AreWritten written = (function vector : ℕ) → writes_vector written function vector ≡ true → Contains (function_writes p.edge_functions function) vector
 
@@ -227,7 +227,7 @@ module _ (p : ProgramTree) where
     end_named : (names : SetNames) (e : Entity) → Stands names e → EndIsVisible names (given_filter (filter_named e))
     end_named names (entity.ConstantSet slot) is = is
     end_named names (entity.SetVariable slot) is = is.0
-    end_named names (entity.Filter place) is = tt
+    end_named names (entity.Filter index) is = tt
     end_named names _ is = tt
 
     main_end : (names : SetNames) (c : CheckerTree) (name : Option Identifier) → MainFits functions names c → EndIsVisible names (given_filter (end_of c.scope name).value)
@@ -250,10 +250,10 @@ module _ (p : ProgramTree) where
     of_edges_stands : (names : SetNames) (at : ℕ) (x : InitializerTree) (e : Entity) → InitializerStands names x → InitializerStands names (of_edges at x e).value
     of_edges_stands names at x e is = if_initializer names (names_error e) _ _ (λ b. tt) (if_initializer names (is_edges e) _ _ (λ b. is) tt)
 
-    filtered_by_stands : (names : SetNames) (at : ℕ) (slot : Option VarRef) (place : Option ℕ) → MaybeVisible names slot → InitializerStands names (filtered_by at slot place).value
-    filtered_by_stands names at None place is = tt
+    filtered_by_stands : (names : SetNames) (at : ℕ) (slot : Option VarRef) (index : Option ℕ) → MaybeVisible names slot → InitializerStands names (filtered_by at slot index).value
+    filtered_by_stands names at None index is = tt
     filtered_by_stands names at (Some slot) None is = tt
-    filtered_by_stands names at (Some slot) (Some place) is = (is, tt)
+    filtered_by_stands names at (Some slot) (Some index) is = (is, tt)
 
     filtered_stands : (names : SetNames) (at : ℕ) (s f : Entity) → Stands names s → InitializerStands names (filtered at s f).value
     filtered_stands names at s f is =
@@ -331,15 +331,15 @@ module _ (p : ProgramTree) where
     added_plain names at x (entity.SetVariable slot) is = ((is, tt), tt, refl)
     added_plain names at x _ is = ((tt, tt), tt, refl)
 
-    set_plain : (names : SetNames) (vector : Option ℕ) (index : Option IntegerTree) (e : IntegerTree) → Plain names (entry_set vector index e)
-    set_plain names None index e = ((tt, tt), tt, refl)
+    set_plain : (names : SetNames) (vector : Option ℕ) (subscript : Option IntegerTree) (e : IntegerTree) → Plain names (entry_set vector subscript e)
+    set_plain names None subscript e = ((tt, tt), tt, refl)
     set_plain names (Some vector) None e = ((tt, tt), tt, refl)
-    set_plain names (Some vector) (Some index) e = ((tt, tt), tt, refl)
+    set_plain names (Some vector) (Some subscript) e = ((tt, tt), tt, refl)
 
-    entry_plain : (names : SetNames) (vector : Option ℕ) (index : Option IntegerTree) (by : Reduction) (e : IntegerTree) → Plain names (entry_reduced vector index by e)
-    entry_plain names None index by e = ((tt, tt), tt, refl)
+    entry_plain : (names : SetNames) (vector : Option ℕ) (subscript : Option IntegerTree) (by : Reduction) (e : IntegerTree) → Plain names (entry_reduced vector subscript by e)
+    entry_plain names None subscript by e = ((tt, tt), tt, refl)
     entry_plain names (Some vector) None by e = ((tt, tt), tt, refl)
-    entry_plain names (Some vector) (Some index) by e = ((tt, tt), tt, refl)
+    entry_plain names (Some vector) (Some subscript) by e = ((tt, tt), tt, refl)
 
     printed_plain : (names : SetNames) (at : ℕ) (x : ValueTree) → Plain names (printed at x).value
     printed_plain names at (value.Integer e) = ((tt, tt), tt, refl)
@@ -404,9 +404,9 @@ module _ (p : ProgramTree) where
         }
 
     -- a set
-    last_or_before : (names : SetNames) (new place name : ℕ) → InNames (names ++ Some new ∷ []) place name → InNames names place name ⊎ ((place ≡ length names) × (name ≡ new))
-    last_or_before names new place name is =
-        elim (get_cases names (Some new) place (Some name) is) [ inl h ↦ inl h | inr h ↦ inr (h.0, same_Some name new h.1) ]
+    last_or_before : (names : SetNames) (new index name : ℕ) → InNames (names ++ Some new ∷ []) index name → InNames names index name ⊎ ((index ≡ length names) × (name ≡ new))
+    last_or_before names new index name is =
+        elim (get_cases names (Some new) index (Some name) is) [ inl h ↦ inl h | inr h ↦ inr (h.0, same_Some name new h.1) ]
 
     set_declared : (names : SetNames) (c : CheckerTree) (name : Identifier) → (declared_in c name (entity.SetVariable (set_slot c))).faults ≡ []
         → Begins (declared_in c name (entity.SetVariable (set_slot c))).value.names p.names → MainFits functions names c
@@ -420,8 +420,8 @@ module _ (p : ProgramTree) where
         let more = λ (k a : ℕ) (is : V k a). get_before names (Some new ∷ []) k (Some a) is in
         let count : c.scope.sets ≡ length names = fits.count in
         let low : length p.sets ≤ length names = fits.low in
-        let place : W c.scope.sets new = ap (λ k. slice_get (names ++ Some new ∷ []) k) count ∙ get_last names (Some new) [] in
-        let stands : EntityStands W e = (place, omega arith) in
+        let index : W c.scope.sets new = ap (λ k. slice_get (names ++ Some new ∷ []) k) count ∙ get_last names (Some new) [] in
+        let stands : EntityStands W e = (index, omega arith) in
         let counted = declared_count V W c name e none there fits.sets more (length names) (last_or_before names new) stands in
         record {
           sets = declared_sets V W c name e none there fits.sets more (length names) (last_or_before names new) stands;
@@ -504,12 +504,12 @@ module _ (p : ProgramTree) where
           (assigned_plain names name.at (initializer_of c name.at initial).value (used c.scope name).value (initializer_stands names c name.at fits initial) (main_used names c name fits))
       action_fits names c (source.Reduce name by e) none begins fits =
           plain_fits names c (reduce c.scope name.at name by e).value fits (reduced_plain names name.at by (value_of c.scope name.at e).value (used c.scope name).value)
-      action_fits names c (source.SetEntry vector index e) none begins fits =
-          plain_fits names c (set_entry c.scope vector.at vector index e).value fits
-          (set_plain names (vector_place c.scope vector.at vector).value (as_index vector.at (value_of c.scope vector.at index).value).value (integer_in c.scope vector.at e).value)
-      action_fits names c (source.ReduceEntry vector index by e) none begins fits =
-          plain_fits names c (reduce_entry c.scope vector.at vector index by e).value fits
-          (entry_plain names (vector_place c.scope vector.at vector).value (as_index vector.at (value_of c.scope vector.at index).value).value by (integer_in c.scope vector.at e).value)
+      action_fits names c (source.SetEntry vector subscript e) none begins fits =
+          plain_fits names c (set_entry c.scope vector.at vector subscript e).value fits
+          (set_plain names (vector_index c.scope vector.at vector).value (as_index vector.at (value_of c.scope vector.at subscript).value).value (integer_in c.scope vector.at e).value)
+      action_fits names c (source.ReduceEntry vector subscript by e) none begins fits =
+          plain_fits names c (reduce_entry c.scope vector.at vector subscript by e).value fits
+          (entry_plain names (vector_index c.scope vector.at vector).value (as_index vector.at (value_of c.scope vector.at subscript).value).value by (integer_in c.scope vector.at e).value)
       action_fits names c (source.AddVertex set e) none begins fits =
           plain_fits names c (add_vertex c.scope set.at set e).value fits (added_plain names set.at (value_of c.scope set.at e).value (used c.scope set).value (main_used names c set fits))
       action_fits names c (source.Apply target ends function) none begins fits =

@@ -22,7 +22,7 @@ use Rattle.types.specs.Statement.{declare_as}
 use Rattle.types.specs.Step.{declare_step_as, step_behind, step_typed, steps_behind, steps_typed, with_writes}
 use Rattle.type_laws.proofs.ResolvedScopes.{get_before}
 
--- each element of the first list stands at its place in the second
+-- each element of the first list stands at its index in the second
 abbrev pub Begins : {A : Type 0} → List A → List A → Type 0
 Begins {A} xs ys = (k : ℕ) (x : A) → slice_get xs k ≡ Some x → slice_get ys k ≡ Some x
 
@@ -32,9 +32,9 @@ Grow c d = Begins c.names d.names
 pub declared_grow : (c : CheckerTree) (name : Identifier) (e : Entity) → Grow c (declared_in c name e).value
 declared_grow c name e k x is = get_before c.names (name.bytes ∷ []) k x is
 
-new_label_grow : (c : CheckerTree) (label : Identifier) (place : Option ℕ) → Grow c (new_label c label place).value.1
+new_label_grow : (c : CheckerTree) (label : Identifier) (index : Option ℕ) → Grow c (new_label c label index).value.1
 new_label_grow c label None k x is = is
-new_label_grow c label (Some place) k x is = is
+new_label_grow c label (Some index) k x is = is
 
 labelled_grow : (c : CheckerTree) (label : Option Identifier) → Grow c (labelled c label).value.1
 labelled_grow c None k x is = is

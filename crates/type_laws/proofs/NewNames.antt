@@ -56,9 +56,9 @@ declared_new c name e none =
     let o = found name.bytes c.scope.visible in
     declared_over_new name e c.scope o refl (no_left (declared_over o name e c.scope).faults [] none)
 
-new_label_same : (c : CheckerTree) (label : Identifier) (place : Option ℕ) → names (new_label c label place).value.1 ≡ names c
+new_label_same : (c : CheckerTree) (label : Identifier) (index : Option ℕ) → names (new_label c label index).value.1 ≡ names c
 new_label_same c label None = refl
-new_label_same c label (Some place) = refl
+new_label_same c label (Some index) = refl
 
 pub labelled_same : (c : CheckerTree) (label : Option Identifier) → names (labelled c label).value.1 ≡ names c
 labelled_same c None = refl
@@ -233,7 +233,7 @@ constant_new d at name initial declared.Bool initializer none =
     name_new d name (entity.ConditionConstant (next_name d) b.value) (no_right b.faults _ none)
 constant_new d at name initial declared.Vertex initializer none = absurd (not_empty _ _ none)
 constant_new d at name initial declared.VertexSet initializer none =
-    let e = entity.ConstantSet (record { place = length d.sets; name = next_name d }) in
+    let e = entity.ConstantSet (record { index = length d.sets; name = next_name d }) in
     name_new d name e (no_left (declare_name d name e).faults [] (no_right (has_all at initializer).faults _ none))
 constant_new d at name initial declared.Vector initializer none =
     let e = entity.Vector (length d.vectors) in
@@ -331,10 +331,10 @@ abbrev edges_met : Option ℕ → ℕ
 edges_met None = 0
 edges_met (Some name) = 1
 
-only_edges_met : (name : Identifier) (place : ℕ) (edges : Option ℕ) → (only_edges name place edges).faults ≡ []
-    → edges_met (only_edges name place edges).value ≡ edges_met edges + 1
-only_edges_met name place None none = refl
-only_edges_met name place (Some old) none = absurd (not_empty _ _ none)
+only_edges_met : (name : Identifier) (index : ℕ) (edges : Option ℕ) → (only_edges name index edges).faults ≡ []
+    → edges_met (only_edges name index edges).value ≡ edges_met edges + 1
+only_edges_met name index None none = refl
+only_edges_met name index (Some old) none = absurd (not_empty _ _ none)
 
 constant_edges : (d : DeclaredTree) (at : ℕ) (name : Identifier) (initial : InitialTree) (type : DeclaredType) (initializer : InitializerTree)
     → (declare_constant_as d at name initial type initializer).faults ≡ []

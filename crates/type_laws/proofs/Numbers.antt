@@ -12,7 +12,7 @@ use Rattle.typed_tree.specs.IntegerTree.{IntegerTree}
 use Rattle.typed_tree.specs.BlockTree.{ActionTree, BlockTree, Empty, Then}
 use Rattle.expression_types.specs.declared.scope.Entity.{Entity}
 use Rattle.expression_types.specs.declared.scope.Entity.TheVariants as entity
-use Rattle.expression_types.specs.Expression.{used, value_of, vector_place}
+use Rattle.expression_types.specs.Expression.{used, value_of, vector_index}
 use Rattle.expression_types.specs.Names.{found}
 use Rattle.expression_types.specs.WithFaults.{WithFaults}
 use Rattle.expression_types.specs.ValueTree as value
@@ -129,9 +129,9 @@ BlockCounts n b = Counts n (numbers b.0) b.1.statements
 plain_counts : (n : ℕ) (a : ActionTree) → Plain a → Counts n (inner_numbers a) n
 plain_counts n a plain = subst (λ ns. Counts n ns n) (sym plain) (no_numbers n)
 
-new_label_same : (c : CheckerTree) (label : Identifier) (place : Option ℕ) → (new_label c label place).value.1.statements ≡ c.statements
+new_label_same : (c : CheckerTree) (label : Identifier) (index : Option ℕ) → (new_label c label index).value.1.statements ≡ c.statements
 new_label_same c label None = refl
-new_label_same c label (Some place) = refl
+new_label_same c label (Some index) = refl
 
 labelled_same : (c : CheckerTree) (label : Option Identifier) → (labelled c label).value.1.statements ≡ c.statements
 labelled_same c None = refl
@@ -166,9 +166,9 @@ mutual
   action_counts c (source.Reduce name by e) =
       plain_counts c.statements _ (reduced_plain name.at by (value_of c.scope name.at e).value (used c.scope name).value)
   action_counts c (source.SetEntry vector index e) =
-      plain_counts c.statements _ (set_plain (vector_place c.scope vector.at vector).value (as_index vector.at (value_of c.scope vector.at index).value).value (integer_in c.scope vector.at e).value)
+      plain_counts c.statements _ (set_plain (vector_index c.scope vector.at vector).value (as_index vector.at (value_of c.scope vector.at index).value).value (integer_in c.scope vector.at e).value)
   action_counts c (source.ReduceEntry vector index by e) =
-      plain_counts c.statements _ (entry_plain (vector_place c.scope vector.at vector).value (as_index vector.at (value_of c.scope vector.at index).value).value by (integer_in c.scope vector.at e).value)
+      plain_counts c.statements _ (entry_plain (vector_index c.scope vector.at vector).value (as_index vector.at (value_of c.scope vector.at index).value).value by (integer_in c.scope vector.at e).value)
   action_counts c (source.AddVertex set e) =
       plain_counts c.statements _ (added_plain set.at (value_of c.scope set.at e).value (used c.scope set).value)
   action_counts c (source.Apply target ends function) =

@@ -18,7 +18,7 @@ use Rattle.expression_types.specs.declared.fault.TypeRule.{TypeRule}
 use Rattle.expression_types.specs.declared.fault.TypeRule.TheVariants as rule
 use Rattle.expression_types.specs.declared.scope.Inside.{Inside}
 use Rattle.expression_types.specs.declared.scope.Inside.TheVariants as inside
-use Rattle.expression_types.specs.Expression.{comparison_value, conjunction_value, conjuncts, disjuncts, factors, index_value, primary_value, sum_value, summands, term_value, unary_value, value_of, vector_place}
+use Rattle.expression_types.specs.Expression.{comparison_value, conjunction_value, conjuncts, disjuncts, factors, index_value, primary_value, sum_value, summands, term_value, unary_value, value_of, vector_index}
 use Rattle.expression_types.specs.WithFaults.{fault_at, sure}
 use Rattle.expression_types.specs.Operators.{IntegersTree, Integers, MixedIntegers, ErrorIntegers, ConditionsTree, Conditions, MixedConditions, ErrorConditions, added, beside_condition, beside_integer, compared, condition_index, entry_value, equated, first_condition, first_integer, function_entry, given, grouped_conditions, grouped_integers, main_entry, multiplied, related_value, signed_value}
 use Rattle.expression_types.specs.ScopeTree.{ScopeTree}
@@ -175,7 +175,7 @@ function_entry_not_plain at vector (Vertex p) plain = true_is_not_false plain
 function_entry_not_plain at vector (Set slot) plain = plain
 function_entry_not_plain at vector ErrorValue plain = plain
 
-entry_not_plain : (i : Inside) (at : ℕ) (place : Option ℕ) (v : ValueTree) → IsPlain (entry_value i at place v).value → ⊥
+entry_not_plain : (i : Inside) (at : ℕ) (index : Option ℕ) (v : ValueTree) → IsPlain (entry_value i at index v).value → ⊥
 entry_not_plain i at None v plain = plain
 entry_not_plain inside.Main at (Some vector) v plain = main_entry_not_plain at vector v plain
 entry_not_plain inside.EdgeFunction at (Some vector) v plain = function_entry_not_plain at vector v plain
@@ -283,6 +283,6 @@ mutual
   primary_plain scope at (tree.Truth b) plain = tt
   primary_plain scope at (tree.Variable name) plain = tt
   primary_plain scope at (tree.Entry vector index) plain =
-      entry_not_plain scope.inside at (vector_place scope at vector).value (index_value scope at index).value plain
+      entry_not_plain scope.inside at (vector_index scope at vector).value (index_value scope at index).value plain
   primary_plain scope at (tree.Size set) plain = tt
   primary_plain scope at (tree.Parentheses inside) plain = expression_plain scope at inside plain

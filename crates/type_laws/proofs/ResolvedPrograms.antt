@@ -132,7 +132,7 @@ opened_before p c kind parameters result within =
 stays : (v : VisibleTree) → Grows v v
 stays v = record { integers = λ k x is. is; conditions = λ k x is. is; sets = λ k x is. is; vertices = omega arith }
 
--- a name that takes no place
+-- a name that takes no index
 placeless : (p : ProgramTree) (v : VisibleTree) (c : CheckerTree) (name : Identifier) (e : Entity) → (declared_in c name e).faults ≡ [] → CheckerFits p v c
     → EntityIsResolved p v e → integers_of e ≡ 0 → conditions_of e ≡ 0 → sets_of e ≡ 0 → CheckerFits p v (declared_in c name e).value
 placeless p v c name e none fits is integers conditions sets =
@@ -259,7 +259,7 @@ constant_before p d at name initial declared.Bool initializer within =
 constant_before p d at name initial declared.Vertex initializer within =
     (declared_before p d.checker name entity.Error within.0, within.1, within.2, within.3, within.4, within.5)
 constant_before p d at name initial declared.VertexSet initializer within = (
-  declared_before p d.checker name (entity.ConstantSet (record { place = length d.sets; name = next_name d })) within.0,
+  declared_before p d.checker name (entity.ConstantSet (record { index = length d.sets; name = next_name d })) within.0,
   within.1,
   within.2,
   within.3,
@@ -273,9 +273,9 @@ constant_before p d at name initial declared.EdgeSet initializer within =
 constant_before p d at name initial declared.WeightedEdgeSet initializer within =
     (declared_before p d.checker name (entity.Edges true) within.0, within.1, within.2, within.3, within.4, within.5)
 
-edges_resolved : (p : ProgramTree) (name : Identifier) (place : ℕ) (edges : Option ℕ) → EdgesAreResolved p edges → IsName p place → EdgesAreResolved p (only_edges name place edges).value
-edges_resolved p name place None old new = new
-edges_resolved p name place (Some edges) old new = old
+edges_resolved : (p : ProgramTree) (name : Identifier) (index : ℕ) (edges : Option ℕ) → EdgesAreResolved p edges → IsName p index → EdgesAreResolved p (only_edges name index edges).value
+edges_resolved p name index None old new = new
+edges_resolved p name index (Some edges) old new = old
 
 constant_fits : (p : ProgramTree) (d : DeclaredTree) (at : ℕ) (name : Identifier) (initial : InitialTree) (type : DeclaredType) (initializer : InitializerTree)
     → (declare_constant_as d at name initial type initializer).faults ≡ [] → WithinProgram p (declare_constant_as d at name initial type initializer).value → DeclaredFits p d
@@ -292,12 +292,12 @@ constant_fits p d at name initial declared.Bool initializer none within fits =
     (placeless p (in_main p) d.checker name e left fits.0 (declared_name p d.checker name e within.0) refl refl refl, fits.1, fits.2, fits.3, fits.4, fits.5, fits.6, fits.7)
 constant_fits p d at name initial declared.Vertex initializer none within fits = absurd (not_empty _ _ none)
 constant_fits p d at name initial declared.VertexSet initializer none within fits =
-    let e = entity.ConstantSet (record { place = length d.sets; name = next_name d }) in
+    let e = entity.ConstantSet (record { index = length d.sets; name = next_name d }) in
     let named = no_left (declare_name d name e).faults [] (no_right (has_all at initializer).faults _ none) in
     let left = no_left (declared_in d.checker name e).faults [] named in
     let there = declared_name p d.checker name e within.0 in
-    let place = within.5 (length d.sets) (next_name d) (get_last d.sets (next_name d) []) in
-    (placeless p (in_main p) d.checker name e left fits.0 (place, there) refl refl refl, fits.1, fits.2, all_then (IsName p) d.sets (next_name d) fits.3 there, fits.4, fits.5, fits.6, fits.7)
+    let index = within.5 (length d.sets) (next_name d) (get_last d.sets (next_name d) []) in
+    (placeless p (in_main p) d.checker name e left fits.0 (index, there) refl refl refl, fits.1, fits.2, all_then (IsName p) d.sets (next_name d) fits.3 there, fits.4, fits.5, fits.6, fits.7)
 constant_fits p d at name initial declared.Vector initializer none within fits =
     let e = entity.Vector (length d.vectors) in
     let b = begins at initializer initial in

@@ -16,7 +16,7 @@ use Rattle.types.specs.Checker.{CheckerTree, declared_in, labelled, new_label, w
 use Rattle.type_laws.proofs.Faultless.{no_left, not_empty}
 use Rattle.type_laws.proofs.ResolvedValues.{EntityIsResolved, Known}
 
--- lists with one more, and places in longer ones
+-- lists with one more, and indices in longer ones
 pub all_then : {A : Type 0} (P : A → Type 0) (xs : List A) (x : A) → AllByRecursion P xs → P x → AllByRecursion P (xs ++ x ∷ [])
 all_then P [] x all last = (last, tt)
 all_then P (y ∷ xs) x all last = (all.0, all_then P xs x all.1 last)
@@ -30,7 +30,7 @@ pub get_last : {A : Type 0} (xs : List A) (y : A) (ys : List A) → slice_get (x
 get_last [] y ys = refl
 get_last (x ∷ xs) y ys = get_last xs y ys
 
--- what is visible at the first point still is at the second, at its place
+-- what is visible at the first point still is at the second, at its index
 pub record Grows (v w : VisibleTree) : Type 0 where
   pub integers : (k : ℕ) (x : Option ℕ) → slice_get v.integers k ≡ Some x → slice_get w.integers k ≡ Some x
   pub conditions : (k x : ℕ) → slice_get v.conditions k ≡ Some x → slice_get w.conditions k ≡ Some x
@@ -43,19 +43,19 @@ vertex_grows v w endpoint.Destination more is = omega (arith, more, is)
 
 entity_grows : (p : ProgramTree) (v w : VisibleTree) → Grows v w → (e : Entity) → EntityIsResolved p v e → EntityIsResolved p w e
 entity_grows p v w more (entity.Edges weights) is = is
-entity_grows p v w more (entity.Vector place) is = is
-entity_grows p v w more (entity.ConstantSet slot) is = (more.sets slot.place slot.name is.0, is.1)
+entity_grows p v w more (entity.Vector index) is = is
+entity_grows p v w more (entity.ConstantSet slot) is = (more.sets slot.index slot.name is.0, is.1)
 entity_grows p v w more (entity.IntegerConstant name n) is = is
 entity_grows p v w more (entity.ConditionConstant name b) is = is
-entity_grows p v w more (entity.IntegerVariable slot) is = (more.integers slot.place (Some slot.name) is.0, is.1)
-entity_grows p v w more (entity.ConditionVariable slot) is = (more.conditions slot.place slot.name is.0, is.1)
-entity_grows p v w more (entity.SetVariable slot) is = (more.sets slot.place slot.name is.0, is.1)
-entity_grows p v w more (entity.LoopVariable slot) is = (more.integers slot.place (Some slot.name) is.0, is.1)
+entity_grows p v w more (entity.IntegerVariable slot) is = (more.integers slot.index (Some slot.name) is.0, is.1)
+entity_grows p v w more (entity.ConditionVariable slot) is = (more.conditions slot.index slot.name is.0, is.1)
+entity_grows p v w more (entity.SetVariable slot) is = (more.sets slot.index slot.name is.0, is.1)
+entity_grows p v w more (entity.LoopVariable slot) is = (more.integers slot.index (Some slot.name) is.0, is.1)
 entity_grows p v w more (entity.Parameter at) is = vertex_grows v w at more.vertices is
 entity_grows p v w more entity.Weight is = vertex_grows v w endpoint.Destination more.vertices is
-entity_grows p v w more (entity.EdgeFunction place weighted) is = is
-entity_grows p v w more (entity.VertexFunction place) is = is
-entity_grows p v w more (entity.Filter place) is = is
+entity_grows p v w more (entity.EdgeFunction index weighted) is = is
+entity_grows p v w more (entity.VertexFunction index) is = is
+entity_grows p v w more (entity.Filter index) is = is
 entity_grows p v w more entity.Main is = is
 entity_grows p v w more entity.Error is = is
 
@@ -64,7 +64,7 @@ pub known_grows : (p : ProgramTree) (v w : VisibleTree) → Grows v w → (visib
 known_grows p v w more [] all = tt
 known_grows p v w more (x ∷ others) all = (entity_grows p v w more x.1 all.0, known_grows p v w more others all.1)
 
--- the counts of places are those of what is visible, and what names stand for is there
+-- the counts of indices are those of what is visible, and what names stand for is there
 pub record ScopeFits (p : ProgramTree) (v : VisibleTree) (scope : ScopeTree) : Type 0 where
   pub integers : scope.integers ≡ length v.integers
   pub conditions : scope.conditions ≡ length v.conditions
@@ -113,17 +113,17 @@ declared_fits p v w c name e none fits more indexes is integers conditions sets 
     (subst (λ scope. ScopeFits p w scope) (sym same) (entity_scope p v w c.scope name.bytes e fits.0 more indexes is integers conditions sets), fits.1)
 
 -- a label
-new_label_before : (p : ProgramTree) (c : CheckerTree) (label : Identifier) (place : Option ℕ) → Within p (new_label c label place).value.1 → Within p c
+new_label_before : (p : ProgramTree) (c : CheckerTree) (label : Identifier) (index : Option ℕ) → Within p (new_label c label index).value.1 → Within p c
 new_label_before p c label None within =
     (within.0, omega (arith, within.1, length-append c.label_names (without_ends label.bytes ∷ [])))
-new_label_before p c label (Some place) within = within
+new_label_before p c label (Some index) within = within
 
 pub labelled_before : (p : ProgramTree) (c : CheckerTree) (label : Option Identifier) → Within p (labelled c label).value.1 → Within p c
 labelled_before p c None within = within
 labelled_before p c (Some label) within = new_label_before p c label (found label.bytes c.labels) within
 
-new_label_fits : (p : ProgramTree) (v : VisibleTree) (c : CheckerTree) (label : Identifier) (place : Option ℕ) → (new_label c label place).faults ≡ [] → CheckerFits p v c
-    → Within p (new_label c label place).value.1 → CheckerFits p v (new_label c label place).value.1 × IsLabel p (new_label c label place).value.0
+new_label_fits : (p : ProgramTree) (v : VisibleTree) (c : CheckerTree) (label : Identifier) (index : Option ℕ) → (new_label c label index).faults ≡ [] → CheckerFits p v c
+    → Within p (new_label c label index).value.1 → CheckerFits p v (new_label c label index).value.1 × IsLabel p (new_label c label index).value.0
 new_label_fits p v c label None none fits within =
     let one : List (List ℕ × ℕ) = (label.bytes, length c.labels) ∷ [] in
     let name : List (List ℕ) = without_ends label.bytes ∷ [] in
@@ -131,7 +131,7 @@ new_label_fits p v c label None none fits within =
     let both : length (c.labels ++ one) ≡ length (c.label_names ++ name) = omega (arith, same, length-append c.labels one, length-append c.label_names name) in
     let there : length c.labels < length p.labels = omega (arith, same, within.1, length-append c.label_names name) in
     ((fits.0, both), there)
-new_label_fits p v c label (Some place) none fits within = absurd (not_empty _ _ none)
+new_label_fits p v c label (Some index) none fits within = absurd (not_empty _ _ none)
 
 pub labelled_fits : (p : ProgramTree) (v : VisibleTree) (c : CheckerTree) (label : Option Identifier) → (labelled c label).faults ≡ [] → CheckerFits p v c
     → Within p (labelled c label).value.1 → CheckerFits p v (labelled c label).value.1 × IsLabel p (labelled c label).value.0

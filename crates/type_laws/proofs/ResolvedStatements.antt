@@ -13,7 +13,7 @@ use Rattle.typed_tree.specs.ProgramTree.{ProgramTree}
 use Rattle.typed_tree.specs.Resolved.{VisibleTree, ActionIsResolved, BlockIsResolved, IntegerIsResolved, IsEdgeFunction, IsLabel, IsSet, IsVector, IsVertexFunction, behind_action, in_loop, with_set}
 use Rattle.expression_types.specs.declared.scope.Entity.{Entity}
 use Rattle.expression_types.specs.declared.scope.Entity.TheVariants as entity
-use Rattle.expression_types.specs.Expression.{used, value_of, vector_place}
+use Rattle.expression_types.specs.Expression.{used, value_of, vector_index}
 use Rattle.expression_types.specs.WithFaults.{WithFaults}
 use Rattle.expression_types.specs.ValueTree as value
 use Rattle.expression_types.specs.ValueTree.{ValueTree, named_set}
@@ -25,7 +25,7 @@ use Rattle.types.specs.Wanted.{as_index, condition_in, integer_in}
 use Rattle.type_laws.proofs.Faultless.{no_left, no_right, not_empty}
 use Rattle.type_laws.proofs.ResolvedScopes.{CheckerFits, Grows, Within, declared_before, declared_fits, declared_name, get_before, get_last, labelled_before, labelled_fits, left_fits}
 use Rattle.type_laws.proofs.ResolvedSteps.{condition_declared, integer_declared}
-use Rattle.type_laws.proofs.ResolvedValues.{EndTreeIsResolved, EntityIsResolved, InitializerIsResolved, MaybeIndex, MaybePlace, MaybeSet, ValueIsResolved, as_integer_resolved, initializer_condition_resolved, condition_in_resolved, edge_function_resolved, end_resolved, initializer_resolved, index_resolved, initializer_integer_resolved, integer_in_resolved, initializer_members_resolved, named_set_resolved, used_resolved, value_resolved, vector_resolved, vertex_function_resolved}
+use Rattle.type_laws.proofs.ResolvedValues.{EndTreeIsResolved, EntityIsResolved, InitializerIsResolved, MaybeIndex, MaybeVariable, MaybeSet, ValueIsResolved, as_integer_resolved, initializer_condition_resolved, condition_in_resolved, edge_function_resolved, end_resolved, initializer_resolved, index_resolved, initializer_integer_resolved, integer_in_resolved, initializer_members_resolved, named_set_resolved, used_resolved, value_resolved, vector_resolved, vertex_function_resolved}
 
 -- one more vertex set
 set_grows : (name : ℕ) (v : VisibleTree) → Grows v (with_set name v)
@@ -41,8 +41,8 @@ set_declared : (p : ProgramTree) (v : VisibleTree) (c : CheckerTree) (name : Ide
     → CheckerFits p (with_set (length c.names) v) (declared_in c name (entity.SetVariable (set_slot c))).value
 set_declared p v c name none within fits =
     let e = entity.SetVariable (set_slot c) in
-    let place = ap (λ k. slice_get (v.sets ++ length c.names ∷ []) k) fits.0.sets ∙ get_last v.sets (length c.names) [] in
-    declared_fits p v (with_set (length c.names) v) c name e none fits (set_grows (length c.names) v) refl (place, declared_name p c name e within)
+    let index = ap (λ k. slice_get (v.sets ++ length c.names ∷ []) k) fits.0.sets ∙ get_last v.sets (length c.names) [] in
+    declared_fits p v (with_set (length c.names) v) c name e none fits (set_grows (length c.names) v) refl (index, declared_name p c name e within)
     (omega arith) (omega arith) (length-append v.sets (length c.names ∷ []))
 
 -- a loop's name, with its bound after it
@@ -59,8 +59,8 @@ loop_declared : (p : ProgramTree) (v : VisibleTree) (c : CheckerTree) (name : Id
     → CheckerFits p (in_loop (length c.names) v) (declared_in c name (entity.LoopVariable (integer_slot c))).value
 loop_declared p v c name none within fits =
     let e = entity.LoopVariable (integer_slot c) in
-    let place = ap (λ k. slice_get (v.integers ++ Some (length c.names) ∷ None ∷ []) k) fits.0.integers ∙ get_last v.integers (Some (length c.names)) (None ∷ []) in
-    declared_fits p v (in_loop (length c.names) v) c name e none fits (loop_grows (length c.names) v) refl (place, declared_name p c name e within)
+    let index = ap (λ k. slice_get (v.integers ++ Some (length c.names) ∷ None ∷ []) k) fits.0.integers ∙ get_last v.integers (Some (length c.names)) (None ∷ []) in
+    declared_fits p v (in_loop (length c.names) v) c name e none fits (loop_grows (length c.names) v) refl (index, declared_name p c name e within)
     (length-append v.integers (Some (length c.names) ∷ None ∷ [])) (omega arith) (omega arith)
 
 -- what was met before a statement was met before its end
@@ -142,13 +142,13 @@ added_plain : (p : ProgramTree) (v : VisibleTree) (at : ℕ) (x : ValueTree) (e 
 added_plain p v at x (entity.SetVariable slot) value is = ((is, as_integer_resolved p v at x value), refl)
 added_plain p v at x _ value is = (tt, refl)
 
-set_plain : (p : ProgramTree) (v : VisibleTree) (vector : Option ℕ) (index : Option IntegerTree) (e : IntegerTree) → MaybePlace (IsVector p) vector → MaybeIndex p v index
+set_plain : (p : ProgramTree) (v : VisibleTree) (vector : Option ℕ) (index : Option IntegerTree) (e : IntegerTree) → MaybeVariable (IsVector p) vector → MaybeIndex p v index
     → IntegerIsResolved p v e → PlainAction p v (entry_set vector index e)
 set_plain p v None index e is at value = (tt, refl)
 set_plain p v (Some vector) None e is at value = (tt, refl)
 set_plain p v (Some vector) (Some index) e is at value = ((is, at, value), refl)
 
-entry_plain : (p : ProgramTree) (v : VisibleTree) (vector : Option ℕ) (index : Option IntegerTree) (by : Reduction) (e : IntegerTree) → MaybePlace (IsVector p) vector
+entry_plain : (p : ProgramTree) (v : VisibleTree) (vector : Option ℕ) (index : Option IntegerTree) (by : Reduction) (e : IntegerTree) → MaybeVariable (IsVector p) vector
     → MaybeIndex p v index → IntegerIsResolved p v e → PlainAction p v (entry_reduced vector index by e)
 entry_plain p v None index by e is at value = (tt, refl)
 entry_plain p v (Some vector) None by e is at value = (tt, refl)
@@ -162,13 +162,13 @@ printed_plain p v at (value.Set slot) is = (tt, refl)
 printed_plain p v at value.ErrorValue is = (tt, refl)
 
 edges_plain : (p : ProgramTree) (v : VisibleTree) (at : ℕ) (a b : ApplyEndTree) (error : Bool) (function : Option ℕ) → EndTreeIsResolved p v a → EndTreeIsResolved p v b
-    → MaybePlace (IsEdgeFunction p) function → PlainAction p v (edges_applied at a b error function).value
+    → MaybeVariable (IsEdgeFunction p) function → PlainAction p v (edges_applied at a b error function).value
 edges_plain p v at a b true None from to is = (tt, refl)
 edges_plain p v at a b false None from to is = (tt, refl)
 edges_plain p v at a b error (Some function) from to is = if_plain p v (is_error_end a || is_error_end b) _ _ (tt, refl) (((from, to), is), refl)
 
 vertices_plain : (p : ProgramTree) (v : VisibleTree) (at : ℕ) (slot : VarRef) (error : Bool) (function : Option ℕ) → IsSet p v slot
-    → MaybePlace (IsVertexFunction p) function → PlainAction p v (vertices_applied at slot error function).value
+    → MaybeVariable (IsVertexFunction p) function → PlainAction p v (vertices_applied at slot error function).value
 vertices_plain p v at slot true None set is = (tt, refl)
 vertices_plain p v at slot false None set is = (tt, refl)
 vertices_plain p v at slot error (Some function) set is = ((set, is), refl)
@@ -265,13 +265,13 @@ mutual
   action_fits p v c (source.SetEntry vector index e) none within fits =
       let i = (value_of c.scope vector.at index).value in
       plain_fits p v c (set_entry c.scope vector.at vector index e).value fits
-      (set_plain p v (vector_place c.scope vector.at vector).value (as_index vector.at i).value (integer_in c.scope vector.at e).value
+      (set_plain p v (vector_index c.scope vector.at vector).value (as_index vector.at i).value (integer_in c.scope vector.at e).value
       (vector_resolved p v c.scope vector.at vector fits.0.known) (index_resolved p v vector.at i (value_resolved p v c.scope vector.at fits.0.known index))
       (integer_in_resolved p v c.scope vector.at fits.0.known e))
   action_fits p v c (source.ReduceEntry vector index by e) none within fits =
       let i = (value_of c.scope vector.at index).value in
       plain_fits p v c (reduce_entry c.scope vector.at vector index by e).value fits
-      (entry_plain p v (vector_place c.scope vector.at vector).value (as_index vector.at i).value by (integer_in c.scope vector.at e).value
+      (entry_plain p v (vector_index c.scope vector.at vector).value (as_index vector.at i).value by (integer_in c.scope vector.at e).value
       (vector_resolved p v c.scope vector.at vector fits.0.known) (index_resolved p v vector.at i (value_resolved p v c.scope vector.at fits.0.known index))
       (integer_in_resolved p v c.scope vector.at fits.0.known e))
   action_fits p v c (source.AddVertex set e) none within fits =

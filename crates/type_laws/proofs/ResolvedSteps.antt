@@ -12,7 +12,7 @@ use Rattle.typed_tree.specs.ProgramTree.{ProgramTree}
 use Rattle.typed_tree.specs.Resolved.{VisibleTree, IntegerIsResolved, IsVector, StepIsResolved, StepsAreResolved, behind_step, with_condition, with_integer}
 use Rattle.expression_types.specs.declared.scope.Entity.{Entity}
 use Rattle.expression_types.specs.declared.scope.Entity.TheVariants as entity
-use Rattle.expression_types.specs.Expression.{index_value, used, value_of, vector_place}
+use Rattle.expression_types.specs.Expression.{index_value, used, value_of, vector_index}
 use Rattle.expression_types.specs.ValueTree.{ValueTree}
 use Rattle.types.specs.Checker.{CheckerTree, condition_slot, declared_in, integer_slot, labelled}
 use Rattle.types.specs.Initial.{InitializerTree, initializer_condition, initializer_of, initializer_integer}
@@ -20,7 +20,7 @@ use Rattle.types.specs.Step.{assign_step, assigned_step, declare_step_as, entry_
 use Rattle.types.specs.Wanted.{condition_in, integer_in}
 use Rattle.type_laws.proofs.Faultless.{no_left, no_right, not_empty}
 use Rattle.type_laws.proofs.ResolvedScopes.{CheckerFits, Grows, Within, declared_before, declared_fits, declared_name, get_before, get_last, labelled_before, labelled_fits, left_fits}
-use Rattle.type_laws.proofs.ResolvedValues.{EntityIsResolved, InitializerIsResolved, MaybePlace, ValueIsResolved, as_integer_resolved, initializer_condition_resolved, condition_in_resolved, initializer_resolved, initializer_integer_resolved, integer_in_resolved, used_resolved, value_resolved, vector_resolved}
+use Rattle.type_laws.proofs.ResolvedValues.{EntityIsResolved, InitializerIsResolved, MaybeVariable, ValueIsResolved, as_integer_resolved, initializer_condition_resolved, condition_in_resolved, initializer_resolved, initializer_integer_resolved, integer_in_resolved, used_resolved, value_resolved, vector_resolved}
 
 -- one more variable
 pub integer_grows : (name : ℕ) (v : VisibleTree) → Grows v (with_integer name v)
@@ -44,8 +44,8 @@ pub integer_declared : (p : ProgramTree) (v : VisibleTree) (c : CheckerTree) (na
     → CheckerFits p (with_integer (length c.names) v) (declared_in c name (entity.IntegerVariable (integer_slot c))).value
 integer_declared p v c name none within fits =
     let e = entity.IntegerVariable (integer_slot c) in
-    let place = ap (λ k. slice_get (v.integers ++ Some (length c.names) ∷ []) k) fits.0.integers ∙ get_last v.integers (Some (length c.names)) [] in
-    declared_fits p v (with_integer (length c.names) v) c name e none fits (integer_grows (length c.names) v) refl (place, declared_name p c name e within)
+    let index = ap (λ k. slice_get (v.integers ++ Some (length c.names) ∷ []) k) fits.0.integers ∙ get_last v.integers (Some (length c.names)) [] in
+    declared_fits p v (with_integer (length c.names) v) c name e none fits (integer_grows (length c.names) v) refl (index, declared_name p c name e within)
     (length-append v.integers (Some (length c.names) ∷ [])) (omega arith) (omega arith)
 
 pub condition_declared : (p : ProgramTree) (v : VisibleTree) (c : CheckerTree) (name : Identifier) → (declared_in c name (entity.ConditionVariable (condition_slot c))).faults ≡ []
@@ -53,8 +53,8 @@ pub condition_declared : (p : ProgramTree) (v : VisibleTree) (c : CheckerTree) (
     → CheckerFits p (with_condition (length c.names) v) (declared_in c name (entity.ConditionVariable (condition_slot c))).value
 condition_declared p v c name none within fits =
     let e = entity.ConditionVariable (condition_slot c) in
-    let place = ap (λ k. slice_get (v.conditions ++ length c.names ∷ []) k) fits.0.conditions ∙ get_last v.conditions (length c.names) [] in
-    declared_fits p v (with_condition (length c.names) v) c name e none fits (condition_grows (length c.names) v) refl (place, declared_name p c name e within)
+    let index = ap (λ k. slice_get (v.conditions ++ length c.names ∷ []) k) fits.0.conditions ∙ get_last v.conditions (length c.names) [] in
+    declared_fits p v (with_condition (length c.names) v) c name e none fits (condition_grows (length c.names) v) refl (index, declared_name p c name e within)
     (omega arith) (length-append v.conditions (length c.names ∷ [])) (omega arith)
 
 -- what was met before a statement was met before its end
@@ -122,14 +122,14 @@ reduced_plain : (p : ProgramTree) (v : VisibleTree) (at : ℕ) (by : Reduction) 
 reduced_plain p v at by x (entity.IntegerVariable slot) value is = ((is, as_integer_resolved p v at x value), refl)
 reduced_plain p v at by x _ value is = ((tt, tt), refl)
 
-set_plain : (p : ProgramTree) (v : VisibleTree) (may own : Bool) (vector : Option ℕ) (e : IntegerTree) → MaybePlace (IsVector p) vector → IntegerIsResolved p v e
+set_plain : (p : ProgramTree) (v : VisibleTree) (may own : Bool) (vector : Option ℕ) (e : IntegerTree) → MaybeVariable (IsVector p) vector → IntegerIsResolved p v e
     → PlainStep p v (entry_step may own vector e)
 set_plain p v may own None e is value = ((tt, tt), refl)
 set_plain p v false own (Some vector) e is value = ((tt, tt), refl)
 set_plain p v true false (Some vector) e is value = ((tt, tt), refl)
 set_plain p v true true (Some vector) e is value = ((is, value), refl)
 
-reduction_plain : (p : ProgramTree) (v : VisibleTree) (may own : Bool) (vector : Option ℕ) (by : Reduction) (e : IntegerTree) → MaybePlace (IsVector p) vector → IntegerIsResolved p v e
+reduction_plain : (p : ProgramTree) (v : VisibleTree) (may own : Bool) (vector : Option ℕ) (by : Reduction) (e : IntegerTree) → MaybeVariable (IsVector p) vector → IntegerIsResolved p v e
     → PlainStep p v (reduction_step may own vector by e)
 reduction_plain p v may own None by e is value = ((tt, tt), refl)
 reduction_plain p v false own (Some vector) by e is value = ((tt, tt), refl)
@@ -195,14 +195,14 @@ mutual
   step_fits p v c (source.SetEntry vector index e) none within fits =
       plain_fits p v c (set_entry_step c.scope vector.at vector index e).value fits
       (set_plain p v (may_set vector.at c.scope.inside).value (written_at vector.at (own_vertex c.scope.inside) (index_value c.scope vector.at index).value).value
-      (vector_place c.scope vector.at vector).value (integer_in c.scope vector.at e).value
+      (vector_index c.scope vector.at vector).value (integer_in c.scope vector.at e).value
       (vector_resolved p v c.scope vector.at vector fits.0.known) (integer_in_resolved p v c.scope vector.at fits.0.known e))
   step_fits p v c (source.ReduceEntry vector index by e) none within fits =
       let r = (reduce_entry_step c vector.at vector index by e).value in
       plain_fits p v r.1 r.0 fits
-      (reduction_plain p v (may_reduce vector.at c.scope.inside (vector_place c.scope vector.at vector).value by c.writes).value.0
+      (reduction_plain p v (may_reduce vector.at c.scope.inside (vector_index c.scope vector.at vector).value by c.writes).value.0
       (written_at vector.at (own_vertex c.scope.inside) (index_value c.scope vector.at index).value).value
-      (vector_place c.scope vector.at vector).value by (integer_in c.scope vector.at e).value
+      (vector_index c.scope vector.at vector).value by (integer_in c.scope vector.at e).value
       (vector_resolved p v c.scope vector.at vector fits.0.known) (integer_in_resolved p v c.scope vector.at fits.0.known e))
   step_fits p v c (source.AddVertex set e) none within fits = absurd (not_empty _ _ none)
   step_fits p v c (source.Apply target ends function) none within fits = absurd (not_empty _ _ none)

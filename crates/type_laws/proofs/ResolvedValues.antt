@@ -30,7 +30,7 @@ use Rattle.expression_types.specs.declared.scope.Entity.{Entity}
 use Rattle.expression_types.specs.declared.scope.Entity.TheVariants as entity
 use Rattle.expression_types.specs.declared.scope.Inside.{Inside}
 use Rattle.expression_types.specs.declared.scope.Inside.TheVariants as inside
-use Rattle.expression_types.specs.Expression.{as_size, as_vector, comparison_value, conjunction_value, conjuncts, disjuncts, factors, index_lacks_value, index_value, no_vertex, primary_value, sum_value, summands, term_value, unary_value, used, used_as, value_of, vector_place}
+use Rattle.expression_types.specs.Expression.{as_size, as_vector, comparison_value, conjunction_value, conjuncts, disjuncts, factors, index_lacks_value, index_value, no_vertex, primary_value, sum_value, summands, term_value, unary_value, used, used_as, value_of, vector_index}
 use Rattle.expression_types.specs.Names.{found}
 use Rattle.expression_types.specs.WithFaults.{WithFaults, sure}
 use Rattle.expression_types.specs.Operators.{IntegersTree, Integers, MixedIntegers, ErrorIntegers, ConditionsTree, Conditions, MixedConditions, ErrorConditions, added, condition_index, beside_condition, beside_integer, compared, entry_value, equated, first_condition, first_integer, given, grouped_conditions, grouped_integers, multiplied, related_value, signed_value}
@@ -43,7 +43,7 @@ use Rattle.types.specs.Wanted.{as_condition, as_index, as_integer, as_members, c
 -- what a name stands for is there
 abbrev pub EntityIsResolved : ProgramTree → VisibleTree → Entity → Type 0
 EntityIsResolved p v (entity.Edges weights) = Unit {0}
-EntityIsResolved p v (entity.Vector place) = IsVector p place
+EntityIsResolved p v (entity.Vector index) = IsVector p index
 EntityIsResolved p v (entity.ConstantSet slot) = IsSet p v slot
 EntityIsResolved p v (entity.IntegerConstant name n) = IsName p name
 EntityIsResolved p v (entity.ConditionConstant name b) = IsName p name
@@ -53,9 +53,9 @@ EntityIsResolved p v (entity.SetVariable slot) = IsSet p v slot
 EntityIsResolved p v (entity.LoopVariable slot) = IsInteger p v slot
 EntityIsResolved p v (entity.Parameter at) = IsVertex v at
 EntityIsResolved p v entity.Weight = IsVertex v endpoint.Destination
-EntityIsResolved p v (entity.EdgeFunction place weighted) = IsEdgeFunction p place
-EntityIsResolved p v (entity.VertexFunction place) = IsVertexFunction p place
-EntityIsResolved p v (entity.Filter place) = IsFilter p place
+EntityIsResolved p v (entity.EdgeFunction index weighted) = IsEdgeFunction p index
+EntityIsResolved p v (entity.VertexFunction index) = IsVertexFunction p index
+EntityIsResolved p v (entity.Filter index) = IsFilter p index
 EntityIsResolved p v entity.Main = Unit {0}
 EntityIsResolved p v entity.Error = Unit {0}
 
@@ -68,9 +68,9 @@ abbrev pub MaybeSet : ProgramTree → VisibleTree → Option VarRef → Type 0
 MaybeSet p v None = Unit {0}
 MaybeSet p v (Some slot) = IsSet p v slot
 
-abbrev pub MaybePlace : (ℕ → Type 0) → Option ℕ → Type 0
-MaybePlace Is None = Unit {0}
-MaybePlace Is (Some place) = Is place
+abbrev pub MaybeVariable : (ℕ → Type 0) → Option ℕ → Type 0
+MaybeVariable Is None = Unit {0}
+MaybeVariable Is (Some index) = Is index
 
 abbrev pub ValueIsResolved : ProgramTree → VisibleTree → ValueTree → Type 0
 ValueIsResolved p v (Integer e) = IntegerIsResolved p v e
@@ -124,12 +124,12 @@ named_resolved p v (entity.Parameter at) is = is
 named_resolved p v entity.Weight is = is
 named_resolved p v _ is = tt
 
-as_vector_resolved : (p : ProgramTree) (v : VisibleTree) (at : ℕ) (e : Entity) → EntityIsResolved p v e → MaybePlace (IsVector p) (as_vector at e).value
-as_vector_resolved p v at (entity.Vector place) is = is
+as_vector_resolved : (p : ProgramTree) (v : VisibleTree) (at : ℕ) (e : Entity) → EntityIsResolved p v e → MaybeVariable (IsVector p) (as_vector at e).value
+as_vector_resolved p v at (entity.Vector index) is = is
 as_vector_resolved p v at _ is = tt
 
 pub vector_resolved : (p : ProgramTree) (v : VisibleTree) (scope : ScopeTree) (at : ℕ) (name : Identifier) → Known p v scope
-    → MaybePlace (IsVector p) (vector_place scope at name).value
+    → MaybeVariable (IsVector p) (vector_index scope at name).value
 vector_resolved p v scope at name known = as_vector_resolved p v at (used scope name).value (used_resolved p v scope name known)
 
 size_resolved : (p : ProgramTree) (v : VisibleTree) (at : ℕ) (e : Entity) → EntityIsResolved p v e → ValueIsResolved p v (as_size at e).value
@@ -142,20 +142,20 @@ named_set_resolved p v (entity.ConstantSet slot) is = is
 named_set_resolved p v (entity.SetVariable slot) is = is
 named_set_resolved p v _ is = tt
 
-pub edge_function_resolved : (p : ProgramTree) (v : VisibleTree) (e : Entity) → EntityIsResolved p v e → MaybePlace (IsEdgeFunction p) (edge_function e)
-edge_function_resolved p v (entity.EdgeFunction place weighted) is = is
+pub edge_function_resolved : (p : ProgramTree) (v : VisibleTree) (e : Entity) → EntityIsResolved p v e → MaybeVariable (IsEdgeFunction p) (edge_function e)
+edge_function_resolved p v (entity.EdgeFunction index weighted) is = is
 edge_function_resolved p v _ is = tt
 
-pub vertex_function_resolved : (p : ProgramTree) (v : VisibleTree) (e : Entity) → EntityIsResolved p v e → MaybePlace (IsVertexFunction p) (vertex_function e)
-vertex_function_resolved p v (entity.VertexFunction place) is = is
+pub vertex_function_resolved : (p : ProgramTree) (v : VisibleTree) (e : Entity) → EntityIsResolved p v e → MaybeVariable (IsVertexFunction p) (vertex_function e)
+vertex_function_resolved p v (entity.VertexFunction index) is = is
 vertex_function_resolved p v _ is = tt
 
-filter_function_resolved : (p : ProgramTree) (v : VisibleTree) (e : Entity) → EntityIsResolved p v e → MaybePlace (IsFilter p) (filter_function e)
-filter_function_resolved p v (entity.Filter place) is = is
+filter_function_resolved : (p : ProgramTree) (v : VisibleTree) (e : Entity) → EntityIsResolved p v e → MaybeVariable (IsFilter p) (filter_function e)
+filter_function_resolved p v (entity.Filter index) is = is
 filter_function_resolved p v _ is = tt
 
-vector_of_resolved : (p : ProgramTree) (v : VisibleTree) (e : Entity) → EntityIsResolved p v e → MaybePlace (IsVector p) (vector_of e)
-vector_of_resolved p v (entity.Vector place) is = is
+vector_of_resolved : (p : ProgramTree) (v : VisibleTree) (e : Entity) → EntityIsResolved p v e → MaybeVariable (IsVector p) (vector_of e)
+vector_of_resolved p v (entity.Vector index) is = is
 vector_of_resolved p v _ is = tt
 
 -- operators
@@ -282,7 +282,7 @@ function_entry_resolved p v at vector (Vertex e) there is = (there, is)
 function_entry_resolved p v at vector (Set slot) there is = tt
 function_entry_resolved p v at vector ErrorValue there is = tt
 
-entry_resolved : (p : ProgramTree) (v : VisibleTree) (i : Inside) (at : ℕ) (vector : Option ℕ) (x : ValueTree) → (i ≡ inside.Main → v.indexes ≡ true) → MaybePlace (IsVector p) vector → ValueIsResolved p v x
+entry_resolved : (p : ProgramTree) (v : VisibleTree) (i : Inside) (at : ℕ) (vector : Option ℕ) (x : ValueTree) → (i ≡ inside.Main → v.indexes ≡ true) → MaybeVariable (IsVector p) vector → ValueIsResolved p v x
     → ValueIsResolved p v (entry_value i at vector x).value
 entry_resolved p v i at None x main there is = tt
 entry_resolved p v inside.Main at (Some vector) x main there is = main_entry_resolved p v at vector x (main refl) there is
@@ -380,7 +380,7 @@ mutual
       let e = (used scope name).value in
       given_resolved p v at rule.WrongType (named_value e) (named_resolved p v e (used_resolved p v scope name known))
   primary_resolved p v scope at known (Entry name index) =
-      entry_resolved p v scope.inside at (vector_place scope at name).value (index_value scope at index).value known.0
+      entry_resolved p v scope.inside at (vector_index scope at name).value (index_value scope at index).value known.0
       (vector_resolved p v scope at name known)
       (if_value p v (index_lacks_value scope.inside scope index) (sure no_vertex) (value_of scope at index) tt (value_resolved p v scope at known index))
   primary_resolved p v scope at known (Size name) = size_resolved p v at (used scope name).value (used_resolved p v scope name known)
@@ -442,7 +442,7 @@ EndTreeIsResolved p v e = EndIsResolved p v (given_filter e)
 filter_named_resolved : (p : ProgramTree) (v : VisibleTree) (e : Entity) → EntityIsResolved p v e → EndTreeIsResolved p v (filter_named e)
 filter_named_resolved p v (entity.ConstantSet slot) is = is
 filter_named_resolved p v (entity.SetVariable slot) is = is
-filter_named_resolved p v (entity.Filter place) is = is
+filter_named_resolved p v (entity.Filter index) is = is
 filter_named_resolved p v _ is = tt
 
 pub end_resolved : (p : ProgramTree) (v : VisibleTree) (scope : ScopeTree) → Known p v scope → (name : Option Identifier) → EndTreeIsResolved p v (end_of scope name).value
@@ -465,11 +465,11 @@ if_initializer p v false x y first other = other
 of_edges_resolved : (p : ProgramTree) (v : VisibleTree) (at : ℕ) (x : InitializerTree) (e : Entity) → InitializerIsResolved p v x → InitializerIsResolved p v (of_edges at x e).value
 of_edges_resolved p v at x e is = if_initializer p v (names_error e) _ _ tt (if_initializer p v (is_edges e) _ _ is tt)
 
-filtered_by_resolved : (p : ProgramTree) (v : VisibleTree) (at : ℕ) (slot : Option VarRef) (place : Option ℕ) → MaybeSet p v slot → MaybePlace (IsFilter p) place
-    → InitializerIsResolved p v (filtered_by at slot place).value
-filtered_by_resolved p v at None place set filter = tt
+filtered_by_resolved : (p : ProgramTree) (v : VisibleTree) (at : ℕ) (slot : Option VarRef) (index : Option ℕ) → MaybeSet p v slot → MaybeVariable (IsFilter p) index
+    → InitializerIsResolved p v (filtered_by at slot index).value
+filtered_by_resolved p v at None index set filter = tt
 filtered_by_resolved p v at (Some slot) None set filter = tt
-filtered_by_resolved p v at (Some slot) (Some place) set filter = (set, filter)
+filtered_by_resolved p v at (Some slot) (Some index) set filter = (set, filter)
 
 filtered_resolved : (p : ProgramTree) (v : VisibleTree) (at : ℕ) (s f : Entity) → EntityIsResolved p v s → EntityIsResolved p v f → InitializerIsResolved p v (filtered at s f).value
 filtered_resolved p v at s f set filter =
@@ -477,7 +477,7 @@ filtered_resolved p v at s f set filter =
     (filtered_by_resolved p v at (named_set s) (filter_function f) (named_set_resolved p v s set) (filter_function_resolved p v f filter))
 
 modified_by_resolved : (p : ProgramTree) (v : VisibleTree) (c : CheckerTree) (at : ℕ) (ends : ApplyEnds) (function vector : Option ℕ) → EndsAreResolved p v ends
-    → MaybePlace (IsEdgeFunction p) function → MaybePlace (IsVector p) vector → InitializerIsResolved p v (modified_by c at ends function vector).value
+    → MaybeVariable (IsEdgeFunction p) function → MaybeVariable (IsVector p) vector → InitializerIsResolved p v (modified_by c at ends function vector).value
 modified_by_resolved p v c at ends None vector filters first other = tt
 modified_by_resolved p v c at ends (Some function) None filters first other = tt
 modified_by_resolved p v c at ends (Some function) (Some vector) filters first other =

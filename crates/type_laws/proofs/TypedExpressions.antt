@@ -23,7 +23,7 @@ use Rattle.expression_types.specs.declared.scope.Entity.TheVariants as entity
 use Rattle.expression_types.specs.declared.scope.Inside.{Inside}
 use Rattle.expression_types.specs.declared.scope.Inside.TheVariants as inside
 use Rattle.expression_types.specs.BareNames.{bare_name, comparison_name, conjunction_name, primary_name, sum_name, term_name, unary_name}
-use Rattle.expression_types.specs.Expression.{as_size, as_vector, comparison_value, conjunction_value, conjuncts, disjuncts, factors, index_lacks_value, index_value, lacks_value, name_lacks_value, name_value, no_vertex, primary_value, size_value, sum_value, summands, term_value, unary_value, used, used_as, value_of, vector_place}
+use Rattle.expression_types.specs.Expression.{as_size, as_vector, comparison_value, conjunction_value, conjuncts, disjuncts, factors, index_lacks_value, index_value, lacks_value, name_lacks_value, name_value, no_vertex, primary_value, size_value, sum_value, summands, term_value, unary_value, used, used_as, value_of, vector_index}
 use Rattle.expression_types.specs.Names.{found}
 use Rattle.expression_types.specs.Operators.{ConditionsTree, Conditions, MixedConditions, ErrorConditions, IntegersTree, Integers, MixedIntegers, ErrorIntegers, added, beside_condition, beside_integer, compared_value, entry_value, equated_value, first_condition, first_integer, function_entry, given, grouped_conditions, grouped_integers, main_entry, multiplied, related_value, signed_value}
 use Rattle.expression_types.specs.ScopeTree.{ScopeTree}
@@ -79,7 +79,7 @@ named_as at v a type of is = record { none = refl; is = subst (λ t. IsOf t v) (
 
 named_fine : (at : ℕ) (e : Entity) (type : ExpressionType) → type_named (Some (meaning_of e)) ≡ Some type → Fine (given at rule.WrongType (named_value e)) type
 named_fine at (entity.Edges weights) type has = absurd (no_type type has)
-named_fine at (entity.Vector place) type has = absurd (no_type type has)
+named_fine at (entity.Vector index) type has = absurd (no_type type has)
 named_fine at (entity.ConstantSet slot) type has = named_as at _ Set type tt has
 named_fine at (entity.IntegerConstant name n) type has = named_as at _ Number type tt has
 named_fine at (entity.ConditionConstant name b) type has = named_as at _ Truth type tt has
@@ -89,9 +89,9 @@ named_fine at (entity.SetVariable slot) type has = named_as at _ Set type tt has
 named_fine at (entity.LoopVariable slot) type has = named_as at _ Number type tt has
 named_fine at (entity.Parameter p) type has = named_as at _ (Vertex p) type refl has
 named_fine at entity.Weight type has = named_as at _ Number type tt has
-named_fine at (entity.EdgeFunction place weighted) type has = absurd (no_type type has)
-named_fine at (entity.VertexFunction place) type has = absurd (no_type type has)
-named_fine at (entity.Filter place) type has = absurd (no_type type has)
+named_fine at (entity.EdgeFunction index weighted) type has = absurd (no_type type has)
+named_fine at (entity.VertexFunction index) type has = absurd (no_type type has)
+named_fine at (entity.Filter index) type has = absurd (no_type type has)
 named_fine at entity.Main type has = absurd (no_type type has)
 named_fine at entity.Error type has = absurd (no_type type has)
 
@@ -123,7 +123,7 @@ entity_means (Some e) m is = (e, refl, some_meaning (meaning_of e) m is)
 
 vector_is : (at vector : ℕ) (e : Entity) → meaning_of e ≡ meaning.Vector vector → ((as_vector at e).faults ≡ []) × ((as_vector at e).value ≡ Some vector)
 vector_is at vector (entity.Edges weights) is = absurd cc
-vector_is at vector (entity.Vector place) is = (refl, cc)
+vector_is at vector (entity.Vector index) is = (refl, cc)
 vector_is at vector (entity.ConstantSet slot) is = absurd cc
 vector_is at vector (entity.IntegerConstant name n) is = absurd cc
 vector_is at vector (entity.ConditionConstant name b) is = absurd cc
@@ -133,9 +133,9 @@ vector_is at vector (entity.SetVariable slot) is = absurd cc
 vector_is at vector (entity.LoopVariable slot) is = absurd cc
 vector_is at vector (entity.Parameter p) is = absurd cc
 vector_is at vector entity.Weight is = absurd cc
-vector_is at vector (entity.EdgeFunction place weighted) is = absurd cc
-vector_is at vector (entity.VertexFunction place) is = absurd cc
-vector_is at vector (entity.Filter place) is = absurd cc
+vector_is at vector (entity.EdgeFunction index weighted) is = absurd cc
+vector_is at vector (entity.VertexFunction index) is = absurd cc
+vector_is at vector (entity.Filter index) is = absurd cc
 vector_is at vector entity.Main is = absurd cc
 vector_is at vector entity.Error is = absurd cc
 
@@ -149,7 +149,7 @@ used_means scope name m is = at_entity (found name.bytes scope.visible) (subst (
     at_entity (Some e) is = (refl, some_meaning (meaning_of e) m is)
 
 pub vector_fine : (scope : ScopeTree) (at : ℕ) (name : Identifier) (vector : ℕ) → found name.bytes (meanings_of scope.visible) ≡ Some (meaning.Vector vector)
-    → ((vector_place scope at name).faults ≡ []) × ((vector_place scope at name).value ≡ Some vector)
+    → ((vector_index scope at name).faults ≡ []) × ((vector_index scope at name).value ≡ Some vector)
 vector_fine scope at name vector is =
     let u = used_means scope name (meaning.Vector vector) is in
     let v = vector_is at vector (used scope name).value u.1 in
@@ -158,7 +158,7 @@ vector_fine scope at name vector is =
 -- the size of a set
 set_size : (at : ℕ) (e : Entity) → type_named (Some (meaning_of e)) ≡ Some Set → Fine (as_size at e) Number
 set_size at (entity.Edges weights) has = absurd (no_type Set has)
-set_size at (entity.Vector place) has = absurd (no_type Set has)
+set_size at (entity.Vector index) has = absurd (no_type Set has)
 set_size at (entity.ConstantSet slot) has = record { none = refl; is = tt }
 set_size at (entity.IntegerConstant name n) has = absurd cc
 set_size at (entity.ConditionConstant name b) has = absurd cc
@@ -168,9 +168,9 @@ set_size at (entity.SetVariable slot) has = record { none = refl; is = tt }
 set_size at (entity.LoopVariable slot) has = absurd cc
 set_size at (entity.Parameter p) has = absurd cc
 set_size at entity.Weight has = absurd cc
-set_size at (entity.EdgeFunction place weighted) has = absurd (no_type Set has)
-set_size at (entity.VertexFunction place) has = absurd (no_type Set has)
-set_size at (entity.Filter place) has = absurd (no_type Set has)
+set_size at (entity.EdgeFunction index weighted) has = absurd (no_type Set has)
+set_size at (entity.VertexFunction index) has = absurd (no_type Set has)
+set_size at (entity.Filter index) has = absurd (no_type Set has)
 set_size at entity.Main has = absurd (no_type Set has)
 set_size at entity.Error has = absurd (no_type Set has)
 
@@ -334,10 +334,10 @@ negated_fine at value.ErrorValue is = absurd is
 -- a name that has a type lacks no value, so an index that has one is looked at as any expression
 has_value : (e : Entity) (type : ExpressionType) → type_named (Some (meaning_of e)) ≡ Some type → lacks_value (Some e) ≡ false
 has_value (entity.Edges weights) type has = absurd (no_type type has)
-has_value (entity.Vector place) type has = absurd (no_type type has)
-has_value (entity.EdgeFunction place weighted) type has = absurd (no_type type has)
-has_value (entity.VertexFunction place) type has = absurd (no_type type has)
-has_value (entity.Filter place) type has = absurd (no_type type has)
+has_value (entity.Vector index) type has = absurd (no_type type has)
+has_value (entity.EdgeFunction index weighted) type has = absurd (no_type type has)
+has_value (entity.VertexFunction index) type has = absurd (no_type type has)
+has_value (entity.Filter index) type has = absurd (no_type type has)
 has_value entity.Main type has = absurd (no_type type has)
 has_value entity.Error type has = absurd (no_type type has)
 has_value (entity.ConstantSet slot) type has = refl
@@ -449,11 +449,11 @@ index_fine inside.VertexFunction scope at vector index fine fits =
 index_fine inside.Filter scope at vector index fine fits =
     vertex_index_fine inside.Filter scope at vector index fits.0 (λ m is. (is.none, function_entry_fine at vector fits.0 m.value is.is)) fits.1 (fine (Vertex fits.0) fits.1)
 
-entry_fine : (scope : ScopeTree) (at vector : ℕ) (place : Option ℕ) (index : WithFaults ValueTree) → place ≡ Some vector → EntryFine scope.inside at vector index
-    → (index.faults ++ (entry_value scope.inside at place index.value).faults ≡ []) × IsOf Number (entry_value scope.inside at place index.value).value
-entry_fine scope at vector place index is fine =
-    let here = subst (λ o. Fine (entry_value scope.inside at o index.value) Number) (sym is) fine.1 in
-    (both_none index.faults _ fine.0 here.none, here.is)
+entry_fine : (scope : ScopeTree) (at vector : ℕ) (index : Option ℕ) (subscript : WithFaults ValueTree) → index ≡ Some vector → EntryFine scope.inside at vector subscript
+    → (subscript.faults ++ (entry_value scope.inside at index subscript.value).faults ≡ []) × IsOf Number (entry_value scope.inside at index subscript.value).value
+entry_fine scope at vector index subscript is fine =
+    let here = subst (λ o. Fine (entry_value scope.inside at o subscript.value) Number) (sym is) fine.1 in
+    (both_none subscript.faults _ fine.0 here.none, here.is)
 
 -- a row of operands reads as a number as a whole
 row_of : {First Others : Type 0} → ((Number ≡ Number) × First × Others) ⊎ ((p : Endpoint) × ((Vertex p ≡ Number) × First × Others)) → First × Others
@@ -599,11 +599,11 @@ mutual
   primary_fine scope at (tree.Literal n) type has = fine_as (primary_value scope at (tree.Literal n)) type Number has (record { none = refl; is = tt })
   primary_fine scope at (tree.Truth b) type has = fine_as (primary_value scope at (tree.Truth b)) type Truth has (record { none = refl; is = tt })
   primary_fine scope at (tree.Variable name) type has = name_fine scope at name type has
-  primary_fine scope at (tree.Entry vector index) type has =
-      let place = vector_place scope at vector in
+  primary_fine scope at (tree.Entry vector subscript) type has =
+      let index = vector_index scope at vector in
       let there = vector_fine scope at vector has.1.vector has.1.means in
-      let fits = index_fine scope.inside scope at has.1.vector index (expression_fine scope at index) has.2 in
-      let all = entry_fine scope at has.1.vector place.value (index_value scope at index) there.1 fits in
-      fine_as (primary_value scope at (tree.Entry vector index)) type Number has.0 (record { none = both_none place.faults _ there.0 all.0; is = all.1 })
+      let fits = index_fine scope.inside scope at has.1.vector subscript (expression_fine scope at subscript) has.2 in
+      let all = entry_fine scope at has.1.vector index.value (index_value scope at subscript) there.1 fits in
+      fine_as (primary_value scope at (tree.Entry vector subscript)) type Number has.0 (record { none = both_none index.faults _ there.0 all.0; is = all.1 })
   primary_fine scope at (tree.Size set) type has = fine_as (primary_value scope at (tree.Size set)) type Number has.0 (size_fine scope at set has.1)
   primary_fine scope at (tree.Parentheses inside) type has = expression_fine scope at inside type has

@@ -17,7 +17,7 @@ use Rattle.expression_types.specs.declared.scope.Entity.TheVariants as entity
 use Rattle.expression_types.specs.declared.scope.Inside.{Inside}
 use Rattle.expression_types.specs.declared.scope.Inside.TheVariants as inside
 use Rattle.expression_types.specs.BareNames.{bare_name, comparison_name, conjunction_name, primary_name, sum_name, term_name, unary_name}
-use Rattle.expression_types.specs.Expression.{comparison_value, conjunction_value, conjuncts, disjuncts, factors, index_as, index_lacks_value, index_value, lacks_value, name_lacks_value, no_vertex, primary_value, sum_value, summands, term_value, unary_value, used, used_as, value_of, vector_place}
+use Rattle.expression_types.specs.Expression.{comparison_value, conjunction_value, conjuncts, disjuncts, factors, index_as, index_lacks_value, index_value, lacks_value, name_lacks_value, no_vertex, primary_value, sum_value, summands, term_value, unary_value, used, used_as, value_of, vector_index}
 use Rattle.expression_types.specs.Names.{found}
 use Rattle.expression_types.specs.WithFaults.{WithFaults, sure}
 use Rattle.expression_types.specs.Operators.{ConditionsTree, IntegersTree, first_condition, first_integer}
@@ -55,7 +55,7 @@ one_visible name (x ∷ others) none =
 used_visible : (scope : ScopeTree) (name : Identifier) → (used scope name).faults ≡ [] → IsVisible (seen scope) name
 used_visible scope name none = one_visible name scope.visible none
 
-vector_visible : (scope : ScopeTree) (at : ℕ) (name : Identifier) → (vector_place scope at name).faults ≡ [] → IsVisible (seen scope) name
+vector_visible : (scope : ScopeTree) (at : ℕ) (name : Identifier) → (vector_index scope at name).faults ≡ [] → IsVisible (seen scope) name
 vector_visible scope at name none = used_visible scope name (no_left (used scope name).faults _ none)
 
 -- a bare name that lacks a value is visible
@@ -188,10 +188,10 @@ mutual
   primary_visible scope at (tree.Literal n) none = tt
   primary_visible scope at (tree.Truth b) none = tt
   primary_visible scope at (tree.Variable name) none = used_visible scope name (no_left (used scope name).faults _ none)
-  primary_visible scope at (tree.Entry vector index) none =
-      let place = vector_place scope at vector in (
-        vector_visible scope at vector (no_left place.faults _ none),
-        index_visible scope index (value_of scope at index) (expression_visible scope at index) (no_left (index_value scope at index).faults _ (no_right place.faults _ none)),
+  primary_visible scope at (tree.Entry vector subscript) none =
+      let index = vector_index scope at vector in (
+        vector_visible scope at vector (no_left index.faults _ none),
+        index_visible scope subscript (value_of scope at subscript) (expression_visible scope at subscript) (no_left (index_value scope at subscript).faults _ (no_right index.faults _ none)),
       )
   primary_visible scope at (tree.Size set) none = used_visible scope set (no_left (used scope set).faults _ none)
   primary_visible scope at (tree.Parentheses inside) none = expression_visible scope at inside none
@@ -261,23 +261,23 @@ mutual
         used_visible c.scope name (no_left (used c.scope name).faults _ all),
         expression_visible c.scope name.at e (no_left (value_of c.scope name.at e).faults _ (no_right (used c.scope name).faults _ all)),
       )
-  step_visible c (source.SetEntry vector index e) none =
-      let place = vector_place c.scope vector.at vector in
-      let v = index_value c.scope vector.at index in
-      let all = no_right (may_set vector.at c.scope.inside).faults _ (no_left (set_entry_step c.scope vector.at vector index e).faults [] none) in
-      let behind_place = no_right place.faults _ all in
-      let behind_index = no_right (written_at vector.at (own_vertex c.scope.inside) v.value).faults _ (no_right v.faults _ behind_place) in (
-        vector_visible c.scope vector.at vector (no_left place.faults _ all),
-        index_visible c.scope index (value_of c.scope vector.at index) (expression_visible c.scope vector.at index) (no_left v.faults _ behind_place),
+  step_visible c (source.SetEntry vector subscript e) none =
+      let index = vector_index c.scope vector.at vector in
+      let v = index_value c.scope vector.at subscript in
+      let all = no_right (may_set vector.at c.scope.inside).faults _ (no_left (set_entry_step c.scope vector.at vector subscript e).faults [] none) in
+      let behind_vector = no_right index.faults _ all in
+      let behind_index = no_right (written_at vector.at (own_vertex c.scope.inside) v.value).faults _ (no_right v.faults _ behind_vector) in (
+        vector_visible c.scope vector.at vector (no_left index.faults _ all),
+        index_visible c.scope subscript (value_of c.scope vector.at subscript) (expression_visible c.scope vector.at subscript) (no_left v.faults _ behind_vector),
         integer_visible c.scope vector.at e (no_left (integer_in c.scope vector.at e).faults _ behind_index),
       )
-  step_visible c (source.ReduceEntry vector index by e) none =
-      let place = vector_place c.scope vector.at vector in
-      let v = index_value c.scope vector.at index in
-      let behind_place = no_right (may_reduce vector.at c.scope.inside place.value by c.writes).faults _ (no_right place.faults _ none) in
-      let behind_index = no_right (written_at vector.at (own_vertex c.scope.inside) v.value).faults _ (no_right v.faults _ behind_place) in (
-        vector_visible c.scope vector.at vector (no_left place.faults _ none),
-        index_visible c.scope index (value_of c.scope vector.at index) (expression_visible c.scope vector.at index) (no_left v.faults _ behind_place),
+  step_visible c (source.ReduceEntry vector subscript by e) none =
+      let index = vector_index c.scope vector.at vector in
+      let v = index_value c.scope vector.at subscript in
+      let behind_vector = no_right (may_reduce vector.at c.scope.inside index.value by c.writes).faults _ (no_right index.faults _ none) in
+      let behind_index = no_right (written_at vector.at (own_vertex c.scope.inside) v.value).faults _ (no_right v.faults _ behind_vector) in (
+        vector_visible c.scope vector.at vector (no_left index.faults _ none),
+        index_visible c.scope subscript (value_of c.scope vector.at subscript) (expression_visible c.scope vector.at subscript) (no_left v.faults _ behind_vector),
         integer_visible c.scope vector.at e (no_left (integer_in c.scope vector.at e).faults _ behind_index),
       )
   step_visible c (source.AddVertex set e) none = absurd (not_empty _ _ none)
@@ -342,24 +342,24 @@ mutual
         used_visible c.scope name (no_left (used c.scope name).faults _ all),
         expression_visible c.scope name.at e (no_left (value_of c.scope name.at e).faults _ (no_right (used c.scope name).faults _ all)),
       )
-  action_visible c (source.SetEntry vector index e) none =
-      let place = vector_place c.scope vector.at vector in
-      let v = value_of c.scope vector.at index in
-      let all = no_left (set_entry c.scope vector.at vector index e).faults [] none in
-      let behind_place = no_right place.faults _ all in
-      let behind_index = no_right (as_index vector.at v.value).faults _ (no_right v.faults _ behind_place) in (
-        vector_visible c.scope vector.at vector (no_left place.faults _ all),
-        expression_visible c.scope vector.at index (no_left v.faults _ behind_place),
+  action_visible c (source.SetEntry vector subscript e) none =
+      let index = vector_index c.scope vector.at vector in
+      let v = value_of c.scope vector.at subscript in
+      let all = no_left (set_entry c.scope vector.at vector subscript e).faults [] none in
+      let behind_vector = no_right index.faults _ all in
+      let behind_index = no_right (as_index vector.at v.value).faults _ (no_right v.faults _ behind_vector) in (
+        vector_visible c.scope vector.at vector (no_left index.faults _ all),
+        expression_visible c.scope vector.at subscript (no_left v.faults _ behind_vector),
         integer_visible c.scope vector.at e (no_left (integer_in c.scope vector.at e).faults _ behind_index),
       )
-  action_visible c (source.ReduceEntry vector index by e) none =
-      let place = vector_place c.scope vector.at vector in
-      let v = value_of c.scope vector.at index in
-      let all = no_left (reduce_entry c.scope vector.at vector index by e).faults [] none in
-      let behind_place = no_right place.faults _ all in
-      let behind_index = no_right (as_index vector.at v.value).faults _ (no_right v.faults _ behind_place) in (
-        vector_visible c.scope vector.at vector (no_left place.faults _ all),
-        expression_visible c.scope vector.at index (no_left v.faults _ behind_place),
+  action_visible c (source.ReduceEntry vector subscript by e) none =
+      let index = vector_index c.scope vector.at vector in
+      let v = value_of c.scope vector.at subscript in
+      let all = no_left (reduce_entry c.scope vector.at vector subscript by e).faults [] none in
+      let behind_vector = no_right index.faults _ all in
+      let behind_index = no_right (as_index vector.at v.value).faults _ (no_right v.faults _ behind_vector) in (
+        vector_visible c.scope vector.at vector (no_left index.faults _ all),
+        expression_visible c.scope vector.at subscript (no_left v.faults _ behind_vector),
         integer_visible c.scope vector.at e (no_left (integer_in c.scope vector.at e).faults _ behind_index),
       )
   action_visible c (source.AddVertex set e) none =

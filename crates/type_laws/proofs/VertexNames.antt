@@ -19,7 +19,7 @@ use Rattle.expression_types.specs.declared.scope.Entity.{Entity}
 use Rattle.expression_types.specs.declared.scope.Entity.TheVariants as entity
 use Rattle.expression_types.specs.declared.scope.Inside.{Inside}
 use Rattle.expression_types.specs.declared.scope.Inside.TheVariants as inside
-use Rattle.expression_types.specs.Expression.{as_size, comparison_value, conjunction_value, conjuncts, disjuncts, factors, index_lacks_value, index_value, no_vertex, primary_value, sum_value, summands, term_value, unary_value, used, value_of, vector_place}
+use Rattle.expression_types.specs.Expression.{as_size, comparison_value, conjunction_value, conjuncts, disjuncts, factors, index_lacks_value, index_value, no_vertex, primary_value, sum_value, summands, term_value, unary_value, used, value_of, vector_index}
 use Rattle.expression_types.specs.WithFaults.{WithFaults, fault_at, sure}
 use Rattle.expression_types.specs.Operators.{IntegersTree, Integers, MixedIntegers, ErrorIntegers, ConditionsTree, Conditions, MixedConditions, ErrorConditions, compared, condition_index, entry_value, equated, first_condition, first_integer, function_entry, given, grouped_conditions, grouped_integers, main_entry, related_value, signed_value}
 use Rattle.expression_types.specs.ScopeTree.{ScopeTree}
@@ -133,7 +133,7 @@ function_entry_no_vertex So at vector (Vertex p) is = is
 function_entry_no_vertex So at vector (Set slot) is = is
 function_entry_no_vertex So at vector ErrorValue is = is
 
-entry_no_vertex : (So : Endpoint → Type 0) (i : Inside) (at : ℕ) (place : Option ℕ) (v : ValueTree) → IsVertexSo So (entry_value i at place v).value → ⊥
+entry_no_vertex : (So : Endpoint → Type 0) (i : Inside) (at : ℕ) (index : Option ℕ) (v : ValueTree) → IsVertexSo So (entry_value i at index v).value → ⊥
 entry_no_vertex So i at None v is = is
 entry_no_vertex So inside.Main at (Some vector) v is = main_entry_no_vertex So at vector v is
 entry_no_vertex So inside.EdgeFunction at (Some vector) v is = function_entry_no_vertex So at vector v is
@@ -199,7 +199,7 @@ mutual
       let e = used scope name in
       entity_is_name At So names at name.bytes e.value n.among (used_known At i scope name n.known (no_left e.faults _ none)) is
   primary_is_name {So = So} scope at n (tree.Entry vector index) none is =
-      entry_no_vertex So scope.inside at (vector_place scope at vector).value (index_value scope at index).value is
+      entry_no_vertex So scope.inside at (vector_index scope at vector).value (index_value scope at index).value is
   primary_is_name {So = So} scope at n (tree.Size set) none is = size_no_vertex So at (used scope set).value is
   primary_is_name scope at n (tree.Parentheses inside) none is = expression_is_name scope at n inside none is
 

@@ -18,7 +18,7 @@ use Rattle.expression_types.specs.declared.scope.Entity.{Entity}
 use Rattle.expression_types.specs.declared.scope.Entity.TheVariants as entity
 use Rattle.expression_types.specs.declared.scope.Inside.{Inside}
 use Rattle.expression_types.specs.declared.scope.Inside.TheVariants as inside
-use Rattle.expression_types.specs.Expression.{used, value_of, vector_place}
+use Rattle.expression_types.specs.Expression.{used, value_of, vector_index}
 use Rattle.expression_types.specs.WithFaults.{WithFaults, fault_at, sure, ◌>>=◌}
 use Rattle.expression_types.specs.ValueTree.{ValueTree, Integer, Condition, Vertex, Set, ErrorValue, is_error, named_set}
 use Rattle.types.specs.Checker.{CheckerTree, condition_slot, integer_slot, labelled}
@@ -73,7 +73,7 @@ step_inside c (source.ReduceEntry vector index by e) = refl
 step_inside c (source.AddVertex set e) = refl
 step_inside c (source.Apply target ends function) = refl
 
--- what the statements at a place may do with entries
+-- what the statements at an index may do with entries
 pub record May (i : Inside) (Sets Reduces : Type 0) : Type 0 where
   pub sets : (at : ℕ) → (may_set at i).faults ≡ [] → Sets
   pub reduces : (at : ℕ) (vector : Option ℕ) (by : Reduction) (writes : List (ℕ × Reduction)) → (may_reduce at i vector by writes).faults ≡ [] → Reduces
@@ -99,15 +99,15 @@ mutual
   step_fits_kind may c (source.Print at e) is none = absurd (not_empty _ _ none)
   step_fits_kind may c (source.Assign name initial) is none = tt
   step_fits_kind may c (source.Reduce name by e) is none = tt
-  step_fits_kind may c (source.SetEntry vector index e) is none =
+  step_fits_kind may c (source.SetEntry vector subscript e) is none =
       let m = may_set vector.at c.scope.inside in
-      let sound = no_left m.faults _ (no_left (set_entry_step c.scope vector.at vector index e).faults [] none) in
+      let sound = no_left m.faults _ (no_left (set_entry_step c.scope vector.at vector subscript e).faults [] none) in
       may.sets vector.at (subst (λ i. (may_set vector.at i).faults ≡ []) is sound)
-  step_fits_kind may c (source.ReduceEntry vector index by e) is none =
-      let place = vector_place c.scope vector.at vector in
-      let m = may_reduce vector.at c.scope.inside place.value by c.writes in
-      let sound = no_left m.faults _ (no_right place.faults _ none) in
-      may.reduces vector.at place.value by c.writes (subst (λ i. (may_reduce vector.at i place.value by c.writes).faults ≡ []) is sound)
+  step_fits_kind may c (source.ReduceEntry vector subscript by e) is none =
+      let index = vector_index c.scope vector.at vector in
+      let m = may_reduce vector.at c.scope.inside index.value by c.writes in
+      let sound = no_left m.faults _ (no_right index.faults _ none) in
+      may.reduces vector.at index.value by c.writes (subst (λ i. (may_reduce vector.at i index.value by c.writes).faults ≡ []) is sound)
   step_fits_kind may c (source.AddVertex set e) is none = absurd (not_empty _ _ none)
   step_fits_kind may c (source.Apply target ends function) is none = absurd (not_empty _ _ none)
 
@@ -227,7 +227,7 @@ of_edges_sound at x e sound clear =
 filtered_by_sound : (at : ℕ) (s : Option VarRef) (f : Option ℕ) → IsSound (filtered_by at s f)
 filtered_by_sound at None f none = absurd (not_empty _ _ none)
 filtered_by_sound at (Some slot) None none = absurd (not_empty _ _ none)
-filtered_by_sound at (Some slot) (Some place) none = refl
+filtered_by_sound at (Some slot) (Some index) none = refl
 
 filtered_sound : (at : ℕ) (s f : Entity) → names_error s ≡ false → names_error f ≡ false → IsSound (filtered at s f)
 filtered_sound at s f first second =
@@ -238,7 +238,7 @@ end_is_known : (At : Vertices) (name : List ℕ) (e : Entity) → EntityIsKnown 
 end_is_known At name entity.Error known = absurd known
 end_is_known At name (entity.ConstantSet slot) known = refl
 end_is_known At name (entity.SetVariable slot) known = refl
-end_is_known At name (entity.Filter place) known = refl
+end_is_known At name (entity.Filter index) known = refl
 end_is_known At name _ known = refl
 
 end_known : (At : Vertices) (i : Inside) (c : CheckerTree) (end : Option Identifier) → IsKnown At i c.scope → (end_of c.scope end).faults ≡ []
@@ -345,13 +345,13 @@ of_edges_not : (Q : InitializerTree → Bool) (at : ℕ) (x : InitializerTree) (
 of_edges_not Q at x e broken other =
     if_not Q (names_error e) (sure ErrorInitializer) (if is_edges e then sure x else fault_at at rule.WrongType ErrorInitializer) broken (if_not Q (is_edges e) (sure x) (fault_at at rule.WrongType ErrorInitializer) other broken)
 
-filtered_by_not : (Q : InitializerTree → Bool) (at : ℕ) (s : Option VarRef) (f : Option ℕ) → Q ErrorInitializer ≡ false → ((slot : VarRef) (place : ℕ) → Q (Members (set.Filter slot place)) ≡ false)
+filtered_by_not : (Q : InitializerTree → Bool) (at : ℕ) (s : Option VarRef) (f : Option ℕ) → Q ErrorInitializer ≡ false → ((slot : VarRef) (index : ℕ) → Q (Members (set.Filter slot index)) ≡ false)
     → Q (filtered_by at s f).value ≡ false
 filtered_by_not Q at None f broken other = broken
 filtered_by_not Q at (Some slot) None broken other = broken
-filtered_by_not Q at (Some slot) (Some place) broken other = other slot place
+filtered_by_not Q at (Some slot) (Some index) broken other = other slot index
 
-filtered_not : (Q : InitializerTree → Bool) (at : ℕ) (s f : Entity) → Q ErrorInitializer ≡ false → ((slot : VarRef) (place : ℕ) → Q (Members (set.Filter slot place)) ≡ false) → Q (filtered at s f).value ≡ false
+filtered_not : (Q : InitializerTree → Bool) (at : ℕ) (s f : Entity) → Q ErrorInitializer ≡ false → ((slot : VarRef) (index : ℕ) → Q (Members (set.Filter slot index)) ≡ false) → Q (filtered at s f).value ≡ false
 filtered_not Q at s f broken other =
     if_not Q (names_error s || names_error f) (sure ErrorInitializer) (filtered_by at (named_set s) (filter_function f)) broken (filtered_by_not Q at (named_set s) (filter_function f) broken other)
 
@@ -385,7 +385,7 @@ initializer_is_load c at (source.NewSet size) is = clash _ (new_set_not is_loade
 initializer_is_load c at (source.Load argument) is = load_argument at argument is
 initializer_is_load c at (source.Vertices edges) is = clash _ (of_edges_not is_loaded at (Members set.All) (used c.scope edges).value refl refl) is
 initializer_is_load c at (source.OutDegrees edges) is = clash _ (of_edges_not is_loaded at Degrees (used c.scope edges).value refl refl) is
-initializer_is_load c at (source.Filter s f) is = clash _ (filtered_not is_loaded at (used c.scope s).value (used c.scope f).value refl (λ slot place. refl)) is
+initializer_is_load c at (source.Filter s f) is = clash _ (filtered_not is_loaded at (used c.scope s).value (used c.scope f).value refl (λ slot index. refl)) is
 initializer_is_load c at (source.ApplyModified edges ends f v) is =
     clash _ (modified_not is_loaded c at (used c.scope edges).value (end_of c.scope ends.from).value (end_of c.scope ends.to).value (used c.scope f).value (used c.scope v).value refl (λ ends f v. refl)) is
 initializer_is_load c at (source.Value e) is = false_is_not_true is
@@ -395,7 +395,7 @@ initializer_is_all c at (source.NewSet size) is = clash _ (new_set_not is_all at
 initializer_is_all c at (source.Load argument) is = clash _ (loaded_not is_all at argument refl refl) is
 initializer_is_all c at (source.Vertices edges) is = tt
 initializer_is_all c at (source.OutDegrees edges) is = clash _ (of_edges_not is_all at Degrees (used c.scope edges).value refl refl) is
-initializer_is_all c at (source.Filter s f) is = clash _ (filtered_not is_all at (used c.scope s).value (used c.scope f).value refl (λ slot place. refl)) is
+initializer_is_all c at (source.Filter s f) is = clash _ (filtered_not is_all at (used c.scope s).value (used c.scope f).value refl (λ slot index. refl)) is
 initializer_is_all c at (source.ApplyModified edges ends f v) is =
     clash _ (modified_not is_all c at (used c.scope edges).value (end_of c.scope ends.from).value (end_of c.scope ends.to).value (used c.scope f).value (used c.scope v).value refl (λ ends f v. refl)) is
 initializer_is_all c at (source.Value e) is = false_is_not_true is
@@ -405,7 +405,7 @@ initializer_is_degrees c at (source.NewSet size) is = clash _ (new_set_not is_de
 initializer_is_degrees c at (source.Load argument) is = clash _ (loaded_not is_degrees at argument refl refl) is
 initializer_is_degrees c at (source.Vertices edges) is = clash _ (of_edges_not is_degrees at (Members set.All) (used c.scope edges).value refl refl) is
 initializer_is_degrees c at (source.OutDegrees edges) is = tt
-initializer_is_degrees c at (source.Filter s f) is = clash _ (filtered_not is_degrees at (used c.scope s).value (used c.scope f).value refl (λ slot place. refl)) is
+initializer_is_degrees c at (source.Filter s f) is = clash _ (filtered_not is_degrees at (used c.scope s).value (used c.scope f).value refl (λ slot index. refl)) is
 initializer_is_degrees c at (source.ApplyModified edges ends f v) is =
     clash _ (modified_not is_degrees c at (used c.scope edges).value (end_of c.scope ends.from).value (end_of c.scope ends.to).value (used c.scope f).value (used c.scope v).value refl (λ ends f v. refl)) is
 initializer_is_degrees c at (source.Value e) is = false_is_not_true is

@@ -12,7 +12,7 @@ abbrev pub ValueAsksForWritten : ProgramTree → SetValue → Type 0
 ValueAsksForWritten p set.Empty = Unit {0}
 ValueAsksForWritten p set.All = Unit {0}
 ValueAsksForWritten p (set.Copy slot) = Unit {0}
-ValueAsksForWritten p (set.Filter slot place) = Unit {0}
+ValueAsksForWritten p (set.Filter slot index) = Unit {0}
 ValueAsksForWritten p (set.Modified ends function vector) = Contains (function_writes p.edge_functions function) vector
 
 -- so it is in a statement

@@ -2,11 +2,11 @@
 use Rattle.std.specs.Prelude.{ℕ, zero, suc, List, [], ◌∷◌, ◌++◌, Option, Some, None}
 use Rattle.typed_tree.specs.BlockTree.{ActionTree, DeclareInteger, DeclareCondition, SetInteger, SetCondition, ReduceInteger, SetEntry, ReduceEntry, DeclareSet, AssignSet, AddVertex, PrintInteger, PrintCondition, ApplyVertex, ApplyEdges, If, IfElse, While, For, BlockTree, Empty, Then}
 
--- at each place of a vertex set its name, where it is visible by it
+-- at each index of a vertex set its name, where it is visible by it
 abbrev pub SetNames : Type 0
 SetNames = List (Option ℕ)
 
--- Of the constant sets so many stand before main in the text, and are visible there. Those after it have their places too.
+-- Of the constant sets so many stand before main in the text, and are visible there. Those after it have their indices too.
 abbrev pub names_before : (count : ℕ) → (sets : List ℕ) → SetNames
 names_before count [] = []
 names_before zero (name ∷ sets) = None ∷ names_before zero sets

@@ -55,15 +55,15 @@ SeesWeights weights false = Unit {0}
 -- `applyModified` takes an edge function and a vector that it writes
 pub record Modifies (k : Known) (edges function vector : Identifier) : Type 0 where
   pub weights : Bool
-  pub place : ℕ
+  pub index : ℕ
   pub weighted : Bool
   pub written : ℕ
   pub by : Reduction
   pub edges_mean : Means k.names edges (meaning.Edges weights)
-  pub function_means : Means k.names function (meaning.EdgeFunction place weighted)
+  pub function_means : Means k.names function (meaning.EdgeFunction index weighted)
   pub sees : SeesWeights weights weighted
   pub vector_means : Means k.names vector (meaning.Vector written)
-  pub writes : lookup (nat_eq written) (slice_index_or k.written place []) ≡ Some by
+  pub writes : lookup (nat_eq written) (slice_index_or k.written index []) ≡ Some by
 
 abbrev pub GivesMembers : Known → Inside → InitialTree → Type 0
 GivesMembers k i (source.NewSet size) = size ≡ pos 0
@@ -98,8 +98,8 @@ pub data AssignFits (i : Inside) (k : Known) (name : Identifier) (initial : Init
 
 -- edge functions are applied to the edges, and vertex functions to vertex sets, which have no ends
 pub data ApplyFits (k : Known) (target : Identifier) (ends : EndsTree) (function : Identifier) : Type 0 where
-  AppliesEdges : (weights : Bool) (place : ℕ) (weighted : Bool) → Means k.names target (meaning.Edges weights) → EndsFit k.names ends
-      → Means k.names function (meaning.EdgeFunction place weighted) → SeesWeights weights weighted → ApplyFits k target ends function
+  AppliesEdges : (weights : Bool) (index : ℕ) (weighted : Bool) → Means k.names target (meaning.Edges weights) → EndsFit k.names ends
+      → Means k.names function (meaning.EdgeFunction index weighted) → SeesWeights weights weighted → ApplyFits k target ends function
   AppliesVertices : NameHas k.names target Set → ends.from ≡ None → ends.to ≡ None → Means k.names function meaning.VertexFunction → ApplyFits k target ends function
 
 -- the vertex at which a function writes
@@ -133,11 +133,11 @@ WrittenAt inside.EdgeFunction names index = ExpressionHas names inside.EdgeFunct
 WrittenAt inside.VertexFunction names index = ExpressionHas names inside.VertexFunction index (Vertex endpoint.Source)
 WrittenAt inside.Filter names index = ⊥
 
-pub record ReducesEntry (i : Inside) (k : Known) (vector : Identifier) (index : ExpressionTree) (by : Reduction) (e : ExpressionTree) : Type 0 where
-  pub place : ℕ
-  pub means : Means k.names vector (meaning.Vector place)
-  pub may : MayReduce i k place by
-  pub at : WrittenAt i k.names index
+pub record ReducesEntry (i : Inside) (k : Known) (vector : Identifier) (subscript : ExpressionTree) (by : Reduction) (e : ExpressionTree) : Type 0 where
+  pub index : ℕ
+  pub means : Means k.names vector (meaning.Vector index)
+  pub may : MayReduce i k index by
+  pub at : WrittenAt i k.names subscript
   pub value : IsNumber k.names i e
 
 -- what main alone may hold

@@ -4,7 +4,7 @@ pub mod EntryAccess
 pub mod ExpressionTypes
 pub mod InitialValues
 pub mod KeptRules
-pub mod LabelPlaces
+pub mod LabelIndices
 pub mod Labels
 pub mod MainFunction
 pub mod Meanings

@@ -1,4 +1,4 @@
--- Meanings: what visible names are in the words of the language, without the places that a checker gives them.
+-- Meanings: what visible names are in the words of the language, without the indices that a checker gives them.
 use Rattle.std.specs.Prelude.{◌≡◌, ℕ, Bool, nat_eq, List, [], ◌∷◌, ◌++◌, Option, Some, None}
 use Rattle.std.specs.List.{Contains}
 use Rattle.std.specs.Map.{lookup}

@@ -8,7 +8,7 @@ use Rattle.type_laws.specs.Meanings.{Meaning, Meanings}
 -- the meaning of what the checker knows of a name
 abbrev pub meaning_of : Entity → Meaning
 meaning_of (entity.Edges weights) = meaning.Edges weights
-meaning_of (entity.Vector place) = meaning.Vector place
+meaning_of (entity.Vector index) = meaning.Vector index
 meaning_of (entity.ConstantSet slot) = meaning.ConstantSet
 meaning_of (entity.IntegerConstant name n) = meaning.NumberConstant
 meaning_of (entity.ConditionConstant name b) = meaning.TruthConstant
@@ -18,9 +18,9 @@ meaning_of (entity.SetVariable slot) = meaning.SetVariable
 meaning_of (entity.LoopVariable slot) = meaning.LoopName
 meaning_of (entity.Parameter p) = meaning.Parameter p
 meaning_of entity.Weight = meaning.Weight
-meaning_of (entity.EdgeFunction place weighted) = meaning.EdgeFunction place weighted
-meaning_of (entity.VertexFunction place) = meaning.VertexFunction
-meaning_of (entity.Filter place) = meaning.Filter
+meaning_of (entity.EdgeFunction index weighted) = meaning.EdgeFunction index weighted
+meaning_of (entity.VertexFunction index) = meaning.VertexFunction
+meaning_of (entity.Filter index) = meaning.Filter
 meaning_of entity.Main = meaning.Main
 meaning_of entity.Error = meaning.Nothing
 

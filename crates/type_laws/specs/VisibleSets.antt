@@ -16,18 +16,18 @@ abbrev pub AreApart : ProgramTree → SetNames → Type 0
 AreApart p names =
     (i j a b : ℕ) → slice_get names i ≡ Some (Some a) → slice_get names j ≡ Some (Some b) → are_same p.names a b ≡ true → i ≡ j
 
--- the set at the place is visible by the name
+-- the set at the index is visible by the name
 abbrev pub IsVisible : SetNames → VarRef → Type 0
-IsVisible names slot = slice_get names slot.place ≡ Some (Some slot.name)
+IsVisible names slot = slice_get names slot.index ≡ Some (Some slot.name)
 
--- the set is a variable: the constant ones have the first places
+-- the set is a variable: the constant ones have the first indices
 abbrev pub IsVariable : ProgramTree → VarRef → Type 0
-IsVariable p slot = length p.sets ≤ slot.place
+IsVariable p slot = length p.sets ≤ slot.index
 
 abbrev pub EndIsVisible : SetNames → Option VertexFilter → Type 0
 EndIsVisible names None = Unit {0}
 EndIsVisible names (Some (filter.Members slot)) = IsVisible names slot
-EndIsVisible names (Some (filter.Function place)) = Unit {0}
+EndIsVisible names (Some (filter.Function index)) = Unit {0}
 
 abbrev pub EndsAreVisible : SetNames → ApplyEnds → Type 0
 EndsAreVisible names ends = EndIsVisible names ends.from × EndIsVisible names ends.to
@@ -36,7 +36,7 @@ abbrev pub ValueIsVisible : SetNames → SetValue → Type 0
 ValueIsVisible names set.Empty = Unit {0}
 ValueIsVisible names set.All = Unit {0}
 ValueIsVisible names (set.Copy slot) = Unit {0}
-ValueIsVisible names (set.Filter slot place) = IsVisible names slot
+ValueIsVisible names (set.Filter slot index) = IsVisible names slot
 ValueIsVisible names (set.Modified ends function vector) = EndsAreVisible names ends
 
 -- Each set is visible that a statement changes, filters, applies a vertex function to or has as an end of an edge apply; and one that it

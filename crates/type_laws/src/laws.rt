@@ -18,7 +18,7 @@ ghost use Rattle.types.specs.Checker.{without_ends};
 ghost use Rattle.types.specs.Declaration.{main_bytes};
 ghost use Rattle.type_laws.specs.InitialValues.{DeclarationInitialsFit};
 ghost use Rattle.type_laws.specs.KeptRules.{KeepsRules};
-ghost use Rattle.type_laws.specs.LabelPlaces.{LabelsAreInOrder};
+ghost use Rattle.type_laws.specs.LabelIndices.{LabelsAreInOrder};
 ghost use Rattle.type_laws.specs.Labels.{labels_of};
 ghost use Rattle.type_laws.specs.MainFunction.{DeclaresMain, functions_named};
 ghost use Rattle.type_laws.specs.NewNames.{DeclarationsDeclareNew, edges_declared};
@@ -62,8 +62,8 @@ pub fn checked_sources_have_distinct_labels()
         → program.labels ≡ map without_ends (labels_of source.declarations) }
 {}
 
-/// The law that in a checked program each place is that of something that is there: that of a variable or a vertex set
-/// is the place of one that is visible and has its name, and vectors, functions, labels and names are in their tables. An
+/// The law that in a checked program each index is that of something that is there: that of a variable or a vertex set
+/// is the index of one that is visible and has its name, and vectors, functions, labels and names are in their tables. An
 /// entry stands at a vertex of its function, or, in `main` alone, at an index, which a run tests.
 pub fn checked_programs_are_resolved()
     ensures { (source : SourceTree) (length : ℕ) (program : ProgramTree) → Checks source length (Ok program) → IsResolved program }
@@ -90,7 +90,7 @@ pub fn statements_are_numbered_in_order()
     ensures { (source : SourceTree) (length : ℕ) → InOrder 1 (numbers (program_of source length).value.main) }
 {}
 
-/// The law that the labels of the statements of `main` are the places of labels that follow each other in the order of the
+/// The law that the labels of the statements of `main` are the indices of labels that follow each other in the order of the
 /// text, without a gap: no two statements have the same one.
 pub fn labels_of_main_are_in_order()
     ensures { (source : SourceTree) (length : ℕ) (program : ProgramTree) → Checks source length (Ok program) → LabelsAreInOrder program }

@@ -19,7 +19,7 @@
 //!   (`checked_sources_declare_main`);
 //! - no label stands twice (`checked_sources_have_distinct_labels`).
 //!
-//! In a checked program each place is that of something that is there (`checked_programs_are_resolved`, `IsResolved`
+//! In a checked program each index is that of something that is there (`checked_programs_are_resolved`, `IsResolved`
 //! of `typed_tree`), and the statements of `main` have the numbers 1, 2, 3 and so on
 //! (`statements_are_numbered_in_order`). Their labels are in order (`labels_of_main_are_in_order`), visible vertex sets have
 //! different names (`checked_programs_name_visible_sets_apart`), and a set that gets the vertices where an edge apply changed

@@ -26,8 +26,8 @@ module _ (passes : Access → Bool) (gives : Access → List ℕ) (P : ℕ → B
   integer_gathered (integer.Parameter at) = refl
   integer_gathered integer.Weight = refl
   integer_gathered (integer.EntryAt vector at) = each (ReadAtVertex vector)
-  integer_gathered (integer.Entry vector index) = two _ _ (gives (ReadAtIndex vector)) (integer_fold (gathered gives) index) (each (ReadAtIndex vector)) (integer_gathered index)
-  integer_gathered (integer.SetSize slot) = each (ReadSet slot.place)
+  integer_gathered (integer.Entry vector subscript) = two _ _ (gives (ReadAtIndex vector)) (integer_fold (gathered gives) subscript) (each (ReadAtIndex vector)) (integer_gathered subscript)
+  integer_gathered (integer.SetSize slot) = each (ReadSet slot.index)
   integer_gathered (integer.Negative e) = integer_gathered e
   integer_gathered (integer.Arithmetic operator a b) = two _ _ (integer_fold (gathered gives) a) (integer_fold (gathered gives) b) (integer_gathered a) (integer_gathered b)
 
@@ -61,10 +61,10 @@ module _ (passes : Access → Bool) (gives : Access → List ℕ) (P : ℕ → B
   where_gathered None = refl
   where_gathered (Some f) = steps_gathered f.steps
 
-  pub function_gathered : (functions : List FunctionTree) (place : ℕ) → function_fold (all_pass passes) functions place ≡ list_all P (function_fold (gathered gives) functions place)
-  function_gathered functions place = where_gathered (slice_get functions place)
+  pub function_gathered : (functions : List FunctionTree) (index : ℕ) → function_fold (all_pass passes) functions index ≡ list_all P (function_fold (gathered gives) functions index)
+  function_gathered functions index = where_gathered (slice_get functions index)
 
   pub end_gathered : (filters : List FunctionTree) (end : Option VertexFilter) → end_fold (all_pass passes) filters end ≡ list_all P (end_fold (gathered gives) filters end)
   end_gathered filters None = refl
-  end_gathered filters (Some (end.Members slot)) = each (ReadSet slot.place)
-  end_gathered filters (Some (end.Function place)) = function_gathered filters place
+  end_gathered filters (Some (end.Members slot)) = each (ReadSet slot.index)
+  end_gathered filters (Some (end.Function index)) = function_gathered filters index

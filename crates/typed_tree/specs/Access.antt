@@ -13,7 +13,7 @@ use Rattle.typed_tree.specs.Fold.{Fold, condition_fold, end_fold, function_fold,
 abbrev pub vector_of : Access → List ℕ
 vector_of (ReadAtVertex vector) = vector ∷ []
 vector_of (ReadAtIndex vector) = vector ∷ []
-vector_of (ReadSet place) = []
+vector_of (ReadSet index) = []
 vector_of (Write vector) = vector ∷ []
 
 -- the vectors that are read or written, in the order of the text
@@ -45,18 +45,18 @@ step_writes step = step_fold written step
 abbrev pub steps_write : StepsTree → List ℕ
 steps_write steps = steps_fold written steps
 
--- the same of the function at a place
+-- the same of the function at an index
 abbrev pub steps_use_where : Option FunctionTree → List ℕ
 steps_use_where f = steps_fold_where used f
 
 abbrev pub function_uses : List FunctionTree → ℕ → List ℕ
-function_uses functions place = function_fold used functions place
+function_uses functions index = function_fold used functions index
 
 abbrev pub steps_write_where : Option FunctionTree → List ℕ
 steps_write_where f = steps_fold_where written f
 
 abbrev pub function_writes : List FunctionTree → ℕ → List ℕ
-function_writes functions place = function_fold written functions place
+function_writes functions index = function_fold written functions index
 
 -- the vectors that the filter of an end reads; a vertex set reads none
 abbrev pub end_reads : List FunctionTree → Option VertexFilter → List ℕ

@@ -39,8 +39,8 @@ module _ {R : Type 0} (f : Fold R) where
   integer_fold (integer.Parameter at) = f.none
   integer_fold integer.Weight = f.none
   integer_fold (integer.EntryAt vector at) = f.access (ReadAtVertex vector)
-  integer_fold (integer.Entry vector index) = f.join (f.access (ReadAtIndex vector)) (integer_fold index)
-  integer_fold (integer.SetSize slot) = f.access (ReadSet slot.place)
+  integer_fold (integer.Entry vector subscript) = f.join (f.access (ReadAtIndex vector)) (integer_fold subscript)
+  integer_fold (integer.SetSize slot) = f.access (ReadSet slot.index)
   integer_fold (integer.Negative e) = integer_fold e
   integer_fold (integer.Arithmetic operator a b) = f.join (integer_fold a) (integer_fold b)
 
@@ -68,19 +68,19 @@ module _ {R : Type 0} (f : Fold R) where
     steps_fold NoStep = f.none
     steps_fold (StepThen step rest) = f.join (step_fold step) (steps_fold rest)
 
-  -- the same of the function at a place; one that is not there does nothing
+  -- the same of the function at an index; one that is not there does nothing
   abbrev pub steps_fold_where : Option FunctionTree → R
   steps_fold_where None = f.none
   steps_fold_where (Some g) = steps_fold g.steps
 
   abbrev pub function_fold : List FunctionTree → ℕ → R
-  function_fold functions place = steps_fold_where (slice_get functions place)
+  function_fold functions index = steps_fold_where (slice_get functions index)
 
   -- the same of an end of an edge apply
   abbrev pub end_fold : List FunctionTree → Option VertexFilter → R
   end_fold filters None = f.none
-  end_fold filters (Some (end.Members slot)) = f.access (ReadSet slot.place)
-  end_fold filters (Some (end.Function place)) = function_fold filters place
+  end_fold filters (Some (end.Members slot)) = f.access (ReadSet slot.index)
+  end_fold filters (Some (end.Function index)) = function_fold filters index
 
   -- for proofs only: the same of operands, and of conditions, in a row
   abbrev pub operands_fold : List Operand → R

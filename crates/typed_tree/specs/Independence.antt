@@ -8,15 +8,15 @@ use Rattle.typed_tree.specs.declared.apply.StatementApply.{StatementApply}
 use Rattle.typed_tree.specs.declared.apply.StatementApply.TheVariants.{Vertices, Edges}
 use Rattle.typed_tree.specs.Access.{are_apart, end_reads, function_uses, function_writes}
 
--- the name at a place; one that is not there is empty
+-- the name at an index; one that is not there is empty
 abbrev pub or_empty : Option (List ℕ) → List ℕ
 or_empty None = []
 or_empty (Some name) = name
 
 abbrev pub name_at : List (List ℕ) → ℕ → List ℕ
-name_at names place = or_empty (slice_get names place)
+name_at names index = or_empty (slice_get names index)
 
--- the names at two places are the same
+-- the names at two indices are the same
 abbrev pub are_same : List (List ℕ) → ℕ → ℕ → Bool
 are_same names a b = bytes_eq (name_at names a) (name_at names b)
 

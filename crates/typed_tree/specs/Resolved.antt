@@ -1,4 +1,4 @@
--- A program in which each place is that of something that is there: variables, vertex sets, vectors, functions, labels and names.
+-- A program in which each index is that of something that is there: variables, vertex sets, vectors, functions, labels and names.
 use Rattle.std.specs.Prelude.{◌≡◌, ℕ, Bool, true, false, ◌<◌, List, [], ◌∷◌, ◌++◌, length, slice_get, Option, Some, None}
 use Rattle.std.specs.List.{AllByRecursion}
 use Rattle.typed_tree.specs.declared.expression.VarRef.{VarRef}
@@ -20,9 +20,9 @@ use Rattle.typed_tree.specs.BlockTree as action
 use Rattle.typed_tree.specs.BlockTree.{ActionTree, BlockTree}
 use Rattle.typed_tree.specs.ProgramTree.{ProgramTree}
 
--- What is visible at a point of a program, at its place: the names of the integers, of the conditions and of the vertex sets, of which
+-- What is visible at a point of a program, at its index: the names of the integers, of the conditions and of the vertex sets, of which
 -- the constant ones come first; how many vertices the function around the point works on; and whether entries of vectors are read at an
--- index, as in main, where the index is tested. The bound of a `for` has a place after its name, and no name.
+-- index, as in main, where the index is tested. The bound of a `for` has an index after its name, and no name.
 pub record VisibleTree : Type 0 where
   pub integers : List (Option ℕ)
   pub conditions : List ℕ
@@ -56,7 +56,7 @@ in_vertex_function p = record { integers = []; conditions = []; sets = p.sets; v
 abbrev pub in_filter : ProgramTree → (result : ℕ) → VisibleTree
 in_filter p result = record { integers = []; conditions = result ∷ []; sets = p.sets; vertices = 1; indexes = false }
 
--- the name, vector or function at a place is in its table
+-- the name, vector or function at an index is in its table
 abbrev pub IsName : ProgramTree → ℕ → Type 0
 IsName p name = name < length p.names
 
@@ -72,15 +72,15 @@ IsVertexFunction p function = function < length p.vertex_functions
 abbrev pub IsFilter : ProgramTree → ℕ → Type 0
 IsFilter p function = function < length p.filters
 
--- what is visible at the place has the name
+-- what is visible at the index has the name
 abbrev pub IsInteger : ProgramTree → VisibleTree → VarRef → Type 0
-IsInteger p v slot = (slice_get v.integers slot.place ≡ Some (Some slot.name)) × IsName p slot.name
+IsInteger p v slot = (slice_get v.integers slot.index ≡ Some (Some slot.name)) × IsName p slot.name
 
 abbrev pub IsCondition : ProgramTree → VisibleTree → VarRef → Type 0
-IsCondition p v slot = (slice_get v.conditions slot.place ≡ Some slot.name) × IsName p slot.name
+IsCondition p v slot = (slice_get v.conditions slot.index ≡ Some slot.name) × IsName p slot.name
 
 abbrev pub IsSet : ProgramTree → VisibleTree → VarRef → Type 0
-IsSet p v slot = (slice_get v.sets slot.place ≡ Some slot.name) × IsName p slot.name
+IsSet p v slot = (slice_get v.sets slot.index ≡ Some slot.name) × IsName p slot.name
 
 -- the source stands before the destination
 abbrev pub IsVertex : VisibleTree → Endpoint → Type 0
@@ -117,7 +117,7 @@ ConditionIsResolved p v (condition.Connect connective left right) = ConditionIsR
 abbrev pub EndIsResolved : ProgramTree → VisibleTree → Option VertexFilter → Type 0
 EndIsResolved p v None = Unit {0}
 EndIsResolved p v (Some (filter.Members slot)) = IsSet p v slot
-EndIsResolved p v (Some (filter.Function place)) = IsFilter p place
+EndIsResolved p v (Some (filter.Function index)) = IsFilter p index
 
 abbrev pub EndsAreResolved : ProgramTree → VisibleTree → ApplyEnds → Type 0
 EndsAreResolved p v ends = EndIsResolved p v ends.from × EndIsResolved p v ends.to
@@ -127,7 +127,7 @@ abbrev pub SetIsResolved : ProgramTree → VisibleTree → SetValue → Type 0
 SetIsResolved p v set.Empty = Unit {0}
 SetIsResolved p v set.All = Unit {0}
 SetIsResolved p v (set.Copy slot) = IsSet p v slot
-SetIsResolved p v (set.Filter slot place) = IsSet p v slot × IsFilter p place
+SetIsResolved p v (set.Filter slot index) = IsSet p v slot × IsFilter p index
 SetIsResolved p v (set.Modified ends function vector) = EndsAreResolved p v ends × IsEdgeFunction p function × IsVector p vector
 
 -- after a statement of a function

@@ -12,7 +12,7 @@ use crate::function::{Function, FunctionStatement};
 use crate::statement::VertexFilter;
 use std::alloc::AllocError;
 
-/// What a function reads or writes besides its own variables. A vector and a set are named by their places.
+/// What a function reads or writes besides its own variables. A vector and a set are named by their indices.
 #[derive(Clone, Copy)]
 pub enum Access {
     /// Reads the entry of this vector at a vertex that the function works on.
@@ -47,10 +47,10 @@ fn integer_passes<T: AccessTest>(e: &IntExpression, test: &T) -> bool
         | IntExpression::Parameter(_)
         | IntExpression::Weight => true,
         IntExpression::EntryAt(vector, _) => test.passes(Access::ReadAtVertex(*vector)),
-        IntExpression::Entry(vector, index) => {
-            test.passes(Access::ReadAtIndex(*vector)) && integer_passes(index, test)
+        IntExpression::Entry(vector, subscript) => {
+            test.passes(Access::ReadAtIndex(*vector)) && integer_passes(subscript, test)
         }
-        IntExpression::SetSize(slot) => test.passes(Access::ReadSet(slot.place)),
+        IntExpression::SetSize(slot) => test.passes(Access::ReadSet(slot.index)),
         IntExpression::Negative(_, e) => integer_passes(e, test),
         IntExpression::Arithmetic(first, operands) => {
             integer_passes(first, test) && operands_pass(operands, test)
@@ -137,11 +137,11 @@ fn step_passes<T: AccessTest>(step: &FunctionStatement, test: &T) -> bool
     }
 }
 
-/// Whether each access of the function at this place passes. One that is not there has none.
-pub fn function_passes<T: AccessTest>(functions: &[Function], place: usize, test: &T) -> bool
-    ensures { result ≡ function_fold (all_pass (T.passes test.now)) (map function_tree functions.now) place }
+/// Whether each access of the function at this index passes. One that is not there has none.
+pub fn function_passes<T: AccessTest>(functions: &[Function], index: usize, test: &T) -> bool
+    ensures { result ≡ function_fold (all_pass (T.passes test.now)) (map function_tree functions.now) index }
 {
-    match functions.get(place) {
+    match functions.get(index) {
         Some(function) => steps_pass(&function.steps, test),
         None => true,
     }
@@ -152,22 +152,22 @@ pub fn end_passes<T: AccessTest>(filters: &[Function], end: Option<VertexFilter>
     ensures { result ≡ end_fold (all_pass (T.passes test.now)) (map function_tree filters.now) end }
 {
     match end {
-        Some(VertexFilter::Function(place)) => function_passes(filters, place, test),
-        Some(VertexFilter::Members(slot)) => test.passes(Access::ReadSet(slot.place)),
+        Some(VertexFilter::Function(index)) => function_passes(filters, index, test),
+        Some(VertexFilter::Members(slot)) => test.passes(Access::ReadSet(slot.index)),
         None => true,
     }
 }
 
-/// Puts the vectors that the function at this place writes after the others, in the order of the text, a vector as often
+/// Puts the vectors that the function at this index writes after the others, in the order of the text, a vector as often
 /// as it is written. One that is not there writes none. The only error is out of memory.
 pub fn push_written(
     functions: &[Function],
-    place: usize,
+    index: usize,
     vectors: &mut Vec<usize>,
 ) -> Result<(), AllocError>
-    ensures { OnOk result (vectors.new.items ≡ vectors.old.items ++ function_writes (map function_tree functions.now) place) }
+    ensures { OnOk result (vectors.new.items ≡ vectors.old.items ++ function_writes (map function_tree functions.now) index) }
 {
-    match functions.get(place) {
+    match functions.get(index) {
         Some(function) => push_written_by_all(&function.steps, vectors),
         None => Ok(()),
     }

@@ -6,13 +6,13 @@ use crate::statement::ApplyEnds;
 /// What a statement applies.
 #[derive(Clone, Copy, Debug, PartialEq, Eq)]
 pub enum StatementApply {
-    /// The vertex function at this place to each vertex of a set.
+    /// The vertex function at this index to each vertex of a set.
     Vertices {
         set: VarRef,
         function: usize,
     },
-    /// The edge function at this place to the edges between the ends. A set that gets what the apply changed
-    /// has its name at the place `result` of the program's names.
+    /// The edge function at this index to the edges between the ends. A set that gets what the apply changed
+    /// has its name at the index `result` of the program's names.
     Edges {
         ends: ApplyEnds,
         function: usize,

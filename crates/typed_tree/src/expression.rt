@@ -3,9 +3,9 @@
 /// What a run keeps and a name stands for.
 #[derive(Clone, Copy, Debug, PartialEq, Eq)]
 pub struct VarRef {
-    /// Its place among the visible ones of its kind: integers, conditions or vertex sets.
-    pub place: usize,
-    /// The place of its name in the program's names.
+    /// Its index among the visible ones of its kind: integers, conditions or vertex sets.
+    pub index: usize,
+    /// The index of its name in the program's names.
     pub name: usize,
 }
 
@@ -53,7 +53,7 @@ pub enum Connective {
 pub enum IntExpression {
     /// A literal.
     Number(i64),
-    /// A named constant: the place of its name in the program's names, and its value.
+    /// A named constant: the index of its name in the program's names, and its value.
     Constant(usize, i64),
     /// A variable of `main` or of the function.
     Variable(VarRef),
@@ -61,9 +61,9 @@ pub enum IntExpression {
     Parameter(Endpoint),
     /// In an edge function: the weight of the edge that it works on.
     Weight,
-    /// In a function: the entry of the vector at this place, at a vertex that the function works on.
+    /// In a function: the entry of the vector at this index, at a vertex that the function works on.
     EntryAt(usize, Endpoint),
-    /// In `main`: the entry of the vector at this place, at an index that must be a vertex.
+    /// In `main`: the entry of the vector at this index, at an index that must be a vertex.
     Entry(usize, Box<IntExpression>),
     /// How many members a vertex set has.
     SetSize(VarRef),
@@ -85,7 +85,7 @@ pub struct Operand {
 pub enum BoolExpression {
     /// `true` or `false`.
     Literal(bool),
-    /// A named constant: the place of its name in the program's names, and its value.
+    /// A named constant: the index of its name in the program's names, and its value.
     Constant(usize, bool),
     /// A variable of `main` or of the function, or a filter's result.
     Variable(VarRef),

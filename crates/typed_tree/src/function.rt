@@ -6,18 +6,18 @@ use apply_options::Reduction;
 /// A statement of a function. A variable that is declared in a block is gone after it.
 #[cycle(steps)]
 pub enum FunctionStatement {
-    /// Declares an int variable, whose name is at this place, with its first value.
+    /// Declares an int variable, whose name is at this index, with its first value.
     DeclareInteger(usize, IntExpression),
-    /// Declares a bool variable, whose name is at this place, with its first value.
+    /// Declares a bool variable, whose name is at this index, with its first value.
     DeclareCondition(usize, BoolExpression),
     SetInteger(VarRef, IntExpression),
     /// Sets a variable or the filter's result.
     SetCondition(VarRef, BoolExpression),
     /// Reduces the variable with the value.
     ReduceInteger(VarRef, Reduction, IntExpression),
-    /// In a vertex function: the entry of the vector at this place gets the value, at the function's vertex.
+    /// In a vertex function: the entry of the vector at this index gets the value, at the function's vertex.
     SetEntry(usize, IntExpression),
-    /// The entry of the vector at this place is reduced with the value: in a vertex function at its vertex, in
+    /// The entry of the vector at this index is reduced with the value: in a vertex function at its vertex, in
     /// an edge function at the destination.
     ReduceEntry(usize, Reduction, IntExpression),
     If(BoolExpression, Vec<FunctionStatement>),
@@ -26,7 +26,7 @@ pub enum FunctionStatement {
 
 /// A function of a user: on an edge, on a vertex, or a filter, whose result is the first bool variable.
 pub struct Function {
-    /// The place of its name in the program's names.
+    /// The index of its name in the program's names.
     pub name: usize,
     /// What it does, in order.
     pub steps: Vec<FunctionStatement>,

@@ -2,8 +2,8 @@
 //!
 //! A [`Typed`] has a table of names, the labels, the vectors, the constant sets and the functions in the
 //! order in which they are declared, the statements of `main`, and the calls of the schedule. What a tree
-//! speaks of it names by a place: a vector, a function and a name by its place in the program's list, a
-//! variable and a set by its place among those that are visible (`VarRef`), the vertex that a function works on
+//! speaks of it names by an index: a vector, a function and a name by its index in the program's list, a
+//! variable and a set by its index among those that are visible (`VarRef`), the vertex that a function works on
 //! by `Endpoint`. Integers and conditions are types of their own, so that no number stands for a truth value.
 //! A named constant keeps its name beside its value, and a statement its number and its label.
 //!
@@ -12,7 +12,7 @@
 //! [`Sequence`] is a `Vec` that contracts see as a list. Operators in a row are one list in the Rust tree, and
 //! signs in a row one count, so that no code recurses by their number; the pure trees nest.
 //!
-//! `specs/Resolved.antt` says what it is for each place in a program to be that of something that is there, and for
+//! `specs/Resolved.antt` says what it is for each index in a program to be that of something that is there, and for
 //! entries at an index to stand in `main` alone (`IsResolved`). The checker's programs are so by a law of `types`.
 //!
 //! What functions read and write besides their own variables is found by one walk over their trees. `specs/Fold.antt`

@@ -7,11 +7,11 @@ use apply_options::Setting;
 
 /// A checked program.
 pub struct Typed {
-    /// All names that the trees speak of, each at its place.
+    /// All names that the trees speak of, each at its index.
     pub names: Vec<Name>,
     /// All labels without their `#`, in the order of the text, those in functions too.
     pub labels: Vec<Name>,
-    /// The place of the name of the edges, where the program declares them.
+    /// The index of the name of the edges, where the program declares them.
     pub edges: Option<usize>,
     /// The vectors, in declared order.
     pub vectors: Vec<Vector>,
@@ -49,7 +49,7 @@ impl Drop for Typed {
 /// A vector: a number for each vertex.
 #[derive(Clone, Copy, Debug, PartialEq, Eq)]
 pub struct Vector {
-    /// The place of its name in the program's names.
+    /// The index of its name in the program's names.
     pub name: usize,
     pub beginning: InitialValue,
 }

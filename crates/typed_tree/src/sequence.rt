@@ -46,12 +46,12 @@ impl<T> Sequence<T> {
 }
 
 impl<T: Copy> Sequence<T> {
-    /// Puts the item at this place. Where there is no such place nothing is changed.
-    pub fn set(&mut self, place: usize, item: T)
-        ensures { self.new ≡ slice_set self.old place item }
+    /// Puts the item at this index. Where there is no such index nothing is changed.
+    pub fn set(&mut self, index: usize, item: T)
+        ensures { self.new ≡ slice_set self.old index item }
     {
-        if place < self.items.len() {
-            self.items[place] = item;
+        if index < self.items.len() {
+            self.items[index] = item;
         }
     }
 }

@@ -8,7 +8,7 @@ use apply_options::Reduction;
 pub struct MainStatement {
     /// Its number, from 1 in the order of the text, a block before its body.
     pub number: u64,
-    /// The place of its label among the labels of the program, where it has one.
+    /// The index of its label among the labels of the program, where it has one.
     pub label: Option<usize>,
     pub action: StatementKind,
 }
@@ -22,10 +22,10 @@ pub enum SetValue {
     All,
     /// The members of another set.
     Copy(VarRef),
-    /// The members of a set that the filter at this place passes.
+    /// The members of a set that the filter at this index passes.
     Filter(VarRef, usize),
-    /// What an edge apply changes: the vertices whose entry of the vector at the second place differs after
-    /// the edge function at the first place was applied between the ends.
+    /// What an edge apply changes: the vertices whose entry of the vector at the second index differs after
+    /// the edge function at the first index was applied between the ends.
     Modified(ApplyEnds, usize, usize),
 }
 
@@ -34,7 +34,7 @@ pub enum SetValue {
 pub enum VertexFilter {
     /// The members of a vertex set.
     Members(VarRef),
-    /// Those that the filter at this place passes.
+    /// Those that the filter at this index passes.
     Function(usize),
 }
 
@@ -49,20 +49,20 @@ pub struct ApplyEnds {
 /// What a statement of `main` does.
 #[cycle(statements)]
 pub enum StatementKind {
-    /// Declares an int variable, whose name is at this place, with its first value.
+    /// Declares an int variable, whose name is at this index, with its first value.
     DeclareInteger(usize, IntExpression),
-    /// Declares a bool variable, whose name is at this place, with its first value.
+    /// Declares a bool variable, whose name is at this index, with its first value.
     DeclareCondition(usize, BoolExpression),
     SetInteger(VarRef, IntExpression),
     SetCondition(VarRef, BoolExpression),
     /// Reduces the variable with the value.
     ReduceInteger(VarRef, Reduction, IntExpression),
-    /// The vector at this place gets an entry at the index, which must be a vertex: first the index,
+    /// The vector at this index gets an entry at the index, which must be a vertex: first the index,
     /// then the value.
     SetEntry(usize, IntExpression, IntExpression),
     /// Reduces the entry at the index with the value.
     ReduceEntry(usize, IntExpression, Reduction, IntExpression),
-    /// Declares a set variable, whose name is at this place, with its first value.
+    /// Declares a set variable, whose name is at this index, with its first value.
     DeclareSet(usize, SetValue),
     AssignSet(VarRef, SetValue),
     /// Adds the vertex to the set; it must be one.
@@ -71,14 +71,14 @@ pub enum StatementKind {
     PrintInteger(IntExpression),
     /// Writes `true` or `false` and a line feed.
     PrintCondition(BoolExpression),
-    /// Runs the vertex function at this place for each vertex of the set.
+    /// Runs the vertex function at this index for each vertex of the set.
     ApplyVertex(VarRef, usize),
-    /// Applies the edge function at this place to the edges between the ends.
+    /// Applies the edge function at this index to the edges between the ends.
     ApplyEdges(ApplyEnds, usize),
     If(BoolExpression, Vec<MainStatement>),
     IfElse(BoolExpression, Vec<MainStatement>, Vec<MainStatement>),
     While(BoolExpression, Vec<MainStatement>),
-    /// Declares an int variable, whose name is at this place, in its body, and runs the body with each
+    /// Declares an int variable, whose name is at this index, in its body, and runs the body with each
     /// value from the first bound up to the second, which is left out.
     For(usize, IntExpression, IntExpression, Vec<MainStatement>),
 }

@@ -22,7 +22,7 @@ use Rattle.expression_types.specs.declared.scope.Entity.{Entity}
 use Rattle.expression_types.specs.declared.scope.Entity.TheVariants as entity
 use Rattle.expression_types.specs.declared.scope.Inside.{Inside}
 use Rattle.expression_types.specs.declared.scope.Inside.TheVariants as inside
-use Rattle.expression_types.specs.Expression.{index_value, used, value_of, vector_place}
+use Rattle.expression_types.specs.Expression.{index_value, used, value_of, vector_index}
 use Rattle.expression_types.specs.Names.{found}
 use Rattle.expression_types.specs.ScopeTree.{ScopeTree, declared_over, entered}
 use Rattle.expression_types.specs.ValueTree.{ValueTree}
@@ -97,9 +97,9 @@ declared_inside (Some old) name e scope = refl
 pub declared_goes : (c : CheckerTree) (name : Identifier) (e : Entity) → GoesOn c (declared_in c name e).value
 declared_goes c name e = (declared_inside (found name.bytes c.scope.visible) name e c.scope, λ vector by is. is)
 
-new_label_goes : (c : CheckerTree) (label : Identifier) (place : Option ℕ) → GoesOn c (new_label c label place).value.1
+new_label_goes : (c : CheckerTree) (label : Identifier) (index : Option ℕ) → GoesOn c (new_label c label index).value.1
 new_label_goes c label None = stays c
-new_label_goes c label (Some place) = stays c
+new_label_goes c label (Some index) = stays c
 
 labelled_goes : (c : CheckerTree) (label : Option Identifier) → GoesOn c (labelled c label).value.1
 labelled_goes c None = stays c
@@ -203,7 +203,7 @@ reduce_fits : (c : CheckerTree) (at : ℕ) (name : Identifier) (index : Expressi
     → Fits c (reduce_entry_step c at name index by e).value
 reduce_fits c at name index by e is =
     let own = (written_at at (own_vertex c.scope.inside) (index_value c.scope at index).value).value in
-    let all = entry_reduced at c.writes (vector_place c.scope at name).value by (integer_in c.scope at e).value own c.scope.inside is in
+    let all = entry_reduced at c.writes (vector_index c.scope at name).value by (integer_in c.scope at e).value own c.scope.inside is in
     ((refl, all.0), all.1)
 
 -- statements, and the checker after them
@@ -239,7 +239,7 @@ mutual
   step_fits c (source.Reduce name by e) is = (stays c, reduced_agrees c.writes name.at by (value_of c.scope name.at e).value (used c.scope name).value)
   step_fits c (source.SetEntry vector index e) is =
       let own = (written_at vector.at (own_vertex c.scope.inside) (index_value c.scope vector.at index).value).value in
-      (stays c, set_agrees c.writes vector.at own (vector_place c.scope vector.at vector).value (integer_in c.scope vector.at e).value c.scope.inside is)
+      (stays c, set_agrees c.writes vector.at own (vector_index c.scope vector.at vector).value (integer_in c.scope vector.at e).value c.scope.inside is)
   step_fits c (source.ReduceEntry vector index by e) is = reduce_fits c vector.at vector index by e is
   step_fits c (source.AddVertex set e) is = (stays c, tt)
   step_fits c (source.Apply target ends function) is = (stays c, tt)
@@ -265,8 +265,8 @@ mutual
   reduced_as_written writes vector by (SetInteger slot e) agrees reduces = absurd reduces
   reduced_as_written writes vector by (SetCondition slot c) agrees reduces = absurd reduces
   reduced_as_written writes vector by (ReduceInteger slot other e) agrees reduces = absurd reduces
-  reduced_as_written writes vector by (SetEntry place e) agrees reduces = absurd reduces
-  reduced_as_written writes vector by (ReduceEntry place other e) agrees reduces =
+  reduced_as_written writes vector by (SetEntry index e) agrees reduces = absurd reduces
+  reduced_as_written writes vector by (ReduceEntry index other e) agrees reduces =
       ap (λ v. lookup (nat_eq v) writes) (sym reduces.0) ∙ agrees ∙ ap Some reduces.1
   reduced_as_written writes vector by (If c body) agrees reduces = one_reduced_as_written writes vector by body agrees reduces
   reduced_as_written writes vector by (IfElse c body other) agrees (inl reduces) = one_reduced_as_written writes vector by body agrees.0 reduces

@@ -47,9 +47,9 @@ begins_stands P at initializer initial here =
     let l = literal_or_fault at (is_sound initializer) (pos 0) (literal_integer initial) in
     if_stand P (is_degrees initializer) _ _ tt (both_stand P l.faults [] (literal_stands P at (is_sound initializer) (pos 0) (literal_integer initial) here) tt)
 
-only_edges_stands : (P : ℕ → Type 0) (name : Identifier) (place : ℕ) (o : Option ℕ) → P name.at → FaultsStand P (only_edges name place o)
-only_edges_stands P name place None there = tt
-only_edges_stands P name place (Some old) there = (there, tt)
+only_edges_stands : (P : ℕ → Type 0) (name : Identifier) (index : ℕ) (o : Option ℕ) → P name.at → FaultsStand P (only_edges name index o)
+only_edges_stands P name index None there = tt
+only_edges_stands P name index (Some old) there = (there, tt)
 
 -- a name that is declared, and no fault after it
 name_last_stands : (P : ℕ → Type 0) (d : DeclaredTree) (name : Identifier) (e : Entity) → P name.at → AllByRecursion (λ f. P f.at) ((declare_name d name e).faults ++ [])
@@ -67,7 +67,7 @@ constant_stands P d at name initial declared.Vertex initializer here there = (he
 constant_stands P d at name initial declared.VertexSet initializer here there =
     let g = has_all at initializer in
     both_stand P g.faults _ (wanted_stands P at (not (is_sound initializer) || is_all initializer) here)
-    (name_last_stands P d name (entity.ConstantSet (record { place = length d.sets; name = next_name d })) there)
+    (name_last_stands P d name (entity.ConstantSet (record { index = length d.sets; name = next_name d })) there)
 constant_stands P d at name initial declared.Vector initializer here there =
     let b = begins at initializer initial in both_stand P b.faults _ (begins_stands P at initializer initial here) (name_last_stands P d name (entity.Vector (length d.vectors)) there)
 constant_stands P d at name initial declared.EdgeSet initializer here there =

@@ -16,7 +16,7 @@ use Rattle.typed_tree.specs.declared.expression.VarRef.{VarRef}
 use Rattle.typed_tree.specs.BlockTree.{ActionTree, BlockTree, Empty}
 use Rattle.expression_types.specs.declared.scope.Entity.{Entity}
 use Rattle.expression_types.specs.declared.scope.Entity.TheVariants as entity
-use Rattle.expression_types.specs.Expression.{used, value_of, vector_place}
+use Rattle.expression_types.specs.Expression.{used, value_of, vector_index}
 use Rattle.expression_types.specs.Names.{found}
 use Rattle.expression_types.specs.WithFaults.{WithFaults}
 use Rattle.expression_types.specs.ScopeTree.{ScopeTree, declared as scope_declared}
@@ -36,7 +36,7 @@ declared_in_stands P c name e there =
 
 new_label_stands : (P : ℕ → Type 0) (c : CheckerTree) (label : Identifier) (o : Option ℕ) → P label.at → FaultsStand P (new_label c label o)
 new_label_stands P c label None there = tt
-new_label_stands P c label (Some place) there = (there, tt)
+new_label_stands P c label (Some index) there = (there, tt)
 
 pub labelled_stands : (P : ℕ → Type 0) (c : CheckerTree) (label : Option Identifier) → StandWhere P (label_terminals label) → FaultsStand P (labelled c label)
 labelled_stands P c None all = tt
@@ -124,10 +124,10 @@ reduce_stands P scope name by e there all =
 
 -- a vector, an index and a value
 entry_parts_stand : (P : ℕ → Type 0) (scope : ScopeTree) (name : Identifier) (index e : ExpressionTree) → P name.at → StandWhere P (expression_terminals index) → StandWhere P (expression_terminals e)
-    → AllByRecursion (λ f. P f.at) ((vector_place scope name.at name).faults ++ ((value_of scope name.at index).faults
+    → AllByRecursion (λ f. P f.at) ((vector_index scope name.at name).faults ++ ((value_of scope name.at index).faults
     ++ ((as_index name.at (value_of scope name.at index).value).faults ++ ((integer_in scope name.at e).faults ++ []))))
 entry_parts_stand P scope name index e there first second =
-    let vector = vector_place scope name.at name in
+    let vector = vector_index scope name.at name in
     let v = value_of scope name.at index in
     let i = as_index name.at v.value in
     let x = integer_in scope name.at e in

@@ -19,7 +19,7 @@ use Rattle.expression_types.specs.declared.scope.Entity.{Entity}
 use Rattle.expression_types.specs.declared.scope.Entity.TheVariants as entity
 use Rattle.expression_types.specs.declared.scope.Inside.{Inside}
 use Rattle.expression_types.specs.declared.scope.Inside.TheVariants as inside
-use Rattle.expression_types.specs.Expression.{index_value, used, value_of, vector_place}
+use Rattle.expression_types.specs.Expression.{index_value, used, value_of, vector_index}
 use Rattle.expression_types.specs.WithFaults.{WithFaults}
 use Rattle.expression_types.specs.ScopeTree.{ScopeTree}
 use Rattle.expression_types.specs.ValueTree.{ValueTree, Integer, Condition, Vertex, Set, ErrorValue}
@@ -105,14 +105,14 @@ set_entry_step_stands : (P : ℕ → Type 0) (scope : ScopeTree) (name : Identif
     → FaultsStand P (set_entry_step scope name.at name index e)
 set_entry_step_stands P scope name index e there first second =
     let may = may_set name.at scope.inside in
-    let vector = vector_place scope name.at name in
+    let vector = vector_index scope name.at name in
     both_stand P may.faults _ (may_set_stands P name.at scope.inside there)
     (both_stand P vector.faults _ (vector_stands P scope name.at name there there) (index_and_value_stand P scope name.at index e there first second))
 
 reduce_entry_step_stands : (P : ℕ → Type 0) (c : CheckerTree) (name : Identifier) (index : ExpressionTree) (by : Reduction) (e : ExpressionTree)
     → P name.at → StandWhere P (expression_terminals index) → StandWhere P (expression_terminals e) → FaultsStand P (reduce_entry_step c name.at name index by e)
 reduce_entry_step_stands P c name index by e there first second =
-    let vector = vector_place c.scope name.at name in
+    let vector = vector_index c.scope name.at name in
     let may = may_reduce name.at c.scope.inside vector.value by c.writes in
     both_stand P vector.faults _ (vector_stands P c.scope name.at name there there)
     (both_stand P may.faults _ (may_reduce_stands P name.at c.scope.inside vector.value by c.writes there) (index_and_value_stand P c.scope name.at index e there first second))

@@ -79,10 +79,10 @@ of_edges_stands : (P : ℕ → Type 0) (at : ℕ) (x : InitializerTree) (e : Ent
 of_edges_stands P at x e here =
     if_stand P (names_error e) _ _ tt (if_stand P (is_edges e) (sure x) (fault_at at rule.WrongType ErrorInitializer) tt (here, tt))
 
-filtered_by_stands : (P : ℕ → Type 0) (at : ℕ) (set : Option VarRef) (place : Option ℕ) → P at → FaultsStand P (filtered_by at set place)
-filtered_by_stands P at None place here = (here, tt)
+filtered_by_stands : (P : ℕ → Type 0) (at : ℕ) (set : Option VarRef) (index : Option ℕ) → P at → FaultsStand P (filtered_by at set index)
+filtered_by_stands P at None index here = (here, tt)
 filtered_by_stands P at (Some slot) None here = (here, tt)
-filtered_by_stands P at (Some slot) (Some place) here = tt
+filtered_by_stands P at (Some slot) (Some index) here = tt
 
 filtered_stands : (P : ℕ → Type 0) (at : ℕ) (s f : Entity) → P at → FaultsStand P (filtered at s f)
 filtered_stands P at s f here = if_stand P (names_error s || names_error f) _ _ tt (filtered_by_stands P at (named_set s) (filter_function f) here)

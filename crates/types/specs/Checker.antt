@@ -10,7 +10,7 @@ use Rattle.expression_types.specs.WithFaults.{WithFaults, sure, fault_at, ◌>>=
 use Rattle.expression_types.specs.ScopeTree.{ScopeTree, declared}
 use Rattle.types.specs.declared.checker.Checker.{Checker}
 
--- What is visible; and what came before in the text: all names that were declared, the labels with their places, how many statements of
+-- What is visible; and what came before in the text: all names that were declared, the labels with their indices, how many statements of
 -- main, which vectors the edge function around this point reduces and how, and which each edge function does.
 pub record CheckerTree : Type 0 where
   pub scope : ScopeTree
@@ -33,15 +33,15 @@ checker_of c = record {
   written = c.written.items;
 }
 
--- the next place of a variable of each kind, for the next name
+-- the next index of a variable of each kind, for the next name
 abbrev pub integer_slot : CheckerTree → VarRef
-integer_slot c = record { place = c.scope.integers; name = length c.names }
+integer_slot c = record { index = c.scope.integers; name = length c.names }
 
 abbrev pub condition_slot : CheckerTree → VarRef
-condition_slot c = record { place = c.scope.conditions; name = length c.names }
+condition_slot c = record { index = c.scope.conditions; name = length c.names }
 
 abbrev pub set_slot : CheckerTree → VarRef
-set_slot c = record { place = c.scope.sets; name = length c.names }
+set_slot c = record { index = c.scope.sets; name = length c.names }
 
 -- with another scope
 abbrev pub with_scope : CheckerTree → ScopeTree → CheckerTree
@@ -59,10 +59,10 @@ declared_in c name entity = declared name entity c.scope >>= λ scope. sure (wit
 abbrev pub without_ends : List ℕ → List ℕ
 without_ends bytes = take (length bytes - 2) (drop 1 bytes)
 
--- one more label, at its place among all, which must not stand already
+-- one more label, at its index among all, which must not stand already
 abbrev pub new_label : CheckerTree → Identifier → Option ℕ → WithFaults (Option ℕ × CheckerTree)
 new_label c label None = sure (Some (length c.labels), record c { labels = c.labels ++ (label.bytes, length c.labels) ∷ []; label_names = c.label_names ++ without_ends label.bytes ∷ [] })
-new_label c label (Some place) = fault_at label.at rule.BadLabel (Some place, c)
+new_label c label (Some index) = fault_at label.at rule.BadLabel (Some index, c)
 
 abbrev pub labelled : CheckerTree → Option Identifier → WithFaults (Option ℕ × CheckerTree)
 labelled c None = sure (None, c)

@@ -73,7 +73,7 @@ abbrev pub declare_condition : DeclaredTree → ℕ → Identifier → Initializ
 declare_condition d at name initializer initial =
     literal_or_fault at (is_sound initializer) false (literal_condition initial) >>= λ b. declare_name d name (entity.ConditionConstant (next_name d) b)
 
--- a constant vertex set has all vertices, and the next place of constant sets
+-- a constant vertex set has all vertices, and the next index of constant sets
 abbrev pub wanted : ℕ → Bool → WithFaults InitializerTree
 wanted at true = sure ErrorInitializer
 wanted at false = fault_at at rule.WrongType ErrorInitializer
@@ -83,7 +83,7 @@ has_all at initializer = wanted at (not (is_sound initializer) || is_all initial
 
 abbrev pub declare_set : DeclaredTree → ℕ → Identifier → InitializerTree → WithFaults DeclaredTree
 declare_set d at name initializer =
-    has_all at initializer >>= λ g. declare_name d name (entity.ConstantSet (record { place = length d.sets; name = next_name d })) >>= λ e.
+    has_all at initializer >>= λ g. declare_name d name (entity.ConstantSet (record { index = length d.sets; name = next_name d })) >>= λ e.
     sure (record e { sets = e.sets ++ next_name d ∷ [] })
 
 -- a vector begins with a literal, or with the out-degrees
@@ -102,8 +102,8 @@ abbrev pub loads : ℕ → InitializerTree → WithFaults InitializerTree
 loads at initializer = wanted at (not (is_sound initializer) || is_loaded initializer)
 
 abbrev pub only_edges : Identifier → ℕ → Option ℕ → WithFaults (Option ℕ)
-only_edges name place None = sure (Some place)
-only_edges name place (Some old) = fault_at name.at rule.Redeclared (Some old)
+only_edges name index None = sure (Some index)
+only_edges name index (Some old) = fault_at name.at rule.Redeclared (Some old)
 
 abbrev pub declare_edges : Bool → DeclaredTree → ℕ → Identifier → InitializerTree → WithFaults DeclaredTree
 declare_edges weights d at name initializer =

@@ -11,8 +11,8 @@ abbrev mutual
   StepReduces vector by (SetInteger slot e) = ⊥
   StepReduces vector by (SetCondition slot c) = ⊥
   StepReduces vector by (ReduceInteger slot other e) = ⊥
-  StepReduces vector by (SetEntry place e) = ⊥
-  StepReduces vector by (ReduceEntry place other e) = (place ≡ vector) × (other ≡ by)
+  StepReduces vector by (SetEntry index e) = ⊥
+  StepReduces vector by (ReduceEntry index other e) = (index ≡ vector) × (other ≡ by)
   StepReduces vector by (If c body) = StepsReduce vector by body
   StepReduces vector by (IfElse c body other) = StepsReduce vector by body ⊎ StepsReduce vector by other
 

@@ -42,7 +42,7 @@ abbrev pub is_all_members : SetValue → Bool
 is_all_members set.Empty = false
 is_all_members set.All = true
 is_all_members (set.Copy slot) = false
-is_all_members (set.Filter slot place) = false
+is_all_members (set.Filter slot index) = false
 is_all_members (set.Modified ends function vector) = false
 
 abbrev pub is_all : InitializerTree → Bool
@@ -75,7 +75,7 @@ pub data ApplyEndTree : Type 0 where
 
 abbrev pub filter_named : Entity → ApplyEndTree
 filter_named (entity.Edges weights) = Wrong
-filter_named (entity.Vector place) = Wrong
+filter_named (entity.Vector index) = Wrong
 filter_named (entity.ConstantSet slot) = Given (filter.Members slot)
 filter_named (entity.IntegerConstant name n) = Wrong
 filter_named (entity.ConditionConstant name b) = Wrong
@@ -85,9 +85,9 @@ filter_named (entity.SetVariable slot) = Given (filter.Members slot)
 filter_named (entity.LoopVariable slot) = Wrong
 filter_named (entity.Parameter p) = Wrong
 filter_named entity.Weight = Wrong
-filter_named (entity.EdgeFunction place weighted) = Wrong
-filter_named (entity.VertexFunction place) = Wrong
-filter_named (entity.Filter place) = Given (filter.Function place)
+filter_named (entity.EdgeFunction index weighted) = Wrong
+filter_named (entity.VertexFunction index) = Wrong
+filter_named (entity.Filter index) = Given (filter.Function index)
 filter_named entity.Main = Wrong
 filter_named entity.Error = ErrorEnd
 
@@ -119,7 +119,7 @@ ends_given a b = record { from = given_filter a; to = given_filter b }
 -- what a name stands for that wants one kind of thing
 abbrev pub names_error : Entity → Bool
 names_error (entity.Edges weights) = false
-names_error (entity.Vector place) = false
+names_error (entity.Vector index) = false
 names_error (entity.ConstantSet slot) = false
 names_error (entity.IntegerConstant name n) = false
 names_error (entity.ConditionConstant name b) = false
@@ -129,15 +129,15 @@ names_error (entity.SetVariable slot) = false
 names_error (entity.LoopVariable slot) = false
 names_error (entity.Parameter p) = false
 names_error entity.Weight = false
-names_error (entity.EdgeFunction place weighted) = false
-names_error (entity.VertexFunction place) = false
-names_error (entity.Filter place) = false
+names_error (entity.EdgeFunction index weighted) = false
+names_error (entity.VertexFunction index) = false
+names_error (entity.Filter index) = false
 names_error entity.Main = false
 names_error entity.Error = true
 
 abbrev pub is_edges : Entity → Bool
 is_edges (entity.Edges weights) = true
-is_edges (entity.Vector place) = false
+is_edges (entity.Vector index) = false
 is_edges (entity.ConstantSet slot) = false
 is_edges (entity.IntegerConstant name n) = false
 is_edges (entity.ConditionConstant name b) = false
@@ -147,15 +147,15 @@ is_edges (entity.SetVariable slot) = false
 is_edges (entity.LoopVariable slot) = false
 is_edges (entity.Parameter p) = false
 is_edges entity.Weight = false
-is_edges (entity.EdgeFunction place weighted) = false
-is_edges (entity.VertexFunction place) = false
-is_edges (entity.Filter place) = false
+is_edges (entity.EdgeFunction index weighted) = false
+is_edges (entity.VertexFunction index) = false
+is_edges (entity.Filter index) = false
 is_edges entity.Main = false
 is_edges entity.Error = false
 
 abbrev pub edge_function : Entity → Option ℕ
 edge_function (entity.Edges weights) = None
-edge_function (entity.Vector place) = None
+edge_function (entity.Vector index) = None
 edge_function (entity.ConstantSet slot) = None
 edge_function (entity.IntegerConstant name n) = None
 edge_function (entity.ConditionConstant name b) = None
@@ -165,16 +165,16 @@ edge_function (entity.SetVariable slot) = None
 edge_function (entity.LoopVariable slot) = None
 edge_function (entity.Parameter p) = None
 edge_function entity.Weight = None
-edge_function (entity.EdgeFunction place weighted) = Some place
-edge_function (entity.VertexFunction place) = None
-edge_function (entity.Filter place) = None
+edge_function (entity.EdgeFunction index weighted) = Some index
+edge_function (entity.VertexFunction index) = None
+edge_function (entity.Filter index) = None
 edge_function entity.Main = None
 edge_function entity.Error = None
 
 -- an edge function whose third parameter is the edge's weight
 abbrev pub reads_weight : Entity → Bool
 reads_weight (entity.Edges weights) = false
-reads_weight (entity.Vector place) = false
+reads_weight (entity.Vector index) = false
 reads_weight (entity.ConstantSet slot) = false
 reads_weight (entity.IntegerConstant name n) = false
 reads_weight (entity.ConditionConstant name b) = false
@@ -184,16 +184,16 @@ reads_weight (entity.SetVariable slot) = false
 reads_weight (entity.LoopVariable slot) = false
 reads_weight (entity.Parameter p) = false
 reads_weight entity.Weight = false
-reads_weight (entity.EdgeFunction place weighted) = weighted
-reads_weight (entity.VertexFunction place) = false
-reads_weight (entity.Filter place) = false
+reads_weight (entity.EdgeFunction index weighted) = weighted
+reads_weight (entity.VertexFunction index) = false
+reads_weight (entity.Filter index) = false
 reads_weight entity.Main = false
 reads_weight entity.Error = false
 
 -- an edgeset in which no weights are seen, for a function that reads them
 abbrev pub lacks_weights : Entity → Entity → Bool
 lacks_weights (entity.Edges weights) f = not weights && reads_weight f
-lacks_weights (entity.Vector place) f = false
+lacks_weights (entity.Vector index) f = false
 lacks_weights (entity.ConstantSet slot) f = false
 lacks_weights (entity.IntegerConstant name n) f = false
 lacks_weights (entity.ConditionConstant name b) f = false
@@ -203,15 +203,15 @@ lacks_weights (entity.SetVariable slot) f = false
 lacks_weights (entity.LoopVariable slot) f = false
 lacks_weights (entity.Parameter p) f = false
 lacks_weights entity.Weight f = false
-lacks_weights (entity.EdgeFunction place weighted) f = false
-lacks_weights (entity.VertexFunction place) f = false
-lacks_weights (entity.Filter place) f = false
+lacks_weights (entity.EdgeFunction index weighted) f = false
+lacks_weights (entity.VertexFunction index) f = false
+lacks_weights (entity.Filter index) f = false
 lacks_weights entity.Main f = false
 lacks_weights entity.Error f = false
 
 abbrev pub vertex_function : Entity → Option ℕ
 vertex_function (entity.Edges weights) = None
-vertex_function (entity.Vector place) = None
+vertex_function (entity.Vector index) = None
 vertex_function (entity.ConstantSet slot) = None
 vertex_function (entity.IntegerConstant name n) = None
 vertex_function (entity.ConditionConstant name b) = None
@@ -221,15 +221,15 @@ vertex_function (entity.SetVariable slot) = None
 vertex_function (entity.LoopVariable slot) = None
 vertex_function (entity.Parameter p) = None
 vertex_function entity.Weight = None
-vertex_function (entity.EdgeFunction place weighted) = None
-vertex_function (entity.VertexFunction place) = Some place
-vertex_function (entity.Filter place) = None
+vertex_function (entity.EdgeFunction index weighted) = None
+vertex_function (entity.VertexFunction index) = Some index
+vertex_function (entity.Filter index) = None
 vertex_function entity.Main = None
 vertex_function entity.Error = None
 
 abbrev pub filter_function : Entity → Option ℕ
 filter_function (entity.Edges weights) = None
-filter_function (entity.Vector place) = None
+filter_function (entity.Vector index) = None
 filter_function (entity.ConstantSet slot) = None
 filter_function (entity.IntegerConstant name n) = None
 filter_function (entity.ConditionConstant name b) = None
@@ -239,15 +239,15 @@ filter_function (entity.SetVariable slot) = None
 filter_function (entity.LoopVariable slot) = None
 filter_function (entity.Parameter p) = None
 filter_function entity.Weight = None
-filter_function (entity.EdgeFunction place weighted) = None
-filter_function (entity.VertexFunction place) = None
-filter_function (entity.Filter place) = Some place
+filter_function (entity.EdgeFunction index weighted) = None
+filter_function (entity.VertexFunction index) = None
+filter_function (entity.Filter index) = Some index
 filter_function entity.Main = None
 filter_function entity.Error = None
 
 abbrev pub vector_of : Entity → Option ℕ
 vector_of (entity.Edges weights) = None
-vector_of (entity.Vector place) = Some place
+vector_of (entity.Vector index) = Some index
 vector_of (entity.ConstantSet slot) = None
 vector_of (entity.IntegerConstant name n) = None
 vector_of (entity.ConditionConstant name b) = None
@@ -257,9 +257,9 @@ vector_of (entity.SetVariable slot) = None
 vector_of (entity.LoopVariable slot) = None
 vector_of (entity.Parameter p) = None
 vector_of entity.Weight = None
-vector_of (entity.EdgeFunction place weighted) = None
-vector_of (entity.VertexFunction place) = None
-vector_of (entity.Filter place) = None
+vector_of (entity.EdgeFunction index weighted) = None
+vector_of (entity.VertexFunction index) = None
+vector_of (entity.Filter index) = None
 vector_of entity.Main = None
 vector_of entity.Error = None
 
@@ -269,9 +269,9 @@ of_edges at x e = if names_error e then sure ErrorInitializer else (if is_edges 
 
 -- the members of a set that a filter passes
 abbrev pub filtered_by : ℕ → Option VarRef → Option ℕ → WithFaults InitializerTree
-filtered_by at None place = fault_at at rule.WrongType ErrorInitializer
+filtered_by at None index = fault_at at rule.WrongType ErrorInitializer
 filtered_by at (Some slot) None = fault_at at rule.WrongType ErrorInitializer
-filtered_by at (Some slot) (Some place) = sure (Members (set.Filter slot place))
+filtered_by at (Some slot) (Some index) = sure (Members (set.Filter slot index))
 
 abbrev pub filtered : ℕ → Entity → Entity → WithFaults InitializerTree
 filtered at s f = if names_error s || names_error f then sure ErrorInitializer else filtered_by at (named_set s) (filter_function f)

@@ -12,7 +12,7 @@ use Rattle.typed_tree.specs.BlockTree.{ActionTree, DeclareInteger, DeclareCondit
 use Rattle.expression_types.specs.declared.fault.TypeRule.TheVariants as rule
 use Rattle.expression_types.specs.declared.scope.Entity.{Entity}
 use Rattle.expression_types.specs.declared.scope.Entity.TheVariants as entity
-use Rattle.expression_types.specs.Expression.{used, value_of, vector_place}
+use Rattle.expression_types.specs.Expression.{used, value_of, vector_index}
 use Rattle.expression_types.specs.WithFaults.{WithFaults, sure, fault_at, ◌>>=◌}
 use Rattle.expression_types.specs.ScopeTree.{ScopeTree}
 use Rattle.expression_types.specs.ValueTree.{ValueTree, Integer, Condition, Vertex, Set, ErrorValue, named_set}
@@ -43,7 +43,7 @@ declare_variable c at name type initial = initializer_of c at initial >>= λ ini
 -- variables are assigned, and nothing else
 abbrev pub assigned : ℕ → InitializerTree → Entity → WithFaults ActionTree
 assigned at initializer (entity.Edges weights) = fault_at at rule.WrongType no_action
-assigned at initializer (entity.Vector place) = fault_at at rule.WrongType no_action
+assigned at initializer (entity.Vector index) = fault_at at rule.WrongType no_action
 assigned at initializer (entity.ConstantSet slot) = fault_at at rule.WrongType no_action
 assigned at initializer (entity.IntegerConstant name n) = fault_at at rule.WrongType no_action
 assigned at initializer (entity.ConditionConstant name b) = fault_at at rule.WrongType no_action
@@ -53,9 +53,9 @@ assigned at initializer (entity.SetVariable slot) = initializer_members at initi
 assigned at initializer (entity.LoopVariable slot) = fault_at at rule.WrongType no_action
 assigned at initializer (entity.Parameter p) = fault_at at rule.WrongType no_action
 assigned at initializer entity.Weight = fault_at at rule.WrongType no_action
-assigned at initializer (entity.EdgeFunction place weighted) = fault_at at rule.WrongType no_action
-assigned at initializer (entity.VertexFunction place) = fault_at at rule.WrongType no_action
-assigned at initializer (entity.Filter place) = fault_at at rule.WrongType no_action
+assigned at initializer (entity.EdgeFunction index weighted) = fault_at at rule.WrongType no_action
+assigned at initializer (entity.VertexFunction index) = fault_at at rule.WrongType no_action
+assigned at initializer (entity.Filter index) = fault_at at rule.WrongType no_action
 assigned at initializer entity.Main = fault_at at rule.WrongType no_action
 assigned at initializer entity.Error = sure no_action
 
@@ -65,7 +65,7 @@ assign c at name initial = used c.scope name >>= λ e. initializer_of c at initi
 -- int variables are reduced
 abbrev pub reduced : ℕ → Reduction → ValueTree → Entity → WithFaults ActionTree
 reduced at by v (entity.Edges weights) = fault_at at rule.WrongType no_action
-reduced at by v (entity.Vector place) = fault_at at rule.WrongType no_action
+reduced at by v (entity.Vector index) = fault_at at rule.WrongType no_action
 reduced at by v (entity.ConstantSet slot) = fault_at at rule.WrongType no_action
 reduced at by v (entity.IntegerConstant name n) = fault_at at rule.WrongType no_action
 reduced at by v (entity.ConditionConstant name b) = fault_at at rule.WrongType no_action
@@ -75,9 +75,9 @@ reduced at by v (entity.SetVariable slot) = fault_at at rule.WrongType no_action
 reduced at by v (entity.LoopVariable slot) = fault_at at rule.WrongType no_action
 reduced at by v (entity.Parameter p) = fault_at at rule.WrongType no_action
 reduced at by v entity.Weight = fault_at at rule.WrongType no_action
-reduced at by v (entity.EdgeFunction place weighted) = fault_at at rule.WrongType no_action
-reduced at by v (entity.VertexFunction place) = fault_at at rule.WrongType no_action
-reduced at by v (entity.Filter place) = fault_at at rule.WrongType no_action
+reduced at by v (entity.EdgeFunction index weighted) = fault_at at rule.WrongType no_action
+reduced at by v (entity.VertexFunction index) = fault_at at rule.WrongType no_action
+reduced at by v (entity.Filter index) = fault_at at rule.WrongType no_action
 reduced at by v entity.Main = fault_at at rule.WrongType no_action
 reduced at by v entity.Error = sure no_action
 
@@ -92,7 +92,7 @@ entry_set (Some vector) (Some index) e = SetEntry vector index e
 
 abbrev pub set_entry : ScopeTree → ℕ → Identifier → (index e : ExpressionTree) → WithFaults ActionTree
 set_entry scope at name index e =
-    vector_place scope at name >>= λ vector. value_of scope at index >>= λ v. as_index at v >>= λ i.
+    vector_index scope at name >>= λ vector. value_of scope at index >>= λ v. as_index at v >>= λ i.
     integer_in scope at e >>= λ x. sure (entry_set vector i x)
 
 abbrev pub entry_reduced : Option ℕ → Option IntegerTree → Reduction → IntegerTree → ActionTree
@@ -102,13 +102,13 @@ entry_reduced (Some vector) (Some index) by e = ReduceEntry vector index by e
 
 abbrev pub reduce_entry : ScopeTree → ℕ → Identifier → (index : ExpressionTree) → Reduction → (e : ExpressionTree) → WithFaults ActionTree
 reduce_entry scope at name index by e =
-    vector_place scope at name >>= λ vector. value_of scope at index >>= λ v. as_index at v >>= λ i.
+    vector_index scope at name >>= λ vector. value_of scope at index >>= λ v. as_index at v >>= λ i.
     integer_in scope at e >>= λ x. sure (entry_reduced vector i by x)
 
 -- set variables get vertices
 abbrev pub added : ℕ → ValueTree → Entity → WithFaults ActionTree
 added at v (entity.Edges weights) = fault_at at rule.WrongType no_action
-added at v (entity.Vector place) = fault_at at rule.WrongType no_action
+added at v (entity.Vector index) = fault_at at rule.WrongType no_action
 added at v (entity.ConstantSet slot) = fault_at at rule.WrongType no_action
 added at v (entity.IntegerConstant name n) = fault_at at rule.WrongType no_action
 added at v (entity.ConditionConstant name b) = fault_at at rule.WrongType no_action
@@ -118,9 +118,9 @@ added at v (entity.SetVariable slot) = as_integer at v >>= λ e. sure (AddVertex
 added at v (entity.LoopVariable slot) = fault_at at rule.WrongType no_action
 added at v (entity.Parameter p) = fault_at at rule.WrongType no_action
 added at v entity.Weight = fault_at at rule.WrongType no_action
-added at v (entity.EdgeFunction place weighted) = fault_at at rule.WrongType no_action
-added at v (entity.VertexFunction place) = fault_at at rule.WrongType no_action
-added at v (entity.Filter place) = fault_at at rule.WrongType no_action
+added at v (entity.EdgeFunction index weighted) = fault_at at rule.WrongType no_action
+added at v (entity.VertexFunction index) = fault_at at rule.WrongType no_action
+added at v (entity.Filter index) = fault_at at rule.WrongType no_action
 added at v entity.Main = fault_at at rule.WrongType no_action
 added at v entity.Error = sure no_action
 

@@ -19,7 +19,7 @@ use Rattle.expression_types.specs.declared.scope.Entity.{Entity}
 use Rattle.expression_types.specs.declared.scope.Entity.TheVariants as entity
 use Rattle.expression_types.specs.declared.scope.Inside.{Inside}
 use Rattle.expression_types.specs.declared.scope.Inside.TheVariants as inside
-use Rattle.expression_types.specs.Expression.{index_value, used, value_of, vector_place}
+use Rattle.expression_types.specs.Expression.{index_value, used, value_of, vector_index}
 use Rattle.expression_types.specs.WithFaults.{WithFaults, sure, fault_at, ◌>>=◌}
 use Rattle.expression_types.specs.ScopeTree.{ScopeTree}
 use Rattle.expression_types.specs.ValueTree.{ValueTree, Integer, Condition, Vertex, Set, ErrorValue}
@@ -49,7 +49,7 @@ declare_step c at name type initial = initializer_of c at initial >>= λ initial
 -- variables are assigned, and a filter's result
 abbrev pub assigned_step : ℕ → InitializerTree → Entity → WithFaults StepTree
 assigned_step at initializer (entity.Edges weights) = fault_at at rule.WrongType no_step
-assigned_step at initializer (entity.Vector place) = fault_at at rule.WrongType no_step
+assigned_step at initializer (entity.Vector index) = fault_at at rule.WrongType no_step
 assigned_step at initializer (entity.ConstantSet slot) = fault_at at rule.WrongType no_step
 assigned_step at initializer (entity.IntegerConstant name n) = fault_at at rule.WrongType no_step
 assigned_step at initializer (entity.ConditionConstant name b) = fault_at at rule.WrongType no_step
@@ -59,9 +59,9 @@ assigned_step at initializer (entity.SetVariable slot) = fault_at at rule.WrongT
 assigned_step at initializer (entity.LoopVariable slot) = fault_at at rule.WrongType no_step
 assigned_step at initializer (entity.Parameter p) = fault_at at rule.WrongType no_step
 assigned_step at initializer entity.Weight = fault_at at rule.WrongType no_step
-assigned_step at initializer (entity.EdgeFunction place weighted) = fault_at at rule.WrongType no_step
-assigned_step at initializer (entity.VertexFunction place) = fault_at at rule.WrongType no_step
-assigned_step at initializer (entity.Filter place) = fault_at at rule.WrongType no_step
+assigned_step at initializer (entity.EdgeFunction index weighted) = fault_at at rule.WrongType no_step
+assigned_step at initializer (entity.VertexFunction index) = fault_at at rule.WrongType no_step
+assigned_step at initializer (entity.Filter index) = fault_at at rule.WrongType no_step
 assigned_step at initializer entity.Main = fault_at at rule.WrongType no_step
 assigned_step at initializer entity.Error = sure no_step
 
@@ -70,7 +70,7 @@ assign_step c at name initial = used c.scope name >>= λ e. initializer_of c at 
 
 abbrev pub reduced_step : ℕ → Reduction → ValueTree → Entity → WithFaults StepTree
 reduced_step at by v (entity.Edges weights) = fault_at at rule.WrongType no_step
-reduced_step at by v (entity.Vector place) = fault_at at rule.WrongType no_step
+reduced_step at by v (entity.Vector index) = fault_at at rule.WrongType no_step
 reduced_step at by v (entity.ConstantSet slot) = fault_at at rule.WrongType no_step
 reduced_step at by v (entity.IntegerConstant name n) = fault_at at rule.WrongType no_step
 reduced_step at by v (entity.ConditionConstant name b) = fault_at at rule.WrongType no_step
@@ -80,9 +80,9 @@ reduced_step at by v (entity.SetVariable slot) = fault_at at rule.WrongType no_s
 reduced_step at by v (entity.LoopVariable slot) = fault_at at rule.WrongType no_step
 reduced_step at by v (entity.Parameter p) = fault_at at rule.WrongType no_step
 reduced_step at by v entity.Weight = fault_at at rule.WrongType no_step
-reduced_step at by v (entity.EdgeFunction place weighted) = fault_at at rule.WrongType no_step
-reduced_step at by v (entity.VertexFunction place) = fault_at at rule.WrongType no_step
-reduced_step at by v (entity.Filter place) = fault_at at rule.WrongType no_step
+reduced_step at by v (entity.EdgeFunction index weighted) = fault_at at rule.WrongType no_step
+reduced_step at by v (entity.VertexFunction index) = fault_at at rule.WrongType no_step
+reduced_step at by v (entity.Filter index) = fault_at at rule.WrongType no_step
 reduced_step at by v entity.Main = fault_at at rule.WrongType no_step
 reduced_step at by v entity.Error = sure no_step
 
@@ -129,7 +129,7 @@ entry_step true true (Some vector) e = SetEntry vector e
 
 abbrev pub set_entry_step : ScopeTree → ℕ → Identifier → (index e : ExpressionTree) → WithFaults StepTree
 set_entry_step scope at name index e =
-    may_set at scope.inside >>= λ may. vector_place scope at name >>= λ vector.
+    may_set at scope.inside >>= λ may. vector_index scope at name >>= λ vector.
     index_value scope at index >>= λ v. written_at at (own_vertex scope.inside) v >>= λ own.
     integer_in scope at e >>= λ x. sure (entry_step may own vector x)
 
@@ -175,7 +175,7 @@ with_writes c writes = record c { writes = writes }
 
 abbrev pub reduce_entry_step : CheckerTree → ℕ → Identifier → (index : ExpressionTree) → Reduction → (e : ExpressionTree) → WithFaults (StepTree × CheckerTree)
 reduce_entry_step c at name index by e =
-    vector_place c.scope at name >>= λ vector. may_reduce at c.scope.inside vector by c.writes >>= λ may.
+    vector_index c.scope at name >>= λ vector. may_reduce at c.scope.inside vector by c.writes >>= λ may.
     index_value c.scope at index >>= λ v. written_at at (own_vertex c.scope.inside) v >>= λ own.
     integer_in c.scope at e >>= λ x. sure (reduction_step may.0 own vector by x, with_writes c may.1)
 

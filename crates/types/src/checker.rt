@@ -17,11 +17,11 @@ pub(crate) struct Checker {
     pub(crate) scope: Scope,
     /// All names that were declared.
     pub(crate) names: Vec<Text>,
-    /// The labels, with `#` at both ends, each with its place.
+    /// The labels, with `#` at both ends, each with its index.
     pub(crate) labels: Names<usize>,
     /// The labels without `#`.
     pub(crate) label_names: Vec<Text>,
-    /// The places of the labels of the statements of `main` that came before.
+    /// The indices of the labels of the statements of `main` that came before.
     pub(crate) statements: Vec<Option<usize>>,
     /// What the edge function around this point writes.
     pub(crate) writes: Reductions,
@@ -60,32 +60,32 @@ impl Checker {
         (names, label_names)
     }
 
-    /// The place of the next integer, for the next name.
+    /// The index of the next integer, for the next name.
     pub(crate) fn integer_slot(&self) -> VarRef
         ensures { result ≡ slot_of_integer (checker_of self.now) }
     {
         VarRef {
-            place: self.scope.integers(),
+            index: self.scope.integers(),
             name: self.names.len(),
         }
     }
 
-    /// The place of the next condition, for the next name.
+    /// The index of the next condition, for the next name.
     pub(crate) fn condition_slot(&self) -> VarRef
         ensures { result ≡ slot_of_condition (checker_of self.now) }
     {
         VarRef {
-            place: self.scope.conditions(),
+            index: self.scope.conditions(),
             name: self.names.len(),
         }
     }
 
-    /// The place of the next variable that is a vertex set, for the next name.
+    /// The index of the next variable that is a vertex set, for the next name.
     pub(crate) fn set_slot(&self) -> VarRef
         ensures { result ≡ slot_of_set (checker_of self.now) }
     {
         VarRef {
-            place: self.scope.sets(),
+            index: self.scope.sets(),
             name: self.names.len(),
         }
     }
@@ -109,29 +109,29 @@ pub(crate) fn declare(
     Ok(())
 }
 
-/// The place of a label among all, where a statement has one.
+/// The index of a label among all, where a statement has one.
 pub(crate) fn label(
     alloc: Global,
     checker: &mut Checker,
     label: &Option<Name>,
     first_fault: &mut Option<Fault>,
 ) -> Result<Option<usize>, AllocError>
-    ensures labelled { ReportsFaults (λ place. (place, checker_of checker.new)) first_fault.old first_fault.new result
+    ensures labelled { ReportsFaults (λ index. (index, checker_of checker.new)) first_fault.old first_fault.new result
         (labelled (checker_of checker.old) label.now) }
     ensures kept { checker.new.scope ≡ checker.old.scope }
 {
     let Some(label) = label else {
         return Ok(None);
     };
-    if let Some(place) = checker.labels.get(label.bytes()) {
+    if let Some(index) = checker.labels.get(label.bytes()) {
         note(first_fault, label.at(), TypeRule::BadLabel);
-        return Ok(Some(place));
+        return Ok(Some(index));
     }
-    let place = checker.labels.len();
+    let index = checker.labels.len();
     let name = between_ends(alloc, label.bytes())?;
-    checker.labels.push(alloc, label.bytes(), place)?;
+    checker.labels.push(alloc, label.bytes(), index)?;
     checker.label_names.push(name)?;
-    Ok(Some(place))
+    Ok(Some(index))
 }
 
 /// The number of the next statement of `main`, which has this label.

@@ -277,11 +277,11 @@ fn integer(
         (declare_integer (declared_of declared.old) at name.now (initializer_tree initializer) (initial_tree initial.now)) }
 {
     let value = literal(at, initializer, initial, first_fault);
-    let place = declared.checker.names.len();
+    let index = declared.checker.names.len();
     name_is(
         alloc,
         name,
-        Entity::IntegerConstant(place, value),
+        Entity::IntegerConstant(index, value),
         declared,
         first_fault,
     )
@@ -319,11 +319,11 @@ fn condition(
         (declare_condition (declared_of declared.old) at name.now (initializer_tree initializer) (initial_tree initial.now)) }
 {
     let value = truth_literal(at, initializer, initial, first_fault);
-    let place = declared.checker.names.len();
+    let index = declared.checker.names.len();
     name_is(
         alloc,
         name,
-        Entity::ConditionConstant(place, value),
+        Entity::ConditionConstant(index, value),
         declared,
         first_fault,
     )
@@ -361,7 +361,7 @@ fn set(
 {
     want_all(at, initializer, first_fault);
     let slot = VarRef {
-        place: declared.sets.len(),
+        index: declared.sets.len(),
         name: declared.checker.names.len(),
     };
     name_is(
@@ -397,11 +397,11 @@ fn vector(
         (declare_vector (declared_of declared.old) at name.now (initializer_tree initializer) (initial_tree initial.now)) }
 {
     let beginning = beginning_of(at, initializer, initial, first_fault);
-    let place = declared.checker.names.len();
+    let index = declared.checker.names.len();
     let entity = Entity::Vector(declared.vectors.len());
     name_is(alloc, name, entity, declared, first_fault)?;
     declared.vectors.push(Vector {
-        name: place,
+        name: index,
         beginning,
     })?;
     Ok(())
@@ -435,8 +435,8 @@ fn edges(
         (declare_edges weights (declared_of declared.old) at name.now (initializer_tree initializer)) }
 {
     want_loaded(at, initializer, first_fault);
-    let place = declared.checker.names.len();
-    let first = only(name, place, declared.edges, first_fault);
+    let index = declared.checker.names.len();
+    let first = only(name, index, declared.edges, first_fault);
     name_is(alloc, name, Entity::Edges(weights), declared, first_fault)?;
     declared.edges = first;
     Ok(())
@@ -451,17 +451,17 @@ fn want_loaded(at: usize, initializer: Initializer, first_fault: &mut Option<Fau
     }
 }
 
-/// The place of the edges' name: the first there is. The fault is noted where there was one.
+/// The index of the edges' name: the first there is. The fault is noted where there was one.
 fn only(
     name: &Name,
-    place: usize,
+    index: usize,
     edges: Option<usize>,
     first_fault: &mut Option<Fault>,
 ) -> Option<usize>
-    ensures { outcome first_fault.old (only_edges name.now place edges) ≡ (result, first_fault.new) }
+    ensures { outcome first_fault.old (only_edges name.now index edges) ≡ (result, first_fault.new) }
 {
     match edges {
-        None => Some(place),
+        None => Some(index),
         Some(first) => {
             note(first_fault, name.at(), TypeRule::Redeclared);
             Some(first)

@@ -239,38 +239,38 @@ fn end_named(entity: Entity) -> ApplyEnd
         Entity::ConstantSet(slot) | Entity::SetVariable(slot) => {
             ApplyEnd::Given(VertexFilter::Members(slot))
         }
-        Entity::Filter(place) => ApplyEnd::Given(VertexFilter::Function(place)),
+        Entity::Filter(index) => ApplyEnd::Given(VertexFilter::Function(index)),
         Entity::Error => ApplyEnd::Error,
         _ => ApplyEnd::Wrong,
     }
 }
 
-/// The place of the edge function that a name is, or `None` where it is none.
+/// The index of the edge function that a name is, or `None` where it is none.
 pub(crate) fn edge_function_named(entity: Entity) -> Option<usize>
     ensures { result ≡ edge_function entity }
 {
     match entity {
-        Entity::EdgeFunction(place, _) => Some(place),
+        Entity::EdgeFunction(index, _) => Some(index),
         _ => None,
     }
 }
 
-/// The place of the vertex function that a name is, or `None` where it is none.
+/// The index of the vertex function that a name is, or `None` where it is none.
 pub(crate) fn vertex_function_named(entity: Entity) -> Option<usize>
     ensures { result ≡ vertex_function entity }
 {
     match entity {
-        Entity::VertexFunction(place) => Some(place),
+        Entity::VertexFunction(index) => Some(index),
         _ => None,
     }
 }
 
-/// The place of the filter that a name is, or `None` where it is none.
+/// The index of the filter that a name is, or `None` where it is none.
 fn filter_named_by(entity: Entity) -> Option<usize>
     ensures { result ≡ filter_function entity }
 {
     match entity {
-        Entity::Filter(place) => Some(place),
+        Entity::Filter(index) => Some(index),
         _ => None,
     }
 }
@@ -415,7 +415,7 @@ fn filter(at: usize, set: Entity, test: Entity, first_fault: &mut Option<Fault>)
         return Initializer::Error;
     }
     match (set_named(set), filter_named_by(test)) {
-        (Some(slot), Some(place)) => Initializer::Members(SetValue::Filter(slot, place)),
+        (Some(slot), Some(index)) => Initializer::Members(SetValue::Filter(slot, index)),
         _ => wrong(at, first_fault),
     }
 }

@@ -7,7 +7,7 @@ use indexmap::IndexMap;
 use std::alloc::{AllocError, Global};
 use std::marker::Model;
 
-/// The vectors that an edge function writes, by their places, in the order of the text, each with its
+/// The vectors that an edge function writes, by their indices, in the order of the text, each with its
 /// reduction.
 #[derive(Drop)]
 pub(crate) struct Reductions {

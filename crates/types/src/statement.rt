@@ -390,11 +390,11 @@ fn apply_to_edges(
         ≡ (action_tree result, first_fault.new) }
 {
     match edge_function_named(function) {
-        Some(place) => {
+        Some(index) => {
             if from.is_error() || to.is_error() {
                 nothing()
             } else {
-                StatementKind::ApplyEdges(ends_of(from, to), place)
+                StatementKind::ApplyEdges(ends_of(from, to), index)
             }
         }
         None => {
@@ -416,7 +416,7 @@ fn apply_to_set(
     ensures { outcome first_fault.old (vertices_applied at slot (names_error function) (vertex_function function)) ≡ (action_tree result, first_fault.new) }
 {
     match vertex_function_named(function) {
-        Some(place) => StatementKind::ApplyVertex(slot, place),
+        Some(index) => StatementKind::ApplyVertex(slot, index),
         None => {
             if is_error_entity(function) {
                 nothing()

@@ -51,7 +51,7 @@ fn one(
         (labelled_step (checker_of checker.old) statement.now.label (λ c. step_typed c (source_action statement.now.action))) }
     ensures kept { OnOk result (Keeps checker.old.scope checker.new.scope) }
 {
-    let _place = label(alloc, checker, &statement.label, first_fault)?;
+    let _index = label(alloc, checker, &statement.label, first_fault)?;
     step(alloc, &statement.action, checker, first_fault)
 }
 

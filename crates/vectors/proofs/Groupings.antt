@@ -156,7 +156,7 @@ unfit start groups k j vertices ls done inside within size fit =
           let row = home.row in
           let first : l.first < length (get_or groups g []) = omega arith in
           let g' : g ≡ k = fit.group g l.first k j below first inside within (home.named g at) in
-          let f' : l.first ≡ j = fit.place g l.first k j below first inside within (home.named g at) in
+          let f' : l.first ≡ j = fit.index g l.first k j below first inside within (home.named g at) in
           absurd (let p : l.first < j = home.part (at ∙ ap (λ (m : ℕ). length start + m) g') in omega arith)
       | inr near ↦ home.own near.1
     ] in
@@ -283,6 +283,6 @@ fit_own arrays start groups n own fit =
     record {
       known = λ g h a b. (let k = fit.known g h a b in omega arith);
       group = fit.group;
-      place = fit.place;
+      index = fit.index;
       even = λ g h a b. vertices (name_at groups g h) ∙ fit.even g h a b ∙ sym (vertices (name_at groups g 0));
     }

@@ -7,7 +7,7 @@ use Rattle.vectors.specs.declared.location.Location.{Location}
 use Rattle.vectors.specs.inside.Layout.{IsLaidOut, StandsIn, location_at, vector_at, vectors_at}
 use Rattle.vectors.proofs.Layouts.{alone_here, length-vectors, same_lists, stands_in, vector_along, vector_here}
 
--- those before a place stand in the arrays of their own places, and the other arrays are as they were
+-- those before an index stand in the arrays of their own indices, and the other arrays are as they were
 pub record AreHome (first : List (List ℤ)) (ls : List Location) (k : ℕ) (now : List (List ℤ)) : Type 0 where
   pub count : length now ≡ length first
   pub done : (i : ℕ) → i < k → get_or now i [] ≡ vector_at first (location_at ls i)

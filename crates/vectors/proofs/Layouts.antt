@@ -9,26 +9,26 @@ use Rattle.std.proofs.lemmas.Nat.{div-mul-add, mod-mul-add}
 use Rattle.algorithm_meaning.specs.Value.{entry, with_entry}
 use Rattle.vectors.specs.declared.location.Location.{Location}
 use Rattle.vectors.specs.inside.Layout.{IsHome, IsLaidOut, StandsIn, location_at, nowhere, number_at, own_location, vector_at, vectors_at}
-use Rattle.vectors.proofs.Rows.{place_in_row}
+use Rattle.vectors.proofs.Rows.{index_in_row}
 
 -- lists of the same items are the same
 pub same_lists : {A : Type 0} (xs ys : List A) (d : A) → length xs ≡ length ys → ((k : ℕ) → k < length xs → get_or xs k d ≡ get_or ys k d) → xs ≡ ys
 same_lists xs ys d n h = fill_by_all (λ k. get_or ys k d) xs (length xs) d refl h ∙ sym (fill_by_all (λ k. get_or ys k d) ys (length xs) d (sym n) (λ k l. refl))
 
--- a list stays where a place past its end is set
+-- a list stays where an index past its end is set
 pub set_past : {A : Type 0} (xs : List A) (at : ℕ) (x : A) → length xs ≤ at → set xs at x ≡ xs
 set_past [] at x l = refl
 set_past (y ∷ xs) zero x l = absurd (omega arith)
 set_past (y ∷ xs) (suc at) x l = ap (λ zs. y ∷ zs) (set_past xs at x (omega arith))
 
 -- arrays keep their lengths where a number is written
-length_after : (arrays : List (List ℤ)) (array place : ℕ) (x : ℤ) (other : ℕ)
-    → length (get_or (set arrays array (set (get_or arrays array []) place x)) other []) ≡ length (get_or arrays other [])
-length_after [] array place x other = refl
-length_after (xs ∷ more) zero place x zero = length-set xs place x
-length_after (xs ∷ more) zero place x (suc n) = refl
-length_after (xs ∷ more) (suc m) place x zero = refl
-length_after (xs ∷ more) (suc m) place x (suc n) = length_after more m place x n
+length_after : (arrays : List (List ℤ)) (array index : ℕ) (x : ℤ) (other : ℕ)
+    → length (get_or (set arrays array (set (get_or arrays array []) index x)) other []) ≡ length (get_or arrays other [])
+length_after [] array index x other = refl
+length_after (xs ∷ more) zero index x zero = length-set xs index x
+length_after (xs ∷ more) zero index x (suc n) = refl
+length_after (xs ∷ more) (suc m) index x zero = refl
+length_after (xs ∷ more) (suc m) index x (suc n) = length_after more m index x n
 
 -- ---- reading
 
@@ -73,7 +73,7 @@ entry_read arrays ls i v h =
     (λ b. sym (entry_inside arrays ls i v h ((Decides-ltb v l.vertices).0 b)))
     (λ b. sym (entry_behind arrays ls i v h (grind (arith, nat_tests))))
 
--- ---- places in rows
+-- ---- indices in rows
 
 same_first : (u v stride first other : ℕ) → first < stride → other < stride → u * stride + other ≡ v * stride + first → other ≡ first
 same_first u v stride first other f o e = sym (mod-mul-add u stride other o) ∙ ap (λ n. n % stride) e ∙ mod-mul-add v stride first f
@@ -81,7 +81,7 @@ same_first u v stride first other f o e = sym (mod-mul-add u stride other o) ∙
 same_row : (u v stride first : ℕ) → first < stride → u * stride + first ≡ v * stride + first → u ≡ v
 same_row u v stride first f e = sym (div-mul-add u stride first f) ∙ ap (λ n. n / stride) e ∙ div-mul-add v stride first f
 
--- two vectors of one array have rows of one length, and other places in them
+-- two vectors of one array have rows of one length, and other indices in them
 same_stride : (groups : List (List ℕ)) (count i k : ℕ) (l m : Location) → IsHome groups count i l → IsHome groups count k m → m.array ≡ l.array → m.stride ≡ l.stride
 same_stride groups count i k l m h g e = elim (leb_tells count l.array) [
   | inl there ↦
@@ -112,22 +112,22 @@ same_vector groups count i k l m h g e f = elim (leb_tells count l.array) [
 
 -- ---- one number written
 
-number_written : (arrays : List (List ℤ)) (array place : ℕ) (x : ℤ) → array < length arrays → place < length (get_or arrays array [])
-    → number_at (set arrays array (set (get_or arrays array []) place x)) array place ≡ x
-number_written arrays array place x l h =
-    ap (λ (xs : List ℤ). get_or xs place (pos 0)) (get_or-set_same arrays array (set (get_or arrays array []) place x) [] l)
-    ∙ get_or-set_same (get_or arrays array []) place x (pos 0) h
+number_written : (arrays : List (List ℤ)) (array index : ℕ) (x : ℤ) → array < length arrays → index < length (get_or arrays array [])
+    → number_at (set arrays array (set (get_or arrays array []) index x)) array index ≡ x
+number_written arrays array index x l h =
+    ap (λ (xs : List ℤ). get_or xs index (pos 0)) (get_or-set_same arrays array (set (get_or arrays array []) index x) [] l)
+    ∙ get_or-set_same (get_or arrays array []) index x (pos 0) h
 
-number_beside : (arrays : List (List ℤ)) (array place : ℕ) (x : ℤ) (other : ℕ) → array < length arrays → other ≢ place
-    → number_at (set arrays array (set (get_or arrays array []) place x)) array other ≡ number_at arrays array other
-number_beside arrays array place x other l h =
-    ap (λ (xs : List ℤ). get_or xs other (pos 0)) (get_or-set_same arrays array (set (get_or arrays array []) place x) [] l)
-    ∙ get_or-set_other (get_or arrays array []) place other x (pos 0) h
+number_beside : (arrays : List (List ℤ)) (array index : ℕ) (x : ℤ) (other : ℕ) → array < length arrays → other ≢ index
+    → number_at (set arrays array (set (get_or arrays array []) index x)) array other ≡ number_at arrays array other
+number_beside arrays array index x other l h =
+    ap (λ (xs : List ℤ). get_or xs other (pos 0)) (get_or-set_same arrays array (set (get_or arrays array []) index x) [] l)
+    ∙ get_or-set_other (get_or arrays array []) index other x (pos 0) h
 
-number_elsewhere : (arrays : List (List ℤ)) (array place : ℕ) (x : ℤ) (other at : ℕ) → other ≢ array
-    → number_at (set arrays array (set (get_or arrays array []) place x)) other at ≡ number_at arrays other at
-number_elsewhere arrays array place x other at h =
-    ap (λ (xs : List ℤ). get_or xs at (pos 0)) (get_or-set_other arrays array other (set (get_or arrays array []) place x) [] h)
+number_elsewhere : (arrays : List (List ℤ)) (array index : ℕ) (x : ℤ) (other at : ℕ) → other ≢ array
+    → number_at (set arrays array (set (get_or arrays array []) index x)) other at ≡ number_at arrays other at
+number_elsewhere arrays array index x other at h =
+    ap (λ (xs : List ℤ). get_or xs at (pos 0)) (get_or-set_other arrays array other (set (get_or arrays array []) index x) [] h)
 
 -- functions that give the same are one
 pub same_functions : {A B : Type 0} (f g : A → B) → ((x : A) → f x ≡ g x) → f ≡ g
@@ -147,24 +147,24 @@ other_vector : (arrays : List (List ℤ)) (ls : List Location) (groups : List (L
 other_vector arrays ls groups laid i k v x hi hk apart =
     let l = location_at ls i in
     let m = location_at ls k in
-    let place = v * l.stride + l.first in
+    let index = v * l.stride + l.first in
     let hl = laid.homes i hi in
     let hm = laid.homes k hk in
     let row = hl.row in
     let known = hl.known in
     let all = laid.count in
     let inside : l.array < length arrays = omega arith in
-    vector_stays arrays (set arrays l.array (set (get_or arrays l.array []) place x)) m (λ u.
+    vector_stays arrays (set arrays l.array (set (get_or arrays l.array []) index x)) m (λ u.
     elim (eqb_tells m.array l.array) [
       | inl same ↦
           let strides = same_stride groups (length ls) i k l m hl hm same.1 in
           let moved : m.first < l.stride = subst (λ (n : ℕ). m.first < n) strides hm.row in
-          let away : u * m.stride + m.first ≢ place = λ e. apart (same_vector groups (length ls) i k l m hl hm same.1
+          let away : u * m.stride + m.first ≢ index = λ e. apart (same_vector groups (length ls) i k l m hl hm same.1
           (same_first u v l.stride l.first m.first row moved (ap (λ (n : ℕ). u * n + m.first) (sym strides) ∙ e))) in
-          ap (λ (a : ℕ). number_at (set arrays l.array (set (get_or arrays l.array []) place x)) a (u * m.stride + m.first)) same.1
-          ∙ number_beside arrays l.array place x (u * m.stride + m.first) inside away
+          ap (λ (a : ℕ). number_at (set arrays l.array (set (get_or arrays l.array []) index x)) a (u * m.stride + m.first)) same.1
+          ∙ number_beside arrays l.array index x (u * m.stride + m.first) inside away
           ∙ ap (λ (a : ℕ). number_at arrays a (u * m.stride + m.first)) (sym same.1)
-      | inr other ↦ number_elsewhere arrays l.array place x m.array (u * m.stride + m.first) other.1
+      | inr other ↦ number_elsewhere arrays l.array index x m.array (u * m.stride + m.first) other.1
     ])
 
 this_vector : (arrays : List (List ℤ)) (ls : List Location) (groups : List (List ℕ)) → IsLaidOut arrays ls groups → (i v : ℕ) (x : ℤ)
@@ -173,15 +173,15 @@ this_vector : (arrays : List (List ℤ)) (ls : List Location) (groups : List (Li
     ≡ set (vector_at arrays (location_at ls i)) v x
 this_vector arrays ls groups laid i v x hi hv =
     let l = location_at ls i in
-    let place = v * l.stride + l.first in
-    let after = set arrays l.array (set (get_or arrays l.array []) place x) in
+    let index = v * l.stride + l.first in
+    let after = set arrays l.array (set (get_or arrays l.array []) index x) in
     let hl = laid.homes i hi in
     let row = hl.row in
     let known = hl.known in
     let all = laid.count in
     let inside : l.array < length arrays = omega arith in
     let whole = laid.whole i hi in
-    let there : place < length (get_or arrays l.array []) = place_in_row v l.vertices l.stride l.first (length (get_or arrays l.array [])) hv row (omega arith) in
+    let there : index < length (get_or arrays l.array []) = index_in_row v l.vertices l.stride l.first (length (get_or arrays l.array [])) hv row (omega arith) in
     let n = length-vector arrays l in
     let m = length-vector after l in
     let j = length-set (vector_at arrays l) v x in
@@ -191,12 +191,12 @@ this_vector arrays ls groups laid i v x hi hv =
     ∙ elim (eqb_tells u v) [
       | inl same ↦
           ap (λ (w : ℕ). number_at after l.array (w * l.stride + l.first)) same.1
-          ∙ number_written arrays l.array place x inside there
+          ∙ number_written arrays l.array index x inside there
           ∙ sym (get_or-set_same (vector_at arrays l) v x (pos 0) (omega arith))
           ∙ ap (λ (w : ℕ). get_or (set (vector_at arrays l) v x) w (pos 0)) (sym same.1)
       | inr other ↦
-          let away : u * l.stride + l.first ≢ place = λ e. other.1 (same_row u v l.stride l.first row e) in
-          number_beside arrays l.array place x (u * l.stride + l.first) inside away
+          let away : u * l.stride + l.first ≢ index = λ e. other.1 (same_row u v l.stride l.first row e) in
+          number_beside arrays l.array index x (u * l.stride + l.first) inside away
           ∙ sym (entry_here arrays l u hu)
           ∙ sym (get_or-set_other (vector_at arrays l) v u x (pos 0) other.1)
     ])
@@ -245,14 +245,14 @@ entry_set_nowhere arrays ls i v x h =
     sym (set_past (vectors_at arrays ls) i (set (get_or (vectors_at arrays ls) i []) v x) (omega arith))
 
 -- the layout stays where arrays keep their lengths
-pub laid_out_after : (arrays : List (List ℤ)) (ls : List Location) (groups : List (List ℕ)) (array place : ℕ) (x : ℤ) → IsLaidOut arrays ls groups
-    → IsLaidOut (set arrays array (set (get_or arrays array []) place x)) ls groups
-laid_out_after arrays ls groups array place x laid = record {
+pub laid_out_after : (arrays : List (List ℤ)) (ls : List Location) (groups : List (List ℕ)) (array index : ℕ) (x : ℤ) → IsLaidOut arrays ls groups
+    → IsLaidOut (set arrays array (set (get_or arrays array []) index x)) ls groups
+laid_out_after arrays ls groups array index x laid = record {
   homes = laid.homes;
   members = laid.members;
-  whole = λ i l. laid.whole i l ∙ sym (length_after arrays array place x (location_at ls i).array);
+  whole = λ i l. laid.whole i l ∙ sym (length_after arrays array index x (location_at ls i).array);
   fits = laid.fits;
-  count = length-set arrays array (set (get_or arrays array []) place x) ∙ laid.count;
+  count = length-set arrays array (set (get_or arrays array []) index x) ∙ laid.count;
 }
 
 -- ---- each vector in an array of its own
@@ -299,19 +299,19 @@ own_vectors arrays ls n h =
     let inside : i < length ls = omega arith in
     vector_here arrays ls i inside ∙ ap (vector_at arrays) (h i (omega arith)) ∙ own_vector arrays i)
 
--- a vector's entry is in its array, and its place is a number of 64 bits
-pub place_fits : (arrays : List (List ℤ)) (ls : List Location) (groups : List (List ℕ)) → IsLaidOut arrays ls groups → (i v : ℕ) → i < length ls → v < (location_at ls i).vertices
+-- a vector's entry is in its array, and its index is a number of 64 bits
+pub index_fits : (arrays : List (List ℤ)) (ls : List Location) (groups : List (List ℕ)) → IsLaidOut arrays ls groups → (i v : ℕ) → i < length ls → v < (location_at ls i).vertices
     → v * (location_at ls i).stride + (location_at ls i).first < 2 ^ 64
-place_fits arrays ls groups laid i v hi hv =
+index_fits arrays ls groups laid i v hi hv =
     let l = location_at ls i in
     let few = laid.fits i hi in
     let row = (laid.homes i hi).row in
-    let below : v * l.stride + l.first < l.vertices * l.stride = place_in_row v l.vertices l.stride l.first (l.vertices * l.stride) hv row (omega arith) in
+    let below : v * l.stride + l.first < l.vertices * l.stride = index_in_row v l.vertices l.stride l.first (l.vertices * l.stride) hv row (omega arith) in
     omega arith
 
 -- ---- vectors that are handed over
 
--- a vector in the array of its own place is that array
+-- a vector in the array of its own index is that array
 pub alone_here : (arrays : List (List ℤ)) (ls : List Location) (groups : List (List ℕ)) → IsLaidOut arrays ls groups → (i : ℕ) → i < length ls
     → (location_at ls i).array ≡ i → vector_at arrays (location_at ls i) ≡ get_or arrays i []
 alone_here arrays ls groups laid i l at =

@@ -2,8 +2,8 @@
 use Rattle.std.specs.Prelude.{◌≡◌, ℕ, ◌+◌, ◌*◌, ◌<◌, ℤ, pos, List, [], length, slice_index_or}
 use Rattle.algorithm_meaning.specs.Value.{entry}
 
--- the vectors by their places, each with an entry for each vertex, and the groups of vectors that stand side by side,
--- each by the places of its vectors
+-- the vectors by their indices, each with an entry for each vertex, and the groups of vectors that stand side by side,
+-- each by the indices of its vectors
 pub record VectorsValue : Type 0 where
   pub vectors : List (List ℤ)
   pub groups : List (List ℕ)
@@ -11,12 +11,12 @@ pub record VectorsValue : Type 0 where
 abbrev pub with_vectors : VectorsValue → List (List ℤ) → VectorsValue
 with_vectors v vectors = record v { vectors = vectors }
 
--- groups of vectors that are there, each in one place of one group, and those of a group with the same number of entries
+-- groups of vectors that are there, each once in one group, and those of a group with the same number of entries
 pub record IsGrouping (vectors : List (List ℤ)) (groups : List (List ℕ)) : Type 0 where
   pub known : (g h : ℕ) → g < length groups → h < length (slice_index_or groups g []) → slice_index_or (slice_index_or groups g []) h 0 < length vectors
   pub group : (g h i j : ℕ) → g < length groups → h < length (slice_index_or groups g []) → i < length groups → j < length (slice_index_or groups i [])
       → slice_index_or (slice_index_or groups g []) h 0 ≡ slice_index_or (slice_index_or groups i []) j 0 → g ≡ i
-  pub place : (g h i j : ℕ) → g < length groups → h < length (slice_index_or groups g []) → i < length groups → j < length (slice_index_or groups i [])
+  pub index : (g h i j : ℕ) → g < length groups → h < length (slice_index_or groups g []) → i < length groups → j < length (slice_index_or groups i [])
       → slice_index_or (slice_index_or groups g []) h 0 ≡ slice_index_or (slice_index_or groups i []) j 0 → h ≡ j
   pub even : (g h : ℕ) → g < length groups → h < length (slice_index_or groups g [])
       → length (slice_index_or vectors (slice_index_or (slice_index_or groups g []) h 0) []) ≡ length (slice_index_or vectors (slice_index_or (slice_index_or groups g []) 0 0) [])

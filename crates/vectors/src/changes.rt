@@ -56,7 +56,7 @@ impl EntryChange {
     }
 }
 
-/// The entries of one vector that change: the vector's place, and the changes, by ascending vertices.
+/// The entries of one vector that change: the vector's index, and the changes, by ascending vertices.
 #[derive(Drop)]
 pub struct VectorChanges {
     pub vector: usize,

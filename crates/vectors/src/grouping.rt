@@ -101,8 +101,8 @@ fn own_arrays(alloc: Global, locations: &[Location]) -> Result<Vec<Sequence<i64>
     ensures { IfOk result (λ arrays. HasArrays locations.now [] arrays.items) }
 {
     let mut arrays = Vec::new(alloc);
-    'locations: for (place, location) in locations.iter().enumerate() {
-        let count = if location.array == place {
+    'locations: for (index, location) in locations.iter().enumerate() {
+        let count = if location.array == index {
             location.vertices
         } else {
             0

@@ -1,7 +1,7 @@
 //! Lane: one vector, lent to be read.
 ghost use Rattle.std.specs.Prelude.{◌≡◌, ◌*◌, ◌<◌, ◌≤◌, ℕ, pos, IfSome, IsSome, length, slice_index_or};
 
-/// One vector, lent to be read. The entry of vertex v stands at place `v * stride + first`.
+/// One vector, lent to be read. The entry of vertex v stands at index `v * stride + first`.
 #[derive(Clone, Copy)]
 pub struct Lane<'a> {
     pub(crate) numbers: &'a [i64],
@@ -17,7 +17,7 @@ impl<'a> Lane<'a> {
 
     /// The entry at a vertex, 0 where there is none.
     #[inline(always)]
-    #[tactic(auto, using(crate::proofs::Rows::place_in_row))]
+    #[tactic(auto, using(crate::proofs::Rows::index_in_row))]
     pub fn get(self, vertex: usize) -> i64
         ensures { result ≡ lane_entry self.entry vertex }
     {

@@ -1,9 +1,9 @@
 //! The vectors of a run, and what an apply changes in them.
 //!
 //! [`Vectors`] are seen as a list of vectors, each a list with an entry for each vertex, and a list of groups, each a
-//! list of the places of its vectors. A vector has an array of its own, or it stands in a group: one array with a row
-//! for each vertex, in which the j-th vector of g has its entry at vertex v at place `v * g + j`. What is read and
-//! written is by place and vertex and the same in either layout.
+//! list of the indices of its vectors. A vector has an array of its own, or it stands in a group: one array with a row
+//! for each vertex, in which the j-th vector of g has its entry at vertex v at index `v * g + j`. What is read and
+//! written is by index and vertex and the same in either layout.
 //!
 //! A [`Lane`] is one vector, lent: its base, its stride and how many vertices it has are known before a loop begins,
 //! and an entry costs one multiplication. [`Changes`] are the new entries that an apply found, written in time in

@@ -7,7 +7,7 @@ use crate::lane::Lane;
 use std::alloc::{AllocError, Global};
 use typed_tree::Sequence;
 
-/// Where a vector stands: in which array, at which place of a row, how long a row is, and how many vertices it has.
+/// Where a vector stands: in which array, at which index of a row, how long a row is, and how many vertices it has.
 /// An array of its own has rows of one.
 #[derive(Clone, Copy)]
 pub(crate) struct Location {
@@ -17,7 +17,7 @@ pub(crate) struct Location {
     pub(crate) vertices: usize,
 }
 
-/// Each vector in the array of its own place.
+/// Each vector in the array of its own index.
 pub(crate) fn own_locations(
     alloc: Global,
     arrays: &[Sequence<i64>],
@@ -27,9 +27,9 @@ pub(crate) fn own_locations(
     ensures fits { IfOk result (λ ls. (i : ℕ) → i < length arrays.now → length (slice_index_or arrays.now i []) < 2 ^ 64) }
 {
     let mut locations = Vec::new(alloc);
-    'arrays: for (place, array) in arrays.iter().enumerate() {
+    'arrays: for (index, array) in arrays.iter().enumerate() {
         locations.push(Location {
-            array: place,
+            array: index,
             first: 0,
             stride: 1,
             vertices: array.as_slice().len(),
@@ -85,22 +85,22 @@ pub(crate) fn copy_vectors(
     Ok(copies)
 }
 
-/// Puts the vector that stands at a location into the array of its own place, where it is not there. The only error is out
+/// Puts the vector that stands at a location into the array of its own index, where it is not there. The only error is out
 /// of memory.
 pub(crate) fn move_home(
     alloc: Global,
     arrays: &mut Vec<Sequence<i64>>,
-    place: usize,
+    index: usize,
     location: Location,
 ) -> Result<(), AllocError>
-    requires place { place < length arrays.old.items }
+    requires index { index < length arrays.old.items }
     requires stands { StandsIn arrays.old.items location }
-    ensures moved { OnOk result (location.array ≢ place → arrays.new.items ≡ slice_set arrays.old.items place (vector_at arrays.old.items location)) }
-    ensures stays { OnOk result (location.array ≡ place → arrays.new.items ≡ arrays.old.items) }
+    ensures moved { OnOk result (location.array ≢ index → arrays.new.items ≡ slice_set arrays.old.items index (vector_at arrays.old.items location)) }
+    ensures stays { OnOk result (location.array ≡ index → arrays.new.items ≡ arrays.old.items) }
 {
-    if location.array != place {
+    if location.array != index {
         let copy = copy_vector(alloc, arrays, location)?;
-        arrays[place] = copy;
+        arrays[index] = copy;
     }
     Ok(())
 }

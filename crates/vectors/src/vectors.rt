@@ -1,4 +1,4 @@
-//! The vectors of a run, by their places.
+//! The vectors of a run, by their indices.
 ghost use Rattle.std.specs.Prelude.{◌≡◌, ℕ, ◌*◌, ◌<◌, ◌≤◌, [], IfOk, MatchOption, length, slice_index_or, slice_set};
 ghost use Rattle.algorithm_meaning.specs.Value.{entry};
 
@@ -12,9 +12,9 @@ use std::marker::Model;
 use typed_tree::Sequence;
 
 /// The vectors of a run. A contract sees the list of them, each a list with an entry for each vertex, and the groups
-/// of those that stand side by side, each the list of their places.
+/// of those that stand side by side, each the list of their indices.
 pub struct Vectors {
-    /// The array of each vector that stands alone, at its place, and then those of the groups.
+    /// The array of each vector that stands alone, at its index, and then those of the groups.
     arrays: Vec<Sequence<i64>>,
     locations: Vec<Location>,
     groups: Vec<Sequence<usize>>,
@@ -105,7 +105,7 @@ impl Vectors {
     }
 
     /// The array of group k, from 0, or `None` where there are not so many: with g vectors in the group, the entry of
-    /// the j-th, from 0, at vertex v stands at place `v * g + j`.
+    /// the j-th, from 0, at vertex v stands at index `v * g + j`.
     pub fn group(&self, k: usize) -> Option<&[i64]>
         ensures { MatchOption result (length self.now.groups ≤ k) (λ array. (k < length self.now.groups)
             × HasRows self.now.vectors (slice_index_or self.now.groups k []) array.now) }
@@ -116,7 +116,7 @@ impl Vectors {
         Some(self.arrays[self.locations.len() + k].as_slice())
     }
 
-    /// Puts an entry of a vector; where there is no such place nothing is changed.
+    /// Puts an entry of a vector; where there is no such index nothing is changed.
     pub fn set(&mut self, vector: usize, vertex: u32, number: i64)
         ensures { self.new ≡ with_vectors self.old (with_entry self.old.vectors vector vertex number) }
     {
@@ -129,8 +129,8 @@ impl Vectors {
         if vector < self.locations.len() {
             let location = self.locations[vector];
             if vertex < location.vertices {
-                let place = vertex * location.stride + location.first;
-                self.arrays[location.array].set(place, number);
+                let position = vertex * location.stride + location.first;
+                self.arrays[location.array].set(position, number);
             }
         }
     }
@@ -163,8 +163,8 @@ impl Vectors {
             locations,
             groups: _,
         } = self;
-        'places: for place in 0..locations.len() {
-            move_home(alloc, &mut arrays, place, locations[place])?;
+        'positions: for position in 0..locations.len() {
+            move_home(alloc, &mut arrays, position, locations[position])?;
         }
         arrays.truncate(locations.len());
         Ok(arrays)
@@ -177,7 +177,7 @@ impl Vectors {
         copy_vectors(alloc, &self.arrays, &self.locations)
     }
 
-    /// The vector at a place; where there is none, one without entries.
+    /// The vector at an index; where there is none, one without entries.
     pub fn lane(&self, vector: usize) -> Lane<'_>
         ensures { (v : ℕ) → lane_entry result v ≡ entry self.now.vectors vector v }
     {

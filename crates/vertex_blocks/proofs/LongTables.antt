@@ -1,4 +1,4 @@
--- Vertices that have lists of their own, by their places.
+-- Vertices that have lists of their own, by their indices.
 use Rattle.std.proofs.Common.{◌≡◌, ℕ, zero, suc, ◌+◌, ◌*◌, ◌%◌, ◌^◌, ◌<◌, bit_or, List, [], ◌∷◌, ◌++◌, ◌-◌, length, get_or, take, drop, slice_range, sym, ◌∙◌, ap, subst, arith, append_assoc, take-append-drop}
 use Rattle.std.proofs.lemmas.List.{map-append, length-map, take-map, drop-map, take_more, drop_more}
 use Rattle.std.specs.Map.{keys_of}
@@ -12,7 +12,7 @@ use Rattle.vertex_blocks.specs.Blocks.{Block, AreNeighbourLists, IsBlock}
 use Rattle.vertex_blocks.specs.inside.LongLists.{entries_in, long_entry, long_entries, AreLongLists}
 use Rattle.vertex_blocks.proofs.Sums.{lists_append}
 
--- what stands at a place
+-- what stands at an index
 pub long_at : (ss : List LongEntry) (i : ℕ) (s : LongEntry) → i < length ss → s ≡ get_or ss i s → get_or (long_entries ss) i (0, []) ≡ long_entry s
 long_at [] i s lt is = absurd (omega arith)
 long_at (x ∷ ss) zero s lt is = ap long_entry (sym is)
@@ -33,7 +33,7 @@ long_pushed bits v ss s ok is above lt some up =
       lists = subst AreNeighbourLists (sym whole) (lists_append (long_entries ss) ((v, (entries_in s.list)) ∷ []) ok.lists (record { some = some; ascends = up }, tt));
     }
 
--- the list at a place is not empty
+-- the list at an index is not empty
 pub some_at : (ss : List LongEntry) (i : ℕ) (s : LongEntry) → AreNeighbourLists (long_entries ss) → i < length ss → s ≡ get_or ss i s → 0 < length (entries_in s.list)
 some_at [] i s ok lt is = absurd (omega arith)
 some_at (x ∷ ss) zero s ok lt is = rw is ok.0.some

@@ -29,10 +29,10 @@ pub named_listed : (words found more : List ℕ) (first left : ℕ) → left ≢
     → more ≡ found ++ bit_members 64 (64 * (first + count_trailing_zeros 64 left)) (get_or words (first + count_trailing_zeros 64 left) 0)
     → more ++ named_members words (bit_members 64 first (bit_and left (left - 1))) ≡ found ++ named_members words (bit_members 64 first left)
 named_listed words found more first left some fits is =
-    let place = first + count_trailing_zeros 64 left in
+    let index = first + count_trailing_zeros 64 left in
     let others = bit_members 64 first (bit_and left (left - 1)) in
     ap (λ xs. xs ++ named_members words others) is
-    ∙ append_assoc found (bit_members 64 (64 * place) (get_or words place 0)) (named_members words others)
+    ∙ append_assoc found (bit_members 64 (64 * index) (get_or words index 0)) (named_members words others)
     ∙ ap (λ ps. found ++ named_members words ps) (sym (bits_lowest 64 first left (omega (arith, some)) fits))
 
 -- nothing is left where no bit is
@@ -93,9 +93,9 @@ named_of words (p ∷ ps) v is =
     elim (Contains-append_cases (bit_members 64 (64 * p) (get_or words p 0)) (named_members words ps) v is) [
       | inl here ↦
           let h = bit_of 64 (64 * p) (get_or words p 0) v here in
-          let place : p ≡ v / 64 = omega (arith, h.1, h.2) in
+          let index : p ≡ v / 64 = omega (arith, h.1, h.2) in
           let bit : h.0 ≡ v % 64 = omega (arith, h.1, h.2) in
-          sym (ap₂ (λ q i. bit_at (get_or words q 0) i) place bit) ∙ h.3
+          sym (ap₂ (λ q i. bit_at (get_or words q 0) i) index bit) ∙ h.3
       | inr later ↦ named_of words ps v later
     ]
 
@@ -113,7 +113,7 @@ named_in words (p ∷ ps) v named is =
 
 -- the summary names each word that has a bit
 abbrev pub IsSummary : (words summary : List ℕ) → Type 0
-IsSummary words summary = (place : ℕ) → get_or words place 0 ≢ 0 → HasBit summary place
+IsSummary words summary = (index : ℕ) → get_or words index 0 ≢ 0 → HasBit summary index
 
 pub no_bit : (words : List ℕ) (v : ℕ) → get_or words (v / 64) 0 ≡ 0 → bit_at (get_or words (v / 64) 0) (v % 64) ≡ 0
 no_bit words v none = ap (λ w. bit_at w (v % 64)) none ∙ bit_at-zero (v % 64)

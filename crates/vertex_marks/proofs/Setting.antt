@@ -44,35 +44,35 @@ marked_more words v u within =
 -- the summary names the word of the bit too
 pub summary_more : (words summary : List ℕ) (v word : ℕ) → v / 64 / 64 < length summary → IsSummary words summary
     → IsSummary (set words (v / 64) word) (with_bit summary (v / 64))
-summary_more words summary v word within summed place some =
-    elim (cases_eq place (v / 64)) [
-      | inl here ↦ (bit_set summary (v / 64) place within).1 (inl here)
+summary_more words summary v word within summed index some =
+    elim (cases_eq index (v / 64)) [
+      | inl here ↦ (bit_set summary (v / 64) index within).1 (inl here)
       | inr apart ↦
-          (bit_set summary (v / 64) place within).1
-          (inr (summed place (λ none. some (get_or-set_other words (v / 64) place word 0 apart ∙ none))))
+          (bit_set summary (v / 64) index within).1
+          (inr (summed index (λ none. some (get_or-set_other words (v / 64) index word 0 apart ∙ none))))
     ]
 
 -- no bit is set where all words are zero
 pub none_marked : (words : List ℕ) (v : ℕ) → get_or words (v / 64) 0 ≡ 0 → (bit_at (get_or words (v / 64) 0) (v % 64) == 1) ≡ false
 none_marked words v none = ap (λ b. b == 1) (no_bit words v none)
 
--- the words below a place are zero, and so are those that a word of the summary names
-pub zero_below : (words cleared summary : List ℕ) (place : ℕ) → IsSummary words summary
+-- the words below an index are zero, and so are those that a word of the summary names
+pub zero_below : (words cleared summary : List ℕ) (index : ℕ) → IsSummary words summary
     → ((p : ℕ) → get_or cleared p 0 ≢ 0 → get_or words p 0 ≢ 0)
-    → ((p : ℕ) → Contains (bit_members 64 (64 * place) (get_or summary place 0)) p → get_or cleared p 0 ≡ 0)
-    → ((p : ℕ) → p < 64 * place → get_or words p 0 ≡ 0)
-    → (p : ℕ) → p < 64 * (place + 1) → get_or cleared p 0 ≡ 0
-zero_below words cleared summary place summed stay clear before p below =
+    → ((p : ℕ) → Contains (bit_members 64 (64 * index) (get_or summary index 0)) p → get_or cleared p 0 ≡ 0)
+    → ((p : ℕ) → p < 64 * index → get_or words p 0 ≡ 0)
+    → (p : ℕ) → p < 64 * (index + 1) → get_or cleared p 0 ≡ 0
+zero_below words cleared summary index summed stay clear before p below =
     elim (cases_eq (get_or words p 0) 0) [
       | inl none ↦ elim (cases_eq (get_or cleared p 0) 0) [ inl is ↦ is | inr some ↦ absurd (stay p some none) ]
       | inr some ↦
-          elim (cases_lt p (64 * place)) [
+          elim (cases_lt p (64 * index)) [
             | inl low ↦ absurd (some (before p low))
             | inr high ↦
-                let at : 64 * place + p % 64 ≡ p = omega (arith, high, below) in
-                let here : p / 64 ≡ place = omega (arith, high, below) in
-                let bit : bit_at (get_or summary place 0) (p % 64) ≡ 1 = ap (λ q. bit_at (get_or summary q 0) (p % 64)) (sym here) ∙ summed p some in
-                clear p (subst (λ q. Contains (bit_members 64 (64 * place) (get_or summary place 0)) q) at (bit_in 64 (64 * place) (get_or summary place 0) (p % 64) (omega arith) bit))
+                let at : 64 * index + p % 64 ≡ p = omega (arith, high, below) in
+                let here : p / 64 ≡ index = omega (arith, high, below) in
+                let bit : bit_at (get_or summary index 0) (p % 64) ≡ 1 = ap (λ q. bit_at (get_or summary q 0) (p % 64)) (sym here) ∙ summed p some in
+                clear p (subst (λ q. Contains (bit_members 64 (64 * index) (get_or summary index 0)) q) at (bit_in 64 (64 * index) (get_or summary index 0) (p % 64) (omega arith) bit))
           ]
     ]
 
@@ -113,9 +113,9 @@ all_cleared words first left none p or =
     ]
 
 -- all words are zero where those are that the summary can name
-pub all_zero : (words : List ℕ) (named place : ℕ) → named ≤ place → length words ≤ 64 * named → ((p : ℕ) → p < 64 * place → get_or words p 0 ≡ 0) → (p : ℕ) → get_or words p 0 ≡ 0
-all_zero words named place up within zero p =
-    elim (cases_lt p (64 * place)) [ inl below ↦ zero p below | inr above ↦ get_or_past words p 0 (omega (arith, up, within, above)) ]
+pub all_zero : (words : List ℕ) (named index : ℕ) → named ≤ index → length words ≤ 64 * named → ((p : ℕ) → p < 64 * index → get_or words p 0 ≡ 0) → (p : ℕ) → get_or words p 0 ≡ 0
+all_zero words named index up within zero p =
+    elim (cases_lt p (64 * index)) [ inl below ↦ zero p below | inr above ↦ get_or_past words p 0 (omega (arith, up, within, above)) ]
 
 -- a slice that was written as long as it is
 pub written_back : (n : ℕ) (olds news : List ℕ) → n ≡ length olds → length news ≡ length olds → take n (news ++ drop (length news) olds) ≡ news

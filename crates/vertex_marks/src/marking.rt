@@ -60,11 +60,11 @@ impl VertexMarks {
         ensures marks { (v : ℕ) → is_marked self.new v ≡ (vertex == v) || is_marked self.old v }
         ensures room { room self.new ≡ room self.old }
     {
-        let place = vertex as usize / 64;
-        let word = self.words[place] | 1u64 << (vertex % 64);
-        let sum = self.summary[place / 64] | 1u64 << (place % 64);
-        self.words[place] = word;
-        self.summary[place / 64] = sum;
+        let index = vertex as usize / 64;
+        let word = self.words[index] | 1u64 << (vertex % 64);
+        let sum = self.summary[index / 64] | 1u64 << (index % 64);
+        self.words[index] = word;
+        self.summary[index / 64] = sum;
     }
 }
 

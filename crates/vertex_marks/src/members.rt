@@ -16,11 +16,11 @@ impl VertexMarks {
         ensures marked { IfOk result (λ found. (v : ℕ) → Contains found.items v ↔ (is_marked self.now v ≡ true)) }
     {
         let mut found = Vec::new(alloc);
-        'sums: for place in 0..self.summary.len() {
+        'sums: for position in 0..self.summary.len() {
             push_named(
                 &self.words,
-                64 * place as u32,
-                self.summary[place],
+                64 * position as u32,
+                self.summary[position],
                 &mut found,
             )?;
         }
@@ -34,15 +34,15 @@ impl VertexMarks {
         ensures room { room self.new ≡ room self.old }
     {
         let words = self.words.as_mut_slice();
-        'sums: for place in 0..self.summary.len() {
-            clear_named(words, 64 * place, self.summary[place]);
+        'sums: for position in 0..self.summary.len() {
+            clear_named(words, 64 * position, self.summary[position]);
         }
         self.summary.fill(0);
     }
 }
 
 /// Adds the vertices of the bits that are set in the words that a word of a summary names: bit i names the word at
-/// place `first` + i.
+/// index `first` + i.
 fn push_named(
     words: &[u64],
     first: u32,
@@ -50,14 +50,14 @@ fn push_named(
     found: &mut Vec<u32>,
 ) -> Result<(), AllocError>
     requires few { 64 * length words.now ≤ 2 ^ 32 }
-    requires place { first + 64 ≤ 2 ^ 32 }
+    requires index { first + 64 ≤ 2 ^ 32 }
     ensures { OnOk result (found.new.items ≡ found.old.items ++ named_members words.now (bit_members 64 first summary)) }
 {
     let mut left = summary;
     'words: while left != 0 {
-        let place = first + left.trailing_zeros();
-        if let Some(word) = words.get(place as usize) {
-            push_bits(*word, 64 * place, found)?;
+        let index = first + left.trailing_zeros();
+        if let Some(word) = words.get(index as usize) {
+            push_bits(*word, 64 * index, found)?;
         }
         left &= left - 1;
     }
@@ -78,18 +78,18 @@ fn push_bits(word: u64, low: u32, found: &mut Vec<u32>) -> Result<(), AllocError
     Ok(())
 }
 
-/// Sets the words to 0 that a word of a summary names: bit i names the word at place `first` + i.
+/// Sets the words to 0 that a word of a summary names: bit i names the word at index `first` + i.
 fn clear_named(words: &mut [u64], first: usize, summary: u64)
     requires { first + 64 ≤ 2 ^ 32 }
     ensures len { length words.new ≡ length words.old }
-    ensures stay { (place : ℕ) → slice_index words.new place ≢ 0 → slice_index words.old place ≢ 0 }
-    ensures clear { (place : ℕ) → Contains (bit_members 64 first summary) place → slice_index words.new place ≡ 0 }
+    ensures stay { (index : ℕ) → slice_index words.new index ≢ 0 → slice_index words.old index ≢ 0 }
+    ensures clear { (index : ℕ) → Contains (bit_members 64 first summary) index → slice_index words.new index ≡ 0 }
 {
     let mut left = summary;
     'words: while left != 0 {
-        let place = first + left.trailing_zeros() as usize;
-        if place < words.len() {
-            words[place] = 0;
+        let index = first + left.trailing_zeros() as usize;
+        if index < words.len() {
+            words[index] = 0;
         }
         left &= left - 1;
     }

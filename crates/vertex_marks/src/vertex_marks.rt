@@ -9,7 +9,7 @@ pub struct VertexMarks {
     ghost few: { length words.items ≤ 2 ^ 26 },
     ghost short: { length summary.items ≤ 2 ^ 20 },
     ghost covered: { length words.items ≤ 64 * length summary.items },
-    ghost summed: { (place : ℕ) → slice_index words.items place ≢ 0 → HasBit summary.items place },
+    ghost summed: { (index : ℕ) → slice_index words.items index ≢ 0 → HasBit summary.items index },
 }
 
 impl Drop for VertexMarks {

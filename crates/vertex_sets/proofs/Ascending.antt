@@ -267,7 +267,7 @@ first_above : (v : ℕ) (xs : List ℕ) → ((k : ℕ) → 0 ≤ k → k < lengt
 first_above v [] above = omega arith
 first_above v (x ∷ xs) above = omega (arith, above 0 (omega arith) (omega arith))
 
--- The list with a number put in at a place, where all before it are lower and all from it on are higher.
+-- The list with a number put in at an index, where all before it are lower and all from it on are higher.
 rises_between : (low i v : ℕ) (xs : List ℕ) → Rises low xs → low ≤ v → i ≤ length xs → ((k : ℕ) → k < i → get_or xs k 0 < v)
     → ((k : ℕ) → i ≤ k → k < length xs → v < get_or xs k 0) → Rises low (take i xs ++ v ∷ drop i xs)
 rises_between low zero v xs up le within lower higher = (le, rises_higher low v xs up (first_above v xs higher))
@@ -322,7 +322,7 @@ non_decreasing low (x ∷ xs) up zero (suc j) le within =
 non_decreasing low (x ∷ xs) up (suc i) zero le within = absurd (omega arith)
 non_decreasing low (x ∷ xs) up (suc i) (suc j) le within = non_decreasing (x + 1) xs up.1 i j (omega arith) (omega arith)
 
--- the place v stands at, or the place before which all are lower and from which on all are higher
+-- the index v stands at, or the index before which all are lower and from which on all are higher
 abbrev pub IsFoundAt : ℕ → List ℕ → Result ℕ ℕ → Type 0
 IsFoundAt v xs r =
     MatchResult r (λ i. (i < length xs) × (get_or xs i 0 ≡ v))

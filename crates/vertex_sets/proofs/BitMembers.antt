@@ -86,9 +86,9 @@ bits_lowest (suc k) a word some fits =
         let p : rest % 2 ≡ 0 = omega arith in
         let q : rest / 2 ≡ high = omega arith in
         let t = count_trailing_zeros k (word / 2) in
-        let place : a + 1 + t ≡ a + suc t = omega arith in
+        let index : a + 1 + t ≡ a + suc t = omega arith in
         ap (λ b. turn k a b (word / 2)) e ∙ later (omega arith)
-        ∙ ap₂ (λ u v. u ∷ v) (place ∙ sym (ap (λ b. a + under b t) e)) (sym (ap₂ (turn k a) p q))
+        ∙ ap₂ (λ u v. u ∷ v) (index ∙ sym (ap (λ b. a + under b t) e)) (sym (ap₂ (turn k a) p q))
 
 -- ---- how many there are
 

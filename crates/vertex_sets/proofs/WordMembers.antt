@@ -90,10 +90,10 @@ words_push a (first ∷ words) word =
     ∙ sym (append_assoc (bit_members 64 a first) (word_members (a + 64) words) (bit_members 64 (a + 64 * suc (length words)) word))
 
 -- a bit that becomes set adds one
-pub one_more : (a : ℕ) (words : List ℕ) (place other i : ℕ) → place < length words → i < 64 → bit_at (get_or words place 0) i ≡ 0 → bit_at other i ≡ 1
-    → ((j : ℕ) → j < 64 → j ≢ i → bit_at other j ≡ bit_at (get_or words place 0) j)
-    → length (word_members a (set words place other)) ≡ suc (length (word_members a words))
-one_more a [] place other i within lt off on same = absurd (omega arith)
+pub one_more : (a : ℕ) (words : List ℕ) (index other i : ℕ) → index < length words → i < 64 → bit_at (get_or words index 0) i ≡ 0 → bit_at other i ≡ 1
+    → ((j : ℕ) → j < 64 → j ≢ i → bit_at other j ≡ bit_at (get_or words index 0) j)
+    → length (word_members a (set words index other)) ≡ suc (length (word_members a words))
+one_more a [] index other i within lt off on same = absurd (omega arith)
 one_more a (word ∷ words) zero other i within lt off on same =
     omega (
       arith,
@@ -101,12 +101,12 @@ one_more a (word ∷ words) zero other i within lt off on same =
       length-append (bit_members 64 a word) (word_members (a + 64) words),
       one_more_bit 64 a word other i lt off on same,
     )
-one_more a (word ∷ words) (suc place) other i within lt off on same =
+one_more a (word ∷ words) (suc index) other i within lt off on same =
     omega (
       arith,
-      length-append (bit_members 64 a word) (word_members (a + 64) (set words place other)),
+      length-append (bit_members 64 a word) (word_members (a + 64) (set words index other)),
       length-append (bit_members 64 a word) (word_members (a + 64) words),
-      one_more (a + 64) words place other i (omega arith) lt off on same,
+      one_more (a + 64) words index other i (omega arith) lt off on same,
     )
 
 pub words_room : (a : ℕ) (words : List ℕ) → length (word_members a words) ≤ 64 * length words
@@ -206,31 +206,31 @@ next_bit gives from bit word next false lt e now before others =
     )
 
 -- what a test answers for the vertices of the next word, after those of the words below it
-module _ (gives : ℕ → Bool → Type 0) (n : ℕ) (words : List ℕ) (word place count : ℕ) (long : length words ≡ place) (start : place * 64 < n) (many : count ≡ min (n - place * 64) 64) where
-  earlier : (v : ℕ) → v / 64 < place → bit_at (get_or (words ++ word ∷ []) (v / 64) 0) (v % 64) ≡ bit_at (get_or words (v / 64) 0) (v % 64)
+module _ (gives : ℕ → Bool → Type 0) (n : ℕ) (words : List ℕ) (word index count : ℕ) (long : length words ≡ index) (start : index * 64 < n) (many : count ≡ min (n - index * 64) 64) where
+  earlier : (v : ℕ) → v / 64 < index → bit_at (get_or (words ++ word ∷ []) (v / 64) 0) (v % 64) ≡ bit_at (get_or words (v / 64) 0) (v % 64)
   earlier v lt = ap (λ w. bit_at w (v % 64)) (get_or_append_left words (word ∷ []) 0 (v / 64) (omega arith))
 
-  latest : (v : ℕ) → v / 64 ≡ place → bit_at (get_or (words ++ word ∷ []) (v / 64) 0) (v % 64) ≡ bit_at word (v % 64)
+  latest : (v : ℕ) → v / 64 ≡ index → bit_at (get_or (words ++ word ∷ []) (v / 64) 0) (v % 64) ≡ bit_at word (v % 64)
   latest v here = ap (λ w. bit_at w (v % 64)) (get_or_push words word 0 (v / 64) (long ∙ sym here))
 
-  pub next_word : ((i : ℕ) → i < count → gives (place * 64 + i) (bit_at word i == 1))
-      → ((v : ℕ) → v < 64 * place → v < n → gives v (bit_at (get_or words (v / 64) 0) (v % 64) == 1))
-      → (v : ℕ) → v < 64 * (place + 1) → v < n → gives v (bit_at (get_or (words ++ word ∷ []) (v / 64) 0) (v % 64) == 1)
+  pub next_word : ((i : ℕ) → i < count → gives (index * 64 + i) (bit_at word i == 1))
+      → ((v : ℕ) → v < 64 * index → v < n → gives v (bit_at (get_or words (v / 64) 0) (v % 64) == 1))
+      → (v : ℕ) → v < 64 * (index + 1) → v < n → gives v (bit_at (get_or (words ++ word ∷ []) (v / 64) 0) (v % 64) == 1)
   next_word now before v lt within =
-      elim (cases_lt (v / 64) place) [
+      elim (cases_lt (v / 64) index) [
         | inl sooner ↦ subst (λ b. gives v (b == 1)) (sym (earlier v sooner)) (before v (omega arith) within)
         | inr later ↦
-            let here : v / 64 ≡ place = omega arith in
-            let is : place * 64 + v % 64 ≡ v = omega arith in
+            let here : v / 64 ≡ index = omega arith in
+            let is : index * 64 + v % 64 ≡ v = omega arith in
             subst (λ b. gives v (b == 1)) (sym (latest v here)) (subst (λ u. gives u (bit_at word (v % 64) == 1)) is (now (v % 64) (omega arith)))
       ]
 
   pub next_below : ((i : ℕ) → count ≤ i → bit_at word i ≡ 0) → ((v : ℕ) → HasBit words v → v < n) → (v : ℕ) → HasBit (words ++ word ∷ []) v → v < n
   next_below others before v is =
-      elim (cases_lt (v / 64) place) [
+      elim (cases_lt (v / 64) index) [
         | inl sooner ↦ before v (sym (earlier v sooner) ∙ is)
         | inr later ↦
-            elim (cases_eq (v / 64) place) [
+            elim (cases_eq (v / 64) index) [
               | inl here ↦
                   elim (cases_lt (v % 64) count) [
                     | inl lt ↦ omega arith

@@ -6,7 +6,7 @@
 //!
 //! A [`Form::List`] is the members themselves, ascending. It takes no memory where there is no member,
 //! so that a small set of many vertices costs what its members cost. A [`Form::Flags`] is a byte a
-//! vertex. A [`Form::Bits`] is a bit a vertex, 64 to a word. `contains` reads one place of flags or
+//! vertex. A [`Form::Bits`] is a bit a vertex, 64 to a word. `contains` reads one flag or
 //! words, and searches a list. An [`VertexIter`] goes over the members in ascending order, in words from set
 //! bit to set bit. `list`, `flags` and `words` lend what a set is kept in, so that a loop can choose the
 //! form before it begins.

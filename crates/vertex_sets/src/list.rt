@@ -14,7 +14,7 @@ pub(crate) fn contains(list: &[u32], vertex: u32) -> bool
     list.binary_search(&vertex).is_ok()
 }
 
-/// Puts a vertex at its place, unless it stands there. Constant time at the end.
+/// Puts a vertex at its index, unless it stands there. Constant time at the end.
 pub(crate) fn insert(list: &mut Vec<u32>, vertex: u32) -> Result<(), AllocError>
     requires { IsStrictlyIncreasing list.old.items }
     ensures ascending { IsStrictlyIncreasing list.new.items }
@@ -30,8 +30,8 @@ pub(crate) fn insert(list: &mut Vec<u32>, vertex: u32) -> Result<(), AllocError>
         list.push(vertex)?;
         return Ok(());
     }
-    if let Err(place) = list.binary_search(&vertex) {
-        list.insert(place, vertex)?;
+    if let Err(index) = list.binary_search(&vertex) {
+        list.insert(index, vertex)?;
     }
     Ok(())
 }

@@ -210,7 +210,7 @@ impl VertexSet {
     }
 
     /// Whether a vertex is a member; a number that is no vertex is none. As flags and bits it reads one
-    /// place, and as a list it takes `O(log k)` for k members. It takes no memory.
+    /// index, and as a list it takes `O(log k)` for k members. It takes no memory.
     #[inline]
     pub fn contains(&self, vertex: u32) -> bool
         ensures { IsTrue result ↔ Contains self.now.members vertex }

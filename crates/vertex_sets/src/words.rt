@@ -81,8 +81,8 @@ impl WordSet {
     {
         let mut words = Vec::with_capacity(alloc, word_count(vertices))?;
         let mut count = 0usize;
-        for place in 0..word_count(vertices) {
-            let from = place as u32 * 64;
+        for index in 0..word_count(vertices) {
+            let from = index as u32 * 64;
             let word = word_from_test(test, from, (vertices - from).min(64));
             words.push(word)?;
             count += word.count_ones() as usize;

@@ -16,7 +16,7 @@ view_of claim = claim.me.0
 abbrev pub IsClaimAt : TableId → Seat (Unit {0}) ClaimView → Type 0
 IsClaimAt table claim = (claim.table_id ≡ table) × (table.words ≡ 1) × (claim.me.1 ≡ [])
 
--- of the places, those below the number of pieces, as pieces, which are numbered from 1
+-- of the indices, those below the number of pieces, as pieces, which are numbered from 1
 abbrev pub pieces_at : ℕ → List ℕ → List ℕ
 pieces_at n [] = []
 pieces_at n (k ∷ ks) = cond (nat_lt k n) ((k + 1) ∷ pieces_at n ks) (pieces_at n ks)

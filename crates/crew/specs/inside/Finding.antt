@@ -17,7 +17,7 @@ module _ {T : Type 0} where
   abbrev pub AreAll : ℕ → List (Found T) → Type 0
   AreAll pieces found = (j : ℕ) → j < pieces → 0 < times (j + 1) (pieces_of found)
 
-  -- the places after each piece was put at its own
+  -- the slots after each piece was put into its own
   abbrev pub put_all : List (Option (Found T)) → List (Found T) → List (Option (Found T))
-  put_all places [] = places
-  put_all places (f ∷ found) = put_all (slice_set places (f.piece - 1) (Some f)) found
+  put_all slots [] = slots
+  put_all slots (f ∷ found) = put_all (slice_set slots (f.piece - 1) (Some f)) found

@@ -22,7 +22,7 @@ module _ {S : Type 0} (keeps : S → Type 0) where
       IsClaimAt table done.turn × (view.rights ≡ worker_rights) × (pieces ≤ view.next) × (length view.claimed ≤ worker_rights)
       × keeps done.state × All (IsAnswered answers pieces) done.found.items × (pieces_of done.found.items ≡ pieces_at pieces view.claimed)
 
--- P of each place and of what stands there
+-- P of each index and of what stands there
 abbrev pub EachAt : {X : Type 0} → (ℕ → X → Type 0) → List X → Type 0
 EachAt {X} P xs = (i : ℕ) (x : X) → i < length xs → x ≡ slice_index_or xs i x → P i x
 
@@ -40,7 +40,7 @@ module _ {S : Type 0} (keeps : S → Type 0) where
   HasEvery answers pieces workers worker done = keeps done.state × All (IsAnswered answers pieces) done.found.items
       × ((j : ℕ) → j < pieces → j % workers + 1 ≡ worker → 0 < times (j + 1) (pieces_of done.found.items))
 
-  -- the worker at place i, which found each of its pieces unless it is out of memory
+  -- the worker at index i, which found each of its pieces unless it is out of memory
   abbrev pub GivesEvery : {T E : Type 0} → (ℕ → T → Type 0) → ℕ → ℕ → ℕ → Result (FinishedWorker (Unit {0}) S T) E → Type 0
   GivesEvery answers pieces workers i r = (worker : ℕ) → worker + i ≡ workers → IfOk r (HasEvery answers pieces workers worker)
 

@@ -4,12 +4,12 @@ use Rattle.typed_tree.specs.Access.{are_apart}
 use Rattle.typed_tree.specs.ProgramTree.{ProgramTree}
 use Rattle.plans.specs.Fusing.{EdgeApplyTree, end_sets, function_sizes}
 
--- the places of sets, of which there is one or none
+-- the indices of sets, of which there is one or none
 abbrev pub listed : Option ℕ → List ℕ
 listed None = []
 listed (Some set) = set ∷ []
 
--- neither end, and not the function, depends on the set at this place
+-- neither end, and not the function, depends on the set at this index
 abbrev pub edges_omit : ℕ → ProgramTree → EdgeApplyTree → Bool
 edges_omit set p x =
     (are_apart (end_sets p.filters x.ends.from) (set ∷ []) && are_apart (end_sets p.filters x.ends.to) (set ∷ []))

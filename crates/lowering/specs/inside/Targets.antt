@@ -1,10 +1,10 @@
--- Targets of operations, the places where a run may go on, as words.
+-- Targets of operations, the indices where a run may go on, as words.
 use Rattle.std.specs.Prelude.{ℕ, List, [], ◌∷◌, decimal}
 use Rattle.plans.specs.declared.operation.PlanOperation.{PlanOperation}
 use Rattle.plans.specs.declared.operation.PlanOperation.TheVariants.{Unless, UnlessBelow, Jump}
 
-abbrev pub places_of : PlanOperation → List (List ℕ)
-places_of (Unless test to) = decimal to ∷ []
-places_of (UnlessBelow name to) = decimal to ∷ []
-places_of (Jump to) = decimal to ∷ []
-places_of _ = []
+abbrev pub indices_of : PlanOperation → List (List ℕ)
+indices_of (Unless test to) = decimal to ∷ []
+indices_of (UnlessBelow name to) = decimal to ∷ []
+indices_of (Jump to) = decimal to ∷ []
+indices_of _ = []

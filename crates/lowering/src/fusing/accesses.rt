@@ -6,7 +6,7 @@ ghost use Rattle.plans.specs.Fusing.{end_sets, function_is_local as local_functi
 
 use typed_tree::{Access, AccessTest, Function, VertexFilter, end_passes, function_passes};
 
-/// A test of accesses: that they do not read the vertex set at this place.
+/// A test of accesses: that they do not read the vertex set at this index.
 #[derive(Drop)]
 struct Omits {
     set: usize,
@@ -23,14 +23,14 @@ impl AccessTest for Omits {
     }
 }
 
-/// Whether the function at this place does not read the size of the set. One that is not there does not.
-pub(crate) fn function_does_omit(functions: &[Function], place: usize, set: usize) -> bool
-    ensures { result ≡ are_apart (function_sizes (map function_tree functions.now) place) (set ∷ []) }
+/// Whether the function at this index does not read the size of the set. One that is not there does not.
+pub(crate) fn function_does_omit(functions: &[Function], index: usize, set: usize) -> bool
+    ensures { result ≡ are_apart (function_sizes (map function_tree functions.now) index) (set ∷ []) }
 {
-    function_passes(functions, place, &Omits { set })
+    function_passes(functions, index, &Omits { set })
 }
 
-/// Whether an end is not the set at this place, and its filter does not read the size of that set.
+/// Whether an end is not the set at this index, and its filter does not read the size of that set.
 pub(crate) fn end_does_omit(filters: &[Function], end: Option<VertexFilter>, set: usize) -> bool
     ensures { result ≡ are_apart (end_sets (map function_tree filters.now) end) (set ∷ []) }
 {
@@ -52,10 +52,10 @@ impl AccessTest for Local {
     }
 }
 
-/// Whether the function at this place reads no entry at an index, and so none but those of its own vertex. One that
+/// Whether the function at this index reads no entry at an index, and so none but those of its own vertex. One that
 /// is not there reads none.
-pub(crate) fn function_is_local(functions: &[Function], place: usize) -> bool
-    ensures { result ≡ local_function (map function_tree functions.now) place }
+pub(crate) fn function_is_local(functions: &[Function], index: usize) -> bool
+    ensures { result ≡ local_function (map function_tree functions.now) index }
 {
-    function_passes(functions, place, &Local)
+    function_passes(functions, index, &Local)
 }

@@ -4,7 +4,7 @@ ghost use Rattle.typed_tree.specs.ProgramTree.{program_tree};
 ghost use Rattle.typed_tree.specs.StepTree.{function_tree};
 ghost use Rattle.typed_tree.specs.Access.{are_apart, function_writes};
 ghost use Rattle.plans.specs.Fusing.{apply_tree, edges_fit as fit_edges, is_same_end as same_end};
-ghost use Rattle.plans.specs.Fusing.{result_places, result_vectors, sets_read, vertices_fit as fit_vertices};
+ghost use Rattle.plans.specs.Fusing.{result_indices, result_vectors, sets_read, vertices_fit as fit_vertices};
 ghost use Rattle.lowering.specs.inside.Omitting.{edges_omit, listed};
 ghost use Rattle.plans.specs.Parts.{edge_apply_tree, result_tree, vertex_apply_tree};
 
@@ -35,7 +35,7 @@ pub(crate) fn edges_fit(
     if !are_independent(alloc, program, as_apply(first), as_apply(second))? {
         return Ok(false);
     }
-    if !is_apart(program, second, place_of(depth, first.part.result)) {
+    if !is_apart(program, second, index_of(depth, first.part.result)) {
         return Ok(false);
     }
     let functions = program.edge_functions.as_slice();
@@ -45,13 +45,13 @@ pub(crate) fn edges_fit(
     keeps_asked(alloc, functions, first.part.function, second.part.result)
 }
 
-/// Whether two ends are the set, or the filter, at the same place, or none is given.
+/// Whether two ends are the set, or the filter, at the same index, or none is given.
 fn is_same_end(first: Option<VertexFilter>, second: Option<VertexFilter>) -> bool
     ensures { result ≡ same_end first second }
 {
     match (first, second) {
         (None, None) => true,
-        (Some(VertexFilter::Members(a)), Some(VertexFilter::Members(b))) => a.place == b.place,
+        (Some(VertexFilter::Members(a)), Some(VertexFilter::Members(b))) => a.index == b.index,
         (Some(VertexFilter::Function(a)), Some(VertexFilter::Function(b))) => a == b,
         _ => false,
     }
@@ -73,18 +73,18 @@ fn as_apply(edges: &EdgeApply) -> StatementApply
     }
 }
 
-/// The place of the set that gets what an edge apply changed, where so many sets are visible.
-fn place_of(depth: Depth, asked: PartResult) -> Option<usize>
-    ensures { listed result ≡ result_places depth (result_tree asked) }
+/// The index of the set that gets what an edge apply changed, where so many sets are visible.
+fn index_of(depth: Depth, asked: PartResult) -> Option<usize>
+    ensures { listed result ≡ result_indices depth (result_tree asked) }
 {
     match asked {
         PartResult::Dropped => None,
         PartResult::Declared { .. } => Some(depth.sets),
-        PartResult::Assigned { set, .. } => Some(set.place),
+        PartResult::Assigned { set, .. } => Some(set.index),
     }
 }
 
-/// Whether an edge apply does not depend on the set at this place. It is true where there is none.
+/// Whether an edge apply does not depend on the set at this index. It is true where there is none.
 #[tactic(auto, using(crate::proofs::SetsRead::apart_of_none))]
 fn is_apart(program: &Typed, edges: &EdgeApply, set: Option<usize>) -> bool
     ensures { result ≡ are_apart (sets_read (program_tree program.now) (edge_apply_tree edges.now)) (listed set) }
@@ -103,21 +103,21 @@ fn edges_do_omit(program: &Typed, edges: &EdgeApply, set: usize) -> bool
         && function_does_omit(&program.edge_functions, edges.part.function, set)
 }
 
-/// Whether the function at this place writes no entry of the vector whose changes are asked for. The only error is
+/// Whether the function at this index writes no entry of the vector whose changes are asked for. The only error is
 /// out of memory.
 fn keeps_asked(
     alloc: Global,
     functions: &[Function],
-    place: usize,
+    index: usize,
     asked: PartResult,
 ) -> Result<bool, AllocError>
-    ensures { IfOk result (λ yes. yes ≡ are_apart (result_vectors (result_tree asked)) (function_writes (map function_tree functions.now) place)) }
+    ensures { IfOk result (λ yes. yes ≡ are_apart (result_vectors (result_tree asked)) (function_writes (map function_tree functions.now) index)) }
 {
     match asked {
         PartResult::Dropped => Ok(true),
         PartResult::Declared { vector, .. } | PartResult::Assigned { vector, .. } => {
             let mut written = Vec::new(alloc);
-            push_written(functions, place, &mut written)?;
+            push_written(functions, index, &mut written)?;
             Ok(!written.contains(&vector))
         }
     }
@@ -127,7 +127,7 @@ fn keeps_asked(
 pub(crate) fn vertices_fit(program: &Typed, first: &VertexApply, second: &VertexApply) -> bool
     ensures { result ≡ fit_vertices (program_tree program.now) (vertex_apply_tree first.now) (vertex_apply_tree second.now) }
 {
-    first.set.place == second.set.place
+    first.set.index == second.set.index
         && (function_is_local(&program.vertex_functions, first.function)
             && function_is_local(&program.vertex_functions, second.function))
 }

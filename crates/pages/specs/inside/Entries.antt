@@ -39,15 +39,15 @@ pub record IsListed (bytes : List ℕ) (e : ListEntry) : Type 0 where
   pub within : e.start + size_of e + 3 ≤ length bytes
   pub ascends : AscendsFrom 0 (keys_at bytes e)
 
--- where the lists of entries end that begin at a place
+-- where the lists of entries end that begin at a position
 abbrev pub end_of : ℕ → List ListEntry → ℕ
-end_of place [] = place
-end_of place (e ∷ es) = end_of (place + size_of e) es
+end_of position [] = position
+end_of position (e ∷ es) = end_of (position + size_of e) es
 
--- the lists of entries are one behind the other from a place on
+-- the lists of entries are one behind the other from a position on
 abbrev pub AreListed : ℕ → List ℕ → List ListEntry → Type 0
-AreListed place bytes [] = Unit {0}
-AreListed place bytes (e ∷ es) = (e.start ≡ place) × IsListed bytes e × AreListed (place + size_of e) bytes es
+AreListed position bytes [] = Unit {0}
+AreListed position bytes (e ∷ es) = (e.start ≡ position) × IsListed bytes e × AreListed (position + size_of e) bytes es
 
 -- The bits, the bytes and the entries of a page: the lists are the bytes, up to three of padding.
 pub record IsStored (bits : ℕ) (bytes : List ℕ) (es : List ListEntry) : Type 0 where
@@ -60,11 +60,11 @@ abbrev pub IsExtended : {T E : Type 0} → List ListEntry → List ℕ → List 
 IsExtended es bytes more (Ok t) es' bytes' = AreListed 0 bytes' es' × (end_of 0 es' + 3 ≡ length bytes') × (lists_in bytes' es' ≡ lists_in bytes es ++ more)
 IsExtended es bytes more (Err e) es' bytes' = (es' ≡ es) × (bytes' ≡ bytes)
 
--- entries whose lists are one behind the other from another place on
+-- entries whose lists are one behind the other from another position on
 abbrev pub placed_at : ℕ → List ListEntry → List ListEntry
-placed_at place [] = []
-placed_at place (e ∷ es) = record { start = place; last = e.last; width = e.width; weights = e.weights; vertex = e.vertex } ∷ placed_at (place + size_of e) es
+placed_at position [] = []
+placed_at position (e ∷ es) = record { start = position; last = e.last; width = e.width; weights = e.weights; vertex = e.vertex } ∷ placed_at (position + size_of e) es
 
--- the lists of entries are one behind the other from some place on
+-- the lists of entries are one behind the other from some position on
 abbrev pub AreFrom : List ℕ → List ListEntry → Type 0
-AreFrom bytes es = (place : ℕ) × AreListed place bytes es
+AreFrom bytes es = (position : ℕ) × AreListed position bytes es

@@ -20,7 +20,7 @@ sets_alone vertices s = record { vertices = vertices; groups = []; state = s }
 abbrev pub with_first_set : ℕ → List ℕ → StateValue → StateValue
 with_first_set name members s = record s { sets = record { name = name; members = members } ∷ s.sets }
 
--- a state of sets alone: each name with the members of the set at its place
+-- a state of sets alone: each name with the members of the set at its index
 abbrev pub named : (names : List ℕ) → List VertexSubset → StateValue
 named [] sets = nothing
 named (name ∷ names) [] = nothing
@@ -38,14 +38,14 @@ sizes_of s = map (λ set. size_of set.members) s.sets
 
 -- the members of each set are ascending vertices
 abbrev pub AreAscending : RunState → Type 0
-AreAscending r = (place : ℕ) → IsAscendingBelow r.vertices (members_of (slice_get r.state.sets place))
+AreAscending r = (index : ℕ) → IsAscendingBelow r.vertices (members_of (slice_get r.state.sets index))
 
 -- sets of so many vertices
 abbrev pub AreSetsOf : ℕ → List VertexSubset → Type 0
 AreSetsOf vertices [] = Unit {0}
 AreSetsOf vertices (set ∷ sets) = (set.vertices ≡ vertices) × IsAscendingBelow vertices set.members × AreSetsOf vertices sets
 
--- there is a name, a set and its size at each place
+-- there is a name, a set and its size at each index
 pub record AreNamed (vertices : ℕ) (names : List ℕ) (sets : List VertexSubset) (sizes : List ℤ) : Type 0 where
   pub count : length names ≡ length sets
   pub measured : sizes ≡ map (λ (set : VertexSubset). size_of set.members) sets

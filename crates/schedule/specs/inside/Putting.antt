@@ -10,21 +10,21 @@ use Rattle.expression_types.specs.Names.{found}
 use Rattle.schedule.specs.declared.error.ScheduleRule.{ScheduleRule}
 use Rattle.schedule.specs.declared.error.ScheduleError.{ScheduleError}
 use Rattle.schedule.specs.declared.error.ScheduleError.TheVariants.{Faulty, NoMemory}
-use Rattle.schedule.specs.Names.{place_from}
+use Rattle.schedule.specs.Names.{index_from}
 use Rattle.apply_options.specs.ScheduleTree.{ScheduleTree}
 
 abbrev pub first_of : {T : Type 0} → Option T → Option T → Option T
-first_of (Some place) rest = Some place
+first_of (Some index) rest = Some index
 first_of None rest = rest
 
--- the table has the places of these names, of each the first
-abbrev pub ArePlaces : List (List ℕ × ℕ) → List (List ℕ) → Type 0
-ArePlaces places names = (name : List ℕ) → found name places ≡ place_from 0 name names
+-- the table has the indices of these names, of each the first
+abbrev pub AreIndices : List (List ℕ × ℕ) → List (List ℕ) → Type 0
+AreIndices indices names = (name : List ℕ) → found name indices ≡ index_from 0 name names
 
--- the name has this place where it had none
-abbrev pub PutsPlace : List (List ℕ × ℕ) → List ℕ → ℕ → List (List ℕ × ℕ) → Type 0
-PutsPlace old name place new =
-    (other : List ℕ) (rest : Option ℕ) → first_of (found other new) rest ≡ first_of (found other old) (if bytes_eq other name then Some place else rest)
+-- the name has this index where it had none
+abbrev pub PutsIndex : List (List ℕ × ℕ) → List ℕ → ℕ → List (List ℕ × ℕ) → Type 0
+PutsIndex old name index new =
+    (other : List ℕ) (rest : Option ℕ) → first_of (found other new) rest ≡ first_of (found other old) (if bytes_eq other name then Some index else rest)
 
 -- a call that breaks no rule leaves what it comes to, and another answers the rule
 abbrev pub Puts : Result ScheduleTree ScheduleRule → Option ScheduleRule → ScheduleTree → Type 0

@@ -14,12 +14,12 @@ abbrev pub pending : {V : Type 0} → List (Bor (Link V)) → List (ℕ × V)
 pending [] = []
 pending (s ∷ ss) = pending ss ++ from_link s.now
 
--- the link is to a node, and the way down its right side fits a stack of 64 from place i on
+-- the link is to a node, and the way down its right side fits a stack of 64 from index i on
 abbrev pub HasRoomAt : {V : Type 0} → ℕ → Link V → Type 0
 HasRoomAt i Empty = ⊥
 HasRoomAt i (Fork depth key node) = i + node.value.right.depth ≤ 64
 
--- so does each link of a stack whose first place is i
+-- so does each link of a stack whose first index is i
 abbrev pub HasRoom : {V : Type 0} → ℕ → List (Bor (Link V)) → Type 0
 HasRoom i [] = Unit {0}
 HasRoom i (s ∷ ss) = HasRoomAt i s.now × HasRoom (i + 1) ss

@@ -7,12 +7,12 @@ pub record Fits (k n : ℕ) : Type 0 where
   pub some : 0 < n
   pub small : k < 2 ^ (7 * n)
 
--- The bytes of k stand in new from a place on up to the next place, and those before as in old.
-pub record WritesNumber (k place : ℕ) (old : List ℕ) (next : ℕ) (new : List ℕ) : Type 0 where
+-- The bytes of k stand in new from a position on up to the next position, and those before as in old.
+pub record WritesNumber (k position : ℕ) (old : List ℕ) (next : ℕ) (new : List ℕ) : Type 0 where
   pub bytes : List ℕ
   pub spells : SpellsNumber k bytes
-  pub front : take next new ≡ take place old ++ bytes
-  pub after : (n : ℕ) → Fits k n → next ≤ place + n
+  pub front : take next new ≡ take position old ++ bytes
+  pub after : (n : ℕ) → Fits k n → next ≤ position + n
 
 -- how many bytes an entry of this weight may have
 abbrev pub entry_room : ℤ → ℕ
@@ -23,12 +23,12 @@ abbrev pub list_room : List (ℕ × ℤ) → ℕ
 list_room [] = 0
 list_room (e ∷ es) = entry_room e.1 + list_room es
 
--- The bytes of an entry, whose key is g above the least, stand in new from a place on.
-pub record WritesEntry (g : ℕ) (w : ℤ) (place : ℕ) (old : List ℕ) (next : ℕ) (new : List ℕ) : Type 0 where
+-- The bytes of an entry, whose key is g above the least, stand in new from a position on.
+pub record WritesEntry (g : ℕ) (w : ℤ) (position : ℕ) (old : List ℕ) (next : ℕ) (new : List ℕ) : Type 0 where
   pub bytes : List ℕ
   pub spells : SpellsNumbers (entry_numbers g w) bytes
-  pub front : take next new ≡ take place old ++ bytes
-  pub after : next ≤ place + entry_room w
+  pub front : take next new ≡ take position old ++ bytes
+  pub after : next ≤ position + entry_room w
 
 -- The first bytes of a buffer, so many, spell the entries.
 pub record WritesList (low : ℕ) (es : List (ℕ × ℤ)) (buffer : List ℕ) (len : ℕ) : Type 0 where

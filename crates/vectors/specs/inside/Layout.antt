@@ -9,13 +9,13 @@ nowhere = record { array = 0; first = 0; stride = 0; vertices = 0 }
 abbrev pub location_at : List Location → ℕ → Location
 location_at ls i = slice_index_or ls i nowhere
 
--- a vector in the array of its own place
+-- a vector in the array of its own index
 abbrev pub own_location : List (List ℤ) → ℕ → Location
 own_location arrays i = record { array = i; first = 0; stride = 1; vertices = length (slice_index_or arrays i []) }
 
--- the number in an array at a place, 0 where there is none
-abbrev pub number_at : List (List ℤ) → (array place : ℕ) → ℤ
-number_at arrays array place = slice_index_or (slice_index_or arrays array []) place (pos 0)
+-- the number in an array at an index, 0 where there is none
+abbrev pub number_at : List (List ℤ) → (array index : ℕ) → ℤ
+number_at arrays array index = slice_index_or (slice_index_or arrays array []) index (pos 0)
 
 -- the vector that stands at a location
 abbrev pub vector_at : List (List ℤ) → Location → List ℤ
@@ -30,7 +30,7 @@ pub record StandsIn (arrays : List (List ℤ)) (l : Location) : Type 0 where
   pub row : l.first < l.stride
   pub whole : l.vertices * l.stride ≡ length (slice_index_or arrays l.array [])
 
--- the vector of this place is the only one where it stands: in the array of its place, or in the group that has it there
+-- the vector of this index is the only one where it stands: in the array of its index, or in the group that has it there
 pub record IsHome (groups : List (List ℕ)) (count i : ℕ) (l : Location) : Type 0 where
   pub row : l.first < l.stride
   pub own : l.array < count → l.array ≡ i
@@ -39,13 +39,13 @@ pub record IsHome (groups : List (List ℕ)) (count i : ℕ) (l : Location) : Ty
   pub grouped : (k : ℕ) → l.array ≡ count + k → l.stride ≡ length (slice_index_or groups k [])
   pub named : (k : ℕ) → l.array ≡ count + k → slice_index_or (slice_index_or groups k []) l.first 0 ≡ i
 
--- the vector that a group names at a place stands there
+-- the vector that a group names at an index stands there
 pub record IsMember (groups : List (List ℕ)) (ls : List Location) (k j : ℕ) : Type 0 where
   pub vector : slice_index_or (slice_index_or groups k []) j 0 < length ls
   pub array : (location_at ls (slice_index_or (slice_index_or groups k []) j 0)).array ≡ length ls + k
   pub first : (location_at ls (slice_index_or (slice_index_or groups k []) j 0)).first ≡ j
 
--- each vector has a place of its own, and is in its array as a whole
+-- each vector has an index of its own, and is in its array as a whole
 pub record IsLaidOut (arrays : List (List ℤ)) (ls : List Location) (groups : List (List ℕ)) : Type 0 where
   pub homes : (i : ℕ) → i < length ls → IsHome groups (length ls) i (location_at ls i)
   pub members : (k j : ℕ) → k < length groups → j < length (slice_index_or groups k []) → IsMember groups ls k j
@@ -64,7 +64,7 @@ pub record IsFree (ls : List Location) (vector vertices : ℕ) : Type 0 where
   pub alone : (location_at ls vector).array ≡ vector
   pub even : (location_at ls vector).vertices ≡ vertices
 
--- a vector's location, where the vectors before place j of group k have been put together; they all stood alone at the start
+-- a vector's location, where the vectors before index j of group k have been put together; they all stood alone at the start
 pub record IsLocated (start : List Location) (groups : List (List ℕ)) (k j i : ℕ) (l : Location) : Type 0 where
   pub row : l.first < l.stride
   pub own : l.array < length start → l.array ≡ i
@@ -81,12 +81,12 @@ pub record AreLocated (start : List Location) (groups : List (List ℕ)) (k j : 
   pub homes : (i : ℕ) → i < length ls → IsLocated start groups k j i (location_at ls i)
   pub members : (g h : ℕ) → g ≤ k → (g ≡ k → h < j) → h < length (slice_index_or groups g []) → IsMember groups ls g h
 
--- groups of vectors that are there, each in one place of one group, and those of a group with the same number of entries
+-- groups of vectors that are there, each once in one group, and those of a group with the same number of entries
 pub record FitTogether (start : List Location) (groups : List (List ℕ)) : Type 0 where
   pub known : (g h : ℕ) → g < length groups → h < length (slice_index_or groups g []) → slice_index_or (slice_index_or groups g []) h 0 < length start
   pub group : (g h i j : ℕ) → g < length groups → h < length (slice_index_or groups g []) → i < length groups → j < length (slice_index_or groups i [])
       → slice_index_or (slice_index_or groups g []) h 0 ≡ slice_index_or (slice_index_or groups i []) j 0 → g ≡ i
-  pub place : (g h i j : ℕ) → g < length groups → h < length (slice_index_or groups g []) → i < length groups → j < length (slice_index_or groups i [])
+  pub index : (g h i j : ℕ) → g < length groups → h < length (slice_index_or groups g []) → i < length groups → j < length (slice_index_or groups i [])
       → slice_index_or (slice_index_or groups g []) h 0 ≡ slice_index_or (slice_index_or groups i []) j 0 → h ≡ j
   pub even : (g h : ℕ) → g < length groups → h < length (slice_index_or groups g [])
       → (location_at start (slice_index_or (slice_index_or groups g []) h 0)).vertices ≡ vertices_of start (slice_index_or groups g [])

@@ -16,13 +16,13 @@ module _ (b : ℕ) (es : List (ℕ × ℤ)) where
   drop_before = ap (drop (length (before_head b es))) (sym (cut_at_head b es)) ∙ drop_at (before_head b es) (from_head b es) (length (before_head b es)) refl
 
 pub up_to-requires : goal.up_to-requires
-up_to-requires c = omega (arith, c.head_place-place.ensures, before_shorter c.args.chunk_size c.args.entries.now)
+up_to-requires c = omega (arith, c.head_index-index.ensures, before_shorter c.args.chunk_size c.args.entries.now)
 
 pub from-requires : goal.from-requires
-from-requires c = omega (arith, c.head_place-place.ensures, before_shorter c.args.chunk_size c.args.entries.now)
+from-requires c = omega (arith, c.head_index-index.ensures, before_shorter c.args.chunk_size c.args.entries.now)
 
 pub returns-clause-front : goal.returns-clause-front
-returns-clause-front c = c.up_to.ensures ∙ ap (λ (n : ℕ). take n c.args.entries.now) c.head_place-place.ensures ∙ take_before c.args.chunk_size c.args.entries.now
+returns-clause-front c = c.up_to.ensures ∙ ap (λ (n : ℕ). take n c.args.entries.now) c.head_index-index.ensures ∙ take_before c.args.chunk_size c.args.entries.now
 
 pub returns-clause-rest : goal.returns-clause-rest
-returns-clause-rest c = c.from.ensures ∙ ap (λ (n : ℕ). drop n c.args.entries.now) c.head_place-place.ensures ∙ drop_before c.args.chunk_size c.args.entries.now
+returns-clause-rest c = c.from.ensures ∙ ap (λ (n : ℕ). drop n c.args.entries.now) c.head_index-index.ensures ∙ drop_before c.args.chunk_size c.args.entries.now

@@ -1,8 +1,8 @@
 use Rattle.crew.specs.Pieces.{AreFound}
 use Rattle.crew.proofs.alone.do_pieces.Given as goal
 
-abbrev pub invariant-loop-place : goal.invariant-loop-place
-invariant-loop-place g l = record {
+abbrev pub invariant-loop-index : goal.invariant-loop-index
+invariant-loop-index g l = record {
   state : g.W.Work.keeps l.work l.state;
-  found : AreFound (g.W.Work.answers l.work) l.place l.found.items;
+  found : AreFound (g.W.Work.answers l.work) l.index l.found.items;
 }

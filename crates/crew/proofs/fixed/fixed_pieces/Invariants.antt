@@ -5,13 +5,13 @@ use Rattle.crew.specs.inside.Finding.{IsAnswered}
 use Rattle.crew.specs.Pieces.{pieces_of}
 use Rattle.crew.proofs.fixed.fixed_pieces.Given as goal
 
-abbrev pub invariant-loop-place : goal.invariant-loop-place
-invariant-loop-place g l = record {
-  turn : l.place % l.workers + 1 ≡ l.worker;
+abbrev pub invariant-loop-index : goal.invariant-loop-index
+invariant-loop-index g l = record {
+  turn : l.index % l.workers + 1 ≡ l.worker;
   state : g.W.Work.keeps l.work l.state;
   answered : All (IsAnswered (g.W.Work.answers l.work) l.pieces) l.found.items;
-  every : (j : ℕ) → j < l.place → j < l.pieces → j % l.workers + 1 ≡ l.worker → 0 < times (j + 1) (pieces_of l.found.items);
+  every : (j : ℕ) → j < l.index → j < l.pieces → j % l.workers + 1 ≡ l.worker → 0 < times (j + 1) (pieces_of l.found.items);
 }
 
-abbrev pub decreases-loop-place : goal.decreases-loop-place
-decreases-loop-place g l = l.pieces - l.place
+abbrev pub decreases-loop-index : goal.decreases-loop-index
+decreases-loop-index g l = l.pieces - l.index

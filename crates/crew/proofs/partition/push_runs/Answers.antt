@@ -8,7 +8,7 @@ pub runs-preserved : goal.runs-preserved
 runs-preserved c =
     let s = c.args.start in
     let r = c.args.run in
-    let n = c.runs._place in
+    let n = c.runs._index in
     let before = c.args.ends.now.items in
     let e = add-mul n 1 r in
     let f = one-mul r in

@@ -9,14 +9,14 @@ use Rattle.edge_fold.proofs.WeightColumns.{entries-at, entries-length}
 use Rattle.edge_apply.proofs.Kept.{entries-set, entries-take, one_more}
 use Rattle.edge_apply.proofs.weighted_members.keep_set_weighted.Goals as goal
 
-pub places-preserved : goal.places-preserved
-places-preserved c =
+pub positions-preserved : goal.positions-preserved
+positions-preserved c =
     let a = c.args in
     let test = λ (e : ℕ × ℤ). is_set a.words.now e.0 in
-    let ks = c.places.block in
-    let ws = c.places.weights in
-    let i = c.places.place in
-    let k = c.places.kept in
+    let ks = c.positions.block in
+    let ws = c.positions.weights in
+    let i = c.positions.position in
+    let k = c.positions.kept in
     let x = get_or ks i 0 in
     let w = get_or ws i (pos 0) in
     let fits : FitsSigned w64 w = search rules in
@@ -24,12 +24,12 @@ places-preserved c =
     let even : length ws ≡ length ks = omega arith in
     let long : i < length (entries_of ks ws) = let l = entries-length ks ws in omega (arith, l, inside) in
     let n = k + c.from-kept.result in
-    let moved = one_more test (entries_of a.block.now a.weights.now) (entries_of ks ws) k i (x, w) n c.is_set.result c.places.invariant.entries long (sym c.is_set.ensures) (entries-at i ks ws 0 (pos 0) (x, w) even inside)
+    let moved = one_more test (entries_of a.block.now a.weights.now) (entries_of ks ws) k i (x, w) n c.is_set.result c.positions.invariant.entries long (sym c.is_set.ensures) (entries-at i ks ws 0 (pos 0) (x, w) even inside)
     (λ e. let one : c.from-kept.result ≡ 1 = rw e at c.from-kept.ensures in omega (arith, one))
     (λ e. let none : c.from-kept.result ≡ 0 = rw e at c.from-kept.ensures in omega (arith, none)) in
     record {
-      room = length-set ks k x ∙ c.places.invariant.room;
-      same = length-set ws k _ ∙ c.places.invariant.same;
+      room = length-set ks k x ∙ c.positions.invariant.room;
+      same = length-set ws k _ ∙ c.positions.invariant.same;
       entries = subst (λ (es : List (ℕ × ℤ)). FiltersInPlace test (entries_of a.block.now a.weights.now) es n (i + 1))
           (sym (entries-set k ks ws x w even) ∙ ap (λ (v : ℤ). entries_of (set ks k x) (set ws k v)) (sym (to_z-of_z w64 w fits))) moved;
     }
@@ -38,9 +38,9 @@ pub returns-clause-kept : goal.returns-clause-kept
 returns-clause-kept c =
     let a = c.args in
     let test = λ (e : ℕ × ℤ). is_set a.words.now e.0 in
-    let even : length c.places.weights ≡ length c.places.block = omega arith in
-    let done : c.places.place ≡ a.count = omega arith in
-    entries-take c.places.kept c.places.block c.places.weights even
-    ∙ c.places.invariant.entries.front
+    let even : length c.positions.weights ≡ length c.positions.block = omega arith in
+    let done : c.positions.position ≡ a.count = omega arith in
+    entries-take c.positions.kept c.positions.block c.positions.weights even
+    ∙ c.positions.invariant.entries.front
     ∙ ap (λ n. filter test (take n (entries_of a.block.now a.weights.now))) done
     ∙ ap (filter test) (sym (entries-take a.count a.block.now a.weights.now c.requires.same))

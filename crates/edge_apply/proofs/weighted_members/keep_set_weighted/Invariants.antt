@@ -4,10 +4,10 @@ use Rattle.edge_fold.specs.Given.{entries_of}
 use Rattle.edge_apply.specs.Words.{is_set}
 use Rattle.edge_apply.proofs.weighted_members.keep_set_weighted.Given as goal
 
--- those that pass among the places that have come are at the front with their weights, and the others are as they were
-abbrev pub invariant-places : goal.invariant-places
-invariant-places l = record {
+-- those that pass among the positions that have come are at the front with their weights, and the others are as they were
+abbrev pub invariant-positions : goal.invariant-positions
+invariant-positions l = record {
   room : length l.block ≡ length l.fn.block;
   same : length l.weights ≡ length l.fn.weights;
-  entries : FiltersInPlace (λ e. is_set l.words e.0) (entries_of l.fn.block l.fn.weights) (entries_of l.block l.weights) l.kept l.place;
+  entries : FiltersInPlace (λ e. is_set l.words e.0) (entries_of l.fn.block l.fn.weights) (entries_of l.block l.weights) l.kept l.position;
 }

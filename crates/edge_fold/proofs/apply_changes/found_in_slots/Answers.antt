@@ -19,7 +19,7 @@ pub slots-preserved : goal.slots-preserved
 slots-preserved c =
     let slots = c.args.slots.now in
     let all = active slots in
-    let k = c.slots.place in
+    let k = c.slots.position in
     let s : VectorAccumulator = c.index.result.now in
     let few : slots.used ≤ length slots.slots.items = search rules in
     let below : k < slots.used = c.slots-test.true in
@@ -44,7 +44,7 @@ slots-preserved c =
 pub returns-clause-changes : goal.returns-clause-changes
 returns-clause-changes c m test vectors sizes is x =
     let all = active c.args.slots.now in
-    let k = c.slots.place in
+    let k = c.slots.position in
     let few_then : c.args.slots.now.used ≤ length c.args.slots.now.slots.items = search rules in
     let long = length-take-le c.args.slots.now.used c.args.slots.now.slots.items few_then in
     let done = c.slots-test.false in

@@ -13,6 +13,6 @@ abbrev pub invariant-slots : goal.invariant-slots
 invariant-slots l = record {
   apart : AreApart l.vectors.items;
   found : (m : StateValue) (test : ℕ → Bool) → l.context.vectors.now.vectors ≡ m.vectors → HasSizes l.context.sizes.now m → IsEndTest l.to m test
-      → (x : ℕ) → changes_or x l.vectors.items (found_in l.context.vertices (entry m.vectors) test (drop l.place (active l.slots)) x)
+      → (x : ℕ) → changes_or x l.vectors.items (found_in l.context.vertices (entry m.vectors) test (drop l.position (active l.slots)) x)
       ≡ found_in l.context.vertices (entry m.vectors) test (active l.slots) x;
 }

@@ -6,22 +6,22 @@ use Rattle.edge_fold.specs.declared.vector_accumulator.VectorAccumulator.{Vector
 use Rattle.edge_fold.specs.Gathered.{AreAscending, IsGatheredBy, gathered_for}
 use Rattle.edge_fold.specs.Given.{reduced_at}
 use Rattle.edge_fold.specs.FoldStarts.{combined}
-use Rattle.edge_fold.specs.VectorAccumulators.{held_in_with, place_in, reduction_in}
+use Rattle.edge_fold.specs.VectorAccumulators.{held_in_with, index_in, reduction_in}
 use Rattle.edge_fold.proofs.Ascending.{ascending_push}
 use Rattle.edge_fold.proofs.Gathering.{gathered_by_more, gathered_more, hidden_slot, onto}
 use Rattle.edge_fold.proofs.gathered.gathered_in_slots.Goals as goal
 
-pub slots-preserved-then-find-place : goal.slots-preserved-then-find-place
-slots-preserved-then-find-place c =
+pub slots-preserved-then-find-position : goal.slots-preserved-then-find-position
+slots-preserved-then-find-position c =
     let items = c.args.slots.now.slots.items in
-    let k = c.slots.place in
+    let k = c.slots.position in
     let s : VectorAccumulator = c.index-slot.result.now in
     let inside : k < length items = search rules in
     let ts = take k items in
     let long = length-take-le k items (omega (arith, inside)) in
     let step = take_more items k s inside ∙ ap (λ (t : VectorAccumulator). ts ++ t ∷ []) (sym c.index-slot.ensures) in
-    let place : c.find.result ≡ place_in s.vector ts = search rules in
-    let before : place_in s.vector ts < length ts = omega (arith, place, long, c.if-find-place.true) in
+    let position : c.find.result ≡ index_in s.vector ts = search rules in
+    let before : index_in s.vector ts < length ts = omega (arith, position, long, c.if-find-position.true) in
     record {
       ascending = c.slots.invariant.ascending;
       reduction = λ x r now. c.slots.invariant.reduction x r (sym (ap (λ ss. reduction_in ss x r) step ∙ hidden_slot (λ t. t.reduction) ts s x r before) ∙ now);
@@ -33,14 +33,14 @@ slots-preserved-then-find-place c =
 pub slots-preserved : goal.slots-preserved
 slots-preserved c =
     let items = c.args.slots.now.slots.items in
-    let k = c.slots.place in
+    let k = c.slots.position in
     let s : VectorAccumulator = c.index-slot.result.now in
     let inside : k < length items = search rules in
     let ts = take k items in
     let long = length-take-le k items (omega (arith, inside)) in
     let step = take_more items k s inside ∙ ap (λ (t : VectorAccumulator). ts ++ t ∷ []) (sym c.index-slot.ensures) in
-    let place : c.find.result ≡ place_in s.vector ts = search rules in
-    let first : length ts ≤ place_in s.vector ts = omega (arith, place, long, c.if-find-place.false) in
+    let position : c.find.result ≡ index_in s.vector ts = search rules in
+    let first : length ts ≤ index_in s.vector ts = omega (arith, position, long, c.if-find-position.false) in
     let vs = c.slots.vectors.items in
     let g : GatheredIn = record { vector = s.vector; reduction = s.reduction; numbers = c.in_ok-numbers.numbers } in
     let more = c.in_ok-push.ensures.items in

@@ -14,8 +14,8 @@ use Rattle.edge_fold.proofs.gathered.gathered_in_slots.Given as goal
 abbrev pub invariant-slots : goal.invariant-slots
 invariant-slots l = record {
   ascending : AreAscending l.vectors.items;
-  reduction : (x : ℕ) (r : Reduction) → reduction_in (take l.place l.slots.slots.items) x r ≡ r → IsGatheredBy r x l.vectors.items;
+  reduction : (x : ℕ) (r : Reduction) → reduction_in (take l.position l.slots.slots.items) x r ≡ r → IsGatheredBy r x l.vectors.items;
   numbers : (m : StateValue) (test : ℕ → Bool) → l.context.vectors.now.vectors ≡ m.vectors → HasSizes l.context.sizes.now m → IsEndTest l.to m test
       → (x v : ℕ) (r : Reduction) (h : ℤ) → v < l.context.vertices
-      → reduced_at r v h (gathered_for x l.vectors.items) ≡ (if test v then held_in_with (combined start.Unit r) (take l.place l.slots.slots.items) x v h else h);
+      → reduced_at r v h (gathered_for x l.vectors.items) ≡ (if test v then held_in_with (combined start.Unit r) (take l.position l.slots.slots.items) x v h else h);
 }

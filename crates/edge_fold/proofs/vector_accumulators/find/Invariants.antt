@@ -1,10 +1,10 @@
 use Rattle.std.proofs.Common.{◌≡◌, ◌+◌, drop}
-use Rattle.edge_fold.specs.VectorAccumulators.{place_in}
+use Rattle.edge_fold.specs.VectorAccumulators.{index_in}
 use Rattle.edge_fold.proofs.vector_accumulators.find.Given as goal
 
 -- no slot that has come is of the vector
 abbrev pub invariant-slots : goal.invariant-slots
 invariant-slots l = record {
-  count : l.place ≡ l.slot-index;
-  left : l.place + place_in l.vector (drop l.place l.slots) ≡ place_in l.vector l.slots;
+  count : l.position ≡ l.slot-index;
+  left : l.position + index_in l.vector (drop l.position l.slots) ≡ index_in l.vector l.slots;
 }

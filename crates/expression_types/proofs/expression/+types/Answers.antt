@@ -4,7 +4,7 @@ use Rattle.syntax.specs.Terminals.{Identifier}
 use Rattle.syntax.specs.ExpressionViews.{unary_of, term_of, sum_of, primary_of, comparison_of, comparison_from, conjunction_of}
 use Rattle.typed_tree.specs.declared.expression.Connective.TheVariants as connective
 use Rattle.expression_types.specs.declared.fault.TypeRule.TheVariants as rule
-use Rattle.expression_types.specs.Expression.{value_of, conjunction_value, comparison_value, index_lacks_value, no_vertex, sum_value, term_value, unary_value, primary_value, vector_place}
+use Rattle.expression_types.specs.Expression.{value_of, conjunction_value, comparison_value, index_lacks_value, no_vertex, sum_value, term_value, unary_value, primary_value, vector_index}
 use Rattle.expression_types.specs.WithFaults.{WithFaults, ReportsFaults, sure, outcome, ◌>>=◌}
 use Rattle.expression_types.specs.Operands.{conditions_of, integers_of}
 use Rattle.expression_types.specs.Operators.{added, multiplied, given, related_value, entry_value, first_integer, first_condition, beside_integer, beside_condition, grouped_integers, grouped_conditions}
@@ -120,7 +120,7 @@ comparison-returns-in_ok-right-in-Some t c =
 -- an entry at an index that has no value, and at one that has
 abbrev entry_at : ScopeTree → ℕ → Identifier → ExpressionTree → Bool → WithFaults ValueTree
 entry_at scope at name index lacks =
-    vector_place scope at name >>= λ vector. (if lacks then sure no_vertex else value_of scope at index) >>= λ v. entry_value scope.inside at vector v
+    vector_index scope at name >>= λ vector. (if lacks then sure no_vertex else value_of scope at index) >>= λ v. entry_value scope.inside at vector v
 
 pub primary-returns-then-is_name_without_value : goal.primary-returns-then-is_name_without_value
 primary-returns-then-is_name_without_value t c =
@@ -131,7 +131,7 @@ primary-returns-then-is_name_without_value t c =
     subst (λ p. ReportsFaults value_tree c.args.first_fault.now c.entry.new.first_fault c.entry.result (primary_value scope at (primary_of p))) (sym c.in-Entry.is)
     (subst (λ b. ReportsFaults value_tree c.args.first_fault.now c.entry.new.first_fault c.entry.result (entry_at scope at c.in-Entry.name index b))
     (sym c.if-is_name_without_value.true ∙ c.is_name_without_value.ensures ∙ ap (index_lacks_value scope.inside scope) c.deref.ensures)
-    (reports_then value_tree c.args.first_fault.now c.vector-vector.new.first_fault c.entry.new.first_fault (vector_place scope at c.in-Entry.name) vector
+    (reports_then value_tree c.args.first_fault.now c.vector-vector.new.first_fault c.entry.new.first_fault (vector_index scope at c.in-Entry.name) vector
     (λ vector. sure no_vertex >>= λ v. entry_value scope.inside at vector v) c.entry.result c.vector-vector.ensures
     (subst (λ inside. ReportsFaults value_tree c.vector-vector.new.first_fault c.entry.new.first_fault c.entry.result (entry_value inside at vector no_vertex)) c.inside.ensures
     (subst (λ v. ReportsFaults value_tree c.vector-vector.new.first_fault c.entry.new.first_fault c.entry.result (entry_value c.inside.result at vector v)) c.other_index.ensures c.entry.ensures))))
@@ -146,7 +146,7 @@ primary-returns-in_ok-index-in-Entry t c =
     subst (λ p. ReportsFaults value_tree c.args.first_fault.now c.entry-in-Entry.new.first_fault c.entry-in-Entry.result (primary_value scope at (primary_of p))) (sym c.in-Entry.is)
     (subst (λ b. ReportsFaults value_tree c.args.first_fault.now c.entry-in-Entry.new.first_fault c.entry-in-Entry.result (entry_at scope at c.in-Entry.name index b))
     (sym c.if-is_name_without_value.false ∙ c.is_name_without_value.ensures ∙ ap (index_lacks_value scope.inside scope) c.deref.ensures)
-    (reports_then value_tree c.args.first_fault.now c.vector-vector.new.first_fault c.entry-in-Entry.new.first_fault (vector_place scope at c.in-Entry.name) vector
+    (reports_then value_tree c.args.first_fault.now c.vector-vector.new.first_fault c.entry-in-Entry.new.first_fault (vector_index scope at c.in-Entry.name) vector
     (λ vector. value_of scope at index >>= λ v. entry_value scope.inside at vector v) c.entry-in-Entry.result c.vector-vector.ensures
     (reports_then value_tree c.vector-vector.new.first_fault c.type_expression.new.first_fault c.entry-in-Entry.new.first_fault (value_of scope at index) v
     (λ v. entry_value scope.inside at vector v) c.entry-in-Entry.result

@@ -6,10 +6,10 @@ use Rattle.flat_snapshot.proofs.adjacency.push.Goals as goal
 
 pub returns : goal.returns
 returns c =
-    let old = c.args.places.now.items in
+    let old = c.args.slots.now.items in
     let b = c.args.block.now in
     let padded = c.in_ok-pad.ensures in
-    let mid = c.pad.new.places.items in
+    let mid = c.pad.new.slots.items in
     let is = c.in_ok-push.ensures.items in
     let same = c.in_ok-share.ensures in
     rw (is, same)

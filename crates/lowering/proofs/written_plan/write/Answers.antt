@@ -7,9 +7,9 @@ use Rattle.lowering.proofs.written_plan.write.Goals as goal
 pub instructions-preserved : goal.instructions-preserved
 instructions-preserved c = λ p s has.
     let is : List Instruction = c.args.plan.now.instructions.items in
-    let place = c.instructions.place in
+    let index = c.instructions.index in
     let here : Instruction = c.instruction-item.result in
-    let inside : place < length is = search rules in
-    let item : here ≡ get_or is place here = search rules in
-    writes_next p is place c.instructions.text.items c.put_line.new.text.items (text_of p s) here inside item
+    let inside : index < length is = search rules in
+    let item : here ≡ get_or is index here = search rules in
+    writes_next p is index c.instructions.text.items c.put_line.new.text.items (text_of p s) here inside item
     (c.instructions.invariant p s has) (c.in_ok-put_line.ensures p)

@@ -5,13 +5,13 @@ use Rattle.pages.proofs.Copying.{next_fits}
 use Rattle.pages.proofs.Storing.{no_entry}
 use Rattle.pages.proofs.appending.append.Goals as goal
 
-pub overflow_cast-place : goal.overflow_cast-place
-overflow_cast-place c =
+pub overflow_cast-position : goal.overflow_cast-position
+overflow_cast-position c =
     let l = c.loop-entry in
-    omega (arith, end_from l.place (drop l.entry-index c.args.run.now), l.invariant.ends, c.requires.fits)
+    omega (arith, end_from l.position (drop l.entry-index c.args.run.now), l.invariant.ends, c.requires.fits)
 
-pub overflow_add-place : goal.overflow_add-place
-overflow_add-place c =
+pub overflow_add-position : goal.overflow_add-position
+overflow_add-position c =
     let l = c.loop-entry in
     let e : ListEntry = get_or c.args.run.now l.entry-index (no_entry) in
-    omega (arith, c.size-place.ensures.size, next_fits l.place l.entry-index c.args.run.now (no_entry) (omega arith), l.invariant.ends, c.requires.fits)
+    omega (arith, c.size-position.ensures.size, next_fits l.position l.entry-index c.args.run.now (no_entry) (omega arith), l.invariant.ends, c.requires.fits)

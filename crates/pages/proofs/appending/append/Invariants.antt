@@ -5,7 +5,7 @@ use Rattle.pages.proofs.appending.append.Given as goal
 
 abbrev pub invariant-loop-entry : goal.invariant-loop-entry
 invariant-loop-entry l = record {
-  items : l.entries.items ++ placed_at l.place (drop l.entry-index l.run) ≡ l.fn.entries.items ++ placed_at l.fn.place l.run;
-  ends : end_of l.place (drop l.entry-index l.run) ≡ end_of l.fn.place l.run;
+  items : l.entries.items ++ placed_at l.position (drop l.entry-index l.run) ≡ l.fn.entries.items ++ placed_at l.fn.position l.run;
+  ends : end_of l.position (drop l.entry-index l.run) ≡ end_of l.fn.position l.run;
   room : vec_len l.entries + (length l.run - l.entry-index) ≤ vec_capacity l.entries;
 }

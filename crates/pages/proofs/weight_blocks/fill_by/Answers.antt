@@ -12,6 +12,6 @@ loop-weight-preserved c =
     let more : weight_size c.args.width * n + weight_size c.args.width ≡ weight_size c.args.width * (n + 1) = omega arith in
     let fits : SFits w64 c.weight_at.result = search rules in
     record {
-      place = omega (arith, l.invariant.place, c.size-place.ensures.size, more);
-      front = weight_filled c.args.width n c.args.start l.place (to_z w64 (of_z w64 c.weight_at.result)) c.args.bytes.now l.block (omega arith) l.invariant.place (to_z-of_z w64 c.weight_at.result fits ∙ c.weight_at.ensures) l.invariant.front;
+      position = omega (arith, l.invariant.position, c.size-position.ensures.size, more);
+      front = weight_filled c.args.width n c.args.start l.position (to_z w64 (of_z w64 c.weight_at.result)) c.args.bytes.now l.block (omega arith) l.invariant.position (to_z-of_z w64 c.weight_at.result fits ∙ c.weight_at.ensures) l.invariant.front;
     }

@@ -4,6 +4,6 @@ use Rattle.pages.proofs.weight_blocks.fill_by.Given as goal
 
 abbrev pub invariant-loop-weight : goal.invariant-loop-weight
 invariant-loop-weight l = record {
-  place : l.place ≡ l.start + weight_size l.width * l.weight-index;
+  position : l.position ≡ l.start + weight_size l.width * l.weight-index;
   front : take l.weight-index l.block ≡ weights_from l.width l.weight-index (drop l.start l.bytes);
 }

@@ -4,7 +4,7 @@ use Rattle.pages.proofs.writing.write.Given as goal
 
 abbrev pub invariant-loop-index : goal.invariant-loop-index
 invariant-loop-index l = record {
-  at : l.at ≡ l.place + (4 + l.width * (l.index - 1));
-  front : take l.place l.bytes ≡ take l.place l.fn.bytes;
-  list : elements_in l.width l.index (drop l.place l.bytes) ≡ take l.index l.list;
+  at : l.at ≡ l.position + (4 + l.width * (l.index - 1));
+  front : take l.position l.bytes ≡ take l.position l.fn.bytes;
+  list : elements_in l.width l.index (drop l.position l.bytes) ≡ take l.index l.list;
 }

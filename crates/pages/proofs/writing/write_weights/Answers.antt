@@ -10,7 +10,7 @@ use Rattle.pages.proofs.writing.write_weights.Goals as goal
 pub returns-then-is_ones-clause-weights : goal.returns-then-is_ones-clause-weights
 returns-then-is_ones-clause-weights c =
     let is : c.args.width ≡ Ones = c.is_ones.ensures.0 (search rules) in
-    rw is (ones_written c.args.count (drop c.args.place c.args.bytes.now) c.args.weights.now (λ i. rw is at (c.requires.allows i)))
+    rw is (ones_written c.args.count (drop c.args.position c.args.bytes.now) c.args.weights.now (λ i. rw is at (c.requires.allows i)))
 
 pub loop-index-preserved : goal.loop-index-preserved
 loop-index-preserved c =
@@ -21,6 +21,6 @@ loop-index-preserved c =
     let more : weight_size c.args.width * n + weight_size c.args.width ≡ weight_size c.args.width * (n + 1) = omega arith in
     record {
       at = omega (arith, l.invariant.at, c.size-at.ensures.size, more);
-      front = front_stays c.args.place l.at new l.bytes (omega (arith, l.invariant.at)) c.put_weight.ensures.front ∙ l.invariant.front;
-      weights = weight_written c.args.width n c.args.place l.at c.weight_of.result l.bytes new c.args.weights.now l.invariant.at c.put_weight.ensures.front (c.put_weight.ensures.weight ∙ to_z-of_z w64 c.weight_of.result fits) c.weight_of.ensures l.invariant.weights;
+      front = front_stays c.args.position l.at new l.bytes (omega (arith, l.invariant.at)) c.put_weight.ensures.front ∙ l.invariant.front;
+      weights = weight_written c.args.width n c.args.position l.at c.weight_of.result l.bytes new c.args.weights.now l.invariant.at c.put_weight.ensures.front (c.put_weight.ensures.weight ∙ to_z-of_z w64 c.weight_of.result fits) c.weight_of.ensures l.invariant.weights;
     }

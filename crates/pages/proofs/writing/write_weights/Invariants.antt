@@ -4,7 +4,7 @@ use Rattle.pages.proofs.writing.write_weights.Given as goal
 
 abbrev pub invariant-loop-index : goal.invariant-loop-index
 invariant-loop-index l = record {
-  at : l.at ≡ l.place + weight_size l.width * l.index;
-  front : take l.place l.bytes ≡ take l.place l.fn.bytes;
-  weights : weights_from l.width l.index (drop l.place l.bytes) ≡ column_of l.index l.weights;
+  at : l.at ≡ l.position + weight_size l.width * l.index;
+  front : take l.position l.bytes ≡ take l.position l.fn.bytes;
+  weights : weights_from l.width l.index (drop l.position l.bytes) ≡ column_of l.index l.weights;
 }

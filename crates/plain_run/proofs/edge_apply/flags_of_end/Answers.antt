@@ -14,4 +14,4 @@ returns-in_ok-flags-in-Function-clause-flags c v =
 pub returns-in_ok-flags-in-Members-clause-flags : goal.returns-in_ok-flags-in-Members-clause-flags
 returns-in_ok-flags-in-Members-clause-flags c v =
     rw (c.in-Members.is, c.in_ok-flags-in-Members.ensures, c.members_at-members.ensures, c.deref.ensures.value)
-    (flag_of_member (members_of (slice_get c.args.state.now.sets.items c.in-Members.slot.place)) c.args.graph.now.vertices v)
+    (flag_of_member (members_of (slice_get c.args.state.now.sets.items c.in-Members.slot.index)) c.args.graph.now.vertices v)

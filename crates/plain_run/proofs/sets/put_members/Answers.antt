@@ -3,13 +3,13 @@ use Rattle.algorithm_meaning.specs.declared.state.SetBinding.{SetBinding}
 use Rattle.algorithm_meaning.proofs.Members.{set_members_inside, set_members_outside}
 use Rattle.plain_run.proofs.sets.put_members.Goals as goal
 
-pub returns-then-place-len : goal.returns-then-place-len
-returns-then-place-len c =
-    let below : c.args.place < length c.args.sets.now.items = search rules in
-    ap (λ (x : SetBinding). slice_set c.args.sets.now.items c.args.place (record { name = x.name; members = c.args.members })) c.index_mut-set.ensures.value
-    ∙ set_members_inside c.args.sets.now.items c.args.place c.args.members c.index_mut-set.result.now below
+pub returns-then-index-len : goal.returns-then-index-len
+returns-then-index-len c =
+    let below : c.args.index < length c.args.sets.now.items = search rules in
+    ap (λ (x : SetBinding). slice_set c.args.sets.now.items c.args.index (record { name = x.name; members = c.args.members })) c.index_mut-set.ensures.value
+    ∙ set_members_inside c.args.sets.now.items c.args.index c.args.members c.index_mut-set.result.now below
 
-pub returns-else-place-len : goal.returns-else-place-len
-returns-else-place-len c =
-    let outside : length c.args.sets.now.items ≤ c.args.place = search rules in
-    set_members_outside c.args.sets.now.items c.args.place c.args.members outside
+pub returns-else-index-len : goal.returns-else-index-len
+returns-else-index-len c =
+    let outside : length c.args.sets.now.items ≤ c.args.index = search rules in
+    set_members_outside c.args.sets.now.items c.args.index c.args.members outside

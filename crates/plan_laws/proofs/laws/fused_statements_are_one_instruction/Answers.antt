@@ -2,7 +2,7 @@ use Rattle.std.proofs.Common.{subst}
 use Rattle.typed_tree.specs.ProgramTree.{ProgramTree}
 use Rattle.typed_tree.specs.Resolved.{IsResolved}
 use Rattle.type_laws.specs.AskedVectors.{AskForWritten}
-use Rattle.type_laws.specs.LabelPlaces.{LabelsAreInOrder}
+use Rattle.type_laws.specs.LabelIndices.{LabelsAreInOrder}
 use Rattle.type_laws.specs.Numbers.{InOrder, numbers}
 use Rattle.type_laws.specs.VisibleSets.{NamesSetsApart}
 use Rattle.type_laws.proofs.MainLabels.{labels_in_order}

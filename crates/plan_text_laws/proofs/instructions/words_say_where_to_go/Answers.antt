@@ -1,5 +1,5 @@
-use Rattle.plan_text_laws.proofs.Words.{place_is}
+use Rattle.plan_text_laws.proofs.Words.{index_is}
 use Rattle.plan_text_laws.proofs.instructions.words_say_where_to_go.Goals as goal
 
 pub returns : goal.returns
-returns c = place_is
+returns c = index_is

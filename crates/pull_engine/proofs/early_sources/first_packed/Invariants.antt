@@ -5,9 +5,9 @@ use Rattle.edge_apply.specs.Words.{passes_words}
 use Rattle.pull_engine.specs.EarlySources.{first_of}
 use Rattle.pull_engine.proofs.early_sources.first_packed.Given as goal
 
--- none passes up to the place
+-- none passes up to the index
 abbrev pub invariant-up : goal.invariant-up
-invariant-up l = first_of (filter (passes_words l.from) (drop l.place (keys_of l.sources))) ≡ first_of (filter (passes_words l.from) (keys_of l.sources))
+invariant-up l = first_of (filter (passes_words l.from) (drop l.index (keys_of l.sources))) ≡ first_of (filter (passes_words l.from) (keys_of l.sources))
 
 abbrev pub decreases-up : goal.decreases-up
-decreases-up l = length l.sources - l.place
+decreases-up l = length l.sources - l.index

@@ -8,7 +8,7 @@ use Rattle.pull_engine.proofs.pieces.append_pieces.Goals as goal
 
 pub pieces-preserved : goal.pieces-preserved
 pieces-preserved c parts order are =
-    let n = c.pieces.place in
+    let n = c.pieces.index in
     let was = c.pieces.invariant parts order are in
     elim c.match-find_piece.branch [
       | in-Some+in_ok-append_listed-in-Some w ↦

@@ -3,5 +3,5 @@ use Rattle.run_state.specs.inside.Passing.{passing}
 use Rattle.run_state.proofs.filtering.keep_passing.Given as goal
 
 -- what is kept, and what still passes, are all that passes
-abbrev pub invariant-places : goal.invariant-places
-invariant-places l = l.kept.items ++ passing l.block l.place (drop l.place l.part) ≡ l.fn.kept.items ++ passing l.block 0 l.part
+abbrev pub invariant-indices : goal.invariant-indices
+invariant-indices l = l.kept.items ++ passing l.block l.index (drop l.index l.part) ≡ l.fn.kept.items ++ passing l.block 0 l.part

@@ -23,27 +23,27 @@ returns-in-New-clause-are c = λ n are is.
     rw (c.push_reserved.ensures.items, c.push_reserved-in-New.ensures.items, c.push_reserved-in-New-2.ensures.items)
     (pushed n c.args.names.now.items c.args.members.now.items c.args.sizes.now.items are c.in-New.name set _ many valid (to_z-of_z w64 c.size_of.result fits ∙ c.size_of.ensures.size))
 
-pub returns-then-place-len-clause-sets : goal.returns-then-place-len-clause-sets
-returns-then-place-len-clause-sets c =
+pub returns-then-index-len-clause-sets : goal.returns-then-index-len-clause-sets
+returns-then-index-len-clause-sets c =
     let ns = c.args.names.now.items in
     let ms = c.args.members.now.items in
-    named_replaced ns ms c.in-Other.place c.in-Other.set c.requires.counted
+    named_replaced ns ms c.in-Other.index c.in-Other.set c.requires.counted
     ∙ ap (with_update (named ns ms)) (sym c.in-Other.is)
 
-pub returns-then-place-len-clause-are : goal.returns-then-place-len-clause-are
-returns-then-place-len-clause-are c = λ n are is.
+pub returns-then-index-len-clause-are : goal.returns-then-index-len-clause-are
+returns-then-index-len-clause-are c = λ n are is.
     let set = c.in-Other.set in
-    let fits : FitsSigned w64 c.size_of-then-place-len.result = search rules in
+    let fits : FitsSigned w64 c.size_of-then-index-len.result = search rules in
     let many : set.vertices ≡ n = subst (IsUpdateOf n) c.in-Other.is is in
-    let valid = subst (λ (k : ℕ). IsAscendingBelow k set.members) many c.size_of-then-place-len.ensures.valid in
-    replaced n c.args.names.now.items c.args.members.now.items c.args.sizes.now.items are c.in-Other.place set _ many valid
-    (to_z-of_z w64 c.size_of-then-place-len.result fits ∙ c.size_of-then-place-len.ensures.size)
+    let valid = subst (λ (k : ℕ). IsAscendingBelow k set.members) many c.size_of-then-index-len.ensures.valid in
+    replaced n c.args.names.now.items c.args.members.now.items c.args.sizes.now.items are c.in-Other.index set _ many valid
+    (to_z-of_z w64 c.size_of-then-index-len.result fits ∙ c.size_of-then-index-len.ensures.size)
 
-pub returns-else-place-len-clause-sets : goal.returns-else-place-len-clause-sets
-returns-else-place-len-clause-sets c =
+pub returns-else-index-len-clause-sets : goal.returns-else-index-len-clause-sets
+returns-else-index-len-clause-sets c =
     let ns = c.args.names.now.items in
     let ms = c.args.members.now.items in
-    let place = c.in-Other.place in
-    let outside : length ms < place + 1 = omega (arith, c.args.members.now.ok) in
-    replaced_outside ns ms place c.in-Other.set.members outside
+    let index = c.in-Other.index in
+    let outside : length ms < index + 1 = omega (arith, c.args.members.now.ok) in
+    replaced_outside ns ms index c.in-Other.set.members outside
     ∙ ap (with_update (named ns ms)) (sym c.in-Other.is)

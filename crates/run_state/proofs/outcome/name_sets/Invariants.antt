@@ -6,5 +6,5 @@ use Rattle.run_state.proofs.outcome.name_sets.Given as goal
 -- what is named, and what is still to be, are all
 abbrev pub invariant-sets : goal.invariant-sets
 invariant-sets l =
-    l.shown.items ++ map (named_set l.names) (named (drop l.place l.set_names) (drop l.place l.sets)).sets
+    l.shown.items ++ map (named_set l.names) (named (drop l.position l.set_names) (drop l.position l.sets)).sets
     ≡ map (named_set l.names) (named l.set_names l.sets).sets

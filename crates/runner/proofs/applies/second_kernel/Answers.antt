@@ -6,4 +6,4 @@ use Rattle.runner.proofs.applies.second_kernel.Goals as goal
 
 pub returns-clause-known : goal.returns-clause-known
 returns-clause-known c known x is =
-    subst (λ k. ∥ IsVertexKernel k.now ∥₁) (some_is c.get.result x is) (vertex_kernel c.args.functions.now c.in_ok-place.place c.get.result.now c.get.ensures known)
+    subst (λ k. ∥ IsVertexKernel k.now ∥₁) (some_is c.get.result x is) (vertex_kernel c.args.functions.now c.in_ok-index.index c.get.result.now c.get.ensures known)

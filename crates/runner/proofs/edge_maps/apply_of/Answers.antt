@@ -9,9 +9,9 @@ returns c = record {
   vectors = refl;
   sizes = refl;
   parts = λ p m functions sets.
-      let place = c.args.asked.first in
-      let first = subst (λ k. IsEdgeKernel k (steps_of (slice_get p.edge_functions place))) (sym c.get.ensures) (functions.edge place) in (
-        c.second_kernel.ensures p c.get.result.now place functions first,
+      let index = c.args.asked.first in
+      let first = subst (λ k. IsEdgeKernel k (steps_of (slice_get p.edge_functions index))) (sym c.get.ensures) (functions.edge index) in (
+        c.second_kernel.ensures p c.get.result.now index functions first,
         c.end_of.ensures p m functions sets,
         c.end_of-2.ensures p m functions sets,
       );

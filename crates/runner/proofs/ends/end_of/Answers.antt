@@ -7,10 +7,10 @@ use Rattle.runner.proofs.ends.end_of.Goals as goal
 
 pub returns-in-Some-Function : goal.returns-in-Some-Function
 returns-in-Some-Function c p m functions sets =
-    let place = c.in-Some-Function.place in
-    let named : c.args.end ≡ Some (end.Function place) = search rules in
+    let index = c.in-Some-Function.index in
+    let named : c.args.end ≡ Some (end.Function index) = search rules in
     record {
-      steps = steps_of (slice_get p.filters place);
-      of = subst (λ k. IsFilterKernel k (steps_of (slice_get p.filters place))) (sym c.get-in-Some-Function.ensures) (functions.filter place);
+      steps = steps_of (slice_get p.filters index);
+      of = subst (λ k. IsFilterKernel k (steps_of (slice_get p.filters index))) (sym c.get-in-Some-Function.ensures) (functions.filter index);
       result = λ v. ap (λ e. passes p.filters m e v) named;
     }

@@ -27,4 +27,4 @@ pub returns-clause-means : goal.returns-clause-means
 returns-clause-means over c =
     let run = c.steps.run in
     if_ok _ _ c.into_outcome.result (λ o is p s plan reduces. is p s plan
-    ∙ means p s (graph_value c.args.graph.now) c.args.turns (configuration_of run) (c.steps.invariant.reached p s plan reduces) (has_ended run.end run.place (loops_of run.memory) run.memory.state.state c.steps-test.ensures)) c.into_outcome.ensures
+    ∙ means p s (graph_value c.args.graph.now) c.args.turns (configuration_of run) (c.steps.invariant.reached p s plan reduces) (has_ended run.end run.index (loops_of run.memory) run.memory.state.state c.steps-test.ensures)) c.into_outcome.ensures

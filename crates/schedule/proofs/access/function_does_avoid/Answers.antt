@@ -4,4 +4,4 @@ use Rattle.schedule.proofs.Uses.{function_is_apart}
 use Rattle.schedule.proofs.access.function_does_avoid.Goals as goal
 
 pub returns : goal.returns
-returns c = c.function_passes.ensures ∙ function_is_apart c.args.vectors.now (map function_tree c.args.functions.now) c.args.place
+returns c = c.function_passes.ensures ∙ function_is_apart c.args.vectors.now (map function_tree c.args.functions.now) c.args.index

@@ -1,4 +1,4 @@
-use Rattle.session.proofs.Places.{job_steps_change_places, steps_of_two_jobs}
+use Rattle.session.proofs.Indices.{job_steps_change_places, steps_of_two_jobs}
 use Rattle.session.proofs.laws.steps_of_jobs_change_places.Goals as goal
 
 pub returns-clause-any_step : goal.returns-clause-any_step

@@ -21,17 +21,17 @@ left_out e es ks there = rw (has_if e.0 ks there) refl
 pushed : (keys : List ℕ) (weights : List ℤ) (e : ℕ × ℤ) (rest : List (ℕ × ℤ)) → length weights ≡ length keys → zip (keys ++ e.0 ∷ []) (weights ++ e.1 ∷ []) ++ rest ≡ zip keys weights ++ e ∷ rest
 pushed keys weights e rest same = ap (λ v. v ++ rest) (zip_append keys (e.0 ∷ []) weights (e.1 ∷ []) same) ∙ append_assoc (zip keys weights) (e ∷ []) rest
 
-pub loop-place-preserved : goal.loop-place-preserved
-loop-place-preserved c =
-    let l = c.loop-place in
+pub loop-position-preserved : goal.loop-position-preserved
+loop-position-preserved c =
+    let l = c.loop-position in
     let es = c.args.first.now in
     let ks = keys_of c.args.second.now.entries in
     let first_keys = c.keys-first_keys.result.now in
-    let e = get_or es l.place (0, pos 0) in
-    let rest = drop (l.place + 1) es in
-    let within : l.place < length es = omega (arith, c.loop-place-test.true, ap length c.keys-first_keys.ensures, length_keys es) in
-    let key : get_or first_keys l.place 0 ≡ e.0 = ap (λ v. get_or v l.place 0) c.keys-first_keys.ensures ∙ key_of l.place es within in
-    let on : zip l.keys.items l.weights.items ++ without_keys (e ∷ rest) ks ≡ without_keys es ks = ap (λ v. zip l.keys.items l.weights.items ++ without_keys v ks) (sym (drop_more es l.place (0, pos 0) within)) ∙ l.invariant.whole in
+    let e = get_or es l.position (0, pos 0) in
+    let rest = drop (l.position + 1) es in
+    let within : l.position < length es = omega (arith, c.loop-position-test.true, ap length c.keys-first_keys.ensures, length_keys es) in
+    let key : get_or first_keys l.position 0 ≡ e.0 = ap (λ v. get_or v l.position 0) c.keys-first_keys.ensures ∙ key_of l.position es within in
+    let on : zip l.keys.items l.weights.items ++ without_keys (e ∷ rest) ks ≡ without_keys es ks = ap (λ v. zip l.keys.items l.weights.items ++ without_keys v ks) (sym (drop_more es l.position (0, pos 0) within)) ∙ l.invariant.whole in
     elim c.if-not-contains.branch [
       | then-not-contains+in_ok-push+in_ok-push-2 w ↦
           let out : Contains ks e.0 → ⊥ = λ there. absurd (false≢true (sym w.if-not-contains.true ∙ c.contains.ensures.1 (rw key there))) in

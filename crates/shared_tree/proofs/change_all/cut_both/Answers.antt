@@ -1,7 +1,7 @@
 use Rattle.std.proofs.Common.{◌≡◌, ◌+◌, ◌/◌, ◌^◌, None, [], ◌++◌, length, sym, ap, arith}
 use Rattle.std.proofs.lemmas.List.{take-append-drop}
 use Rattle.ascending_lists.proofs.MapOrder.{rises_room}
-use Rattle.shared_tree.proofs.CutMaps.{cut_at_place, split_empty, split_at_entry, halves_smaller}
+use Rattle.shared_tree.proofs.CutMaps.{cut_at_index, split_empty, split_at_entry, halves_smaller}
 use Rattle.shared_tree.proofs.change_all.cut_both.Goals as goal
 
 pub returns-in_default : goal.returns-in_default
@@ -11,7 +11,7 @@ returns-in_default g c =
     let none : es ≡ [] = ap (λ t. t.entries) c.in_default.ensures in
     let whole : cs ≡ c.split_at.result.0.now ++ c.split_at.result.1.now = rw (c.split_at.ensures.front, c.split_at.ensures.back) (sym (take-append-drop (length cs / 2) cs)) in
     let key = c.in_ok-first.first.now.0 in
-    let cut = cut_at_place cs c.split_at.result.0.now c.split_at.result.1.now c.in_ok-first.first.now c.in_ok-first.above.now c.requires whole c.in_ok-first.ensures.cases.0 in
+    let cut = cut_at_index cs c.split_at.result.0.now c.split_at.result.1.now c.in_ok-first.first.now c.in_ok-first.above.now c.requires whole c.in_ok-first.ensures.cases.0 in
     let map = split_empty key es (omega (arith, rises_room (key + 1) (2 ^ 32) c.in_ok-first.above.now cut.above)) none in
     let smaller = halves_smaller key es es None es cs _ _ _ map cut (omega arith) in
     record { map = map; changes = cut; below_smaller = smaller.0; above_smaller = smaller.1 }

@@ -9,7 +9,7 @@ loop-next-preserved g c =
     let rooms = fork_room c.loop-next.next.now c.link-next.result.now _ _ _ c.in-Fork.is (rw c.deref.ensures at c.link-next.ensures) c.loop-next.top c.loop-next.invariant.balanced c.loop-next.invariant.room in
     let within : c.loop-next.top < length c.loop-next.links = omega (arith, rooms.0) in
     record {
-      places = omega (arith, length-set c.loop-next.links c.loop-next.top c.loop-next.next);
+      indices = omega (arith, length-set c.loop-next.links c.loop-next.top c.loop-next.next);
       balanced = c.link-next.ensures.balanced;
       room = rooms.1;
       stack = room_put c.loop-next.links c.loop-next.top c.loop-next.next within c.loop-next.invariant.stack rooms.2;

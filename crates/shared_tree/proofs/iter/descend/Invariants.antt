@@ -5,7 +5,7 @@ use Rattle.shared_tree.proofs.iter.descend.Given as goal
 
 abbrev pub invariant-loop-next : goal.invariant-loop-next
 invariant-loop-next g l = record {
-  places : length l.links ≡ 64;
+  indices : length l.links ≡ 64;
   balanced : IsBalanced l.next;
   room : l.top + (seen l.next).depth ≤ 64;
   stack : HasRoom 0 (take l.top l.links);

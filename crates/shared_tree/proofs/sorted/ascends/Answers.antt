@@ -2,14 +2,14 @@ use Rattle.std.proofs.Common.{arith, rules}
 use Rattle.shared_tree.proofs.Ascending.{rises_more, least_more, no_map, map_read}
 use Rattle.shared_tree.proofs.sorted.ascends.Goals as goal
 
-pub returns-then-place-low : goal.returns-then-place-low
-returns-then-place-low g c =
+pub returns-then-position-low : goal.returns-then-position-low
+returns-then-position-low g c =
     (λ e. cc, λ m. absurd (no_map c.args.entries.now c.loop-key.key-index c.loop-key-item.result c.loop-key-test.true c.loop-key-item.is c.loop-key.low c.loop-key.invariant.least (omega arith) m))
 
 pub loop-key-preserved : goal.loop-key-preserved
 loop-key-preserved g c = record {
-  rises = rw c.from-place.ensures (rises_more c.args.entries.now c.loop-key.key-index c.loop-key-item.result c.loop-key-test.true c.loop-key-item.is c.loop-key.low (omega arith) c.loop-key.invariant.rises);
-  least = rw c.from-place.ensures (least_more c.args.entries.now c.loop-key.key-index c.loop-key-item.result c.loop-key-test.true c.loop-key-item.is);
+  rises = rw c.from-position.ensures (rises_more c.args.entries.now c.loop-key.key-index c.loop-key-item.result c.loop-key-test.true c.loop-key-item.is c.loop-key.low (omega arith) c.loop-key.invariant.rises);
+  least = rw c.from-position.ensures (least_more c.args.entries.now c.loop-key.key-index c.loop-key-item.result c.loop-key-test.true c.loop-key-item.is);
   fits = omega arith;
 }
 

@@ -3,10 +3,10 @@ use Rattle.std.specs.Map.{keys_of}
 use Rattle.std.proofs.lemmas.Bool.{cases_Bool}
 use Rattle.ascending_lists.specs.Ascending.{AscendsFrom}
 use Rattle.ascending_lists.specs.Sets.{below, has}
-use Rattle.tail_codec.proofs.MapPlaces.{IsAt, IsMissing, place_there, place_missing}
+use Rattle.tail_codec.proofs.MapPositions.{IsAt, IsMissing, position_there, position_missing}
 use Rattle.tail_codec.proofs.entries.cut_entries.Goals as goal
 
--- the place of a key, by the cut of the keys alone
+-- the position of a key, by the cut of the keys alone
 module _ (k : ℕ) (es : List (ℕ × ℤ)) (keys front : List ℕ) (found : Bool) (ascends : AscendsFrom 0 (keys_of es)) (same : keys ≡ keys_of es) (cut : front ≡ below k keys) (there : found ≡ has k keys) where
   front_is : front ≡ below k (keys_of es)
   front_is = cut ∙ ap (below k) same
@@ -15,10 +15,10 @@ module _ (k : ℕ) (es : List (ℕ × ℤ)) (keys front : List ℕ) (found : Boo
   there_is = ap (has k) (sym same) ∙ sym there
 
   is_at : found ≡ true → IsAt k (length front) es (pos 0)
-  is_at hit = rw front_is (place_there k 0 es (pos 0) ascends (there_is ∙ hit))
+  is_at hit = rw front_is (position_there k 0 es (pos 0) ascends (there_is ∙ hit))
 
   is_missing : found ≡ false → IsMissing k (length front) es
-  is_missing miss = rw front_is (place_missing k 0 es ascends (there_is ∙ miss))
+  is_missing miss = rw front_is (position_missing k 0 es ascends (there_is ∙ miss))
 
   within : length front ≤ length es
   within = elim (cases_Bool found) [

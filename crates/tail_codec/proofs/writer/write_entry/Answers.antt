@@ -35,8 +35,8 @@ returns-then-number-eq-ONE c =
       after = omega (arith, room_one c.args.weight two, w.after 5 (five (2 * c.args.distance) (omega (arith, c.requires.small))));
     }
 
-pub write_number-place-requires : goal.write_number-place-requires
-write_number-place-requires c =
+pub write_number-position-requires : goal.write_number-position-requires
+write_number-position-requires c =
     let is : c.number_of_weight-number.result ≡ weight_number c.args.weight = search rules in
     let other = room_other c.args.weight (λ two. c.if-number-eq-ONE.false (is ∙ two)) in
     (5, five _ (omega (arith, c.requires.small)), omega (arith, other, c.requires.room))
@@ -45,19 +45,19 @@ pub write_number-requires-2 : goal.write_number-requires-2
 write_number-requires-2 c =
     let is : c.number_of_weight-number.result ≡ weight_number c.args.weight = search rules in
     let other = room_other c.args.weight (λ two. c.if-number-eq-ONE.false (is ∙ two)) in
-    let first = c.write_number-place.ensures.after 5 (five (2 * c.args.distance + 1) (omega (arith, c.requires.small))) in
+    let first = c.write_number-position.ensures.after 5 (five (2 * c.args.distance + 1) (omega (arith, c.requires.small))) in
     (10, ten c.number_of_weight-number.result (omega (arith, c.number_of_weight-number.type_inv)), omega (arith, other, first, c.requires.room))
 
 pub returns : goal.returns
 returns c =
     let is : c.number_of_weight-number.result ≡ weight_number c.args.weight = search rules in
     let not_two : weight_number c.args.weight ≢ 2 = λ two. c.if-number-eq-ONE.false (is ∙ two) in
-    let w = c.write_number-place.ensures in
+    let w = c.write_number-position.ensures in
     let v = c.write_number-2.ensures in
     let number : c.number_of_weight-number.result < 2 ^ 64 = omega (arith, c.number_of_weight-number.type_inv) in
     record {
       bytes = w.bytes ++ v.bytes;
       spells = rw (is_other_by c.args.weight not_two) (w.bytes, v.bytes, refl, w.spells, one_number (weight_number c.args.weight) v.bytes (rw is at v.spells));
-      front = v.front ∙ ap (λ u. u ++ v.bytes) w.front ∙ append_assoc (take c.args.place c.args.buffer.now) w.bytes v.bytes;
+      front = v.front ∙ ap (λ u. u ++ v.bytes) w.front ∙ append_assoc (take c.args.position c.args.buffer.now) w.bytes v.bytes;
       after = omega (arith, room_other c.args.weight not_two, w.after 5 (five (2 * c.args.distance + 1) (omega (arith, c.requires.small))), v.after 10 (ten c.number_of_weight-number.result number));
     }

@@ -5,9 +5,9 @@ use Rattle.tail_codec.specs.inside.Writing.{Fits}
 use Rattle.tail_codec.proofs.writer.write_number.Goals as goal
 
 -- one byte more is written
-more : (buffer front : List ℕ) (place byte : ℕ) (last bytes : List ℕ) → place < length buffer → take place buffer ++ byte ∷ last ≡ front ++ bytes → take (place + 1) (set buffer place byte) ++ last ≡ front ++ bytes
-more buffer front place byte last bytes within is =
-    ap (λ v. v ++ last) (take_more_set buffer place byte within) ∙ append_assoc (take place buffer) (byte ∷ []) last ∙ is
+more : (buffer front : List ℕ) (position byte : ℕ) (last bytes : List ℕ) → position < length buffer → take position buffer ++ byte ∷ last ≡ front ++ bytes → take (position + 1) (set buffer position byte) ++ last ≡ front ++ bytes
+more buffer front position byte last bytes within is =
+    ap (λ v. v ++ last) (take_more_set buffer position byte within) ∙ append_assoc (take position buffer) (byte ∷ []) last ∙ is
 
 -- what is left after seven bits fits into a byte less
 seven_bits : (m : ℕ) → 2 ^ (7 * suc m) ≡ 128 * 2 ^ (7 * m)
@@ -28,11 +28,11 @@ loop-rest-preserved c =
     record {
       room = λ n fits.
           let m = l.invariant.room n fits in
-          fits_less l.rest m.0 l.place (c.args.place + n) c.loop-rest-test.true m.1 m.2;
+          fits_less l.rest m.0 l.position (c.args.position + n) c.loop-rest-test.true m.1 m.2;
       writes = λ last spells.
           let all = l.invariant.writes ((128 + l.rest % 128) ∷ last) (inr (c.loop-rest-test.true, refl, spells)) in
           let here = l.invariant.room c.requires.0 c.requires.1 in
-          (all.0, all.1, more l.buffer _ l.place (128 + l.rest % 128) last all.0 (omega (arith, here.2, here.1.some, c.requires.2)) all.2);
+          (all.0, all.1, more l.buffer _ l.position (128 + l.rest % 128) last all.0 (omega (arith, here.2, here.1.some, c.requires.2)) all.2);
     }
 
 pub returns : goal.returns
@@ -43,7 +43,7 @@ returns c =
     record {
       bytes = all.0;
       spells = all.1;
-      front = take_more_set l.buffer l.place l.rest (omega (arith, here.2, here.1.some, c.requires.2)) ∙ all.2;
+      front = take_more_set l.buffer l.position l.rest (omega (arith, here.2, here.1.some, c.requires.2)) ∙ all.2;
       after = λ n fits.
           let m = l.invariant.room n fits in
           omega (arith, m.2, m.1.some);

@@ -5,8 +5,8 @@ use Rattle.tail_codec.proofs.writer.write_number.Given as goal
 
 abbrev pub invariant-loop-rest : goal.invariant-loop-rest
 invariant-loop-rest l = record {
-  room : (n : ℕ) → Fits l.fn.number n → (m : ℕ) × Fits l.rest m × (l.place + m ≤ l.fn.place + n);
-  writes : (last : List ℕ) → SpellsNumber l.rest last → (bytes : List ℕ) × SpellsNumber l.fn.number bytes × (take l.place l.buffer ++ last ≡ take l.fn.place l.fn.buffer ++ bytes);
+  room : (n : ℕ) → Fits l.fn.number n → (m : ℕ) × Fits l.rest m × (l.position + m ≤ l.fn.position + n);
+  writes : (last : List ℕ) → SpellsNumber l.rest last → (bytes : List ℕ) × SpellsNumber l.fn.number bytes × (take l.position l.buffer ++ last ≡ take l.fn.position l.fn.buffer ++ bytes);
 }
 
 abbrev pub decreases-loop-rest : goal.decreases-loop-rest

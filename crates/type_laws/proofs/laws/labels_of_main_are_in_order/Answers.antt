@@ -1,5 +1,5 @@
 use Rattle.std.proofs.Common.{subst}
-use Rattle.type_laws.specs.LabelPlaces.{LabelsAreInOrder}
+use Rattle.type_laws.specs.LabelIndices.{LabelsAreInOrder}
 use Rattle.type_laws.proofs.MainLabels.{labels_in_order}
 use Rattle.type_laws.proofs.laws.labels_of_main_are_in_order.Goals as goal
 

@@ -105,17 +105,17 @@ pub one-returns-clause-typed : goal.one-returns-clause-typed
 one-returns-clause-typed t c =
     let checker = checker_of c.args.checker.now in
     let labelled_checker = checker_of c.label.new.checker in
-    let place = c.in_ok-label.label in
+    let index = c.in_ok-label.label in
     let action = source_action c.args.statement.now.action in
     let a = action_tree c.in_ok-action.action in
     let last = checker_of c.action.new.checker in
     let number = suc labelled_checker.statements in
-    outcome_then c.args.first_fault.now c.label.new.first_fault (labelled checker c.args.statement.now.label) (place, labelled_checker)
+    outcome_then c.args.first_fault.now c.label.new.first_fault (labelled checker c.args.statement.now.label) (index, labelled_checker)
     (λ l. action_typed (counted l.1) action >>= λ a. sure (record { number = suc l.1.statements; label = l.0; action = a.0 }, a.1)) c.in_ok-label.ensures.labelled
     ∙ outcome_then c.label.new.first_fault c.action.new.first_fault (action_typed (counted labelled_checker) action) (a, last)
-    (λ a. sure (record { number = number; label = place; action = a.0 }, a.1))
+    (λ a. sure (record { number = number; label = index; action = a.0 }, a.1))
     (subst (λ d. outcome c.label.new.first_fault (action_typed d action) ≡ ((a, last), c.action.new.first_fault)) c.in_ok-number.ensures.counted c.in_ok-action.ensures.typed)
-    ∙ (λ i. ((record { number = sym c.in_ok-number.ensures.number i; label = place; action = a }, last), c.action.new.first_fault))
+    ∙ (λ i. ((record { number = sym c.in_ok-number.ensures.number i; label = index; action = a }, last), c.action.new.first_fault))
 
 pub repeat-returns-clause-kept : goal.repeat-returns-clause-kept
 repeat-returns-clause-kept t c =

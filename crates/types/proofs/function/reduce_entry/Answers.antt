@@ -1,7 +1,7 @@
 use Rattle.std.proofs.Common.{ℕ, Bool, List, ◌≡◌, ap, subst, sym, ◌∙◌}
 use Rattle.apply_options.specs.declared.reduction.Reduction.{Reduction}
 use Rattle.typed_tree.specs.IntegerTree.{integer_tree}
-use Rattle.expression_types.specs.Expression.{index_value, vector_place}
+use Rattle.expression_types.specs.Expression.{index_value, vector_index}
 use Rattle.expression_types.specs.WithFaults.{sure, outcome, ◌>>=◌}
 use Rattle.expression_types.specs.ValueTree.{value_tree}
 use Rattle.expression_types.proofs.Steps.{outcome_then}
@@ -22,7 +22,7 @@ returns-clause-typed c =
     let own = c.is_own-own.result in
     let x = integer_tree c.in_ok-value.value in
     subst (λ at. outcome c.args.first_fault.now (reduce_entry_step checker at c.args.name.now c.args.index.now c.args.by c.args.value.now) ≡ ((step_tree c.reducing.result, with_writes checker may.1), c.integer.new.first_fault)) c.at-at.ensures
-    (outcome_then c.args.first_fault.now c.vector-vector.new.first_fault (vector_place scope at c.args.name.now) vector (λ vector. may_reduce at scope.inside vector c.args.by checker.writes >>= λ may. index_value scope at c.args.index.now >>= λ v. written_at at (own_vertex scope.inside) v >>= λ own. integer_in scope at c.args.value.now >>= λ x. sure (reduction_step may.0 own vector c.args.by x, with_writes checker may.1)) c.vector-vector.ensures
+    (outcome_then c.args.first_fault.now c.vector-vector.new.first_fault (vector_index scope at c.args.name.now) vector (λ vector. may_reduce at scope.inside vector c.args.by checker.writes >>= λ may. index_value scope at c.args.index.now >>= λ v. written_at at (own_vertex scope.inside) v >>= λ own. integer_in scope at c.args.value.now >>= λ x. sure (reduction_step may.0 own vector c.args.by x, with_writes checker may.1)) c.vector-vector.ensures
     ∙ outcome_then c.vector-vector.new.first_fault c.may_reduce_entry.new.first_fault (may_reduce at scope.inside vector c.args.by checker.writes) may (λ may. index_value scope at c.args.index.now >>= λ v. written_at at (own_vertex scope.inside) v >>= λ own. integer_in scope at c.args.value.now >>= λ x. sure (reduction_step may.0 own vector c.args.by x, with_writes checker may.1)) (subst (λ i. outcome c.vector-vector.new.first_fault (may_reduce at i vector c.args.by checker.writes) ≡ (may, c.may_reduce_entry.new.first_fault)) c.inside-inside.ensures c.in_ok-may.ensures)
     ∙ outcome_then c.may_reduce_entry.new.first_fault c.type_index.new.first_fault (index_value scope at c.args.index.now) v (λ v. written_at at (own_vertex scope.inside) v >>= λ own. integer_in scope at c.args.value.now >>= λ x. sure (reduction_step may.0 own vector c.args.by x, with_writes checker may.1)) c.in_ok-index.ensures
     ∙ outcome_then c.type_index.new.first_fault c.is_own-own.new.first_fault (written_at at (own_vertex scope.inside) v) own (λ own. integer_in scope at c.args.value.now >>= λ x. sure (reduction_step may.0 own vector c.args.by x, with_writes checker may.1)) (subst (λ o. outcome c.type_index.new.first_fault (written_at at o v) ≡ (own, c.is_own-own.new.first_fault)) (c.vertex_of.ensures ∙ ap own_vertex c.inside-inside.ensures) c.is_own-own.ensures)

@@ -4,7 +4,7 @@ use Rattle.vectors.proofs.location.own_locations.Given as goal
 
 abbrev pub invariant-arrays : goal.invariant-arrays
 invariant-arrays l = record {
-  count : vec_len l.locations ≡ l.place;
-  own : (i : ℕ) → i < l.place → location_at l.locations.items i ≡ own_location l.arrays i;
-  fits : (i : ℕ) → i < l.place → length (get_or l.arrays i []) < 2 ^ 64;
+  count : vec_len l.locations ≡ l.index;
+  own : (i : ℕ) → i < l.index → location_at l.locations.items i ≡ own_location l.arrays i;
+  fits : (i : ℕ) → i < l.index → length (get_or l.arrays i []) < 2 ^ 64;
 }

@@ -17,17 +17,17 @@ words-preserved c =
     let left = c.words.left in
     let words = c.args.words.now in
     let found = c.words.found.items in
-    let place = c.args.first + count_trailing_zeros 64 left in
+    let position = c.args.first + count_trailing_zeros 64 left in
     let fits : left < 2 ^ 64 = search rules in
-    let listed : c.match-get.found.items ≡ found ++ bit_members 64 (64 * place) (get_or words place 0) =
+    let listed : c.match-get.found.items ≡ found ++ bit_members 64 (64 * position) (get_or words position 0) =
     elim c.match-get.branch [
       | in-Some+in_ok-push_bits w ↦
-          let word : w.in-Some.word.now ≡ get_or words place 0 = search rules in
-          ap (λ v. v.items) w.found-is ∙ w.in_ok-push_bits.ensures ∙ ap (λ n. found ++ bit_members 64 (64 * place) n) word
+          let word : w.in-Some.word.now ≡ get_or words position 0 = search rules in
+          ap (λ v. v.items) w.found-is ∙ w.in_ok-push_bits.ensures ∙ ap (λ n. found ++ bit_members 64 (64 * position) n) word
       | in_default w ↦
-          let none : get_or words place 0 ≡ 0 = search rules in
+          let none : get_or words position 0 ≡ 0 = search rules in
           ap (λ v. v.items) w.found-is ∙ sym (append-nil found)
-          ∙ ap (λ xs. found ++ xs) (sym (ap (bit_members 64 (64 * place)) none ∙ bits_none 64 (64 * place)))
+          ∙ ap (λ xs. found ++ xs) (sym (ap (bit_members 64 (64 * position)) none ∙ bits_none 64 (64 * position)))
     ] in
     named_listed words found c.match-get.found.items c.args.first left c.words-test.true fits listed ∙ c.words.invariant
 

@@ -1,14 +1,14 @@
 use Rattle.std.proofs.Common.{rules, ◌<◌, length, arith}
 use Rattle.std.proofs.lemmas.List.{length-take-le, take_more_set}
 use Rattle.edge_fold.specs.VectorAccumulators.{active}
-use Rattle.edge_fold.proofs.SlotRows.{added_held, added_place, added_reduction}
+use Rattle.edge_fold.proofs.SlotRows.{added_held, added_index, added_reduction}
 use Rattle.edge_fold.proofs.vector_accumulator.VectorAccumulators.add_old.Goals as goal
 
-pub returns-clause-place : goal.returns-clause-place
-returns-clause-place c =
+pub returns-clause-position : goal.returns-clause-position
+returns-clause-position c =
     let now = c.args.self.now in
     let inside : now.used < length now.slots.items = search rules in (
-      added_place (active now) _ c.begin.new.self c.args.vector now.used (take_more_set now.slots.items now.used c.begin.new.self inside) (length-take-le now.used now.slots.items (search rules)) c.in_ok-begin.ensures.vector c.requires.none,
+      added_index (active now) _ c.begin.new.self c.args.vector now.used (take_more_set now.slots.items now.used c.begin.new.self inside) (length-take-le now.used now.slots.items (search rules)) c.in_ok-begin.ensures.vector c.requires.none,
       omega arith,
     )
 

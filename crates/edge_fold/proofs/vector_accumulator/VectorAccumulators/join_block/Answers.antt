@@ -19,7 +19,7 @@ contributions-preserved c = λ x r by.
     let ds = c.args.destinations.now in
     let gives = c.args.kernel.now.gives.items in
     let numbers = c.args.block.now.numbers.items in
-    let k = c.contributions.place in
+    let k = c.contributions.index in
     let before = λ (i : ℕ). given_by (take k gives) (cells_at numbers i) in
     let row = contribution_at c.contribution.result in
     let more = λ (i : ℕ). one_contribution_more gives k (cells_at numbers i) ∙ ap (λ gs. before i ++ gs) (sym (c.contribution.ensures.given i)) in
@@ -35,5 +35,5 @@ pub returns : goal.returns
 returns c x r by =
     let gives = c.args.kernel.now.gives.items in
     let numbers = c.args.block.now.numbers.items in
-    let all = λ (i : ℕ). all_contributions gives c.contributions.place (cells_at numbers i) (search rules) in
+    let all = λ (i : ℕ). all_contributions gives c.contributions.index (cells_at numbers i) (search rules) in
     joined_alike c.args.context x r c.args.self.now c.contributions.self _ _ (λ v n. ap (λ gs. reduced_at r v n gs) (given_same x _ _ all 0 c.args.destinations.now)) (c.contributions.invariant x r by)

@@ -9,4 +9,4 @@ use Rattle.edge_fold.proofs.vector_accumulator.VectorAccumulators.join_block.Giv
 -- what the first contributions came to
 abbrev pub invariant-contributions : goal.invariant-contributions
 invariant-contributions l = (x : ℕ) (r : Reduction) → ((i : ℕ) → i < length l.destinations → IsBy r x (given_by l.kernel.gives.items (cells_at l.block.numbers.items i)))
-    → HaveJoined l.context x r l.fn.self l.self (given_from x (λ i. given_by (take l.place l.kernel.gives.items) (cells_at l.block.numbers.items i)) 0 l.destinations)
+    → HaveJoined l.context x r l.fn.self l.self (given_from x (λ i. given_by (take l.index l.kernel.gives.items) (cells_at l.block.numbers.items i)) 0 l.destinations)

@@ -18,20 +18,20 @@ returns-then-not-gives_some c x r by =
 
 pub returns : goal.returns
 returns c x r by =
-    let now = c.place.new.self in
+    let now = c.position.new.self in
     let g = c.args.contribution in
-    let p = c.in_ok-place.place in
+    let p = c.in_ok-position.position in
     let ds = c.args.destinations.now in
     let f = c.args.context in
     let was : VectorAccumulator = c.index_mut.result.now in
     let few : now.used ≤ length now.slots.items = search rules in
-    let at = c.in_ok-place.ensures.place in
+    let at = c.in_ok-position.ensures.position in
     let op = c.opening-opening in
     let joined = c.in_ok-join_column.ensures in
     let given = λ (y : ℕ). given_from y (contribution_at g) 0 ds in
     let some = c.gives_some.ensures.some (search rules) in
     let own = own_reduction r x g some.0 some.2 (by some.0 some.1) in
     joined_slot f x g.vector p r c.args.self.now now _ was (record { vector = was.vector; reduction = was.reduction; entries = c.join_column.new.self }) (given x) refl
-    at.0 at.1 few c.index_mut.ensures.value refl refl c.in_ok-place.ensures.held (c.in_ok-place.ensures.reduction x r own)
+    at.0 at.1 few c.index_mut.ensures.value refl refl c.in_ok-position.ensures.held (c.in_ok-position.ensures.reduction x r own)
     (λ v h same. along f x g.vector v g.reduction r (start_of op.result) was.entries c.join_column.new.self h _ given (equal g.vector x same) (own (equal g.vector x same)) op.ensures.start (op.ensures.seed v h) (joined v h))
     (λ off. others_get_nothing x g 0 ds off)

@@ -9,16 +9,16 @@ use Rattle.edge_fold.proofs.vector_accumulator.VectorAccumulators.join_number.Go
 
 pub returns : goal.returns
 returns c x r own =
-    let now = c.place.new.self in
+    let now = c.position.new.self in
     let sent = c.args.sent in
-    let p = c.in_ok-place.place in
+    let p = c.in_ok-position.position in
     let ds = c.args.destinations.now in
     let f = c.args.context in
     let number = sent.number in
     let fits : FitsSigned w64 number = search rules in
     let was : VectorAccumulator = c.index_mut.result.now in
     let few : now.used ≤ length now.slots.items = search rules in
-    let at = c.in_ok-place.ensures.place in
+    let at = c.in_ok-position.ensures.position in
     let op = c.opening-opening in
     let combine = combined (start_of op.result) sent.reduction in
     let joined = λ (v : ℕ) (h : ℤ). c.in_ok-join_number.ensures v h
@@ -26,7 +26,7 @@ returns c x r own =
     let all = each_given number ds in
     let given = cond (sent.vector == x) all [] in
     joined_slot f x sent.vector p r c.args.self.now now _ was (record { vector = was.vector; reduction = was.reduction; entries = c.join_number.new.self }) given refl
-    at.0 at.1 few c.index_mut.ensures.value refl refl c.in_ok-place.ensures.held (c.in_ok-place.ensures.reduction x r own)
+    at.0 at.1 few c.index_mut.ensures.value refl refl c.in_ok-position.ensures.held (c.in_ok-position.ensures.reduction x r own)
     (λ v h same. along f x sent.vector v sent.reduction r (start_of op.result) was.entries c.join_number.new.self h _ (λ _. all) (equal sent.vector x same) (own (equal sent.vector x same)) op.ensures.start (op.ensures.seed v h) (joined v h)
     ∙ ap (λ (b : Bool). reduced_at r v (held_with (combined f.start r) was.entries v (first_entry f x v h)) (cond b all [])) (sym same))
     (λ off. ap (λ (b : Bool). cond b all []) off)

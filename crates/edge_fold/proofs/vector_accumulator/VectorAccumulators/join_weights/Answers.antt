@@ -12,9 +12,9 @@ use Rattle.edge_fold.proofs.vector_accumulator.VectorAccumulators.join_weights.G
 
 pub returns : goal.returns
 returns c x r own =
-    let now = c.place.new.self in
+    let now = c.position.new.self in
     let of = c.args.given in
-    let p = c.in_ok-place.place in
+    let p = c.in_ok-position.position in
     let es = entries_of c.args.destinations.now c.args.weights.now in
     let f = c.args.context in
     let source = c.args.source in
@@ -22,7 +22,7 @@ returns c x r own =
     let number = to_z-of_z w64 c.get.result got_fits ∙ c.get.ensures ∙ c.lane.ensures source in
     let was : VectorAccumulator = c.index_mut.result.now in
     let few : now.used ≤ length now.slots.items = search rules in
-    let at = c.in_ok-place.ensures.place in
+    let at = c.in_ok-position.ensures.position in
     let op = c.opening-opening in
     let combine = combined (start_of op.result) of.reduction in
     let joined = λ (v : ℕ) (h : ℤ). c.in_ok-join_weights.ensures v h
@@ -30,7 +30,7 @@ returns c x r own =
     let all = each_weighed (arithmetic of.operator (entry f.vectors.now.vectors of.from source)) es in
     let given = cond (of.vector == x) all [] in
     joined_slot f x of.vector p r c.args.self.now now _ was (record { vector = was.vector; reduction = was.reduction; entries = c.join_weights.new.self }) given refl
-    at.0 at.1 few c.index_mut.ensures.value refl refl c.in_ok-place.ensures.held (c.in_ok-place.ensures.reduction x r own)
+    at.0 at.1 few c.index_mut.ensures.value refl refl c.in_ok-position.ensures.held (c.in_ok-position.ensures.reduction x r own)
     (λ v h same. along f x of.vector v of.reduction r (start_of op.result) was.entries c.join_weights.new.self h _ (λ _. all) (equal of.vector x same) (own (equal of.vector x same)) op.ensures.start (op.ensures.seed v h) (joined v h)
     ∙ ap (λ (b : Bool). reduced_at r v (held_with (combined f.start r) was.entries v (first_entry f x v h)) (cond b all [])) (sym same))
     (λ off. ap (λ (b : Bool). cond b all []) off)

@@ -8,8 +8,8 @@ abbrev pub invariant-loop-number : goal.invariant-loop-number
 invariant-loop-number l = record {
   can : (goal.iterator-loop-number).can_next l.blocks;
   finite : (goal.iterator-loop-number).is_finite l.blocks;
-  whole : lists_in 0 l.places.items ++ lists_of l.blocks ≡ lists_of l.fn.blocks;
-  rest : Rises (length l.places.items) (2 ^ 18) l.blocks;
+  whole : lists_in 0 l.slots.items ++ lists_of l.blocks ≡ lists_of l.fn.blocks;
+  rest : Rises (length l.slots.items) (2 ^ 18) l.blocks;
   left : AreBlocks l.blocks;
-  blocks : AreInPlace l.places.items;
+  blocks : AreInPlace l.slots.items;
 }

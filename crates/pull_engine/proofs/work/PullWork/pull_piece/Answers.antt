@@ -19,7 +19,7 @@ overflow_cast-range c =
     let inside = piece_inside (length w.vertices.items) w.cuts c.args.piece w.whole c.requires.some c.requires.inside in
     let order = inside.0 in
     let last = inside.1 in
-    let start = c.piece-places.ensures.start in
+    let start = c.piece-indices.ensures.start in
     let long = ap length w.all ∙ length-range_with_len 0 w.apply.flat.now.vertices in
     let few = few_vertices w.apply.flat.now.vertices c.context-context.ensures.graph.count in
     omega (arith, order, last, start, long, few)
@@ -29,7 +29,7 @@ overflow_cast-range-2 c =
     let w = c.args.self.now in
     let inside = piece_inside (length w.vertices.items) w.cuts c.args.piece w.whole c.requires.some c.requires.inside in
     let last = inside.1 in
-    let end = c.piece-places.ensures.end in
+    let end = c.piece-indices.ensures.end in
     let long = ap length w.all ∙ length-range_with_len 0 w.apply.flat.now.vertices in
     let few = few_vertices w.apply.flat.now.vertices c.context-context.ensures.graph.count in
     omega (arith, last, end, long, few)
@@ -39,8 +39,8 @@ pull_shape-requires-clause-order c =
     let w = c.args.self.now in
     let inside = piece_inside (length w.vertices.items) w.cuts c.args.piece w.whole c.requires.some c.requires.inside in
     let order = inside.0 in
-    let start = c.piece-places.ensures.start in
-    let end = c.piece-places.ensures.end in
+    let start = c.piece-indices.ensures.start in
+    let end = c.piece-indices.ensures.end in
     omega (arith, order, start, end)
 
 pub pull_shape-requires-clause-shape : goal.pull_shape-requires-clause-shape
@@ -53,17 +53,17 @@ returns c =
     let w = c.args.self.now in
     let k = c.args.piece in
     let passes = passes_words c.words_of-from.result in
-    let places = c.piece-places.result in
-    let start = c.piece-places.ensures.start in
-    let end = c.piece-places.ensures.end in
+    let indices = c.piece-indices.result in
+    let start = c.piece-indices.ensures.start in
+    let end = c.piece-indices.ensures.end in
     IfOk-weaker c.pull_shape.result _ _
     (λ cs is. some_weaker (shape_vector w.shape) _ _
     (λ x changed m steps from to vectors sizes kernels is_from is_to.
     let es = edges_between from to w.apply.flat.now.edges in
     let same = between_agree w.apply.flat.now passes from to c.context-context.ensures.graph (λ v l. c.words_of-from.ensures v ∙ w.sources m from vectors sizes is_from v l) in
     subst (λ (e : ℕ). AreChangesFrom x (end_of w.cuts (k - 1)) (e - end_of w.cuts (k - 1)) es m steps cs.items) end
-    (subst (λ (s : ℕ). AreChangesFrom x s (places.end - s) es m steps cs.items) start
-    (subst (λ (fs : List Edge). AreChangesFrom x places.start (places.end - places.start) fs m steps cs.items) same
+    (subst (λ (s : ℕ). AreChangesFrom x s (indices.end - s) es m steps cs.items) start
+    (subst (λ (fs : List Edge). AreChangesFrom x indices.start (indices.end - indices.start) fs m steps cs.items) same
     (changed m steps to (c.context-context.ensures.reads m steps (record { vectors = vectors; sizes = sizes; kernels = kernels })) is_to))))
     is)
     c.pull_shape.ensures

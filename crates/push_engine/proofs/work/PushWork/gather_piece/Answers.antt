@@ -14,8 +14,8 @@ part_between-part-requires-clause-order c =
     let w = c.args.self.now in
     let inside = piece_inside (length w.sources.items) w.cuts c.args.piece w.whole c.requires.some c.requires.inside in
     let order = inside.0 in
-    let start = c.piece-places.ensures.start in
-    let end = c.piece-places.ensures.end in
+    let start = c.piece-indices.ensures.start in
+    let end = c.piece-indices.ensures.end in
     omega (arith, order, start, end)
 
 pub part_between-part-requires-clause-inside : goal.part_between-part-requires-clause-inside
@@ -23,7 +23,7 @@ part_between-part-requires-clause-inside c =
     let w = c.args.self.now in
     let inside = piece_inside (length w.sources.items) w.cuts c.args.piece w.whole c.requires.some c.requires.inside in
     let last = inside.1 in
-    let end = c.piece-places.ensures.end in
+    let end = c.piece-indices.ensures.end in
     let long = ap length c.deref.ensures.value in
     omega (arith, last, end, long)
 
@@ -35,9 +35,9 @@ returns-clause-given c m steps from test vectors sizes kernels is_from is_test x
     let g = c.in_ok-gathered.gathered in
     let folded = λ (us : List ℕ). rows_to (passes_words c.args.words) edges (passing_in w.tested from us) in
     let part = c.part_between-part.ensures
-    ∙ ap (λ (us : List ℕ). slice_range us c.piece-places.result.start c.piece-places.result.end) c.deref.ensures.value
-    ∙ ap (λ (s : ℕ). slice_range w.sources.items s c.piece-places.result.end) c.piece-places.ensures.start
-    ∙ ap (λ (e : ℕ). slice_range w.sources.items (end_of w.cuts (k - 1)) e) c.piece-places.ensures.end in
+    ∙ ap (λ (us : List ℕ). slice_range us c.piece-indices.result.start c.piece-indices.result.end) c.deref.ensures.value
+    ∙ ap (λ (s : ℕ). slice_range w.sources.items s c.piece-indices.result.end) c.piece-indices.ensures.start
+    ∙ ap (λ (e : ℕ). slice_range w.sources.items (end_of w.cuts (k - 1)) e) c.piece-indices.ensures.end in
     let reads = c.context-context.ensures.reads m steps (record { vectors = vectors; sizes = sizes; kernels = kernels }) in
     let has = c.in_ok-fold_part.ensures m steps from reads is_from (c.begin.ensures _ m steps) in
     let gathered = c.in_ok-gathered.ensures.given m steps (folded c.part_between-part.result.now) test reads is_test has (ap (λ (f : ApplyContext). f.start) c.context-context.ensures.context) x r by in

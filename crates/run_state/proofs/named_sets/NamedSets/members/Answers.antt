@@ -7,8 +7,8 @@ use Rattle.run_state.proofs.Named.{named_members}
 use Rattle.run_state.proofs.named_sets.NamedSets.members.Goals as goal
 
 pub returns : goal.returns
-returns c = λ place.
+returns c = λ index.
     let s = c.self.inside in
-    ap (λ (ms : List VertexSubset). members_in (slice_get ms place)) c.as_slice.ensures.value
-    ∙ named_members s.names.items s.members.items place c.self.invariant.count
-    ∙ ap (λ (r : RunState). members_of (slice_get r.state.sets place)) c.self.view_is
+    ap (λ (ms : List VertexSubset). members_in (slice_get ms index)) c.as_slice.ensures.value
+    ∙ named_members s.names.items s.members.items index c.self.invariant.count
+    ∙ ap (λ (r : RunState). members_of (slice_get r.state.sets index)) c.self.view_is

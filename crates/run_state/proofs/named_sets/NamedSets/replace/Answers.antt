@@ -14,24 +14,24 @@ invariant_of-self c =
     let fits : FitsSigned w64 c.size_of.result = search rules in
     let many : set.vertices ≡ s.vertices = c.requires ∙ sym (ap (λ (r : RunState). r.vertices) c.self.view_is) in
     let valid = subst (λ (k : ℕ). IsAscendingBelow k set.members) many c.size_of.ensures.valid in
-    replaced s.vertices s.names.items s.members.items s.sizes.items c.self.invariant c.args.place set _ many valid (to_z-of_z w64 c.size_of.result fits ∙ c.size_of.ensures.size)
+    replaced s.vertices s.names.items s.members.items s.sizes.items c.self.invariant c.args.index set _ many valid (to_z-of_z w64 c.size_of.result fits ∙ c.size_of.ensures.size)
 
-pub returns-then-place-len : goal.returns-then-place-len
-returns-then-place-len c =
+pub returns-then-index-len : goal.returns-then-index-len
+returns-then-index-len c =
     let s = c.self.inside in
     let set = c.args.set in
-    let place = c.args.place in
+    let index = c.args.index in
     let whole = sets_alone s.vertices in
-    ap whole (named_replaced s.names.items s.members.items place set c.self.invariant.count)
-    ∙ ap (λ (r : RunState). with_state r (with_members r.state place set.members)) c.self.view_is
+    ap whole (named_replaced s.names.items s.members.items index set c.self.invariant.count)
+    ∙ ap (λ (r : RunState). with_state r (with_members r.state index set.members)) c.self.view_is
 
-pub returns-else-place-len : goal.returns-else-place-len
-returns-else-place-len c =
+pub returns-else-index-len : goal.returns-else-index-len
+returns-else-index-len c =
     let s = c.self.inside in
     let set = c.args.set in
-    let place = c.args.place in
+    let index = c.args.index in
     let whole = sets_alone s.vertices in
-    let outside : length s.members.items < place + 1 = omega (arith, s.members.ok) in
+    let outside : length s.members.items < index + 1 = omega (arith, s.members.ok) in
     sym c.self.view_is
-    ∙ ap whole (replaced_outside s.names.items s.members.items place set.members outside)
-    ∙ ap (λ (r : RunState). with_state r (with_members r.state place set.members)) c.self.view_is
+    ∙ ap whole (replaced_outside s.names.items s.members.items index set.members outside)
+    ∙ ap (λ (r : RunState). with_state r (with_members r.state index set.members)) c.self.view_is

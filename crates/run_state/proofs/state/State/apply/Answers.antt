@@ -24,11 +24,11 @@ invariant_of-self c =
 pub returns-in-Some-clause-applied : goal.returns-in-Some-clause-applied
 returns-in-Some-clause-applied c = λ steps code.
     let s = c.self.inside in
-    let place = c.args.set in
+    let index = c.args.set in
     let m : StateValue = record s.sets.state { vectors = s.vectors.vectors } in
     let has : HasSizes c.sizes.result.now m = subst (λ (zs : List ℤ). HasSizes zs m) (sym c.sizes.ensures) (has_sizes m) in
     let whole = λ (vectors : List (List ℤ)) (groups : List (List ℕ)).
     run_state (record { vectors = vectors; groups = groups }) s.sets s.integers.items s.conditions.items s.text.items s.turns in
     ap₂ whole (c.run_for_all.ensures.vectors steps m code refl has) c.run_for_all.ensures.groups
     ∙ ap (λ (us : List ℕ). whole (after_vertices steps m.sets us s.vectors.vectors) s.vectors.groups) (c.iter.ensures.members ∙ c.in-Some.ensures.members)
-    ∙ ap (λ (r : RunState). with_state r (with_vectors r.state (after_vertices steps r.state.sets (members_of (slice_get r.state.sets place)) r.state.vectors))) c.self.view_is
+    ∙ ap (λ (r : RunState). with_state r (with_vectors r.state (after_vertices steps r.state.sets (members_of (slice_get r.state.sets index)) r.state.vectors))) c.self.view_is

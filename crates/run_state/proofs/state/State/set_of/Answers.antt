@@ -31,6 +31,6 @@ returns-in-Some-get-clause-members c =
     let is : IsFilterKernel c.get-filter.result.now steps = subst (λ (k : FilterKernel). IsFilterKernel k steps) (sym c.get-filter.ensures) (are.filter function) in
     given steps m is refl has
     ∙ ap (filter (result_of steps m.sets m.vectors)) c.in-Some-get.ensures.members
-    ∙ ap (λ (r : RunState). filtered p.filters function r.state.sets r.state.vectors (members_of (slice_get r.state.sets slot.place))) c.self.view_is
+    ∙ ap (λ (r : RunState). filtered p.filters function r.state.sets r.state.vectors (members_of (slice_get r.state.sets slot.index))) c.self.view_is
     ∙ sym (ap (λ (ms : SetExpression). members_for p g (set_value ms) now.state) c.in-Filter.is))
     c.filtered.ensures.members

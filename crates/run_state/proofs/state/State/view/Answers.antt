@@ -13,8 +13,8 @@ returns-clause-seen c = λ p g are vertices edges.
     let has : HasSizes c.sizes.result.now s.sets.state = subst (λ (zs : List ℤ). HasSizes zs s.sets.state) (sym c.sizes.ensures) (has_sizes s.sets.state) in
     record {
       functions = are;
-      sets = λ place. c.members.ensures place ∙ ap (λ (r : RunState). members_of (slice_get r.state.sets place)) view;
-      sizes = λ place. has place ∙ ap (λ (r : RunState). size_of (members_of (slice_get r.state.sets place))) view;
+      sets = λ index. c.members.ensures index ∙ ap (λ (r : RunState). members_of (slice_get r.state.sets index)) view;
+      sizes = λ index. has index ∙ ap (λ (r : RunState). size_of (members_of (slice_get r.state.sets index))) view;
       vectors = ap (λ (r : RunState). r.state.vectors) view;
       vertices = vertices;
       edges = edges;

@@ -8,7 +8,7 @@ use Rattle.runner.proofs.Stepping.{loop_goes_on, stands}
 use Rattle.runner.proofs.memory.Memory.advance.Goals as goal
 
 pub returns-in-Ok-clause-done : goal.returns-in-Ok-clause-done
-returns-in-Ok-clause-done c p g name place =
+returns-in-Ok-clause-done c p g name index =
     let run = c.args.self.now in
     let x = c.in-Some.counter in
     let following : LoopCounter = record { next = to_z w64 (of_z w64 c.arithmetic_of-following.result); end = to_z w64 (of_z w64 x.end) } in
@@ -19,6 +19,6 @@ returns-in-Ok-clause-done c p g name place =
     let same : following ≡ next_of x = λ i. record { next = (given ∙ number) i; end = bound i } in
     let pushed : c.push_reserved.new.self.items ≡ c.pop.new.self.items ++ next_of x ∷ [] =
     c.push_reserved.ensures.items ∙ ap (λ (y : LoopCounter). c.pop.new.self.items ++ y ∷ []) same in
-    stands (place + 1) (reverse c.push_reserved.new.self.items) run.state c.declare_two.new.self _ c.in-Ok.ensures.ok
-    ∙ (ap (λ (y : LoopCounter). At (place + 1) (reverse c.push_reserved.new.self.items) (with_new_integer (with_new_integer run.state.state y.next) y.end)) same
-    ∙ loop_goes_on (place + 1) c.pop.new.self.items run.loops.items c.push_reserved.new.self.items x run.state.state c.in-Some.ensures.items pushed)
+    stands (index + 1) (reverse c.push_reserved.new.self.items) run.state c.declare_two.new.self _ c.in-Ok.ensures.ok
+    ∙ (ap (λ (y : LoopCounter). At (index + 1) (reverse c.push_reserved.new.self.items) (with_new_integer (with_new_integer run.state.state y.next) y.end)) same
+    ∙ loop_goes_on (index + 1) c.pop.new.self.items run.loops.items c.push_reserved.new.self.items x run.state.state c.in-Some.ensures.items pushed)

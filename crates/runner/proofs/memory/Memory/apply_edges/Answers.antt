@@ -3,12 +3,12 @@ use Rattle.algorithm_meaning.specs.EdgeApply.{after_edge_apply}
 use Rattle.algorithm_meaning.specs.State.{GraphValue}
 use Rattle.run_state.specs.View.{HasEntryForEach}
 use Rattle.plans.specs.Machine.{At}
-use Rattle.plans.specs.Reducing.{AreReduced, places_of, steps_at}
+use Rattle.plans.specs.Reducing.{AreReduced, indices_of, steps_at}
 use Rattle.runner.specs.EdgeMap.{AreChangesTo}
 use Rattle.runner.specs.declared.memory.Memory.{Memory}
 use Rattle.runner.specs.Position.{loops_of}
 use Rattle.runner.specs.Results.{with_both}
-use Rattle.runner.proofs.Applying.{are_reduced, edges_done, function_places}
+use Rattle.runner.proofs.Applying.{are_reduced, edges_done, function_indices}
 use Rattle.runner.proofs.Stepping.{stands}
 use Rattle.runner.proofs.memory.Memory.apply_edges.Goals as goal
 
@@ -24,12 +24,12 @@ returns-clause-done over c p g t same on functions is reduces =
     let edges : c.args.graph.now.edges ≡ g.edges = sym (ap (λ (x : GraphValue). x.edges) same) in
     let view = c.view-view.ensures.seen p g functions vertices edges in
     let entries = subst (λ (n : ℕ). HasEntryForEach n s.vectors) on c.view-view.ensures.entries in
-    let places = ap (λ (o : Option ℕ). places_of part.function o) c.function_of-both.ensures in
-    let reduced = subst (λ (fs : List ℕ). AreReduced (steps_at p.edge_functions fs) s) (sym places) (are_reduced p ends part second t is reduces s) in
-    let after = after_edge_apply p.filters p.edge_functions g ends (function_places part second) s in
-    let changes = subst (λ (fs : List ℕ). AreChangesTo g.vertices s.vectors (after_edge_apply p.filters p.edge_functions g ends fs s) cs) places (c.in_ok-changes.ensures.changes p s g view entries reduced) in
+    let indices = ap (λ (o : Option ℕ). indices_of part.function o) c.function_of-both.ensures in
+    let reduced = subst (λ (fs : List ℕ). AreReduced (steps_at p.edge_functions fs) s) (sym indices) (are_reduced p ends part second t is reduces s) in
+    let after = after_edge_apply p.filters p.edge_functions g ends (function_indices part second) s in
+    let changes = subst (λ (fs : List ℕ). AreChangesTo g.vertices s.vectors (after_edge_apply p.filters p.edge_functions g ends fs s) cs) indices (c.in_ok-changes.ensures.changes p s g view entries reduced) in
     let changes_here = subst (λ (n : ℕ). AreChangesTo n s.vectors after cs) (sym on) changes in
     let new : Memory = record { loops = run.loops; state = c.take_changes.new.state; block = run.block; registers = run.registers } in
-    edges_done c.args.instruction.now run new p g ends part second t is (λ place.
-    stands (place + 1) (loops_of run) run.state c.take_changes.new.state _ (c.in_ok-take_changes.ensures.ok after changes_here)
-    ∙ (λ j. At (place + 1) (loops_of run) (with_both (on j) part.result (c.result_of-second.ensures j) after s)))
+    edges_done c.args.instruction.now run new p g ends part second t is (λ index.
+    stands (index + 1) (loops_of run) run.state c.take_changes.new.state _ (c.in_ok-take_changes.ensures.ok after changes_here)
+    ∙ (λ j. At (index + 1) (loops_of run) (with_both (on j) part.result (c.result_of-second.ensures j) after s)))

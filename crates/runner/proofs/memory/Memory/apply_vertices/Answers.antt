@@ -22,12 +22,12 @@ returns-clause-done c p g t functions is fit =
     let a = steps_of (slice_get p.vertex_functions c.args.first) in
     let first = subst (λ (k : VertexKernel). IsVertexCode k.code.items a) (sym c.get-first.ensures) (functions.vertex c.args.first) in
     let new : Memory = record { loops = run.loops; state = c.apply_vertices.new.self; block = c.apply_vertices.new.block; registers = run.registers } in
-    let ascending = (c.vertices-vertices.ensures.valid.sets c.args.set.place).ascending in
+    let ascending = (c.vertices-vertices.ensures.valid.sets c.args.set.index).ascending in
     vertices_done i run new p g i.keep i.shown c.args.set c.args.first c.args.second t is fit
     (λ none here. stands (here + 1) (loops_of run) run.state c.apply_vertices.new.self _
     (c.in_ok-apply_vertices.ensures.one a first (c.second_kernel-second.ensures.none none)))
-    (λ place some apart here.
-    let b = steps_of (slice_get p.vertex_functions place) in
+    (λ index some apart here.
+    let b = steps_of (slice_get p.vertex_functions index) in
     stands (here + 1) (loops_of run) run.state c.apply_vertices.new.self _
-    (c.in_ok-apply_vertices.ensures.two a b first (c.second_kernel-second.ensures.some p place functions some))
-    ∙ ap (λ (vs : List (List ℤ)). At (here + 1) (loops_of run) (with_vectors s vs)) (sym (apart s (members_of (slice_get s.sets c.args.set.place)) s.vectors ascending)))
+    (c.in_ok-apply_vertices.ensures.two a b first (c.second_kernel-second.ensures.some p index functions some))
+    ∙ ap (λ (vs : List (List ℤ)). At (here + 1) (loops_of run) (with_vectors s vs)) (sym (apart s (members_of (slice_get s.sets c.args.set.index)) s.vectors ascending)))

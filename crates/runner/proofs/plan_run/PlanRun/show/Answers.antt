@@ -13,5 +13,5 @@ returns c =
     if_ok _ _ c.show.result
     (λ o is p s plan. is p (sym plan.names ∙ sym c.deref.ensures.value) (sym plan.vectors ∙ sym c.deref-2.ensures.value)
     ∙ (ap (λ (e : Ending). shown p c.args.turns (forget_beyond c.shown-shown.result run.memory.state.state) e) c.shown_end-end.ensures
-    ∙ shows_so_far p c.args.turns (plan_of p s) run.end run.place (loops_of run.memory) run.memory.state.state c.shown-shown.result (c.shown-shown.ensures p s plan)))
+    ∙ shows_so_far p c.args.turns (plan_of p s) run.end run.index (loops_of run.memory) run.memory.state.state c.shown-shown.result (c.shown-shown.ensures p s plan)))
     c.show.ensures

@@ -1,7 +1,7 @@
 use Rattle.std.proofs.Common.{ℕ, List, ap, sym, ◌∙◌, ◌++◌}
 use Rattle.std.specs.List.{concat}
 use Rattle.apply_options.specs.ScheduleTree.{ScheduleTree}
-use Rattle.schedule.proofs.Places.{concat_last}
+use Rattle.schedule.proofs.Indices.{concat_last}
 use Rattle.schedule.proofs.calls.Tables.put_fields.Goals as goal
 
 pub returns-in_ok-push_group-in-Some-clause-taken : goal.returns-in_ok-push_group-in-Some-clause-taken

@@ -10,14 +10,14 @@ prove-unreachable-requires c =
 pub returns-in-None : goal.returns-in-None
 returns-in-None c =
     let e = c.self.inside in
-    let i = c.args.place in
+    let i = c.args.position in
     let within : i < length e.keys.now = omega (arith, c.requires, keys_long e.keys.now e.weights c.args.self.now c.self.invariant c.self.view_is) in
     sym (weight_one e.keys.now i within) ∙ ap (λ (v : List (ℕ × ℤ)). (get_or v i (0, pos 0)).1) (seen_ones e.keys.now e.weights c.args.self.now c.self.invariant c.self.view_is c.in-None.is)
 
 pub returns-in-Some : goal.returns-in-Some
 returns-in-Some c =
     let e = c.self.inside in
-    let i = c.args.place in
+    let i = c.args.position in
     let ws = c.in-Some.weights in
     let within : i < length e.keys.now = omega (arith, c.requires, keys_long e.keys.now e.weights c.args.self.now c.self.invariant c.self.view_is) in
     let long = some_long e.keys.now e.weights c.args.self.now c.self.invariant c.self.view_is ws c.in-Some.is in

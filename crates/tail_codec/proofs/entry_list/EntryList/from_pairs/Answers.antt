@@ -5,30 +5,30 @@ use Rattle.std.proofs.lemmas.Slice.Zip.{length-zip}
 use Rattle.tail_codec.proofs.Columns.{set_zip}
 use Rattle.tail_codec.proofs.entry_list.EntryList.from_pairs.Goals as goal
 
-pub loop-place-preserved : goal.loop-place-preserved
-loop-place-preserved c =
-    let l = c.loop-place in
+pub loop-position-preserved : goal.loop-position-preserved
+loop-position-preserved c =
+    let l = c.loop-position in
     let pairs = c.args.pairs.now in
     let whole = length-zip l.keys.items l.weights.items in
-    let e = slice_index_or pairs l.place (0, pos 0) in
+    let e = slice_index_or pairs l.position (0, pos 0) in
     let same : to_z w64 (of_z w64 e.1) ≡ e.1 = search rules in
     record {
-      keys = length-set {A = ℕ} l.keys.items l.place _ ∙ l.invariant.keys;
-      weights = length-set {A = ℤ} l.weights.items l.place _ ∙ l.invariant.weights;
+      keys = length-set {A = ℕ} l.keys.items l.position _ ∙ l.invariant.keys;
+      weights = length-set {A = ℤ} l.weights.items l.position _ ∙ l.invariant.weights;
       front =
-          ap (take (l.place + 1)) (set_zip l.place l.keys.items l.weights.items e.0 (to_z w64 (of_z w64 e.1)))
-          ∙ take_more_set (zip l.keys.items l.weights.items) l.place (e.0, to_z w64 (of_z w64 e.1)) (omega (arith, whole, l.invariant.keys, l.invariant.weights, c.loop-place-test.true))
-          ∙ ap (λ v. take l.place (zip l.keys.items l.weights.items) ++ (e.0, v) ∷ []) same
+          ap (take (l.position + 1)) (set_zip l.position l.keys.items l.weights.items e.0 (to_z w64 (of_z w64 e.1)))
+          ∙ take_more_set (zip l.keys.items l.weights.items) l.position (e.0, to_z w64 (of_z w64 e.1)) (omega (arith, whole, l.invariant.keys, l.invariant.weights, c.loop-position-test.true))
+          ∙ ap (λ v. take l.position (zip l.keys.items l.weights.items) ++ (e.0, v) ∷ []) same
           ∙ ap (λ v. v ++ e ∷ []) l.invariant.front
-          ∙ sym (take_more pairs l.place (0, pos 0) c.loop-place-test.true);
+          ∙ sym (take_more pairs l.position (0, pos 0) c.loop-position-test.true);
     }
 
 pub returns : goal.returns
 returns c =
-    let l = c.loop-place in
+    let l = c.loop-position in
     let pairs = c.args.pairs.now in
     let whole = length-zip l.keys.items l.weights.items in
     c.new.ensures
-    ∙ sym (take_all l.place (zip l.keys.items l.weights.items) (omega (arith, whole, l.invariant.keys, l.invariant.weights, c.loop-place-test.false)))
+    ∙ sym (take_all l.position (zip l.keys.items l.weights.items) (omega (arith, whole, l.invariant.keys, l.invariant.weights, c.loop-position-test.false)))
     ∙ l.invariant.front
-    ∙ take_all l.place pairs (omega (arith, c.loop-place-test.false))
+    ∙ take_all l.position pairs (omega (arith, c.loop-position-test.false))

@@ -2,9 +2,9 @@ use Rattle.std.proofs.Common.{arith, rules}
 use Rattle.tail_codec.proofs.Filling.{taken, written, untouched}
 use Rattle.tail_codec.proofs.iter.TailIter.fill.Goals as goal
 
-pub loop-place-preserved : goal.loop-place-preserved
-loop-place-preserved c =
-    let l = c.loop-place in
+pub loop-position-preserved : goal.loop-position-preserved
+loop-position-preserved c =
+    let l = c.loop-position in
     let t = taken c.args.self.now c.next.new.self l.entries l.filled c.in-Some.entry l.invariant.rest (search rules) in
     record {
       can = tt;

@@ -2,9 +2,9 @@ use Rattle.std.proofs.Common.{◌≡◌, ◌≤◌, take, drop, length}
 use Rattle.std.specs.Map.{keys_of, values_of}
 use Rattle.tail_codec.proofs.iter.TailIter.fill_weighted.Given as goal
 
-abbrev pub invariant-loop-place : goal.invariant-loop-place
-invariant-loop-place l = record {
-  count : l.filled ≡ l.place;
+abbrev pub invariant-loop-position : goal.invariant-loop-position
+invariant-loop-position l = record {
+  count : l.filled ≡ l.position;
   within : l.filled ≤ length l.fn.self;
   rest : l.left ≡ drop l.filled l.fn.self;
   long : length l.keys ≡ length l.fn.keys;

@@ -6,7 +6,7 @@ use Rattle.ascending_lists.specs.MapOperations.{entries_below, entries_above}
 use Rattle.ascending_lists.proofs.Ascending.{ascends_from}
 use Rattle.ascending_lists.proofs.Cutting.{below_ascends, above_from}
 use Rattle.ascending_lists.proofs.MapCuts.{keys_below, keys_above}
-use Rattle.tail_codec.proofs.MapPlaces.{entries_below_whole, entries_above_whole}
+use Rattle.tail_codec.proofs.MapPositions.{entries_below_whole, entries_above_whole}
 use Rattle.tail_codec.proofs.tail.Tail.cut.Goals as goal
 
 -- a side of the cut list, which is as that of the tail

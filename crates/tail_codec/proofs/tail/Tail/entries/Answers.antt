@@ -12,5 +12,5 @@ returns c =
     let weights = r.new.weights in
     c.new.ensures
     ∙ columns_anew _ _ keys _ weights _ (r.auto.keys ∙ c.deref_mut.ensures.len) (r.auto.weights ∙ c.deref_mut-2.ensures.len)
-    ∙ sym (take_all r.result (zip keys weights) (omega (arith, length-zip keys weights, r.ensures.place, r.auto.keys, c.deref_mut.ensures.len, c.in_ok-resize.ensures.len, c.len.ensures.len)))
+    ∙ sym (take_all r.result (zip keys weights) (omega (arith, length-zip keys weights, r.ensures.position, r.auto.keys, c.deref_mut.ensures.len, c.in_ok-resize.ensures.len, c.len.ensures.len)))
     ∙ r.ensures.read

@@ -20,12 +20,12 @@ loop-key-preserved c =
     let w = c.in-Some.weight in
     let step : l.key-iterator ≡ (k, w) ∷ c.next.new.self = search rules in
     let same : to_z w64 (of_z w64 w) ≡ w = search rules in
-    let within : l.place < length (zip l.keys l.weights) = omega (arith, length-zip l.keys l.weights, l.invariant.keys, l.invariant.weights, l.invariant.place, ap length step, c.requires.room) in
+    let within : l.position < length (zip l.keys l.weights) = omega (arith, length-zip l.keys l.weights, l.invariant.keys, l.invariant.weights, l.invariant.position, ap length step, c.requires.room) in
     record {
       can = tt;
       finite = tt;
-      keys = length-set {A = ℕ} l.keys l.place k ∙ l.invariant.keys;
-      weights = length-set {A = ℤ} l.weights l.place _ ∙ l.invariant.weights;
-      place = omega (arith, l.invariant.place, ap length step);
-      read = rw same (put l.keys l.weights l.place k w l.key-iterator c.next.new.self within step) ∙ l.invariant.read;
+      keys = length-set {A = ℕ} l.keys l.position k ∙ l.invariant.keys;
+      weights = length-set {A = ℤ} l.weights l.position _ ∙ l.invariant.weights;
+      position = omega (arith, l.invariant.position, ap length step);
+      read = rw same (put l.keys l.weights l.position k w l.key-iterator c.next.new.self within step) ∙ l.invariant.read;
     }

@@ -8,6 +8,6 @@ invariant-loop-key l = record {
   finite : (goal.iterator-loop-key).is_finite l.key-iterator;
   keys : length l.keys ≡ length l.fn.keys;
   weights : length l.weights ≡ length l.fn.keys;
-  place : l.place + length l.key-iterator ≡ l.fn.place + length l.self.entries;
-  read : take l.place (zip l.keys l.weights) ++ l.key-iterator ≡ take l.fn.place (zip l.fn.keys l.fn.weights) ++ l.self.entries;
+  position : l.position + length l.key-iterator ≡ l.fn.position + length l.self.entries;
+  read : take l.position (zip l.keys l.weights) ++ l.key-iterator ≡ take l.fn.position (zip l.fn.keys l.fn.weights) ++ l.self.entries;
 }

@@ -6,10 +6,10 @@ use Rattle.scripts.specs.Replies.{meaning_on}
 use Rattle.test_library.proofs.OneProgram.{only_one}
 use Rattle.test_library.proofs.compiled_program.CompiledProgramPrograms.run.Goals as goal
 
--- the program at the place is that of the plan
+-- the program at the index is that of the plan
 pub returns : goal.returns
 returns c =
     let tree = program_of c.args.self.now.plan in
-    IfOk-weaker c.run_plan.result _ (λ o. (program : ProgramTree) → slice_get (tree ∷ []) c.args._place ≡ Some program → o ≡ meaning_on c.args.graph.now program c.args.turns)
-    (λ o shows program is. subst (λ (p : ProgramTree). o ≡ meaning_on c.args.graph.now p c.args.turns) (only_one tree program c.args._place c.requires.place is) shows)
+    IfOk-weaker c.run_plan.result _ (λ o. (program : ProgramTree) → slice_get (tree ∷ []) c.args._index ≡ Some program → o ≡ meaning_on c.args.graph.now program c.args.turns)
+    (λ o shows program is. subst (λ (p : ProgramTree). o ≡ meaning_on c.args.graph.now p c.args.turns) (only_one tree program c.args._index c.requires.index is) shows)
     c.run_plan.ensures

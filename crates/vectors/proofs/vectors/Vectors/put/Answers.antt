@@ -5,11 +5,11 @@ use Rattle.algorithm_meaning.specs.Value.{with_entry}
 use Rattle.vectors.specs.declared.location.Location.{Location}
 use Rattle.vectors.specs.Vectors.{VectorsValue}
 use Rattle.vectors.specs.inside.Layout.{location_at, nowhere, vectors_at}
-use Rattle.vectors.proofs.Layouts.{entry_set, entry_set_past, place_fits}
+use Rattle.vectors.proofs.Layouts.{entry_set, entry_set_past, index_fits}
 use Rattle.vectors.proofs.vectors.Vectors.put.Goals as goal
 
-pub overflow_mul-place : goal.overflow_mul-place
-overflow_mul-place c =
+pub overflow_mul-position : goal.overflow_mul-position
+overflow_mul-position c =
     let ls = c.self.inside.locations.items in
     let l = c.index-location.result.now in
     let hi : c.args.vector < length ls = omega (arith, c.self.inside.locations.ok) in
@@ -17,11 +17,11 @@ overflow_mul-place c =
     let P : Location → Type 0 = λ m. c.args.vertex < m.vertices in
     let Q : Location → Type 0 = λ m. c.args.vertex * m.stride + m.first < 2 ^ 64 in
     let fits : c.args.vertex * l.stride + l.first < 2 ^ 64 =
-    subst Q (sym at) (place_fits c.self.inside.arrays.items ls c.self.inside.groups.items c.self.invariant c.args.vector c.args.vertex hi (subst P at c.if-vertex-location.true)) in
+    subst Q (sym at) (index_fits c.self.inside.arrays.items ls c.self.inside.groups.items c.self.invariant c.args.vector c.args.vertex hi (subst P at c.if-vertex-location.true)) in
     omega arith
 
-pub overflow_add-place : goal.overflow_add-place
-overflow_add-place c =
+pub overflow_add-position : goal.overflow_add-position
+overflow_add-position c =
     let ls = c.self.inside.locations.items in
     let l = c.index-location.result.now in
     let hi : c.args.vector < length ls = omega (arith, c.self.inside.locations.ok) in
@@ -29,7 +29,7 @@ overflow_add-place c =
     let P : Location → Type 0 = λ m. c.args.vertex < m.vertices in
     let Q : Location → Type 0 = λ m. c.args.vertex * m.stride + m.first < 2 ^ 64 in
     let fits : c.args.vertex * l.stride + l.first < 2 ^ 64 =
-    subst Q (sym at) (place_fits c.self.inside.arrays.items ls c.self.inside.groups.items c.self.invariant c.args.vector c.args.vertex hi (subst P at c.if-vertex-location.true)) in
+    subst Q (sym at) (index_fits c.self.inside.arrays.items ls c.self.inside.groups.items c.self.invariant c.args.vector c.args.vertex hi (subst P at c.if-vertex-location.true)) in
     omega arith
 
 pub returns-then-vertex-location : goal.returns-then-vertex-location
@@ -50,10 +50,10 @@ returns-then-vertex-location c =
     let inside : (location_at ls i).array < length arrays = omega arith in
     let Q : Location → Type 0 = λ m. m.array < length arrays in
     let here : c.index_mut.result.now ≡ get_or arrays l.array [] = get_or_read arrays l.array c.index_mut.result.now (subst Q (sym at) inside) c.index_mut.ensures.value [] in
-    let place = v * l.stride + l.first in
+    let position = v * l.stride + l.first in
     let whole = λ (vs : List (List ℤ)). (let w : VectorsValue = record { vectors = vs; groups = groups } in w) in
     let number = to_z-of_z w64 x c.ranges.number in
-    ap (λ (ys : List ℤ). whole (vectors_at (set arrays l.array ys) ls)) (c.set.ensures ∙ ap (λ (ys : List ℤ). set ys place (to_z w64 (of_z w64 x))) here ∙ ap (set (get_or arrays l.array []) place) number)
+    ap (λ (ys : List ℤ). whole (vectors_at (set arrays l.array ys) ls)) (c.set.ensures ∙ ap (λ (ys : List ℤ). set ys position (to_z w64 (of_z w64 x))) here ∙ ap (set (get_or arrays l.array []) position) number)
     ∙ ap (λ (m : Location). whole (vectors_at (set arrays m.array (set (get_or arrays m.array []) (v * m.stride + m.first) x)) ls)) at
     ∙ ap whole (entry_set arrays ls groups c.self.invariant i v x hi hv)
     ∙ ap (λ (now : VectorsValue). let w : VectorsValue = record now { vectors = with_entry now.vectors i v x } in w) c.self.view_is

@@ -8,13 +8,13 @@ pub sums-preserved : goal.sums-preserved
 sums-preserved c =
     let self = c.args.self.now in
     let summary = self.summary.items in
-    let place = c.sums.place in
-    let sum : c.index.result.now ≡ get_or summary place 0 = c.index.ensures ∙ get_or_default summary place c.index.result.now 0 (search rules) in
+    let position = c.sums.position in
+    let sum : c.index.result.now ≡ get_or summary position 0 = c.index.ensures ∙ get_or_default summary position c.index.result.now 0 (search rules) in
     record {
       len = c.clear_named.ensures.len ∙ c.sums.invariant.len;
       stay = λ p some. c.sums.invariant.stay p (c.clear_named.ensures.stay p some);
-      zero = zero_below c.sums.words c.clear_named.new.words summary place (λ p some. self.summed p (c.sums.invariant.stay p some)) c.clear_named.ensures.stay
-          (λ p is. c.clear_named.ensures.clear p (subst (λ n. Contains (bit_members 64 (64 * place) n) p) (sym sum) is)) c.sums.invariant.zero;
+      zero = zero_below c.sums.words c.clear_named.new.words summary position (λ p some. self.summed p (c.sums.invariant.stay p some)) c.clear_named.ensures.stay
+          (λ p is. c.clear_named.ensures.clear p (subst (λ n. Contains (bit_members 64 (64 * position) n) p) (sym sum) is)) c.sums.invariant.zero;
     }
 
 pub invariant_of-self : goal.invariant_of-self
@@ -24,7 +24,7 @@ invariant_of-self c =
     let back : take self.words.len (words ++ drop (length words) self.words.items) ≡ words =
     written_back self.words.len self.words.items words (search rules) c.sums.invariant.len in
     let filled : length c.fill.new.self.items ≡ length self.summary.items = search rules in
-    let zero = all_zero words (length self.summary.items) c.sums.place (search rules) (omega (arith, c.sums.invariant.len, self.covered)) c.sums.invariant.zero in
+    let zero = all_zero words (length self.summary.items) c.sums.position (search rules) (omega (arith, c.sums.invariant.len, self.covered)) c.sums.invariant.zero in
     record {
       few = omega (arith, ap length back, c.sums.invariant.len, self.few);
       short = omega (arith, filled, self.short);
@@ -38,5 +38,5 @@ returns-clause-marks c = λ v.
     let words = c.sums.words in
     let back : take self.words.len (words ++ drop (length words) self.words.items) ≡ words =
     written_back self.words.len self.words.items words (search rules) c.sums.invariant.len in
-    let zero = all_zero words (length self.summary.items) c.sums.place (search rules) (omega (arith, c.sums.invariant.len, self.covered)) c.sums.invariant.zero in
+    let zero = all_zero words (length self.summary.items) c.sums.position (search rules) (omega (arith, c.sums.invariant.len, self.covered)) c.sums.invariant.zero in
     rw back (none_marked words v (zero _))

@@ -7,19 +7,19 @@ use Rattle.vertex_sets.proofs.words.WordSet.from_test.Goals as goal
 
 pub overflow_add-count : goal.overflow_add-count
 overflow_add-count g c =
-    let l = c.loop-place in
+    let l = c.loop-index in
     let word = c.word_from_test-word.result in
     let fits : word < 2 ^ 64 = search rules in
     omega (arith, l.invariant.count, l.invariant.words, words_room 0 l.words.items, length_bits 64 0 word fits, bits_room 64 0 word)
 
-pub loop-place-preserved : goal.loop-place-preserved
-loop-place-preserved g c =
-    let l = c.loop-place in
+pub loop-index-preserved : goal.loop-index-preserved
+loop-index-preserved g c =
+    let l = c.loop-index in
     let word = c.word_from_test-word.result in
     let pushed : c.push.new.self.items ≡ l.words.items ++ word ∷ [] = search rules in
-    let start : l.place * 64 < c.args.vertices = omega arith in
+    let start : l.index * 64 < c.args.vertices = omega arith in
     let fits : word < 2 ^ 64 = search rules in
-    let many : c.min.result ≡ min (c.args.vertices - l.place * 64) 64 = search rules in
+    let many : c.min.result ≡ min (c.args.vertices - l.index * 64) 64 = search rules in
     record {
       words = ap length pushed ∙ omega (arith, l.invariant.words, length-append l.words.items (word ∷ []));
       count = omega (
@@ -30,16 +30,16 @@ loop-place-preserved g c =
         length-append (word_members 0 l.words.items) (bit_members 64 (0 + 64 * length l.words.items) word),
         length_bits 64 (0 + 64 * length l.words.items) word fits,
       );
-      below = rw pushed (next_below (λ v b. g.F.Fn.post c.args.test.now (v, tt) b) c.args.vertices l.words.items word l.place c.min.result l.invariant.words start many c.word_from_test-word.ensures.others l.invariant.below);
-      tested = rw pushed (next_word (λ v b. g.F.Fn.post c.args.test.now (v, tt) b) c.args.vertices l.words.items word l.place c.min.result l.invariant.words start many c.word_from_test-word.ensures.tested l.invariant.tested);
+      below = rw pushed (next_below (λ v b. g.F.Fn.post c.args.test.now (v, tt) b) c.args.vertices l.words.items word l.index c.min.result l.invariant.words start many c.word_from_test-word.ensures.others l.invariant.below);
+      tested = rw pushed (next_word (λ v b. g.F.Fn.post c.args.test.now (v, tt) b) c.args.vertices l.words.items word l.index c.min.result l.invariant.words start many c.word_from_test-word.ensures.tested l.invariant.tested);
     }
 
 pub returns-clause-below : goal.returns-clause-below
 returns-clause-below g c =
-    let words = c.loop-place.words.items in
+    let words = c.loop-index.words.items in
     All-from_get_or (λ v. v < c.args.vertices) (word_members 0 words) 0
-    (λ k lt. c.loop-place.invariant.below _ ((word_members_has words _).0 (Contains-get_or (word_members 0 words) k 0 lt)))
+    (λ k lt. c.loop-index.invariant.below _ ((word_members_has words _).0 (Contains-get_or (word_members 0 words) k 0 lt)))
 
 pub returns-clause-tested : goal.returns-clause-tested
 returns-clause-tested g c = λ v lt.
-    word_answer (λ u b. g.F.Fn.post c.args.test.now (u, tt) b) c.loop-place.words.items v (c.loop-place.invariant.tested v (omega arith) lt)
+    word_answer (λ u b. g.F.Fn.post c.args.test.now (u, tt) b) c.loop-index.words.items v (c.loop-index.invariant.tested v (omega arith) lt)

@@ -1,9 +1,9 @@
--- Arrays of blocks to which places come.
+-- Arrays of blocks to which slots are added.
 use Rattle.std.specs.Prelude.{◌≡◌, ℕ, ◌+◌, Option, List, ◌++◌, length}
 use Rattle.vertex_blocks.specs.Blocks.{Block, IsBlock, numbered}
 use Rattle.flat_snapshot.specs.Lists.{lists_in, AreBlocks}
 
--- places without a block came, up to n of them
+-- slots without a block came, up to n of them
 pub record IsPadded (old : List (Option Block)) (n : ℕ) (new : List (Option Block)) : Type 0 where
   pub count : length new ≡ n
   pub lists : (k : ℕ) → lists_in k new ≡ lists_in k old

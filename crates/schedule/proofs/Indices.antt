@@ -13,33 +13,33 @@ use Rattle.expression_types.specs.Names.{found}
 use Rattle.typed_tree.specs.declared.statement.MainStatement.{MainStatement}
 use Rattle.typed_tree.specs.BlockTree.{block_tree}
 use Rattle.schedule.specs.declared.site.Site.{Site}
-use Rattle.schedule.specs.inside.Putting.{first_of, PutsPlace, PutsSite}
+use Rattle.schedule.specs.inside.Putting.{first_of, PutsIndex, PutsSite}
 use Rattle.schedule.specs.Sites.{label_of}
 
-if_some : (b : Bool) (place : ℕ) (rest : Option ℕ) → first_of (if b then Some place else None) rest ≡ (if b then Some place else rest)
-if_some true place rest = refl
-if_some false place rest = refl
+if_some : (b : Bool) (index : ℕ) (rest : Option ℕ) → first_of (if b then Some index else None) rest ≡ (if b then Some index else rest)
+if_some true index rest = refl
+if_some false index rest = refl
 
-under : (b : Bool) (place : ℕ) (x y rest more : Option ℕ) → first_of x rest ≡ first_of y more
-    → first_of (if b then Some place else x) rest ≡ first_of (if b then Some place else y) more
-under true place x y rest more h = refl
-under false place x y rest more h = h
+under : (b : Bool) (index : ℕ) (x y rest more : Option ℕ) → first_of x rest ≡ first_of y more
+    → first_of (if b then Some index else x) rest ≡ first_of (if b then Some index else y) more
+under true index x y rest more h = refl
+under false index x y rest more h = h
 
-pub found_last : (es : List (List ℕ × ℕ)) (name : List ℕ) (place : ℕ) → PutsPlace es name place (es ++ (name, place) ∷ [])
-found_last [] name place other rest = if_some (bytes_eq other name) place rest
-found_last (e ∷ es) name place other rest = under (bytes_eq other e.0) e.1 _ _ _ _ (found_last es name place other rest)
+pub found_last : (es : List (List ℕ × ℕ)) (name : List ℕ) (index : ℕ) → PutsIndex es name index (es ++ (name, index) ∷ [])
+found_last [] name index other rest = if_some (bytes_eq other name) index rest
+found_last (e ∷ es) name index other rest = under (bytes_eq other e.0) e.1 _ _ _ _ (found_last es name index other rest)
 
 either_rest : (o a b : Option ℕ) → is_none o ≡ false → first_of o a ≡ first_of o b
-either_rest (Some place) a b h = refl
+either_rest (Some index) a b h = refl
 either_rest None a b h =
     let bad : true ≡ false = h in
     cc
 
-pub found_there : (es : List (List ℕ × ℕ)) (name : List ℕ) (place : ℕ) → is_none (found name es) ≡ false → PutsPlace es name place es
-found_there es name place h other rest = go (bytes_eq other name) refl
+pub found_there : (es : List (List ℕ × ℕ)) (name : List ℕ) (index : ℕ) → is_none (found name es) ≡ false → PutsIndex es name index es
+found_there es name index h other rest = go (bytes_eq other name) refl
   where
-    go : (b : Bool) → bytes_eq other name ≡ b → first_of (found other es) rest ≡ first_of (found other es) (if b then Some place else rest)
-    go true t = either_rest (found other es) rest (Some place) (rw ((bytes_eq-Decides other name).0 t) h)
+    go : (b : Bool) → bytes_eq other name ≡ b → first_of (found other es) rest ≡ first_of (found other es) (if b then Some index else rest)
+    go true t = either_rest (found other es) rest (Some index) (rw ((bytes_eq-Decides other name).0 t) h)
     go false t = refl
 
 either_site : (o a b : Option Site) → is_none o ≡ false → first_of o a ≡ first_of o b
@@ -72,11 +72,11 @@ abbrev pub label_in : Option MainStatement → Option ℕ
 label_in None = None
 label_in (Some s) = s.label
 
-pub label_of-slice_get : (statements : List MainStatement) (place : ℕ) → label_in (slice_get statements place) ≡ label_of (block_tree (drop place statements))
+pub label_of-slice_get : (statements : List MainStatement) (index : ℕ) → label_in (slice_get statements index) ≡ label_of (block_tree (drop index statements))
 label_of-slice_get [] zero = refl
-label_of-slice_get [] (suc place) = refl
+label_of-slice_get [] (suc index) = refl
 label_of-slice_get (s ∷ statements) zero = refl
-label_of-slice_get (s ∷ statements) (suc place) = label_of-slice_get statements place
+label_of-slice_get (s ∷ statements) (suc index) = label_of-slice_get statements index
 
 pub none_of : (o : Option Site) → is_none o ≡ true → o ≡ None
 none_of None h = refl

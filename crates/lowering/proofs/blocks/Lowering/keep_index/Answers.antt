@@ -1,9 +1,9 @@
 use Rattle.std.proofs.Common.{◌∙◌, rules}
-use Rattle.lowering.proofs.blocks.Lowering.keep_place.Goals as goal
+use Rattle.lowering.proofs.blocks.Lowering.keep_index.Goals as goal
 
 pub returns : goal.returns
 returns c = record {
   kept = c.plain.result;
   is = search rules;
-  at = c.len-place.ensures ∙ c.args.code.now.ok.0;
+  at = c.len-index.ensures ∙ c.args.code.now.ok.0;
 }

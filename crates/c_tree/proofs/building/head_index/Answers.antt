@@ -4,9 +4,9 @@ use Rattle.std.proofs.lemmas.List.{drop_more}
 use Rattle.tail_codec.proofs.Writing.{key_of, length_keys}
 use Rattle.c_tree.specs.Heads.{is_head}
 use Rattle.c_tree.specs.Chunks.{before_head}
-use Rattle.c_tree.proofs.building.head_place.Goals as goal
+use Rattle.c_tree.proofs.building.head_index.Goals as goal
 
--- the entry at a place, by the column of keys
+-- the entry at an index, by the column of keys
 module _ (b i : ℕ) (es : List (ℕ × ℤ)) (keys : List ℕ) (same : keys ≡ keys_of es) (within : i < length keys) where
   within' : i < length es
   within' = omega (arith, within, ap length same, length_keys es)
@@ -29,12 +29,12 @@ module _ (b i : ℕ) (es : List (ℕ × ℤ)) (keys : List ℕ) (same : keys ≡
 
 pub returns-then-is_head : goal.returns-then-is_head
 returns-then-is_head c =
-    let l = c.loop-place in
-    let none = stops c.args.chunk_size l.place c.args.entries.now c.keys-key-items.result.now c.keys-key-items.ensures c.loop-place-test.true (sym c.is_head.ensures ∙ c.if-is_head.true) in
+    let l = c.loop-index in
+    let none = stops c.args.chunk_size l.index c.args.entries.now c.keys-key-items.result.now c.keys-key-items.ensures c.loop-index-test.true (sym c.is_head.ensures ∙ c.if-is_head.true) in
     omega (arith, l.invariant, ap length none)
 
-pub loop-place-preserved : goal.loop-place-preserved
-loop-place-preserved c =
-    let l = c.loop-place in
-    let more = goes_on c.args.chunk_size l.place c.args.entries.now c.keys-key-items.result.now c.keys-key-items.ensures c.loop-place-test.true (sym c.is_head.ensures ∙ c.if-is_head.false) in
+pub loop-index-preserved : goal.loop-index-preserved
+loop-index-preserved c =
+    let l = c.loop-index in
+    let more = goes_on c.args.chunk_size l.index c.args.entries.now c.keys-key-items.result.now c.keys-key-items.ensures c.loop-index-test.true (sym c.is_head.ensures ∙ c.if-is_head.false) in
     omega (arith, l.invariant, more)

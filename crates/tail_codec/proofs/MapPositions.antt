@@ -1,4 +1,4 @@
--- Entries with ascending keys, cut at the place of a key.
+-- Entries with ascending keys, cut at the position of a key.
 use Rattle.std.proofs.Common.{◌≡◌, ℕ, suc, ◌+◌, ◌<◌, ◌≤◌, true, false, inl, inr, Some, None, List, [], ◌∷◌, length, take, drop, get_or, refl, sym, ◌∙◌, ap, arith}
 use Rattle.std.specs.Map.{keys_of}
 use Rattle.std.proofs.lemmas.Bool.{true≢false, false≢true, cases_lt, cases_order, lt-ltb, le-ltb, eq-eqb, ne_eqb}
@@ -24,23 +24,23 @@ module _ {V : Type 0} where
   no_value k low [] lt s = refl
   no_value k low (e ∷ es) lt s = rw (ne_eqb e.0 k (omega (arith, s.0))) (no_value k (e.0 + 1) es (omega (arith, s.0)) s.2)
 
-  -- the key k stands at a place
-  pub record IsAt (k place : ℕ) (es : List (ℕ × V)) (none : V) : Type 0 where
-    pub within : place < length es
-    pub front : take place es ≡ entries_below k es
-    pub there : Some (get_or es place (0, none)).1 ≡ lookup k es
-    pub back : drop (place + 1) es ≡ entries_above k es
+  -- the key k stands at a position
+  pub record IsAt (k position : ℕ) (es : List (ℕ × V)) (none : V) : Type 0 where
+    pub within : position < length es
+    pub front : take position es ≡ entries_below k es
+    pub there : Some (get_or es position (0, none)).1 ≡ lookup k es
+    pub back : drop (position + 1) es ≡ entries_above k es
 
-  -- the key k would stand at a place
-  pub record IsMissing (k place : ℕ) (es : List (ℕ × V)) : Type 0 where
-    pub within : place ≤ length es
-    pub front : take place es ≡ entries_below k es
+  -- the key k would stand at a position
+  pub record IsMissing (k position : ℕ) (es : List (ℕ × V)) : Type 0 where
+    pub within : position ≤ length es
+    pub front : take position es ≡ entries_below k es
     pub there : None ≡ lookup k es
-    pub back : drop place es ≡ entries_above k es
+    pub back : drop position es ≡ entries_above k es
 
-  pub place_there : (k low : ℕ) (es : List (ℕ × V)) (none : V) → AscendsFrom low (keys_of es) → has k (keys_of es) ≡ true → IsAt k (length (below k (keys_of es))) es none
-  place_there k low [] none s h = absurd (false≢true h)
-  place_there k low (e ∷ es) none s h =
+  pub position_there : (k low : ℕ) (es : List (ℕ × V)) (none : V) → AscendsFrom low (keys_of es) → has k (keys_of es) ≡ true → IsAt k (length (below k (keys_of es))) es none
+  position_there k low [] none s h = absurd (false≢true h)
+  position_there k low (e ∷ es) none s h =
       elim (cases_order e.0 k) [
         | inl is ↦
             let nothing : below k (keys_of es) ≡ [] = below_none k (e.0 + 1) (keys_of es) (omega (arith, is)) s.2 in
@@ -54,7 +54,7 @@ module _ {V : Type 0} where
             })
         | inr other ↦ elim other [
           | inl lt ↦
-              let rest : IsAt k (length (below k (keys_of es))) es none = place_there k (e.0 + 1) es none s.2 (rw (ne_eqb e.0 k (omega arith)) at h) in
+              let rest : IsAt k (length (below k (keys_of es))) es none = position_there k (e.0 + 1) es none s.2 (rw (ne_eqb e.0 k (omega arith)) at h) in
               rw (lt-ltb e.0 k lt) (record {
                 within = omega (arith, rest.within);
                 front = rw (lt-ltb e.0 k lt) (ap (λ v. e ∷ v) rest.front);
@@ -67,14 +67,14 @@ module _ {V : Type 0} where
         ]
       ]
 
-  pub place_missing : (k low : ℕ) (es : List (ℕ × V)) → AscendsFrom low (keys_of es) → has k (keys_of es) ≡ false → IsMissing k (length (below k (keys_of es))) es
-  place_missing k low [] s h = record { within = omega arith; front = refl; there = refl; back = refl }
-  place_missing k low (e ∷ es) s h =
+  pub position_missing : (k low : ℕ) (es : List (ℕ × V)) → AscendsFrom low (keys_of es) → has k (keys_of es) ≡ false → IsMissing k (length (below k (keys_of es))) es
+  position_missing k low [] s h = record { within = omega arith; front = refl; there = refl; back = refl }
+  position_missing k low (e ∷ es) s h =
       elim (cases_order e.0 k) [
         | inl is ↦ absurd (true≢false (rw (eq-eqb e.0 k is) at h))
         | inr other ↦ elim other [
           | inl lt ↦
-              let rest : IsMissing k (length (below k (keys_of es))) es = place_missing k (e.0 + 1) es s.2 (rw (ne_eqb e.0 k (omega arith)) at h) in
+              let rest : IsMissing k (length (below k (keys_of es))) es = position_missing k (e.0 + 1) es s.2 (rw (ne_eqb e.0 k (omega arith)) at h) in
               rw (lt-ltb e.0 k lt) (record {
                 within = omega (arith, rest.within);
                 front = rw (lt-ltb e.0 k lt) (ap (λ v. e ∷ v) rest.front);

@@ -1,9 +1,0 @@
-use Rattle.std.proofs.Common.{◌≡◌, ℕ, List, drop}
-use Rattle.expression_types.specs.Names.{found}
-use Rattle.schedule.specs.Names.{place_from}
-use Rattle.schedule.specs.inside.Putting.{first_of}
-use Rattle.schedule.proofs.names.places_of.Given as goal
-
--- a name has its place so far, or the first of those to come
-abbrev pub invariant-loop-place : goal.invariant-loop-place
-invariant-loop-place l = (name : List ℕ) → first_of (found name l.places) (place_from l.place name (drop l.place l.names)) ≡ place_from 0 name l.names

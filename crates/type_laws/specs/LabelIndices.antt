@@ -1,0 +1,42 @@
+-- The labels of the statements of main, as indices among all labels.
+use Rattle.std.specs.Prelude.{ℕ, List, [], ◌∷◌, ◌++◌, Option, Some, None}
+use Rattle.typed_tree.specs.BlockTree.{ActionTree, DeclareInteger, DeclareCondition, SetInteger, SetCondition, ReduceInteger, SetEntry, ReduceEntry, DeclareSet, AssignSet, AddVertex, PrintInteger, PrintCondition, ApplyVertex, ApplyEdges, If, IfElse, While, For, BlockTree, Empty, Then}
+use Rattle.typed_tree.specs.ProgramTree.{ProgramTree}
+use Rattle.type_laws.specs.Numbers.{InOrder}
+
+-- the label of a statement, where it has one
+abbrev pub own_index : Option ℕ → List ℕ
+own_index None = []
+own_index (Some label) = label ∷ []
+
+abbrev mutual
+  -- those of the statements inside a statement
+  pub inner_indices : ActionTree → List ℕ
+  inner_indices (DeclareInteger name e) = []
+  inner_indices (DeclareCondition name c) = []
+  inner_indices (SetInteger slot e) = []
+  inner_indices (SetCondition slot c) = []
+  inner_indices (ReduceInteger slot by e) = []
+  inner_indices (SetEntry vector index e) = []
+  inner_indices (ReduceEntry vector index by e) = []
+  inner_indices (DeclareSet name value) = []
+  inner_indices (AssignSet slot value) = []
+  inner_indices (AddVertex slot e) = []
+  inner_indices (PrintInteger e) = []
+  inner_indices (PrintCondition c) = []
+  inner_indices (ApplyVertex slot function) = []
+  inner_indices (ApplyEdges ends function) = []
+  inner_indices (If c body) = label_indices body
+  inner_indices (IfElse c body other) = label_indices body ++ label_indices other
+  inner_indices (While c body) = label_indices body
+  inner_indices (For name first end body) = label_indices body
+
+  -- in the order of the text, that of a statement before those inside it
+  pub label_indices : BlockTree → List ℕ
+  label_indices Empty = []
+  label_indices (Then number label action others) = own_index label ++ (inner_indices action ++ label_indices others)
+
+-- the labels of main follow each other, without a gap, from the first one on
+pub record LabelsAreInOrder (p : ProgramTree) : Type 0 where
+  pub first : ℕ
+  pub ordered : InOrder first (label_indices p.main)
