@@ -94,14 +94,8 @@ fn send_early<W: Drain>(
 ) -> Result<(), SendError>
     ensures { Emits replies.old replies.new (early_text all.now) result }
 {
-    'runs: for position in 0..all.len() {
-        send_run(
-            alloc,
-            EARLY,
-            position as u64 + 1,
-            &all[position].early,
-            replies,
-        )?;
+    'runs: for index in 0..all.len() {
+        send_run(alloc, EARLY, index as u64 + 1, &all[index].early, replies)?;
     }
     Ok(())
 }
@@ -113,14 +107,8 @@ fn send_late<W: Drain>(
 ) -> Result<(), SendError>
     ensures { Emits replies.old replies.new (late_text all.now) result }
 {
-    'runs: for position in 0..all.len() {
-        send_run(
-            alloc,
-            LATE,
-            position as u64 + 1,
-            &all[position].late,
-            replies,
-        )?;
+    'runs: for index in 0..all.len() {
+        send_run(alloc, LATE, index as u64 + 1, &all[index].late, replies)?;
     }
     Ok(())
 }

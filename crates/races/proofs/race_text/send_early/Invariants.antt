@@ -5,4 +5,4 @@ use Rattle.races.proofs.race_text.send_early.Given as goal
 
 -- those so far are sent
 abbrev pub invariant-runs : goal.invariant-runs
-invariant-runs g l = Sends l.fn.replies l.replies (numbered early_run 1 (take l.position l.all))
+invariant-runs g l = Sends l.fn.replies l.replies (numbered early_run 1 (take l.index l.all))
