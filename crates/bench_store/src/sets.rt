@@ -238,7 +238,7 @@ fn merged(alloc: Global, xs: &[u32], ys: &[u32]) -> Result<Vec<u32>, AllocError>
 // Above each number of a list.
 const END: u64 = 1 << 32;
 
-// The number at an index, `END` behind the last.
+// The number at an index, `END` after the last.
 fn number_at(list: &[u32], index: usize) -> u64 {
     list.get(index).map_or(END, |number| u64::from(*number))
 }

@@ -13,7 +13,7 @@ use Rattle.c_tree.specs.inside.Spelled.{StandsOverItsHead, SpellsUpTo}
 use Rattle.c_tree.proofs.Making.{keys_front, keys_after}
 use Rattle.c_tree.proofs.Turns.{together_at, all_left, all_right}
 
--- an entry fits behind those that stand before it
+-- an entry fits after those that stand before it
 joined_fits : (e : ℕ × ℤ) (r : List (ℕ × ℤ)) (low : ℕ) (l : List (ℕ × ℤ)) → AscendsFrom low (keys_of (l ++ e ∷ r)) → (least_after low (keys_of l) ≤ e.0) × (e.0 < 2 ^ 32)
 joined_fits e r low [] s = (s.0, s.1)
 joined_fits e r low (x ∷ l) s = joined_fits e r (x.0 + 1) l s.2
@@ -72,7 +72,7 @@ module _ (prefix : BasedList) (t l : Balanced HeadValue) (k : ℕ) (v : HeadValu
         sym_after : least_after (k + 1) (keys_of (together v.tail r.entries)) ≡ least_after (least prefix.base) (keys_of (together prefix l.entries ++ (k, v.weight) ∷ together v.tail r.entries))
         sym_after = rw (least_after-joined (k, v.weight) (together v.tail r.entries) (least prefix.base) (together prefix l.entries)) refl
 
--- bytes behind bytes behind bytes
+-- bytes after bytes after bytes
 three : (old one two new a b c : List ℕ) → one ≡ old ++ a → two ≡ one ++ b → new ≡ two ++ c → new ≡ old ++ (a ++ (b ++ c))
 three old one two new a b c is is' is'' =
     is'' ∙ ap (λ v. v ++ c) (is' ∙ ap (λ v. v ++ b) is) ∙ append_assoc (old ++ a) b c ∙ append_assoc old a (b ++ c)

@@ -9,7 +9,7 @@
 //! `CTree::from_sorted` cuts a list, and refuses one whose keys do not ascend; `prefix` and `heads` give
 //! the cut, `get`, `contains`, `len` and `iter` are those of the list, and an [`Iter`] reads the entries
 //! one by one, their keys by blocks, or keys and weights by two blocks. `append_spelling` writes the
-//! whole list as one, in the bytes of one tail, behind other bytes.
+//! whole list as one, in the bytes of one tail, after other bytes.
 //!
 //! A [`View`] is a set that is lent, or what stands in it before a head or after one: the tail of a
 //! head and the chunks to the right of it are in chunks as a set is, so `root` takes a view apart into

@@ -16,10 +16,10 @@ use std::alloc::AllocError;
 use tail_codec::{Tail, append_entry};
 
 impl CTree {
-    /// Writes the bytes that spell all entries as one list, over no base, behind other bytes. It
+    /// Writes the bytes that spell all entries as one list, over no base, after other bytes. It
     /// takes time in proportion to the bytes.
     ///
-    /// The only error is out of memory, and then a part of these bytes may stand behind the others.
+    /// The only error is out of memory, and then a part of these bytes may stand after the others.
     #[inline]
     pub fn append_spelling(&self, bytes: &mut Vec<u8>) -> Result<(), AllocError>
         ensures { IsAppended bytes.old.items result (λ _. Spells None self.now.entries)
@@ -32,7 +32,7 @@ impl CTree {
 }
 
 /// Writes the bytes that spell the entries of a prefix and of chunks, over the base of the prefix,
-/// behind other bytes, and gives the tail that the last of them are in.
+/// after other bytes, and gives the tail that the last of them are in.
 fn append_together<'a>(
     bytes: &mut Vec<u8>,
     prefix: &'a Tail,

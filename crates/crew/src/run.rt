@@ -23,7 +23,7 @@ use std::thread::Threads;
 /// fall to the workers. `gate` is told of each piece before it is done.
 ///
 /// A worker takes its state from the end of `states`, or asks the work for a new one where there is
-/// none left; after the run the states of all workers are in `states`, behind those that were not
+/// none left; after the run the states of all workers are in `states`, after those that were not
 /// taken, so that the next run needs no new ones. After an error some are lost.
 ///
 /// One worker, or one piece, starts no thread; else as many threads are started as there are workers

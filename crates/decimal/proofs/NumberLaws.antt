@@ -67,7 +67,7 @@ pub value_of-longer : (limit : ℕ) (front rest : List ℕ) → limit ≤ value_
 value_of-longer limit front rest large =
     omega (arith, value_of-append front rest, mul-le-mul_left (value_of front) (one-le-pow (length rest) 10 (omega arith)))
 
--- a word of digits that stands for n is read as n, behind any zeros
+-- a word of digits that stands for n is read as n, after any zeros
 number_of-zeros : (limit n : ℕ) (word : List ℕ) → n < limit → all_ascii_digits word ≡ true → value_of word ≡ n → 0 < length word → (zeros : ℕ) → number_of limit (replicate zeros 48 ++ word) ≡ Some n
 number_of-zeros limit n word below digits value some zeros =
     number_of-digits limit (replicate zeros 48 ++ word)
@@ -94,7 +94,7 @@ pub number_of-overflow : (word : List ℕ) → AreLeadingDigits word None → nu
 number_of-overflow word (len, begins, large) =
     number_of-large (2 ^ 64) word (subst (λ bytes. 2 ^ 64 ≤ value_of bytes) (take-append-drop len word) (value_of-longer (2 ^ 64) (take len word) (drop len word) large))
 
--- nor is one with another byte behind its digits
+-- nor is one with another byte after its digits
 pub number_of-ended : (limit : ℕ) (word : List ℕ) (len : ℕ) → len < length word → is_ascii_digit (get_or word len 0) ≡ false → number_of limit word ≡ None
 number_of-ended limit word len within other =
     ap (number_of limit) (sym (take-append-drop len word))

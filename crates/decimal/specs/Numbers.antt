@@ -19,7 +19,7 @@ number_of limit word =
 abbrev pub IsReadBack : ℕ → ℕ → Type 0
 IsReadBack limit n = (zeros : ℕ) → number_of limit (replicate zeros 48 ++ decimal n) ≡ Some n
 
--- the integer of 64 bits that one or more digits stand for, negative behind the byte 45, which is `-`
+-- the integer of 64 bits that one or more digits stand for, negative after the byte 45, which is `-`
 abbrev pub integer_of : List ℕ → Option ℤ
 integer_of [] = None
 integer_of (first ∷ rest) =

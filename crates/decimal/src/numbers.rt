@@ -18,7 +18,7 @@ pub fn push_number(out: &mut Vec<u8>, n: u64) -> Result<(), AllocError>
     out.extend_from_slice(buffer.format(n).as_bytes())
 }
 
-/// Appends the decimal digits of an integer, with no leading zero, behind `-` where it is negative. The one
+/// Appends the decimal digits of an integer, with no leading zero, after `-` where it is negative. The one
 /// error is that memory is lacking, and then the bytes stay as they are.
 pub fn push_integer(out: &mut Vec<u8>, n: i64) -> Result<(), AllocError>
     ensures ok { OnOk result (out.new.items ≡ out.old.items ++ signed_decimal n) }
@@ -53,7 +53,7 @@ pub fn read_back()
     ensures { (limit n : ℕ) → n < limit → n < 2 ^ 64 → IsReadBack limit n }
 {}
 
-/// The integer that a word is: one or more digits, behind `-` where it is negative, from -2^63 to 2^63 - 1;
+/// The integer that a word is: one or more digits, after `-` where it is negative, from -2^63 to 2^63 - 1;
 /// or `None` where the word is another. A `+`, a second sign or a sign alone makes it none.
 pub fn integer(word: &[u8]) -> Option<i64>
     ensures { result ≡ integer_of word.now }

@@ -9,7 +9,7 @@
 //! the files hold, or `ok` where the file to check holds a program, or the text of the plan of the
 //! program that the file holds (crate `lowering`), or the text of a race of the script and the
 //! programs (crate `races`), and that the status says how the request ended.
-//! What standard error is told of a program's text behind the first line (crate `refusal_text`) is for people, and
+//! What standard error is told of a program's text after the first line (crate `refusal_text`) is for people, and
 //! no contract speaks of it.
 //!
 //! `gsnap` hands in the real files and streams, and `test_cases` a folder of tests.

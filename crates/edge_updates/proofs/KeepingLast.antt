@@ -51,7 +51,7 @@ module _ (us all : List EdgeUpdate) (kept i : ℕ) (u : EdgeUpdate) (lt : i < le
       let more : take kept us ++ u ∷ last_updates (drop (i + 1) us) ≡ all = rw other at at_index in
       rw (front, back) (append_assoc (take kept us) (u ∷ []) (last_updates (drop (i + 1) us)) ∙ more)
 
--- an edge that the first update names is decided behind it where the next one names it too
+-- an edge that the first update names is decided after it where the next one names it too
 next_decides : (u : EdgeUpdate) (us : List EdgeUpdate) (e : Edge) → begin_same u us ≡ true → names u e ≡ true → option_or (decided us e) (one_decided u e) ≡ decided us e
 next_decides u [] e same is = absurd (false≢true same)
 next_decides u (v ∷ vs) e same is =
@@ -119,7 +119,7 @@ lasts_ascend (u ∷ us) order = elim (cases_Bool (begin_same u us)) [
   | inr last ↦ rw last (lasts_follow u us (in_order_behind u us order) (begin_after u us order last))
 ]
 
--- an edge that stands no later than an update is not named behind it
+-- an edge that stands no later than an update is not named after it
 none_behind : (a : EdgeUpdate) (us : List EdgeUpdate) (e : Edge) → FollowAscending a us → e.0 ≤ vertex_of a → (e.0 ≡ vertex_of a → e.1 ≤ neighbour_of a) → times e us ≡ 0
 none_behind a [] e s le no_later = refl
 none_behind a (u ∷ us) e s le no_later =

@@ -69,7 +69,7 @@ module _ {X : Type 0} where
   weighted_parts [] = refl
   weighted_parts (e ∷ es) = ap (λ v. e ∷ v) (weighted_parts es)
 
-  -- more things and weights behind others
+  -- more things and weights after others
   pub weighted_append : (xs ys : List X) (ws vs : List ℤ) → length ws ≡ length xs → weighted (xs ++ ys) (ws ++ vs) ≡ weighted xs ws ++ weighted ys vs
   weighted_append [] ys [] vs same = refl
   weighted_append [] ys (w ∷ ws) vs same = absurd (omega (arith, same))

@@ -100,7 +100,7 @@ impl<'a> Updates<'a> {
         self.updates.first().copied()
     }
 
-    /// The first updates, so many, and those behind them. It takes constant time.
+    /// The first updates, so many, and those after them. It takes constant time.
     #[inline]
     pub fn split_at(&self, count: usize) -> (Updates<'a>, Updates<'a>)
         requires { count ≤ length self.now }

@@ -33,7 +33,7 @@ none_below u a h (e ∷ es) s lt =
     let other : e.0 ≢ u = omega (arith, s.0) in
     rw (ne_eqb e.0 u other) (none_below u (e.0 + 1) h es s.1 (omega (arith, s.0)))
 
--- what is behind lists above a vertex makes no difference to it, nor does what is before lists below it
+-- what is after lists above a vertex makes no difference to it, nor does what is before lists below it
 above_all : (u a h : ℕ) (l r : List (ℕ × List (ℕ × ℤ))) → Rises a h r → u < a → neighbours_of u (l ++ r) ≡ neighbours_of u l
 above_all u a h [] r s lt = none_below u a h r s lt
 above_all u a h (e ∷ l) r s lt = elim (cases_eq e.0 u) [
@@ -69,14 +69,14 @@ list_in v k (suc i) (b ∷ bs) d are at lt =
     below_all v (64 * k) (64 * k + 64) (numbered k (vertices_at b)) (lists_in (k + 1) bs) front (omega arith)
     ∙ list_in v (k + 1) i bs d are.1 (omega (arith, at)) (omega (arith, lt))
 
--- a vertex behind all blocks has none
+-- a vertex after all blocks has none
 pub none_above : (u a h : ℕ) (es : List (ℕ × List (ℕ × ℤ))) → Rises a h es → h ≤ u → neighbours_of u es ≡ []
 none_above u a h [] s le = refl
 none_above u a h (e ∷ es) s le =
     let other : e.0 ≢ u = omega (arith, rises_room (e.0 + 1) h es s.1) in
     rw (ne_eqb e.0 u other) (none_above u (e.0 + 1) h es s.1 le)
 
--- one more block behind the others
+-- one more block after the others
 pub lists_more : (k : ℕ) (bs : List (Option Block)) (b : Option Block) → lists_in k (bs ++ b ∷ []) ≡ lists_in k bs ++ numbered (k + length bs) (vertices_at b)
 lists_more k [] b = nil_behind ∙ ap (λ j. numbered j (vertices_at b)) (omega arith)
   where

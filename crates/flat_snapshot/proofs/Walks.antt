@@ -16,7 +16,7 @@ pub whole_from : (es : List (ℕ × List (ℕ × ℤ))) → vertices_from 0 es �
 whole_from [] = refl
 whole_from (e ∷ es) = rw (le-ltb e.0 0 (omega arith)) refl
 
--- none is left behind the end
+-- none is left after the end
 pub none_from : (u a h : ℕ) (es : List (ℕ × List (ℕ × ℤ))) → Rises a h es → h ≤ u → vertices_from u es ≡ []
 none_from u a h [] s le = refl
 none_from u a h (e ∷ es) s le =

@@ -130,7 +130,7 @@ impl Adjacency {
     }
 }
 
-/// Adds a block at its number, which is behind all others. The only error is out of memory.
+/// Adds a block at its number, which is after all others. The only error is out of memory.
 fn push(
     slots: &mut Vec<Option<VertexBlock>>,
     number: u32,

@@ -37,7 +37,7 @@ front_shape kind b bytes (c ∷ front) rest same piece =
     let head : c ≡ b = cc in
     subst (λ d. PieceShape (class_of d) (c ∷ front)) head (piece_shape kind (c ∷ front) piece)
 
--- a # with no name and # behind it
+-- a # with no name and # after it
 pub label_fault : (inside name rest : List ℕ) → inside ≡ name ++ rest → Every is_word_byte name → EndsRun is_word_byte rest → ((others : List ℕ) → rest ≡ 35 ∷ others → IsName name → ⊥) → BeginsBadByte (35 ∷ inside)
 label_fault inside name rest whole all ends none = (
   λ same. absurd (omega arith),
@@ -48,7 +48,7 @@ label_fault inside name rest whole all ends none = (
       none others cut.1 (subst IsName (sym cut.0) label.1),
 )
 
--- a quote with no other behind it
+-- a quote with no other after it
 pub quote_fault : (inside front rest : List ℕ) → inside ≡ front ++ rest → Every is_quotable front → EndsRun is_quotable rest → ((others : List ℕ) → rest ≢ 34 ∷ others) → BeginsUnfinishedText (34 ∷ inside)
 quote_fault inside front rest whole all ends none = (
   refl,
@@ -216,7 +216,7 @@ number_first bytes len some digit within digits ends small =
     first_of (Lexeme (kind.Number (pos (value_of (take len bytes))))) bytes (take len bytes) (drop len bytes) len (sym (take-append-drop len bytes)) long any
     (number_longest (take len bytes) (drop len bytes) (omega arith) digits (digits_ends bytes len within ends)) small
 
--- two slashes, the second right behind the first
+-- two slashes, the second right after the first
 pub comment_begins : (bytes rest others : List ℕ) → 0 < length bytes → get_or bytes 0 0 ≡ 47 → rest ≡ drop 1 bytes → rest ≡ 47 ∷ others → bytes ≡ 47 ∷ 47 ∷ others
 comment_begins [] rest others some slash back begins = absurd (omega arith)
 comment_begins (b ∷ bytes) rest others some slash back begins = cc

@@ -90,7 +90,7 @@ comment_longest inside rest all ends = record {
       comment_alone inside more others rest ends same (longer_shape other 47 (47 ∷ inside) more Punctuation refl piece);
 }
 
--- a word and the = behind it are no symbol
+-- a word and the = after it are no symbol
 abbrev pub IsNoReduction : List ℕ → List ℕ → Type 0
 IsNoReduction word rest = (symbol : Symbol) (others : List ℕ) → rest ≡ 61 ∷ others → symbol_spelling symbol ≢ word ++ 61 ∷ []
 

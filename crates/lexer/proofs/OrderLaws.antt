@@ -30,7 +30,7 @@ slice_between a b c from to at_from at_to =
     ∙ ap (take (length b)) (drop-append_seam a (b ++ c))
     ∙ take-append_seam b c
 
--- the pieces, behind a front and some gaps, are in order
+-- the pieces, after a front and some gaps, are in order
 abbrev InOrder : List ℕ → List Piece → Type 0
 InOrder text pieces = (front gap : List ℕ) (from at : ℕ) → AreGaps gap → text ≡ front ++ (gap ++ bytes_of pieces) → from ≡ length front → at ≡ from + length gap → AreInOrder text from (tokens_from at pieces)
 

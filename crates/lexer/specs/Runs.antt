@@ -50,7 +50,7 @@ IsFront bytes front.BadByte = BeginsBadByte bytes
 IsFront bytes front.NumberTooLarge = BeginsLargeNumber bytes
 IsFront bytes front.UnfinishedText = BeginsUnfinishedText bytes
 
--- the symbol that a word and the = behind it are, or that they are none
+-- the symbol that a word and the = after it are, or that they are none
 abbrev pub IsReduction : List ℕ → List ℕ → Option Symbol → Type 0
 IsReduction word rest found = MatchOption found
     ((symbol : Symbol) (others : List ℕ) → rest ≡ 61 ∷ others → symbol_spelling symbol ≢ word ++ 61 ∷ [])

@@ -119,7 +119,7 @@ BeginsLargeNumber text = (digits : List ℕ) × (rest : List ℕ) × (text ≡ d
     × IsLongest (record { kind = Lexeme (kind.Number (pos (value_of digits))); text = digits }) rest
     × (9223372036854775807 < value_of digits)
 
--- behind pieces, each the longest at its place, the fault stands at this offset
+-- after pieces, each the longest at its place, the fault stands at this offset
 abbrev pub FaultsAt : (List ℕ → Type 0) → List ℕ → ℕ → Type 0
 FaultsAt BeginsFault text at = (pieces : List Piece) × (rest : List ℕ) × IsReadUpTo text pieces rest
     × BeginsFault rest × (at ≡ length (bytes_of pieces))
@@ -145,7 +145,7 @@ abbrev pub AreGaps : List ℕ → Type 0
 AreGaps text = (gaps : List Piece) × AllByRecursion (λ gap. IsGap gap.kind × IsPiece gap.kind gap.text) gaps × (text ≡ bytes_of gaps)
 
 -- From an offset on the tokens stand in the text one after the other, each with its own bytes at its span, and nothing
--- but gaps before, between and behind them.
+-- but gaps before, between and after them.
 abbrev pub AreInOrder : List ℕ → ℕ → List Token → Type 0
 AreInOrder text from [] = AreGaps (drop from text)
 AreInOrder text from (token ∷ tokens) =

@@ -65,7 +65,7 @@ fn word(bytes: &[u8]) -> Front
     }
 }
 
-/// The symbol that the word and the `=` right behind it are.
+/// The symbol that the word and the `=` right after it are.
 #[inline]
 fn reduction(word: &[u8], rest: &[u8]) -> Option<Symbol>
     requires { IsWord word.now }
@@ -97,7 +97,7 @@ fn number(bytes: &[u8]) -> Front
     }
 }
 
-/// A label, given what stands behind its first `#`: a name and another `#`.
+/// A label, given what stands after its first `#`: a name and another `#`.
 #[inline]
 fn label(inside: &[u8]) -> Front
     requires { length inside.now + 1 < 2 ^ 64 }
@@ -124,7 +124,7 @@ fn is_name(bytes: &[u8]) -> bool
     }
 }
 
-/// A text in quotes, given what stands behind its first quote.
+/// A text in quotes, given what stands after its first quote.
 #[inline]
 fn quoted(inside: &[u8]) -> Front
     requires { length inside.now + 1 < 2 ^ 64 }
@@ -139,7 +139,7 @@ fn quoted(inside: &[u8]) -> Front
     }
 }
 
-/// A symbol, given its first byte and what stands behind that, which together begin no comment.
+/// A symbol, given its first byte and what stands after that, which together begin no comment.
 #[inline]
 fn symbol(first: u8, rest: &[u8]) -> Front
     requires class { class_of first ≡ Punctuation }

@@ -49,7 +49,7 @@ pub fn one_reading()
 {}
 
 /// The law that the tokens of a text stand in it in their order: each has its own bytes at its span, the
-/// spans do not overlap, and only white bytes and comments stand before, between and behind them. The
+/// spans do not overlap, and only white bytes and comments stand before, between and after them. The
 /// call does nothing.
 pub fn tokens_in_order()
     ensures { (text : List ℕ) (tokens : List Token) → HasTokens text tokens → AreInOrder text 0 tokens }

@@ -3,7 +3,7 @@
 use std::process::ExitCode;
 use std::{env, io};
 
-/// The first two words behind the program's name: an option and what it names, empty where they are lacking.
+/// The first two words after the program's name: an option and what it names, empty where they are lacking.
 #[derive(Drop)]
 pub struct Arguments {
     pub option: String,

@@ -1,4 +1,4 @@
--- Runs of entries whose bytes are copied behind others.
+-- Runs of entries whose bytes are copied after others.
 use Rattle.std.proofs.Common.{◌≡◌, ℕ, zero, suc, ◌+◌, ◌-◌, ◌*◌, ◌%◌, ◌^◌, ◌<◌, ◌≤◌, bit_or, List, [], ◌∷◌, ◌++◌, length, get_or, take, drop, refl, sym, ◌∙◌, ap, subst, arith, append_assoc, length-append, length-drop, ℤ}
 use Rattle.std.proofs.lemmas.List.{drop-take, drop-drop, drop_more, take_more, take-take, take-append-drop, take_at, drop_at, length-take, length-take-le}
 use Rattle.pages.specs.declared.entry.ListEntry.{ListEntry}
@@ -17,7 +17,7 @@ next_fits position i es d lt =
     let cells : drop i es ≡ e ∷ drop (i + 1) es = drop_more es i d lt in
     omega (arith, end_from (position + size_of e) (drop (i + 1) es), ap (end_of position) cells)
 
--- the front of entries, and what is behind
+-- the front of entries, and what is after
 pub listed_front : (position i : ℕ) (bytes : List ℕ) (es : List ListEntry) → AreListed position bytes es → AreListed position bytes (take i es)
 listed_front position zero bytes es ok = tt
 listed_front position (suc i) bytes [] ok = tt
@@ -84,7 +84,7 @@ are_placed from to n bytes bytes' (e ∷ es) ok ends same room =
       omega (arith, others.2),
     )
 
--- bytes up to a position, and the bytes of a run behind them
+-- bytes up to a position, and the bytes of a run after them
 module _ (es run : List ListEntry) (bytes from bytes' : List ℕ) (start stop : ℕ) (listed : AreListed 0 bytes es) (ends : end_of 0 es + 3 ≡ length bytes) (listed' : AreListed start from run) (stop_is : stop ≡ end_of start run) (within : stop + 3 ≤ length from) where
   pub copied : bytes' ≡ take (end_of 0 es) bytes ++ take (stop + 3 - start) (drop start from) → AreListed 0 bytes' (es ++ placed_at (end_of 0 es) run) × (end_of 0 (es ++ placed_at (end_of 0 es) run) + 3 ≡ length bytes') × (lists_in bytes' (es ++ placed_at (end_of 0 es) run) ≡ lists_in bytes es ++ lists_in from run)
   copied is =

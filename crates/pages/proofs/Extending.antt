@@ -1,4 +1,4 @@
--- Entries whose lists come behind others.
+-- Entries whose lists come after others.
 use Rattle.std.proofs.Common.{◌≡◌, ℕ, ℤ, ◌+◌, ◌-◌, ◌*◌, ◌<◌, ◌≤◌, List, [], ◌∷◌, ◌++◌, length, take, drop, refl, sym, ◌∙◌, ap, subst, arith}
 use Rattle.std.proofs.lemmas.Nat.{mul-le}
 use Rattle.std.proofs.lemmas.List.{drop_all, take_at, take-take, take-append-le, length-take}
@@ -62,7 +62,7 @@ pub end_append : (position : ℕ) (es fs : List ListEntry) → end_of position (
 end_append position [] fs = refl
 end_append position (e ∷ es) fs = end_append (position + size_of e) es fs
 
--- more entries behind others
+-- more entries after others
 pub listed_append : (position : ℕ) (bytes : List ℕ) (es fs : List ListEntry) → AreListed position bytes es → AreListed (end_of position es) bytes fs → AreListed position bytes (es ++ fs)
 listed_append position bytes [] fs s t = t
 listed_append position bytes (e ∷ es) fs s t = (s.0, s.1, listed_append (position + size_of e) bytes es fs s.2 t)
@@ -104,7 +104,7 @@ written_back n old new same all =
     let none : drop (length new) old ≡ [] = drop_all (length new) old (omega arith) in
     ap (λ ds. take n (new ++ ds)) none ∙ take_at new [] n (omega arith)
 
--- a list that was written behind others
+-- a list that was written after others
 module _ (es : List ListEntry) (bytes bytes' : List ℕ) (e : ListEntry) (xs : List ℕ) (ys : List (ℕ × ℤ)) (listed : AreListed 0 bytes es) (ends : end_of 0 es + 3 ≡ length bytes) where
   pub stored : e.start ≡ end_of 0 es → e.last < 256 → (0 < e.width) × (e.width ≤ 4) → AscendsFrom 0 xs → length bytes' ≡ length bytes + size_of e → take (end_of 0 es) bytes' ≡ take (end_of 0 es) bytes → keys_at bytes' e ≡ xs → list_at bytes' e ≡ ys → AreListed 0 bytes' (es ++ e ∷ []) × (end_of 0 (es ++ e ∷ []) + 3 ≡ length bytes') × (lists_in bytes' (es ++ e ∷ []) ≡ lists_in bytes es ++ (e.vertex, ys) ∷ [])
   stored start few width ascends long front keys list =

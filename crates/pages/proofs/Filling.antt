@@ -16,7 +16,7 @@ down_at xs end i index within is =
     let position : length (take end xs) - 1 - i ≡ index = omega (arith, all) in
     sym (get_or-reverse (take end xs) i 0 (omega (arith, all)) ∙ ap (λ k. get_or (take end xs) k 0) position ∙ get_or-take end xs index 0 (omega arith))
 
--- the first element, and the others behind it
+-- the first element, and the others after it
 pub first_filled : (block xs ys : List ℕ) (first : ℕ) → 0 < length block → length block ≤ length xs → first ≡ get_or xs 0 0 → ys ≡ take (length (take (length (slice_set block 0 first) - 1) (drop 1 (slice_set block 0 first)))) (drop 1 xs) → put_mid 1 (length (slice_set block 0 first) - 1) (slice_set block 0 first) ys ≡ take (length block) xs
 first_filled [] xs ys first some room is rest = absurd (omega arith)
 first_filled (b ∷ bs) [] ys first some room is rest = absurd (omega arith)
@@ -27,7 +27,7 @@ first_filled (b ∷ bs) (x ∷ xs) ys first some room is rest =
     let same : ys ≡ take (length bs) xs = rest ∙ ap (λ n. take n xs) all in
     rw (none, is, same) (ap (λ zs. x ∷ zs) (append-nil (take (length bs) xs)))
 
--- the first element, behind the others
+-- the first element, after the others
 pub last_filled : (block ys zs : List ℕ) (n p x : ℕ) → length block ≡ n → 0 < n → length zs ≡ n → p ≡ n - 1 → ys ≡ take p zs → x ≡ get_or zs (n - 1) 0 → slice_set (ys ++ drop (n - 1) block) (n - 1) x ≡ take n zs
 last_filled block ys zs n p x long some all at is last =
     let rest : drop (n - 1) block ≡ get_or block (n - 1) 0 ∷ drop (n - 1 + 1) block = drop_more block (n - 1) 0 (omega arith) in

@@ -35,7 +35,7 @@ edges_append block (e ∷ p) q =
     ap (λ ks. map (λ n. ((64 * block + e.0) * 2 ^ 32 + n.0, n.1)) e.1 ++ ks) (edges_append block p q)
     ∙ sym (append_assoc (map (λ n. ((64 * block + e.0) * 2 ^ 32 + n.0, n.1)) e.1) (edges_of block p) (edges_of block q))
 
--- they are their neighbours behind the source
+-- they are their neighbours after the source
 rebuilt : (s : ℕ) (ks : List ℕ) (ws : List ℤ) → ((i : ℕ) → i < length ks → get_or ks i 0 / 2 ^ 32 ≡ s) → map (λ n. (s * 2 ^ 32 + n.0, n.1)) (weighted (map (λ k. k % 2 ^ 32) ks) ws) ≡ weighted ks ws
 rebuilt s [] ws all = refl
 rebuilt s (k ∷ ks) [] all =
@@ -57,7 +57,7 @@ keys_front block low zero ks s = tt
 keys_front block low (suc n) [] s = tt
 keys_front block low (suc n) (k ∷ ks) s = (s.0, s.1, s.2, keys_front block (k + 1) n ks s.3)
 
--- behind them come those of greater sources
+-- after them come those of greater sources
 keys_behind : (block s low n : ℕ) (ks : List ℕ) → AreKeysOf block low ks → s * 2 ^ 32 ≤ low → n ≤ length ks → ((i : ℕ) → i < n → get_or ks i 0 / 2 ^ 32 ≡ s) → (n < length ks → get_or ks n 0 / 2 ^ 32 ≢ s) → AreKeysOf block ((s + 1) * 2 ^ 32) (drop n ks)
 keys_behind block s low zero [] keys le within run ends = tt
 keys_behind block s low zero (k ∷ ks) keys le within run ends =
@@ -67,7 +67,7 @@ keys_behind block s low (suc n) [] keys le within run ends = absurd (omega arith
 keys_behind block s low (suc n) (k ∷ ks) keys le within run ends =
     keys_behind block s (k + 1) n ks keys.3 (omega (arith, keys.0)) (omega arith) (λ i lt. run (suc i) (omega arith)) (λ lt. ends (omega arith))
 
--- they are no more than the keys of their source, and what is behind has no more of any
+-- they are no more than the keys of their source, and what is after has no more of any
 run_few : (s n : ℕ) (ks : List ℕ) → n ≤ length ks → ((i : ℕ) → i < n → get_or ks i 0 / 2 ^ 32 ≡ s) → n ≤ length (keys_from s ks)
 run_few s zero ks within run = omega arith
 run_few s (suc n) [] within run = absurd (omega arith)

@@ -13,7 +13,7 @@ use Rattle.edge_updates.specs.declared.edge_update.EdgeUpdate.{EdgeUpdate}
 use Rattle.edge_updates.specs.EdgeUpdate.{neighbour_of, adds}
 use Rattle.pages.specs.Updates.{added, updated, NeighboursAscend}
 
--- entries above a key ascend from behind it, and those below it may stand before what ascends from it
+-- entries above a key ascend from after it, and those below it may stand before what ascends from it
 pub entries_above_from : (k low : ℕ) (xs : List (ℕ × ℤ)) → AscendsFrom low (keys_of xs) → AscendsFrom (k + 1) (keys_of (entries_above k xs))
 entries_above_from k low xs s = subst (AscendsFrom (k + 1)) (sym (keys_above k xs)) (above_from k low (keys_of xs) s)
 

@@ -26,7 +26,7 @@ module _ {V : Type 0} where
   below_end u a h [] s le = refl
   below_end u a h (e ∷ es) s le = below_here u e es (omega (arith, rises_room (e.0 + 1) h es s.1)) ∙ omega (arith, below_end u (e.0 + 1) h es s.1 le)
 
-  -- one more behind the others
+  -- one more after the others
   pub below_push_here : (u : ℕ) (es : List (ℕ × V)) (e : ℕ × V) → e.0 < u → count_below u (es ++ e ∷ []) ≡ count_below u es + 1
   below_push_here u [] e lt = below_here u e [] lt
   below_push_here u (x ∷ es) e lt = omega (arith, below_push_here u es e lt)
@@ -104,7 +104,7 @@ index_none = record {
     none : (j : ℕ) → 0 % 2 ^ j ≡ 0
     none j = omega arith
 
--- a vertex behind the others, and its bit
+-- a vertex after the others, and its bit
 module _ {V : Type 0} (bits : ℕ) (es : List (ℕ × V)) (ok : IsIndex bits es) (v : ℕ) (x : V) (rises : Rises 0 v es) (lt : v < 64) where
   abbrev all : List (ℕ × V)
   all = es ++ (v, x) ∷ []

@@ -31,7 +31,7 @@ module _ (bytes : List ℕ) (e : ListEntry) (is : IsListed bytes e) where
   one : e.last + 1 - 1 ≡ e.last
   one = omega arith
 
-  -- the list of an entry, by its first element and the bytes behind it
+  -- the list of an entry, by its first element and the bytes after it
   keys_are : list_of (number_at 4 e.start bytes) e.width (e.last + 1) (drop (e.start + 4) bytes) ≡ keys_at bytes e
   keys_are = ap (list_of (number_at 4 e.start bytes) e.width (e.last + 1)) (sym (drop-drop 4 e.start bytes))
 

@@ -147,7 +147,7 @@ padded (suc n) (w ∷ ws) =
     let same : suc n - suc (length (take n ws)) ≡ n - length (take n ws) = omega arith in
     ap (λ k. w ∷ (take n ws ++ replicate k (pos 1))) same ∙ ap (λ v. w ∷ v) (padded n ws)
 
--- more weights of 1 behind others
+-- more weights of 1 after others
 pub column_ones : (n m : ℕ) (bytes : List ℕ) (ws : List ℤ) → column_of (n + m) (take n ws) ≡ column_of n ws ++ weights_from Ones m bytes
 column_ones zero m bytes ws =
     let same : 0 + m ≡ m = omega arith in

@@ -1,4 +1,4 @@
-//! Lists that come behind those of a page.
+//! Lists that come after those of a page.
 
 ghost use Rattle.std.specs.Prelude.{◌≡◌, ℕ, pos, ◌+◌, ◌*◌, ◌^◌, ◌<◌, ◌≤◌, ◌∷◌, ◌++◌, [], length, get_or, take, IsOk};
 ghost use Rattle.std.specs.Vec.{vec_len, vec_capacity};
@@ -13,10 +13,10 @@ use crate::weights::WeightWidth;
 use crate::writing::{width_of, write, write_weights};
 use std::alloc::AllocError;
 
-/// How many bytes stand behind the last list, so that each offset may be read as four bytes.
+/// How many bytes stand after the last list, so that each offset may be read as four bytes.
 pub(crate) const PADDING: usize = 3;
 
-/// Adds the list of a vertex behind the others. The only error is out of memory, and then all is as
+/// Adds the list of a vertex after the others. The only error is out of memory, and then all is as
 /// it was.
 pub(crate) fn store(
     entries: &mut Vec<ListEntry>,
@@ -74,7 +74,7 @@ fn write_list(bytes: &mut [u8], entry: ListEntry, keys: &[u32], weights: &[i64])
     );
 }
 
-/// Adds the entries of a run behind others that have room, for lists which are one behind the other
+/// Adds the entries of a run after others that have room, for lists which are one after the other
 /// from a position on.
 fn append(
     entries: &mut Vec<ListEntry>,
@@ -99,7 +99,7 @@ fn append(
     Ok(())
 }
 
-/// Adds the lists of a run behind the others, whose bytes are those from `start` up to `stop`. The
+/// Adds the lists of a run after the others, whose bytes are those from `start` up to `stop`. The
 /// only error is out of memory, and then all is as it was.
 pub(crate) fn copy(
     entries: &mut Vec<ListEntry>,

@@ -63,7 +63,7 @@ impl EntryColumns {
         self.weights.clear();
     }
 
-    /// Adds an entry behind the others. The only error is out of memory.
+    /// Adds an entry after the others. The only error is out of memory.
     #[inline]
     pub fn push(&mut self, neighbour: u32, weight: i64) -> Result<(), AllocError>
         ensures { IfOk result (λ _. self.new ≡ self.old ++ (neighbour, weight) ∷ []) }

@@ -57,7 +57,7 @@ fn source_run(keys: &[u64], source: u64) -> usize
     count
 }
 
-/// The first weights of a column, so many or as many as there are, and those behind them.
+/// The first weights of a column, so many or as many as there are, and those after them.
 fn split_column(weights: &[i64], count: usize) -> (&[i64], &[i64])
     ensures front { result.0.now ≡ take count weights.now }
     ensures back { result.1.now ≡ drop count weights.now }

@@ -24,7 +24,7 @@ use std::marker::Model;
 /// contract sees the list of the pairs.
 #[derive(Drop)]
 pub struct Neighbours<'a> {
-    /// The first and the offsets of the others, with the weights behind them and three bytes or more behind those.
+    /// The first and the offsets of the others, with the weights after them and three bytes or more after those.
     packed: PackedOffsets<'a>,
     /// How many bytes each weight takes.
     weights: WeightWidth,
@@ -42,7 +42,7 @@ impl<'a> Model for Neighbours<'a> {
 }
 
 impl<'a> Neighbours<'a> {
-    /// The list of a first neighbour, the offsets of the others and the weights behind them.
+    /// The list of a first neighbour, the offsets of the others and the weights after them.
     #[inline]
     pub(crate) fn new(packed: PackedOffsets<'a>, weights: WeightWidth) -> Neighbours<'a>
         requires { IsWeightedView packed.first packed.width packed.mask packed.len weights packed.offsets.now }
@@ -248,7 +248,7 @@ impl<'a> Neighbours<'a> {
         (low, low)
     }
 
-    /// Adds the neighbours from an index up to another behind others, with their weights if not all are
+    /// Adds the neighbours from an index up to another after others, with their weights if not all are
     /// 1. The only error is out of memory.
     pub(crate) fn append_to(
         &self,
@@ -266,7 +266,7 @@ impl<'a> Neighbours<'a> {
         Ok(())
     }
 
-    /// Adds so many neighbours from an index on behind others. The only error is out of memory.
+    /// Adds so many neighbours from an index on after others. The only error is out of memory.
     fn append_keys(&self, from: usize, count: usize, keys: &mut Vec<u32>) -> Result<(), AllocError>
         requires { from + count ≤ length self.now }
         ensures { IfOk result (λ _. keys.new.items
@@ -279,7 +279,7 @@ impl<'a> Neighbours<'a> {
         Ok(())
     }
 
-    /// Adds the weights of so many neighbours from an index on behind those of so many others, unless all
+    /// Adds the weights of so many neighbours from an index on after those of so many others, unless all
     /// are 1. The only error is out of memory.
     fn append_weights(
         &self,
@@ -301,7 +301,7 @@ impl<'a> Neighbours<'a> {
         Ok(())
     }
 
-    /// Adds the weights of so many neighbours from an index on behind others. The only error is out of
+    /// Adds the weights of so many neighbours from an index on after others. The only error is out of
     /// memory.
     fn append_column(
         &self,

@@ -107,7 +107,7 @@ impl PackedList {
     }
 }
 
-/// Writes the neighbours and the weights into bytes that begin with them. Bytes behind them may change.
+/// Writes the neighbours and the weights into bytes that begin with them. Bytes after them may change.
 fn write_list(
     bytes: &mut [u8],
     width: usize,

@@ -33,7 +33,7 @@ fn put(bytes: &mut [u8], position: usize, number: u32)
     bytes[position..position + 4].copy_from_slice(&number.to_le_bytes());
 }
 
-/// Writes a list from a position on: its first neighbour and the offsets of the others. Bytes behind it
+/// Writes a list from a position on: its first neighbour and the offsets of the others. Bytes after it
 /// may change.
 pub(crate) fn write(bytes: &mut [u8], position: usize, width: usize, list: &[u32])
     requires some { 0 < length list.now }

@@ -61,7 +61,7 @@ module _ (depth : ℕ) {start : List Terminal} {front : List (Option Identifier 
       ∙ ap (λ r. r >>= λ b. Some (block_from b.0, b.1))
       (goes_fails goes (ap (λ b. where_begins b (statement_by (action_at depth) left)) begins ∙ ap (λ (r : Option ((Option Identifier × ActionTree) × List Terminal)). Some r) none))
 
--- `end` behind a block, and the statement of the block
+-- `end` after a block, and the statement of the block
 closed_is : (block : Reader BlockTree) (ws : List Terminal) (action : BlockTree → ActionTree)
     → (to_end_by block ws >>= λ b. Some (action b.0, b.1)) ≡ (block ws >>= λ b. closed (OfKeyword keyword.End ∷ []) (action b.0, b.1))
 closed_is block ws action =

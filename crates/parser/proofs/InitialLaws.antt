@@ -12,7 +12,7 @@ use Rattle.syntax.proofs.TerminalLaws.{after_terminal-sound, after_terminals-sou
 use Rattle.parser.specs.inside.Fronts.{is_called, called_terminal, begins_call, name_pair_at, modified_by, call_by}
 use Rattle.parser.proofs.Steps.{bind_bind, bind_same, after_terminals-append}
 
--- the names behind the parenthesis that `applyModified` opens
+-- the names after the parenthesis that `applyModified` opens
 abbrev names_by : Identifier → EndsTree → Reader InitialTree
 names_by name ends ws =
     name_at ws >>= λ f. after_terminal (OfSymbol symbol.Comma) f.1 >>= λ b. name_at b >>= λ v.

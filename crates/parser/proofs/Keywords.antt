@@ -54,7 +54,7 @@ without : (terminal : Terminal) (ws : List Terminal) (found : Option (List Termi
 without terminal ws None is differs = is
 without terminal ws (Some rest) is differs = absurd (differs rest (after_terminal-sound terminal ws rest is))
 
--- so nothing is behind it
+-- so nothing is after it
 pub none_behind : (found : TokenKind) (bytes : List ℕ) (at : ℕ) (word : Keyword) (ws left : List Terminal) → ws ≡ terminal_of found bytes at ∷ left
     → found ≢ kind.Keyword word → after_terminal (OfKeyword word) ws ≡ None
 none_behind found bytes at word ws left is differs = without (OfKeyword word) ws (after_terminal (OfKeyword word) ws) refl (no_keyword found bytes at word ws left is differs)
@@ -67,7 +67,7 @@ is_keyword found bytes at word ws left is same plain = is ∙ ap (λ k. terminal
 same_terminal-same : (word : Keyword) → same_terminal (OfKeyword word) (OfKeyword word) ≡ true
 same_terminal-same word = (bytes_eq-Decides (keyword_spelling word) (keyword_spelling word)).1 refl
 
--- so what follows it is behind it
+-- so what follows it is after it
 pub some_behind : (found : TokenKind) (bytes : List ℕ) (at : ℕ) (word : Keyword) (ws left : List Terminal) → ws ≡ terminal_of found bytes at ∷ left → found ≡ kind.Keyword word
     → ((at : ℕ) → keyword_terminal word at ≡ OfKeyword word) → after_terminal (OfKeyword word) ws ≡ Some left
 some_behind found bytes at word ws left is same plain =

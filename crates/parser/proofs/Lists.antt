@@ -15,7 +15,7 @@ module _ {L T : Type 0} {link : List Terminal → Option (Option (L × List Term
   list_step {start = start} old new x rest pushed goes is less =
       subst (λ xs. Goes link start xs rest) (sym (ap (map view) pushed ∙ map-append view old (x ∷ []))) (goes_step (view x) rest goes is less)
 
--- the trees are the first one and others that were read one after the other from the start on; left is behind them
+-- the trees are the first one and others that were read one after the other from the start on; left is after them
 pub record Follow {L : Type 0} (link : List Terminal → Option (Option (L × List Terminal))) (first : L) (start : List Terminal) (all : List L) (left : List Terminal) : Type 0 where
   pub others : List L
   pub all_are : all ≡ first ∷ others

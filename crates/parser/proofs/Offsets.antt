@@ -18,7 +18,7 @@ use Rattle.parser.specs.declared.error.ParseError.{ParseError}
 use Rattle.parser.specs.declared.error.ParseError.TheVariants.{BadByte, NumberTooLarge, UnfinishedText, Unexpected, TooDeep, NoMemory}
 use Rattle.parser.specs.Outcome.{Parses, StandsIn, beginning_of}
 
--- a fault stands behind what was read
+-- a fault stands after what was read
 fault_within : (BeginsFault : List ℕ → Type 0) (text : List ℕ) (at : ℕ) → FaultsAt BeginsFault text at → at ≤ length text
 fault_within BeginsFault text at (pieces, rest, read, begins, is) = omega (arith, is, ap length read.whole, length-append (bytes_of pieces) rest)
 

@@ -54,7 +54,7 @@ unindexed_is : (e : Reader ExpressionTree) (name : Identifier) (ws : List Termin
 unindexed_is e name ws None = refl
 unindexed_is e name ws (Some after) = refl
 
--- a name behind which no bracket is opened
+-- a name after which no bracket is opened
 pub named_unindexed : (e : Reader ExpressionTree) (name : Identifier) (ws : List Terminal) → ((rest : List Terminal) → ws ≢ OfSymbol symbol.OpenBracket ∷ rest)
     → named_by e name ws (after_open_bracket ws) (after_dot ws) ≡ named_by no_expression name ws None (after_dot ws)
 named_unindexed e name ws other =

@@ -26,7 +26,7 @@ after_terminals-append (terminal ∷ front) last ws next =
     (λ a. after_terminals-append front last a next)
     ∙ sym (bind_bind (after_terminal terminal ws) (after_terminals front) (λ rest. after_terminal last rest >>= next) (λ a. after_terminals front a >>= λ rest. after_terminal last rest >>= next) (λ a. refl))
 
--- terminals behind those that were found
+-- terminals after those that were found
 after_terminals-found : (front back ws rest : List Terminal) → after_terminals front ws ≡ Some rest → after_terminals (front ++ back) ws ≡ after_terminals back rest
 after_terminals-found [] back ws rest is = ap (after_terminals back) (same_rest ws rest is)
   where

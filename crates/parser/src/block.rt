@@ -27,7 +27,7 @@ pub(crate) enum Opening {
     Print,
 }
 
-/// The statements at the front, as many as follow one another, and the place behind them. `depth` is how
+/// The statements at the front, as many as follow one another, and the place after them. `depth` is how
 /// many blocks may stand in each other in these. No call goes deeper than `depth` blocks.
 #[cycle(read)]
 pub(crate) fn block(
@@ -118,7 +118,7 @@ fn action(
     }
 }
 
-/// What stands behind the keyword at this offset with which a statement begins.
+/// What stands after the keyword at this offset with which a statement begins.
 #[cycle(read)]
 fn opened(
     alloc: Global,
@@ -139,7 +139,7 @@ fn opened(
     }
 }
 
-/// What stands behind `var`.
+/// What stands after `var`.
 fn declared(
     alloc: Global,
     at: usize,
@@ -158,7 +158,7 @@ fn declared(
     Ok((action, behind))
 }
 
-/// What stands behind `print`.
+/// What stands after `print`.
 fn printed(
     alloc: Global,
     at: usize,
@@ -171,7 +171,7 @@ fn printed(
     Ok((Action::Print { at, value }, behind))
 }
 
-/// What stands behind `while`.
+/// What stands after `while`.
 #[cycle(read)]
 fn while_loop(
     alloc: Global,
@@ -193,7 +193,7 @@ fn while_action(at: usize, test: Expression, body: Vec<Statement>) -> Action
     Action::While { at, test, body }
 }
 
-/// What stands behind `for`.
+/// What stands after `for`.
 #[cycle(read)]
 fn for_loop(
     alloc: Global,
@@ -209,7 +209,7 @@ fn for_loop(
     Ok((for_action(at, name, first, limit, body), behind))
 }
 
-/// The variable of a `for` and the two ends of what it runs over, and the place behind them.
+/// The variable of a `for` and the two ends of what it runs over, and the place after them.
 fn range(
     alloc: Global,
     cursor: Cursor<'_>,
@@ -243,7 +243,7 @@ fn for_action(
     }
 }
 
-/// What stands behind `if`.
+/// What stands after `if`.
 #[cycle(read)]
 fn choice(
     alloc: Global,
@@ -259,7 +259,7 @@ fn choice(
     otherwise(alloc, at, test, body, left, depth)
 }
 
-/// What stands behind the body of an `if`.
+/// What stands after the body of an `if`.
 #[cycle(read)]
 fn otherwise(
     alloc: Global,
@@ -308,7 +308,7 @@ fn if_else_action(
     }
 }
 
-/// A block in a statement and `end`, and the place behind them.
+/// A block in a statement and `end`, and the place after them.
 #[cycle(read)]
 fn to_end(
     alloc: Global,

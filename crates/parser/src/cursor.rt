@@ -27,7 +27,7 @@ impl<'a> Cursor<'a> {
         Cursor { text, tokens }
     }
 
-    /// The next token, and the place behind it; `None` at the end.
+    /// The next token, and the place after it; `None` at the end.
     pub(crate) fn next(self) -> Option<(Token, Cursor<'a>)>
         ensures terminal { MatchOption result (terminals self.entry ≡ []) (λ x. terminals self.entry ≡ terminal_at self.entry x.0 ∷ terminals x.1) }
         ensures tokens { IfSome result (λ x. (x.1.text.now ≡ self.entry.text.now) × (self.entry.tokens.now ≡ x.0 ∷ x.1.tokens.now)) }
@@ -56,7 +56,7 @@ impl<'a> Cursor<'a> {
         span.slice_of(self.text)
     }
 
-    /// The place behind a symbol, if it is the next token.
+    /// The place after a symbol, if it is the next token.
     pub(crate) fn after_symbol(self, symbol: Symbol) -> Option<Cursor<'a>>
         ensures is { IsAfter (OfSymbol symbol) (terminals self.entry) result }
         ensures behind { after_terminal (OfSymbol symbol) (terminals self.entry) ≡ option_map terminals result }
@@ -70,7 +70,7 @@ impl<'a> Cursor<'a> {
         }
     }
 
-    /// The place behind a keyword that opens nothing, if it is the next token.
+    /// The place after a keyword that opens nothing, if it is the next token.
     pub(crate) fn after_keyword(self, keyword: Keyword) -> Option<Cursor<'a>>
         requires { (at : ℕ) → keyword_terminal keyword at ≡ OfKeyword keyword }
         ensures is { IsAfter (OfKeyword keyword) (terminals self.entry) result }
@@ -85,7 +85,7 @@ impl<'a> Cursor<'a> {
         }
     }
 
-    /// The place behind a symbol, or `Unexpected` at the next token, if that is another one.
+    /// The place after a symbol, or `Unexpected` at the next token, if that is another one.
     pub(crate) fn expect_symbol(self, symbol: Symbol) -> Result<Cursor<'a>, SyntaxError>
         ensures is { IsExpected (OfSymbol symbol) (terminals self.entry) result }
         ensures passes { Passes result (after_terminal (OfSymbol symbol) (terminals self.entry)) }
@@ -97,7 +97,7 @@ impl<'a> Cursor<'a> {
         }
     }
 
-    /// The place behind a keyword that opens nothing, or `Unexpected` at the next token, if that is another one.
+    /// The place after a keyword that opens nothing, or `Unexpected` at the next token, if that is another one.
     pub(crate) fn expect_keyword(self, keyword: Keyword) -> Result<Cursor<'a>, SyntaxError>
         requires { (at : ℕ) → keyword_terminal keyword at ≡ OfKeyword keyword }
         ensures is { IsExpected (OfKeyword keyword) (terminals self.entry) result }
@@ -110,7 +110,7 @@ impl<'a> Cursor<'a> {
         }
     }
 
-    /// The `+` or `-` at the front, and the place behind it.
+    /// The `+` or `-` at the front, and the place after it.
     pub(crate) fn addition(self) -> Option<(Addition, Cursor<'a>)>
         ensures found { Finds result (addition (terminals self.entry)) }
         ensures shorter { IfSome result (λ x. length (terminals x.1) < length (terminals self.entry)) }
@@ -123,7 +123,7 @@ impl<'a> Cursor<'a> {
         }
     }
 
-    /// The `*`, `/` or `%` at the front, and the place behind it.
+    /// The `*`, `/` or `%` at the front, and the place after it.
     pub(crate) fn multiplication(self) -> Option<(Multiplication, Cursor<'a>)>
         ensures found { Finds result (multiplication (terminals self.entry)) }
         ensures shorter { IfSome result (λ x. length (terminals x.1) < length (terminals self.entry)) }
@@ -137,7 +137,7 @@ impl<'a> Cursor<'a> {
         }
     }
 
-    /// The relation at the front, and the place behind it.
+    /// The relation at the front, and the place after it.
     pub(crate) fn relation(self) -> Option<(Relation, Cursor<'a>)>
         ensures found { Finds result (relation (terminals self.entry)) }
         ensures shorter { IfSome result (λ x. length (terminals x.1) < length (terminals self.entry)) }
@@ -155,7 +155,7 @@ impl<'a> Cursor<'a> {
         Some((relation, after))
     }
 
-    /// The `-` or `not` at the front, and the place behind it.
+    /// The `-` or `not` at the front, and the place after it.
     pub(crate) fn prefix(self) -> Option<(Prefix, Cursor<'a>)>
         ensures found { Finds result (prefix (terminals self.entry)) }
         ensures shorter { IfSome result (λ x. length (terminals x.1) < length (terminals self.entry)) }

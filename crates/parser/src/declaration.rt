@@ -24,7 +24,7 @@ pub(crate) enum Beginning {
     Function,
 }
 
-/// The declarations at the front, as many as follow one another, and the place behind them.
+/// The declarations at the front, as many as follow one another, and the place after them.
 pub(crate) fn declarations(
     alloc: Global,
     cursor: Cursor<'_>,
@@ -82,7 +82,7 @@ fn declaration(alloc: Global, cursor: Cursor<'_>) -> Result<(Declaration, Cursor
     }
 }
 
-/// What stands behind the keyword at this offset with which a declaration begins.
+/// What stands after the keyword at this offset with which a declaration begins.
 fn begun(
     alloc: Global,
     beginning: Beginning,
@@ -98,7 +98,7 @@ fn begun(
     }
 }
 
-/// What stands behind `const`.
+/// What stands after `const`.
 fn constant(
     alloc: Global,
     at: usize,
@@ -117,7 +117,7 @@ fn constant(
     Ok((declaration, behind))
 }
 
-/// What stands behind `func`.
+/// What stands after `func`.
 fn function(
     alloc: Global,
     at: usize,
@@ -139,7 +139,7 @@ fn function(
     Ok((declaration, behind))
 }
 
-/// The name of a function, its parameters and its result, and the place behind them.
+/// The name of a function, its parameters and its result, and the place after them.
 fn signature(
     alloc: Global,
     cursor: Cursor<'_>,
@@ -194,7 +194,7 @@ fn parameters(
     Ok((parameters, behind))
 }
 
-/// A parameter and those behind it, each behind a comma.
+/// A parameter and those after it, each after a comma.
 fn more_parameters(
     alloc: Global,
     first: Parameter,

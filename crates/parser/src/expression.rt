@@ -12,13 +12,13 @@ use lexer::{Keyword, Symbol, TokenKind};
 use std::alloc::Global;
 use syntax::{Comparison, Conjunction, Expression, Name, Primary, Sum, Term, Unary};
 
-/// The expression at the front of the tokens, as long as it goes, and the place behind it: the first
-/// token there is no operator that goes on with it, and no bracket or dot behind a name.
+/// The expression at the front of the tokens, as long as it goes, and the place after it: the first
+/// token there is no operator that goes on with it, and no bracket or dot after a name.
 ///
 /// `depth` is how many parentheses and brackets may stand in each other.
 ///
 /// The error is `Unexpected` where the tokens begin with no such expression, at the first token after
-/// which none could, at the length of the text where they end too early, or behind the opening
+/// which none could, at the length of the text where they end too early, or after the opening
 /// parenthesis or bracket that is deeper than `depth`; and `NoMemory` where memory runs out. The time is
 /// in proportion to the tokens read; each name is copied once.
 pub(crate) fn read_expression(
@@ -169,7 +169,7 @@ fn primary(
     }
 }
 
-/// The number or the truth value at the front, and the place behind it.
+/// The number or the truth value at the front, and the place after it.
 fn literal(cursor: Cursor<'_>) -> Result<(Primary, Cursor<'_>), SyntaxError>
     ensures reads { Gives primary_of result (literal_at (terminals cursor.entry)) }
     ensures shorter { IfOk result (λ x. length (terminals x.1) ≤ length (terminals cursor.entry)) }
@@ -198,7 +198,7 @@ fn truth_of(keyword: Keyword) -> Option<bool>
     }
 }
 
-/// What begins with a name, from behind the name.
+/// What begins with a name, from after the name.
 #[cycle(read)]
 fn named(
     alloc: Global,
@@ -218,7 +218,7 @@ fn named(
     unindexed(name, rest)
 }
 
-/// What begins with a name behind which no bracket is opened, from behind the name.
+/// What begins with a name after which no bracket is opened, from after the name.
 fn unindexed(name: Name, rest: Cursor<'_>) -> Result<(Primary, Cursor<'_>), SyntaxError>
     ensures reads { Gives primary_of result (named_by no_expression name (terminals rest.entry) None (after_dot (terminals rest.entry))) }
     ensures shorter { IfOk result (λ x. length (terminals x.1) ≤ length (terminals rest.entry)) }
@@ -230,7 +230,7 @@ fn unindexed(name: Name, rest: Cursor<'_>) -> Result<(Primary, Cursor<'_>), Synt
     Ok((Primary::Variable(name), rest))
 }
 
-/// The place behind `getVertexSetSize()`.
+/// The place after `getVertexSetSize()`.
 fn size_call(cursor: Cursor<'_>) -> Result<Cursor<'_>, SyntaxError>
     ensures { Passes result (after_size_call (terminals cursor.entry)) }
 {

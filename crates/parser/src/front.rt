@@ -16,7 +16,7 @@ use std::alloc::Global;
 use syntax::{Expression, NESTING_LIMIT, Name, QuotedText};
 
 impl<'a> Cursor<'a> {
-    /// The place behind a dot and a keyword that opens nothing, if these are the next two tokens.
+    /// The place after a dot and a keyword that opens nothing, if these are the next two tokens.
     pub(crate) fn after_method(self, keyword: Keyword) -> Option<Cursor<'a>>
         requires { (at : ℕ) → keyword_terminal keyword at ≡ OfKeyword keyword }
         ensures behind { after_terminals (OfSymbol Symbol.Dot ∷ OfKeyword keyword ∷ []) (terminals self.entry) ≡ option_map terminals result }
@@ -26,7 +26,7 @@ impl<'a> Cursor<'a> {
         method.after_keyword(keyword)
     }
 
-    /// The place behind these tokens, or `Unexpected` at the first that is another one. Each is a symbol or a
+    /// The place after these tokens, or `Unexpected` at the first that is another one. Each is a symbol or a
     /// keyword that opens nothing.
     pub(crate) fn expect_all(self, tokens: &[TokenKind]) -> Result<Cursor<'a>, SyntaxError>
         requires { IsTrue (list_all is_plain tokens.now) }
@@ -40,7 +40,7 @@ impl<'a> Cursor<'a> {
         after.expect_all(others)
     }
 
-    /// The place behind a token, or `Unexpected` at the next one, if that is another one.
+    /// The place after a token, or `Unexpected` at the next one, if that is another one.
     fn expect(self, token: TokenKind) -> Result<Cursor<'a>, SyntaxError>
         requires { IsTrue (is_plain token) }
         ensures passes { Passes result (after_terminal (plain_terminal token) (terminals self.entry)) }
@@ -53,7 +53,7 @@ impl<'a> Cursor<'a> {
         }
     }
 
-    /// The name at the front, and the place behind it, or `Unexpected` at the next token, if that is no name.
+    /// The name at the front, and the place after it, or `Unexpected` at the next token, if that is no name.
     pub(crate) fn name(self, alloc: Global) -> Result<(Name, Cursor<'a>), SyntaxError>
         ensures reads { Gives (λ n. n) result (name_at (terminals self.entry)) }
         ensures shorter { IfOk result (λ x. length (terminals x.1) < length (terminals self.entry)) }
@@ -70,7 +70,7 @@ impl<'a> Cursor<'a> {
         }
     }
 
-    /// The number at the front, and the place behind it.
+    /// The number at the front, and the place after it.
     pub(crate) fn number(self) -> Result<(i64, Cursor<'a>), SyntaxError>
         ensures reads { Gives (λ n. n) result (number_at (terminals self.entry)) }
         ensures shorter { IfOk result (λ x. length (terminals x.1) < length (terminals self.entry)) }
@@ -84,7 +84,7 @@ impl<'a> Cursor<'a> {
         }
     }
 
-    /// The text in quotes at the front, and the place behind it.
+    /// The text in quotes at the front, and the place after it.
     pub(crate) fn text(self, alloc: Global) -> Result<(QuotedText, Cursor<'a>), SyntaxError>
         ensures reads { Gives text_of result (text_at (terminals self.entry)) }
         ensures shorter { IfOk result (λ x. length (terminals x.1) < length (terminals self.entry)) }
@@ -101,7 +101,7 @@ impl<'a> Cursor<'a> {
         }
     }
 
-    /// The label at the front, where there is one, and the place behind it.
+    /// The label at the front, where there is one, and the place after it.
     pub(crate) fn label(self, alloc: Global) -> Result<(Option<Name>, Cursor<'a>), SyntaxError>
         ensures reads { Gives (λ l. l) result (Some (label_at (terminals self.entry))) }
         ensures shorter { IfOk result (λ x. length (terminals x.1) ≤ length (terminals self.entry)) }
@@ -118,7 +118,7 @@ impl<'a> Cursor<'a> {
         }
     }
 
-    /// The name in parentheses, and the place behind it.
+    /// The name in parentheses, and the place after it.
     pub(crate) fn argument(self, alloc: Global) -> Result<(Name, Cursor<'a>), SyntaxError>
         ensures reads { Gives (λ n. n) result (argument_at (terminals self.entry)) }
         ensures shorter { IfOk result (λ x. length (terminals x.1) ≤ length (terminals self.entry)) }
@@ -129,7 +129,7 @@ impl<'a> Cursor<'a> {
         Ok((name, behind))
     }
 
-    /// The expression at the front, and the place behind it. Within it no more stands in each other than may
+    /// The expression at the front, and the place after it. Within it no more stands in each other than may
     /// be open at once.
     pub(crate) fn expression(self, alloc: Global) -> Result<(Expression, Cursor<'a>), SyntaxError>
         ensures reads { Gives (λ e. e) result (expression_at_limit (terminals self.entry)) }

@@ -47,7 +47,7 @@ static NO_ARGUMENTS: [TokenKind; 2] = [
     TokenKind::Symbol(Symbol::CloseParenthesis),
 ];
 
-/// `=`, the initial value and `;`, and the place behind them.
+/// `=`, the initial value and `;`, and the place after them.
 pub(crate) fn assigned(
     alloc: Global,
     cursor: Cursor<'_>,
@@ -61,7 +61,7 @@ pub(crate) fn assigned(
     Ok((initial, behind))
 }
 
-/// The ends of an apply, where they are given, and the place behind them.
+/// The ends of an apply, where they are given, and the place after them.
 pub(crate) fn ends(alloc: Global, cursor: Cursor<'_>) -> Result<(Ends, Cursor<'_>), SyntaxError>
     ensures reads { Gives ends_tree result (ends_at (terminals cursor.entry)) }
     ensures shorter { IfOk result (λ x. length (terminals x.1) ≤ length (terminals cursor.entry)) }
@@ -92,7 +92,7 @@ fn end(
     }
 }
 
-/// The initial value at the front, and the place behind it.
+/// The initial value at the front, and the place after it.
 fn initial(alloc: Global, cursor: Cursor<'_>) -> Result<(Initial, Cursor<'_>), SyntaxError>
     ensures reads { Gives initial_tree result (initial_at (terminals cursor.entry)) }
     ensures shorter { IfOk result (λ x. length (terminals x.1) ≤ length (terminals cursor.entry)) }
@@ -119,7 +119,7 @@ fn value(alloc: Global, cursor: Cursor<'_>) -> Result<(Initial, Cursor<'_>), Syn
     Ok((Initial::Value(value), behind))
 }
 
-/// What stands behind `new`.
+/// What stands after `new`.
 fn new_set(cursor: Cursor<'_>) -> Result<(Initial, Cursor<'_>), SyntaxError>
     ensures reads { Gives initial_tree result (new_set_at (terminals cursor.entry)) }
     ensures shorter { IfOk result (λ x. length (terminals x.1) ≤ length (terminals cursor.entry)) }
@@ -130,7 +130,7 @@ fn new_set(cursor: Cursor<'_>) -> Result<(Initial, Cursor<'_>), SyntaxError>
     Ok((Initial::NewSet(size), behind))
 }
 
-/// What stands behind `load`.
+/// What stands after `load`.
 fn load(cursor: Cursor<'_>) -> Result<(Initial, Cursor<'_>), SyntaxError>
     ensures reads { Gives initial_tree result (load_at (terminals cursor.entry)) }
     ensures shorter { IfOk result (λ x. length (terminals x.1) ≤ length (terminals cursor.entry)) }
@@ -141,7 +141,7 @@ fn load(cursor: Cursor<'_>) -> Result<(Initial, Cursor<'_>), SyntaxError>
     Ok((Initial::Load(argument), behind))
 }
 
-/// Whether a name stands at the front, and behind it a dot and the method of an initial value that is no
+/// Whether a name stands at the front, and after it a dot and the method of an initial value that is no
 /// expression.
 fn begins_call(cursor: Cursor<'_>) -> bool
     ensures { result ≡ begins_call_at (terminals cursor.entry) }
@@ -186,7 +186,7 @@ fn is_method(keyword: Keyword) -> bool
     )
 }
 
-/// What stands behind the name with which an initial value begins that is no expression.
+/// What stands after the name with which an initial value begins that is no expression.
 fn call(alloc: Global, name: Name, cursor: Cursor<'_>) -> Result<(Initial, Cursor<'_>), SyntaxError>
     ensures reads { Gives initial_tree result (call_by name (terminals cursor.entry) (method_at (terminals cursor.entry))) }
     ensures shorter { IfOk result (λ x. length (terminals x.1) ≤ length (terminals cursor.entry)) }
@@ -203,7 +203,7 @@ fn call(alloc: Global, name: Name, cursor: Cursor<'_>) -> Result<(Initial, Curso
     modified(alloc, name, cursor)
 }
 
-/// A call that has no arguments, and the place behind its `()`.
+/// A call that has no arguments, and the place after its `()`.
 fn without_arguments(
     call: Initial,
     cursor: Cursor<'_>,
@@ -228,7 +228,7 @@ fn filter(
     Ok((Initial::Filter { set, test }, behind))
 }
 
-/// The ends and `.applyModified(function, vector)` behind a name.
+/// The ends and `.applyModified(function, vector)` after a name.
 fn modified(
     alloc: Global,
     edges: Name,
@@ -249,7 +249,7 @@ fn modified(
     Ok((initial, behind))
 }
 
-/// Two names in parentheses, and the place behind them.
+/// Two names in parentheses, and the place after them.
 fn name_pair(alloc: Global, cursor: Cursor<'_>) -> Result<((Name, Name), Cursor<'_>), SyntaxError>
     ensures reads { Gives (λ p. p) result (name_pair_at (terminals cursor.entry)) }
     ensures shorter { IfOk result (λ x. length (terminals x.1) ≤ length (terminals cursor.entry)) }

@@ -14,7 +14,7 @@ use lexer::{Keyword, Symbol, TokenKind};
 use std::alloc::Global;
 use syntax::{Call, Chain, QuotedText};
 
-/// The schedule's part, where the source has it, and the place behind it.
+/// The schedule's part, where the source has it, and the place after it.
 pub(crate) fn schedule(
     alloc: Global,
     cursor: Cursor<'_>,
@@ -46,7 +46,7 @@ fn chains(alloc: Global, cursor: Cursor<'_>) -> Result<(Vec<Chain>, Cursor<'_>),
     Ok((chains, left))
 }
 
-/// What stands behind `program`.
+/// What stands after `program`.
 fn chain(alloc: Global, cursor: Cursor<'_>) -> Result<(Chain, Cursor<'_>), SyntaxError>
     ensures reads { Gives chain_tree result (chain_at (terminals cursor.entry)) }
     ensures shorter { IfOk result (λ x. length (terminals x.1) ≤ length (terminals cursor.entry)) }
@@ -58,7 +58,7 @@ fn chain(alloc: Global, cursor: Cursor<'_>) -> Result<(Chain, Cursor<'_>), Synta
     Ok((Chain { first, more }, behind))
 }
 
-/// The calls behind the first, each behind an arrow.
+/// The calls after the first, each after an arrow.
 fn more_calls(alloc: Global, cursor: Cursor<'_>) -> Result<(Vec<Call>, Cursor<'_>), SyntaxError>
     ensures reads { Gives (each call_tree) result (each_at next_call (terminals cursor.entry)) }
     ensures shorter { IfOk result (λ x. length (terminals x.1) ≤ length (terminals cursor.entry)) }
@@ -92,7 +92,7 @@ fn call(alloc: Global, cursor: Cursor<'_>) -> Result<(Call, Cursor<'_>), SyntaxE
     Ok((call, behind))
 }
 
-/// The texts behind the first, each behind a comma.
+/// The texts after the first, each after a comma.
 fn more_texts(
     alloc: Global,
     cursor: Cursor<'_>,
@@ -110,7 +110,7 @@ fn more_texts(
     Ok((texts, left))
 }
 
-/// The name of the call at the front with its offset, and the place behind it.
+/// The name of the call at the front with its offset, and the place after it.
 fn setting(cursor: Cursor<'_>) -> Result<((usize, Setting), Cursor<'_>), SyntaxError>
     ensures reads { Gives (λ s. s) result (setting_at (terminals cursor.entry)) }
     ensures shorter { IfOk result (λ x. length (terminals x.1) ≤ length (terminals cursor.entry)) }

@@ -27,7 +27,7 @@ static CLOSE_CALL: [TokenKind; 2] = [
     TokenKind::Symbol(Symbol::Semicolon),
 ];
 
-/// An expression and `;`, and the place behind them.
+/// An expression and `;`, and the place after them.
 pub(crate) fn ended(
     alloc: Global,
     cursor: Cursor<'_>,
@@ -40,7 +40,7 @@ pub(crate) fn ended(
     Ok((value, behind))
 }
 
-/// The reduction at the front, and the place behind it.
+/// The reduction at the front, and the place after it.
 fn reduction(cursor: Cursor<'_>) -> Result<(Reduction, Cursor<'_>), SyntaxError>
     ensures reads { Gives (λ r. r) result (reduction_at (terminals cursor.entry)) }
     ensures shorter { IfOk result (λ x. length (terminals x.1) ≤ length (terminals cursor.entry)) }
@@ -56,7 +56,7 @@ fn reduction(cursor: Cursor<'_>) -> Result<(Reduction, Cursor<'_>), SyntaxError>
     }
 }
 
-/// What a statement does that begins with a name, from behind the name.
+/// What a statement does that begins with a name, from after the name.
 pub(crate) fn named(
     alloc: Global,
     name: Name,
@@ -78,7 +78,7 @@ pub(crate) fn named(
     reduced(alloc, name, cursor)
 }
 
-/// A reduction of a name and its value, from behind the name.
+/// A reduction of a name and its value, from after the name.
 fn reduced(
     alloc: Global,
     name: Name,
@@ -97,7 +97,7 @@ fn reduced(
     Ok((action, behind))
 }
 
-/// An assignment to an entry of a vector or its reduction, from behind the bracket.
+/// An assignment to an entry of a vector or its reduction, from after the bracket.
 fn entry(
     alloc: Global,
     vector: Name,
@@ -111,7 +111,7 @@ fn entry(
     entry_value(alloc, vector, index, rest)
 }
 
-/// What stands behind the index of an entry.
+/// What stands after the index of an entry.
 fn entry_value(
     alloc: Global,
     vector: Name,
@@ -128,7 +128,7 @@ fn entry_value(
     }
 }
 
-/// The value that is assigned to an entry, from behind `=`.
+/// The value that is assigned to an entry, from after `=`.
 fn entry_assigned(
     alloc: Global,
     vector: Name,
@@ -147,7 +147,7 @@ fn entry_assigned(
     Ok((action, behind))
 }
 
-/// The reduction of an entry and its value, from behind the index.
+/// The reduction of an entry and its value, from after the index.
 fn entry_reduced(
     alloc: Global,
     vector: Name,
@@ -168,7 +168,7 @@ fn entry_reduced(
     Ok((action, behind))
 }
 
-/// A method that is called on a name, from behind the name.
+/// A method that is called on a name, from after the name.
 fn method(
     alloc: Global,
     name: Name,
@@ -184,7 +184,7 @@ fn method(
     }
 }
 
-/// The vertex that is added to a set, and what stands around it, from behind `addVertex`.
+/// The vertex that is added to a set, and what stands around it, from after `addVertex`.
 fn added(alloc: Global, set: Name, cursor: Cursor<'_>) -> Result<(Action, Cursor<'_>), SyntaxError>
     ensures reads { Gives action_tree result (added_at set (terminals cursor.entry)) }
     ensures shorter { IfOk result (λ x. length (terminals x.1) ≤ length (terminals cursor.entry)) }
@@ -195,7 +195,7 @@ fn added(alloc: Global, set: Name, cursor: Cursor<'_>) -> Result<(Action, Cursor
     Ok((Action::AddVertex { set, vertex }, behind))
 }
 
-/// The ends and the function of an apply, from behind what it is called on.
+/// The ends and the function of an apply, from after what it is called on.
 fn applied(
     alloc: Global,
     target: Name,
@@ -214,7 +214,7 @@ fn applied(
     Ok((action, behind))
 }
 
-/// The function of an apply, from behind its ends.
+/// The function of an apply, from after its ends.
 fn applied_function(alloc: Global, cursor: Cursor<'_>) -> Result<(Name, Cursor<'_>), SyntaxError>
     ensures reads { Gives (λ n. n) result (applied_function_at (terminals cursor.entry)) }
     ensures shorter { IfOk result (λ x. length (terminals x.1) ≤ length (terminals cursor.entry)) }

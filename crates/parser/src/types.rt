@@ -45,7 +45,7 @@ static OF_WEIGHTS: [TokenKind; 2] = [
     TokenKind::Symbol(Symbol::CloseParenthesis),
 ];
 
-/// The name and its type at the front, and the place behind them.
+/// The name and its type at the front, and the place after them.
 pub(crate) fn typed(
     alloc: Global,
     cursor: Cursor<'_>,
@@ -59,7 +59,7 @@ pub(crate) fn typed(
     Ok((Parameter { name, declared }, behind))
 }
 
-/// The type at the front, and the place behind it.
+/// The type at the front, and the place after it.
 fn declared_type(cursor: Cursor<'_>) -> Result<(DeclaredType, Cursor<'_>), SyntaxError>
     ensures reads { Gives (λ t. t) result (type_at (terminals cursor.entry)) }
     ensures shorter { IfOk result (λ x. length (terminals x.1) ≤ length (terminals cursor.entry)) }
@@ -91,7 +91,7 @@ fn type_begun_by(keyword: Keyword) -> Option<DeclaredType>
     }
 }
 
-/// The type that has begun so, behind its first keyword, and the place behind it.
+/// The type that has begun so, after its first keyword, and the place after it.
 fn rest_of_type(
     declared: DeclaredType,
     cursor: Cursor<'_>,
@@ -116,7 +116,7 @@ fn rest_of_type(
     }
 }
 
-/// The type of an edgeset behind its second `Vertex`, and the place behind it: `)`, or `, int)` where its
+/// The type of an edgeset after its second `Vertex`, and the place after it: `)`, or `, int)` where its
 /// edges have weights.
 fn edgeset(cursor: Cursor<'_>) -> Result<(DeclaredType, Cursor<'_>), SyntaxError>
     ensures reads { Gives (λ t. t) result (edgeset_at (terminals cursor.entry)) }

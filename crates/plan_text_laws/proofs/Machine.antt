@@ -31,7 +31,7 @@ use Rattle.decimal.proofs.NumberLaws.{digits_model, integer-read_back}
 use Rattle.plan_text_laws.specs.Machine.{StackValue, Number, Truth, Stack, Names, operators, last_byte, before_last, take_entry, operate, push_number, read_word, read_words}
 use Rattle.plan_text_laws.specs.Given.{ConditionIsGiven, IntegerIsGiven, IsNamed}
 
--- words behind others are read on their stack
+-- words after others are read on their stack
 through : {A : Type 0} (f g h : A → Option A) (o : Option A) → ((x : A) → h x ≡ option_and_then g (f x)) → option_and_then h o ≡ option_and_then g (option_and_then f o)
 through f g h None same = refl
 through f g h (Some x) same = same x
@@ -55,7 +55,7 @@ both_guard : {A : Type 0} (a b : Bool) (x : Option A) → (if a then (if b then 
 both_guard true b x = refl
 both_guard false b x = refl
 
--- words behind an expression, and behind two
+-- words after an expression, and after two
 after_one : (names : Names) (words more : List (List ℕ)) (stack top : List StackValue) (b : Bool) → read_words names words stack ≡ (if b then Some top else None)
     → read_words names (words ++ more) stack ≡ (if b then read_words names more top else None)
 after_one names words more stack top b is =

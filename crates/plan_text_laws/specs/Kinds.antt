@@ -36,7 +36,7 @@ kinds =
     ∷ (codes "vapply", ApplyVertices) ∷ (codes "eapply", ApplyEdges)
     ∷ (codes "unless", Unless) ∷ (codes "turn", Turn) ∷ (codes "jump", Jump) ∷ (codes "end", End) ∷ []
 
--- the words of an instruction, behind its number
+-- the words of an instruction, after its number
 abbrev pub instruction_words : ProgramTree → InstructionTree → List (List ℕ)
 instruction_words p i = operation_words p i.choice i.operation ++ target_words i.operation
 

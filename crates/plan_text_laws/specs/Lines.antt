@@ -14,7 +14,7 @@ abbrev pub lines_in : List ℕ → List (List ℕ)
 lines_in [] = []
 lines_in (b ∷ bytes) = if b == 10 then [] ∷ lines_in bytes else put_byte b (lines_in bytes)
 
--- whether what comes behind a byte stands in brackets, which are the bytes 91 and 93
+-- whether what comes after a byte stands in brackets, which are the bytes 91 and 93
 abbrev pub inside_behind : (inside : Bool) → ℕ → Bool
 inside_behind inside b = if b == 91 then true else if b == 93 then false else inside
 

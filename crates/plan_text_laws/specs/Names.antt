@@ -21,7 +21,7 @@ use Rattle.plan_text.specs.Expressions.{name_at, vector_at}
 use Rattle.plan_text.specs.Lines.{end_name, function_at}
 use Rattle.plan_text_laws.specs.Kinds.{InstructionKind, Set, Put, AddVertex, NewSet, AllSet, CopySet, Filter, ApplyVertices, ApplyEdges, kind_in}
 
--- what stands behind the first word: of an instruction with an expression one name, and of one on sets all words
+-- what stands after the first word: of an instruction with an expression one name, and of one on sets all words
 abbrev pub names_behind : Option InstructionKind → List (List ℕ) → List (List ℕ)
 names_behind (Some Set) words = slice_index_or words 1 [] ∷ []
 names_behind (Some Put) words = slice_index_or words 1 [] ∷ []
@@ -95,7 +95,7 @@ pub record EdgeApplyNames : Type 0 where
   pub first : PartNames
   pub second : Option PartNames
 
--- `f -> s v` or `f`, and what stands behind
+-- `f -> s v` or `f`, and what stands after
 abbrev pub part_in : List (List ℕ) → PartNames × List (List ℕ)
 part_in (f ∷ mark ∷ s ∷ v ∷ rest) =
     if bytes_eq mark (codes "->") then (record { function = f; changed = Some (s, v) }, rest)

@@ -7,7 +7,7 @@
 //! instruction takes (`instructions_have_their_values`, `reductions_are_read_by_hand`). `specs/Given.antt` says what the machine
 //! knows of names. Each name of the language but `neg` is taken for one, and meets the other premises too (`names_are_plain`).
 //!
-//! The first word of an instruction says its kind (`first_words_say_the_kind`), and the words behind it what it works on
+//! The first word of an instruction says its kind (`first_words_say_the_kind`), and the words after it what it works on
 //! (`words_name_what_is_worked_on`, `words_name_edge_applies`), by which reduction an entry changes (`words_say_the_reduction`),
 //! where a run may go on (`words_say_where_to_go`), and by what the engines do an edge apply (`words_say_the_settings`).
 //!

@@ -5,7 +5,7 @@ ghost use Rattle.plans.specs.Instruction.{InstructionTree};
 ghost use Rattle.plan_text_laws.specs.Kinds.{instruction_words};
 ghost use Rattle.plan_text_laws.specs.Names.{HasNoMarks, edges_in, edges_of, names_in, names_of, reduction_in, reduction_of};
 
-/// The law that the words behind the first one name what the instruction works on: the variable, vector or set that changes,
+/// The law that the words after the first one name what the instruction works on: the variable, vector or set that changes,
 /// the set that it is made from, and the functions of a vertex apply in their order. The call does nothing.
 pub fn words_name_what_is_worked_on()
     ensures { (p : ProgramTree) (i : InstructionTree) → names_in (instruction_words p i) ≡ names_of p i.operation }

@@ -21,7 +21,7 @@ passing_more p es i low b from inside is =
     ∙ filter-append (λ (e : ℕ × ℤ). p e.0) (take (i - low) (drop low es)) (entry_at es i ∷ [])
     ∙ ap (λ (more : List (ℕ × ℤ)). passing p (take (i - low) (drop low es)) ++ more) (one_passes p (entry_at es i) b is)
 
--- an index is written behind those that are chosen, and counts where its entry passes
+-- an index is written after those that are chosen, and counts where its entry passes
 pub chosen_more : (p : ℕ → Bool) (es : List (ℕ × ℤ)) (xs : List ℕ) (k i low n : ℕ) (b : Bool) → map (entry_at es) (take k xs) ≡ passing p (take (i - low) (drop low es)) → k < length xs → low ≤ i → i < length es
     → p (entry_at es i).0 ≡ b → (b ≡ true → n ≡ k + 1) → (b ≡ false → n ≡ k)
     → map (entry_at es) (take n (set xs k i)) ≡ passing p (take (i + 1 - low) (drop low es))
@@ -47,7 +47,7 @@ inside_more P xs k i n true at it room counts stays =
 inside_more P xs k i n false at it room counts stays =
     subst (λ (front : List ℕ). All P front) (sym (ap (λ (m : ℕ). take m (set xs k i)) (stays refl) ∙ take-set xs k i)) at
 
--- what is left behind one index, seen from another
+-- what is left after one index, seen from another
 pub rest_behind : {X : Type 0} (xs : List X) (low high : ℕ) → low ≤ high → drop high xs ≡ drop (high - low) (drop low xs)
 rest_behind xs low high order =
     let same : low + (high - low) ≡ high = omega (arith, order) in

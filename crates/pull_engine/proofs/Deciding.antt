@@ -87,7 +87,7 @@ last_passes p xs i b l is =
 pub keys_behind : (n : ℕ) (all rest : List (ℕ × ℤ)) → rest ≡ drop n all → keys_of rest ≡ drop n (keys_of all)
 keys_behind n all rest is = ap (λ (es : List (ℕ × ℤ)). keys_of es) is ∙ sym (drop-map (λ (e : ℕ × ℤ). e.0) n all)
 
--- what comes before does not matter where one passes behind it
+-- what comes before does not matter where one passes after it
 pub last_behind : (o : Option ℕ) (xs ys : List ℕ) → last_or o (xs ++ ys) ≡ last_or (last_or o xs) ys
 last_behind o [] ys = refl
 last_behind o (x ∷ xs) ys = last_behind (Some x) xs ys

@@ -62,7 +62,7 @@ fn begins_script(text: &[u8]) -> bool {
         || begins_with(text, b"commit")
 }
 
-// Whether the text ends in a line feed, perhaps with white bytes, behind what may end a statement without its `;`.
+// Whether the text ends in a line feed, perhaps with white bytes, after what may end a statement without its `;`.
 fn ends_statement(before: &[u8], shown: &[u8]) -> bool {
     let may_end = match shown.last() {
         Some(byte) => byte.is_ascii_alphanumeric() || *byte == b')' || *byte == b']',

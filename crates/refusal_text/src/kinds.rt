@@ -40,7 +40,7 @@ fn of_constant(text: &[u8]) -> &'static str {
     }
 }
 
-// What stands behind the first colon of a text, and white bytes.
+// What stands after the first colon of a text, and white bytes.
 fn declared_type(text: &[u8]) -> &[u8] {
     let mut colon = false;
     'bytes: for i in 0..text.len() {
@@ -52,7 +52,7 @@ fn declared_type(text: &[u8]) -> &[u8] {
     &[]
 }
 
-// The rule of a statement that begins with a name, by the first sign behind the name.
+// The rule of a statement that begins with a name, by the first sign after the name.
 fn of_name(text: &[u8]) -> &'static str {
     match sign_behind_name(text) {
         [b'.', ..] =>
@@ -70,7 +70,7 @@ fn of_name(text: &[u8]) -> &'static str {
     }
 }
 
-// What stands behind the name that a text begins with, and spaces.
+// What stands after the name that a text begins with, and spaces.
 fn sign_behind_name(text: &[u8]) -> &[u8] {
     'bytes: for i in 0..text.len() {
         if !text[i].is_ascii_alphanumeric() && text[i] != b'_' && text[i] != b' ' {

@@ -1,4 +1,4 @@
-//! What a refusal of a program's text is told with, behind its first line: where it stands, with the source line and a caret, what
+//! What a refusal of a program's text is told with, after its first line: where it stands, with the source line and a caret, what
 //! its number means, and what to do.
 //!
 //! [`place_of`] is the line and the column of an offset, and its contract says so. [`explanation`] makes the lines. It answers for

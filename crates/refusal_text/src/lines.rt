@@ -1,4 +1,4 @@
-//! The lines that are told behind a refusal.
+//! The lines that are told after a refusal.
 
 use crate::calls::call_form;
 use crate::cause::cause_of;

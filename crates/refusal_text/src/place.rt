@@ -11,7 +11,7 @@ pub struct Place {
     pub column: usize,
 }
 
-/// The place of the byte at this offset, or of the end of the text where the text is not so long. A line ends behind its
+/// The place of the byte at this offset, or of the end of the text where the text is not so long. A line ends after its
 /// line feed.
 pub fn place_of(text: &[u8], at: usize) -> Place
     ensures line { result.line ≡ count_by ends_line (take at text.now) + 1 }

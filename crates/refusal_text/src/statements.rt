@@ -58,7 +58,7 @@ fn begins_statement(kind: TokenKind) -> bool {
     }
 }
 
-// Whether a statement may begin behind the token: it ends a statement, or the expression at the head of a block.
+// Whether a statement may begin after the token: it ends a statement, or the expression at the head of a block.
 fn may_end_statement(kind: TokenKind) -> bool {
     match kind {
         TokenKind::Name | TokenKind::Number(_) => true,

@@ -15,7 +15,7 @@ word_line word n = word ++ (32 ∷ (decimal n ++ 10 ∷ []))
 abbrev pub ticket_line : ℕ → ℕ → List ℕ
 ticket_line ticket version = codes "ticket" ++ (32 ∷ (decimal ticket ++ 32 ∷ word_line (codes "version") version))
 
--- a weight behind a space, where it is not 1
+-- a weight after a space, where it is not 1
 abbrev pub weight_text : ℤ → List ℕ
 weight_text w = if int_equal w unit_weight then [] else 32 ∷ signed_decimal w
 

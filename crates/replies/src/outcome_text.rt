@@ -145,7 +145,7 @@ fn push_labelled(out: &mut Vec<u8>, label: &[u8], number: u64) -> Result<(), All
     push_number(out, number)
 }
 
-/// Appends an integer behind a space.
+/// Appends an integer after a space.
 pub(crate) fn push_spaced_integer(out: &mut Vec<u8>, integer: i64) -> Result<(), AllocError>
     ensures { OnOk result (out.new.items ≡ out.old.items ++ 32 ∷ signed_decimal integer) }
 {

@@ -156,7 +156,7 @@ fn push_edge_line(out: &mut Vec<u8>, edge: (u32, u32, i64)) -> Result<(), AllocE
     Ok(())
 }
 
-/// Appends the weight of an edge behind a space, where it is not 1.
+/// Appends the weight of an edge after a space, where it is not 1.
 fn push_weight(out: &mut Vec<u8>, weight: i64) -> Result<(), AllocError>
     ensures { OnOk result (out.new.items ≡ out.old.items ++ weight_text weight) }
 {

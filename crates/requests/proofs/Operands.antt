@@ -73,7 +73,7 @@ pub walk_from_command : (name word : Text) (words : List Text) → walked top.ru
     → walk top.rules names (held None) (word ∷ words) ≡ record (at_start false) { stopped = Some (name, words) }
 walk_from_command name word words first = rw first (gathers top.rules names (at_start false) name [] words)
 
--- the one file that was found is the operand behind the command
+-- the one file that was found is the operand after the command
 one_file : (name word : Text) (words : List Text) (rows : List Row) → operands (word ∷ words) ≡ name ∷ operands words → NamesOne words (all_of (codes "FILE") rows)
     → operands (word ∷ words) ≡ name ∷ file_of (codes "FILE") rows ∷ []
 one_file name word words rows is named = is ∙ ap (λ ops. name ∷ ops) (go (find (λ r. bytes_eq r.id (codes "FILE")) rows) named)
@@ -82,7 +82,7 @@ one_file name word words rows is named = is ∙ ap (λ ops. name ∷ ops) (go (f
     go None h = absurd h
     go (Some r) h = h.2 ∙ ap (λ (vs : List Text). unwrap_or (slice_get vs 0) [] ∷ []) (sym h.1)
 
--- the files that were found are the operands behind `script`
+-- the files that were found are the operands after `script`
 all_files : (word : Text) (words : List Text) (files : Option (List Text)) → operands (word ∷ words) ≡ codes "script" ∷ operands words → NamesFiles words files
     → HasOperands (word ∷ words) (script_with (unwrap_or files []))
 all_files word words None is named = absurd named

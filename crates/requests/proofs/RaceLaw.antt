@@ -398,7 +398,7 @@ race_read script program programs (number ∷ []) (bound ∷ []) rows w t are = 
 race_read script program programs (number ∷ other ∷ more) turns rows w t are = absurd w
 race_read script program programs workers (bound ∷ other ∷ more) rows w t are = absurd t
 
--- a first word `race` asks for what the rows behind it ask for
+-- a first word `race` asks for what the rows after it ask for
 race_first : (word : Text) (words : List Text) → bytes_eq (codes "check") word ≡ false → bytes_eq (codes "plan") word ≡ false → bytes_eq (codes "script") word ≡ false
     → bytes_eq (codes "race") word ≡ true → request_of (word ∷ words) ≡ race_of (rows_after race.rules [] words)
 race_first word words no_check no_plan no_script is = rw (walk_from_command (codes "race") word words (walked_to_race word no_check no_plan no_script is)) refl

@@ -51,7 +51,7 @@ abbrev pub numbers_of : NumberOption → ValueParser
 numbers_of the_workers = Unsigned 1 64
 numbers_of the_turns = Unsigned 0 18446744073709551615
 
--- a part of the words behind `race`: a file, or an option with its number, joined by `=` or apart
+-- a part of the words after `race`: a file, or an option with its number, joined by `=` or apart
 pub data RacePart : Type 0 where
   a_file : (file : Text) → RacePart
   joined : (option : NumberOption) (number : Text) → RacePart

@@ -19,7 +19,7 @@ pub fn plain_commands_are_their_operands()
     ensures { (words : List Text) → fault_of command_line words ≡ [] → HasOperands words (request_of words) }
 {}
 
-/// The law that no words, and each command but a race with its files, also behind `--`, are without a fault. The call does
+/// The law that no words, and each command but a race with its files, also after `--`, are without a fault. The call does
 /// nothing.
 pub fn plain_commands_are_taken()
     ensures { (words : List Text) → length words ≤ usize_max → IsCommand words → fault_of command_line words ≡ [] }
@@ -32,7 +32,7 @@ pub fn races_are_asked_for()
 {}
 
 /// The law that a number of workers that is none from 1 to 64, or of turns that is none below 2^64, is a fault where it is the
-/// first word behind `race`, whatever follows. The call does nothing.
+/// first word after `race`, whatever follows. The call does nothing.
 pub fn numbers_out_of_range_are_faults()
     ensures workers { (number : Text) (words : List Text) → accepts false (Unsigned 1 64) number ≡ false
         → fault_of command_line (codes "race" ∷ (codes "--workers=" ++ number) ∷ words) ≡ ValueValidation ∷ [] }

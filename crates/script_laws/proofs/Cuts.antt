@@ -74,7 +74,7 @@ digits_none c other [] are = tt
 digits_none c (inl below) (b ∷ text) are = ((λ same. absurd (omega (arith, same, below, are.0.0))), digits_none c (inl below) text are.1)
 digits_none c (inr above) (b ∷ text) are = ((λ same. absurd (omega (arith, same, above, are.0.1))), digits_none c (inr above) text are.1)
 
--- numbers behind spaces, up to a line feed
+-- numbers after spaces, up to a line feed
 abbrev pub at_end : ℕ → Bool
 at_end b = (b == 32) || (b == 10)
 

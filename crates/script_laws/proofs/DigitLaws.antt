@@ -1,4 +1,4 @@
--- Words that are read as numbers are their digits behind zeros.
+-- Words that are read as numbers are their digits after zeros.
 use Rattle.std.proofs.Common.{◌≡◌, ◌↔◌, ℕ, ℤ, suc, pos, neg_ℤ, ◌+◌, ◌<◌, ◌≤◌, ◌^◌, ◌&&◌, nat_lt, Bool, true, false, List, [], ◌∷◌, ◌++◌, Some, None, length, replicate, decimal, is_some, inl, inr, refl, sym, ap, ◌∙◌, arith}
 use Rattle.std.specs.Option.{option_map}
 use Rattle.std.specs.Str.{all_ascii_digits}
@@ -15,7 +15,7 @@ both_true : (a b : Bool) → a && b ≡ true → (a ≡ true) × (b ≡ true)
 both_true true b is = (refl, is)
 both_true false b is = absurd (false≢true is)
 
--- digits are those of their value, behind any zeros
+-- digits are those of their value, after any zeros
 stripped : (word : List ℕ) → 0 < length word → all_ascii_digits word ≡ true → value_of word < 2 ^ 64 → (zeros : ℕ) × (word ≡ replicate zeros 48 ++ decimal (value_of word))
 stripped [] some digits small = absurd (omega (arith, some))
 stripped (d ∷ []) some digits small = (0, sym (decimal-digits_value digits_model (d ∷ []) digits some (λ first. refl) small))

@@ -75,7 +75,7 @@ number_cut c m n rest more other first second same =
     let parts = cut_at_byte c (decimal m) (decimal n) rest more (digits_none c other (decimal m) (decimal_digits m)) (digits_none c other (decimal n) (decimal_digits n)) same in
     (decimal_injective m n first second parts.0, parts.1)
 
--- the rest of the line of the end, behind how the run ended
+-- the rest of the line of the end, after how the run ended
 abbrev turns_text : ℕ → List ℕ → List ℕ
 turns_text turns rest = codes " turns " ++ (decimal turns ++ 10 ∷ rest)
 

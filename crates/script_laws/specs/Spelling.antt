@@ -7,13 +7,13 @@ use Rattle.edge_lists.specs.Edge.{unit_weight}
 use Rattle.scripts.specs.declared.commands.Command.{Command}
 use Rattle.scripts.specs.declared.commands.Command.TheVariants.{Vertices, Add, Remove, Grow, Commit, Hold, Release, Edges, EdgesOf, Run}
 
--- the word is the decimal digits of n, which is below the limit, behind any zeros
+-- the word is the decimal digits of n, which is below the limit, after any zeros
 pub record IsNumber (limit n : ℕ) (word : List ℕ) : Type 0 where
   pub below : n < limit
   pub zeros : ℕ
   pub digits : word ≡ replicate zeros 48 ++ decimal n
 
--- a number that is spelled as one below 2 ^ 63, or behind the byte 45, which is `-`, as the negative of one up to 2 ^ 63
+-- a number that is spelled as one below 2 ^ 63, or after the byte 45, which is `-`, as the negative of one up to 2 ^ 63
 abbrev pub IsInteger : ℤ → List ℕ → Type 0
 IsInteger w word =
     ((n : ℕ) × (w ≡ pos n) × IsNumber (2 ^ 63) n word)
@@ -51,7 +51,7 @@ abbrev pub AreAt : ℕ → List (List ℕ) → Type 0
 AreAt version [] = ⊥
 AreAt version (word ∷ words) = (word ≡ codes "at") × AreLong (version ∷ []) words
 
--- the words are those of a command behind its name
+-- the words are those of a command after its name
 abbrev pub AreArguments : Command → List (List ℕ) → Type 0
 AreArguments (Vertices vertices chunk_size) words = (AreShort (vertices ∷ []) words × (chunk_size ≡ 64)) ⊎ AreShort (vertices ∷ chunk_size ∷ []) words
 AreArguments (Add source destination weight) words = AreEdge source destination weight words
@@ -66,7 +66,7 @@ AreArguments (EdgesOf ticket) words = AreLong (ticket ∷ []) words
 AreArguments (Run program turns workers None) words = AreLong (program ∷ turns ∷ workers ∷ []) words
 AreArguments (Run program turns workers (Some ticket)) words = AreLong (program ∷ turns ∷ workers ∷ ticket ∷ []) words
 
--- the words are those of a command: its name, and what stands behind it
+-- the words are those of a command: its name, and what stands after it
 abbrev pub HasWords : Command → List (List ℕ) → Type 0
 HasWords c [] = ⊥
 HasWords c (name ∷ words) = (name ≡ name_of c) × AreArguments c words

@@ -6,8 +6,8 @@ ghost use Rattle.scripts.specs.declared.commands.Command as command;
 ghost use Rattle.scripts.specs.Commands.{command_of, command_of_words};
 ghost use Rattle.script_laws.specs.Spelling.{HasWords, IsInRange, IsInteger, IsNumber, spelling_of};
 
-/// The law that a word is read as a number exactly where it is the decimal digits of that number behind any zeros, and as an
-/// integer exactly where it is such digits, behind `-` for a negative one. The call does nothing.
+/// The law that a word is read as a number exactly where it is the decimal digits of that number after any zeros, and as an
+/// integer exactly where it is such digits, after `-` for a negative one. The call does nothing.
 pub fn numbers_are_their_digits()
     ensures numbers { (limit n : ℕ) (word : List ℕ) → limit ≤ 2 ^ 64 → (number_of limit word ≡ Some n) ↔ IsNumber limit n word }
     ensures integers { (w : ℤ) (word : List ℕ) → (integer_of word ≡ Some w) ↔ IsInteger w word }

@@ -2,7 +2,7 @@
 //! they go, come to in the words of a user.
 //!
 //! The calls do nothing: each is a fact that is proved of every line, number and command. A word is a number exactly where it
-//! is its decimal digits behind any zeros (`numbers_are_their_digits`). Words are read as a command exactly where they
+//! is its decimal digits after any zeros (`numbers_are_their_digits`). Words are read as a command exactly where they
 //! spell it, its name and then its numbers (`commands_are_their_words`), and a line exactly where it is such words joined by
 //! single spaces (`lines_are_their_words`). So each command has a line (`commands_have_a_line`), one alone but for zeros in
 //! front of numbers, for what may be left out, and for the weight `-0`. `specs/Spelling.antt` has the spellings.

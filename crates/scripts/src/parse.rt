@@ -11,7 +11,7 @@ use edge_lists::UNIT_WEIGHT;
 
 /// The command of a line without its line feed, or `None` where the line is no command. The numbers
 /// of `vertices`, `add`, `del` and `grow` are below 2^32, the others below 2^64; the weight of `add` is a signed
-/// number of 64 bits, behind `-` where it is negative. The line is a command as it stands, byte for byte: a space
+/// number of 64 bits, after `-` where it is negative. The line is a command as it stands, byte for byte: a space
 /// more, a tab, a carriage return, another sign or another case makes it none, and so the empty line is none.
 pub fn command(line: &[u8]) -> Option<Command>
     ensures { result ≡ command_of line.now }

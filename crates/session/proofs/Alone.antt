@@ -66,7 +66,7 @@ some_is o x y is too = cc
 none_is : {A : Type 0} (o : Option A) (x : A) → o ≡ None → o ≡ Some x → ⊥
 none_is o x none is = cc
 
--- a start adds a job behind the others
+-- a start adds a job after the others
 beside_a_start : (w : World) (turns number : ℕ) (program : Option ScheduledProgram) (graph : Option Digraph) (job : WorldJob) → numbered w.jobs number ≡ Some job
     → numbered (start w turns program graph).world.jobs number ≡ Some job
 beside_a_start w turns number None graph job is = is

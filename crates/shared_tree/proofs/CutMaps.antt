@@ -29,7 +29,7 @@ module _ {V : Type 0} where
   pub value_below : (k j : ℕ) (es f : List (ℕ × V)) (m : Option V) (b : List (ℕ × V)) → IsSplit k es f m b → j < k → lookup j es ≡ lookup j f
   value_below k j es f m b s lt = rw s.whole (lookup_front (2 ^ 32) k j 0 f m b s.below s.above lt)
 
-  -- the value at a key above a split stands behind
+  -- the value at a key above a split stands after
   pub value_above : (k j : ℕ) (es f : List (ℕ × V)) (m : Option V) (b : List (ℕ × V)) → IsSplit k es f m b → k < j → lookup j es ≡ lookup j b
   value_above k j es f m b s lt = rw s.whole (lookup_back (2 ^ 32) k j 0 f m b s.below s.above lt)
 

@@ -38,7 +38,7 @@ modified_initial name None None rest = refl
 modified_initial name None (Some t) rest = refl
 modified_initial name (Some f) to rest = refl
 
--- an expression behind which these terminals stand is read as a value
+-- an expression after which these terminals stand is read as a value
 value_named : (name : Identifier) (ws rest : List Terminal) (e : ExpressionTree) → expression (Name name ∷ ws) ≡ Some (e, rest)
     → named_initial name ws (method_at ws) ≡ Some (Value e, rest)
 unfolding expression
@@ -76,7 +76,7 @@ goes_on (OfKeyword keyword.And ∷ ws) = true
 goes_on (OfKeyword keyword.Or ∷ ws) = true
 goes_on _ = false
 
--- no expression goes on with a block, where it does not with what is behind the block
+-- no expression goes on with a block, where it does not with what is after the block
 block_ends : (b : BlockTree) (rest : List Terminal) → goes_on rest ≡ false → goes_on (block_before b rest) ≡ false
 block_ends Empty rest ends = ends
 block_ends (Then (Some label) action others) rest ends = refl

@@ -1,4 +1,4 @@
--- What holds of the terminals of a tree and of those behind it holds of those behind it.
+-- What holds of the terminals of a tree and of those after it holds of those after it.
 use Rattle.std.proofs.Common.{List, [], ◌∷◌, ◌++◌, Option, Some, None}
 use Rattle.std.specs.List.{AllByRecursion}
 use Rattle.lexer.specs.declared.keyword.Keyword.TheVariants as keyword
@@ -20,7 +20,7 @@ pub all_both : {A : Type 0} (P : A → Type 0) (xs ys : List A) → AllByRecursi
 all_both P [] ys first second = second
 all_both P (x ∷ xs) ys first second = (first.0, all_both P xs ys first.1 second)
 
--- behind trees of which this holds of each
+-- after trees of which this holds of each
 pub each_behind : {A : Type 0} (P : Terminal → Type 0) (before : A → List Terminal → List Terminal)
     → ((tree : A) (rest : List Terminal) → AllByRecursion P (before tree rest) → AllByRecursion P rest)
     → (trees : List A) (rest : List Terminal) → AllByRecursion P (each_before before trees rest) → AllByRecursion P rest

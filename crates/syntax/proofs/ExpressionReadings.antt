@@ -76,7 +76,7 @@ one_tree d e same =
     (one_reading (expression_depth d) (expression_depth e) (expression_terminals d) d e [] [] (all_of d)
     (record { whole = same ∙ sym (append-nil (expression_terminals e)); within = omega arith; ends = nothing_follows e })).0
 
--- no expression goes on behind another that ends
+-- no expression goes on after another that ends
 pub none_longer : (e longer : ExpressionTree) (rest : List Terminal) → EndsExpression e rest → expression_terminals longer ≡ expression_terminals e ++ rest → rest ≡ []
 none_longer e longer rest ends same =
     (one_reading (expression_depth e) (expression_depth longer) (expression_terminals longer) e longer rest []

@@ -144,7 +144,7 @@ pub parenthesis_ends : (e : ExpressionTree) (ws : List Terminal) → EndsExpress
 parenthesis_ends e ws = ends_expression e (OfSymbol symbol.CloseParenthesis ∷ ws)
     (record { bracket = refl; dot = refl; multiplies = refl; adds = refl; relates = refl; conjoins = refl; disjoins = refl })
 
--- what stands before a terminal, the terminal and what is behind it
+-- what stands before a terminal, the terminal and what is after it
 pub joined : (ws p ws' q rest : List Terminal) (w : Terminal) (mid : List Terminal) → ws ≡ p ++ mid → mid ≡ w ∷ ws' → ws' ≡ q ++ rest → ws ≡ (p ++ w ∷ q) ++ rest
 joined ws p ws' q rest w mid before is after =
     before ∙ ap (λ z. p ++ z) (is ∙ ap (λ z. w ∷ z) after) ∙ sym (append_assoc p (w ∷ q) rest)

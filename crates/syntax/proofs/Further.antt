@@ -46,7 +46,7 @@ onto : {A : Type 0} (spelled : A → List Terminal) (x longer : A) (w v : Termin
 onto spelled x longer w v rest after more is terminals =
     (longer, more, terminals ∙ ap (λ u. spelled x ++ u ∷ more) (sym (first_same w v rest after is)))
 
--- what goes on goes on behind what stands before it
+-- what goes on goes on after what stands before it
 carried : (p q q' : List Terminal) (v w : Terminal) (more : List Terminal) → q' ≡ q ++ w ∷ more → p ++ v ∷ q' ≡ (p ++ v ∷ q) ++ w ∷ more
 carried p q q' v w more is = ap (λ z. p ++ v ∷ z) is ∙ sym (append_assoc p (v ∷ q) (w ∷ more))
 
@@ -147,6 +147,6 @@ refuted : {P Q : Type 0} → P ⊎ Q → (P → ⊥) → Q
 refuted (inl p) never = absurd (never p)
 refuted (inr q) never = q
 
--- where an expression does not end, another has its terminals and the terminal behind them
+-- where an expression does not end, another has its terminals and the terminal after them
 pub some_longer : (e : ExpressionTree) (w : Terminal) (rest : List Terminal) → (EndsExpression e (w ∷ rest) → ⊥) → Longer expression_terminals e w
 some_longer e w rest unended = refuted (expression_goes e w rest) unended

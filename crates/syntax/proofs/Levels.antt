@@ -51,7 +51,7 @@ module _ {A O : Type 0} (Is : List Terminal → A → List Terminal → Type 0) 
   operand_at sound ws None is = tt
   operand_at sound ws (Some o) is = operand_is ws o is (item o.1) (sound o.1)
 
--- a link that is the operand behind a terminal
+-- a link that is the operand after a terminal
 module _ {A : Type 0} (Is : List Terminal → A → List Terminal → Type 0) (item : Reader A) (terminal : Terminal) where
   abbrev pub BehindAt : List Terminal → Option (Option (A × List Terminal)) → Type 0
   BehindAt ws None = Unit {0}
@@ -70,7 +70,7 @@ module _ {A : Type 0} (Is : List Terminal → A → List Terminal → Type 0) (i
 pub rest_within : (ws front rest : List Terminal) → ws ≡ front ++ rest → length rest ≤ length ws
 rest_within ws front rest whole = omega (arith, ap length whole, length-append front rest)
 
--- nor is what is behind one terminal more
+-- nor is what is after one terminal more
 pub behind_within : (w : Terminal) (ws : List Terminal) → length ws < length (w ∷ ws)
 behind_within w ws = omega arith
 

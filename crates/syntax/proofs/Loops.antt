@@ -23,7 +23,7 @@ module _ {L : Type 0} where
       let f : List L → Option (List L × List Terminal) = λ zs. Some (zs, y.1) in
       ap f (sym (append_assoc front (x ∷ []) y.0))
 
-  -- the links in front were read from the start on, and left is behind them
+  -- the links in front were read from the start on, and left is after them
   pub record Goes (link : List Terminal → Option (Option (L × List Terminal))) (start : List Terminal) (front : List L) (left : List Terminal) : Type 0 where
     pub fuel : ℕ
     pub enough : length left < fuel
@@ -73,7 +73,7 @@ module _ {L : Type 0} where
         → links_by link (suc (length start)) start ≡ None
     goes_fails {start = start} {front = front} {left = left} goes is = sym goes.same ∙ fails_at link front left is goes.fuel goes.enough
 
--- The item was read from the first terminals on, and the links in front behind it; left is behind them.
+-- The item was read from the first terminals on, and the links in front after it; left is after them.
 pub record Chain {A L : Type 0} (item : Reader A) (link : List Terminal → Option (Option (L × List Terminal))) (ws : List Terminal) (first : A) (front : List L) (left : List Terminal) : Type 0 where
   pub start : List Terminal
   pub begins : item ws ≡ Some (first, start)
@@ -144,7 +144,7 @@ behind_fails {A = A} item after m is found =
     let f : Option (A × List Terminal) → Option (Option (A × List Terminal)) = λ r. Some r in
     ap (behind_by item) is ∙ ap f found
 
--- what was read behind signs, and the signs before it
+-- what was read after signs, and the signs before it
 abbrev pub with_signs : List Prefix → Option (UnaryTree × List Terminal) → Option (UnaryTree × List Terminal)
 with_signs signs read = read >>= λ y. Some (behind signs y.0, y.1)
 
@@ -163,7 +163,7 @@ with_more_signs signs sign (Some y) =
     let f : UnaryTree → Option (UnaryTree × List Terminal) = λ u. Some (u, y.1) in
     ap f (behind_more signs sign y.0)
 
--- the signs were read from the start on, and left is behind them
+-- the signs were read from the start on, and left is after them
 pub record Signs (p : Reader PrimaryTree) (start : List Terminal) (signs : List Prefix) (left : List Terminal) : Type 0 where
   pub fuel : ℕ
   pub enough : length left < fuel

@@ -45,7 +45,7 @@ prefix_flat : (p : Prefix) (n : ℕ) → nesting_behind (prefix_terminal p) n �
 prefix_flat prefix.Minus n = refl
 prefix_flat _ n = refl
 
--- behind two parts of which each closes what it opens, with a flat terminal between them
+-- after two parts of which each closes what it opens, with a flat terminal between them
 balanced-two : (front back : List Terminal) (w : Terminal) (n : ℕ) → ((m : ℕ) → nesting m front ≡ m) → ((m : ℕ) → nesting m back ≡ m) → nesting_behind w n ≡ n
     → nesting n (front ++ w ∷ back) ≡ n
 balanced-two front back w n one two flat =

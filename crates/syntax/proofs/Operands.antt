@@ -47,7 +47,7 @@ size_at : (ws : List Terminal) → TerminalAt (OfKeyword keyword.GetVertexSetSiz
 size_at (OfKeyword keyword.GetVertexSetSize ∷ rest) = refl
 size_at _ = tt
 
--- what stands behind one terminal that is found
+-- what stands after one terminal that is found
 at_terminal : {A : Type 0} (Is : List Terminal → A → List Terminal → Type 0) (w : Terminal) (ws₀ ws : List Terminal) (f : List Terminal → Option (A × List Terminal))
     → (o : Option (List Terminal)) → TerminalAt w ws o → ((after : List Terminal) → ws ≡ w ∷ after → At Is ws₀ (f after)) → At Is ws₀ (o >>= f)
 at_terminal Is w ws₀ ws f None front then = tt

@@ -51,7 +51,7 @@ pub text_sound : IsSound text_at (λ t rest. Text t ∷ rest)
 text_sound (Text t ∷ ws) x rest is = same_before (λ t rest. Text t ∷ rest) t x ws rest is
 text_sound _ x rest is = cc is
 
--- what begins an edgeset's type, with what stands behind it
+-- what begins an edgeset's type, with what stands after it
 abbrev edges_front : List Terminal → List Terminal
 edges_front rest = OfKeyword keyword.EdgeSet ∷ (edge_ends ++ rest)
 
@@ -104,7 +104,7 @@ module _ {A : Type 0} (next : List Terminal → Option (Option (A × List Termin
   pub each_sound : IsSound (each_at next) (each_before before)
   each_sound ws xs rest is = links_sound (suc (length ws)) ws xs rest is
 
--- what stands behind a terminal
+-- what stands after a terminal
 behind-sound : {A : Type 0} (item : Reader A) (before : A → List Terminal → List Terminal) → IsSound item before → (terminal : Terminal) (ws : List Terminal) (found : Option (List Terminal))
     → after_terminal terminal ws ≡ found → (x : A) (rest : List Terminal) → behind_by item found ≡ Some (Some (x, rest)) → ws ≡ terminal ∷ before x rest
 behind-sound item before sound terminal ws None there x rest is = cc is

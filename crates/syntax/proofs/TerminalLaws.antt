@@ -28,7 +28,7 @@ after-sound terminal w rest left true is found =
     sym (ap (λ v. v ∷ rest) e) ∙ ap (λ r. terminal ∷ r) f
 after-sound terminal w rest left false is found = cc found
 
--- what is behind a terminal
+-- what is after a terminal
 pub after_terminal-sound : (terminal : Terminal) (ws rest : List Terminal) → after_terminal terminal ws ≡ Some rest → ws ≡ terminal ∷ rest
 after_terminal-sound terminal [] rest is = cc is
 after_terminal-sound terminal (w ∷ ws) rest is = after-sound terminal w ws rest (same_terminal terminal w) refl is

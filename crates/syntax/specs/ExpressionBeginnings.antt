@@ -12,6 +12,6 @@ pub record IsReading {A : Type 0} (spelled : A → List Terminal) (deep : A → 
   pub within : deep tree ≤ depth
   pub ends : Ends tree rest
 
--- the terminals begin with this expression, and the rest is behind it
+-- the terminals begin with this expression, and the rest is after it
 abbrev pub Begins : ℕ → List Terminal → ExpressionTree → List Terminal → Type 0
 Begins = IsReading expression_terminals expression_depth EndsExpression

@@ -4,8 +4,8 @@ use Rattle.syntax.specs.Terminals.{Terminal}
 use Rattle.syntax.specs.ExpressionTrees.{ExpressionTree, ConjunctionTree, ComparisonTree, SumTree, TermTree, UnaryTree, PrimaryTree, LastConjunction, ConjunctionThen, LastComparison, ComparisonThen, OneSum, TwoSums, LastTerm, TermThen, LastUnary, UnaryThen, Bare, Signed, Variable}
 use Rattle.syntax.specs.ExpressionReading.{multiplication, addition, relation, after_and, after_or, after_open_bracket, after_dot}
 
--- The terminals behind a tree do not go on with it: none of the operators of a level that could stand behind it is the first of
--- them, nor a bracket or a dot behind a name. A comparison that has its relation takes no other.
+-- The terminals after a tree do not go on with it: none of the operators of a level that could stand after it is the first of
+-- them, nor a bracket or a dot after a name. A comparison that has its relation takes no other.
 abbrev pub EndsPrimary : PrimaryTree → List Terminal → Type 0
 EndsPrimary (Variable name) rest = (after_open_bracket rest ≡ None) × (after_dot rest ≡ None)
 EndsPrimary _ rest = Unit {0}

@@ -1,4 +1,4 @@
--- Reading terminals from the left: a reader answers with a tree and the terminals behind it. Depth is how many parentheses and brackets
+-- Reading terminals from the left: a reader answers with a tree and the terminals after it. Depth is how many parentheses and brackets
 -- may stand in each other. The laws of `laws` say what reading gives in terms of the grammar.
 use Rattle.std.specs.Prelude.{ℕ, zero, suc, Bool, true, false, List, [], ◌∷◌, length, Option, Some, None}
 use Rattle.lexer.specs.declared.keyword.Keyword.{Keyword}
@@ -24,7 +24,7 @@ None >>= f = None
 abbrev pub Reader : Type 0 → Type 0
 Reader A = List Terminal → Option (A × List Terminal)
 
--- the operator of a level at the front, and the terminals behind it
+-- the operator of a level at the front, and the terminals after it
 abbrev pub addition : List Terminal → Option (Addition × List Terminal)
 addition (OfSymbol symbol.Plus ∷ rest) = Some (additions.Plus, rest)
 addition (OfSymbol symbol.Minus ∷ rest) = Some (additions.Minus, rest)
@@ -55,7 +55,7 @@ truth_of keyword.True = Some true
 truth_of keyword.False = Some false
 truth_of _ = None
 
--- the terminals behind one terminal
+-- the terminals after one terminal
 abbrev pub after_or : List Terminal → Option (List Terminal)
 after_or (OfKeyword keyword.Or ∷ rest) = Some rest
 after_or _ = None
@@ -100,16 +100,16 @@ module _ {L : Type 0} (link : List Terminal → Option (Option (L × List Termin
   links_by zero ws = None
   links_by (suc fuel) ws = linked (links_by fuel) ws (link ws)
 
--- an item and the links behind it
+-- an item and the links after it
 abbrev pub chain_by : {A L C : Type 0} → Reader A → (List Terminal → Option (Option (L × List Terminal))) → (A → List L → C) → Reader C
 chain_by item link make ws = item ws >>= λ x. links_by link (suc (length x.1)) x.1 >>= λ y. Some (make x.0 y.0, y.1)
 
--- an operator and the operand behind it
+-- an operator and the operand after it
 abbrev pub operand_by : {A O : Type 0} → Reader A → Option (O × List Terminal) → Option (Option ((O × A) × List Terminal))
 operand_by item None = None
 operand_by item (Some o) = Some (item o.1 >>= λ x. Some ((o.0, x.0), x.1))
 
--- the operand behind a terminal
+-- the operand after a terminal
 abbrev pub behind_by : {A : Type 0} → Reader A → Option (List Terminal) → Option (Option (A × List Terminal))
 behind_by item None = None
 behind_by item (Some after) = Some (item after)
@@ -145,11 +145,11 @@ conjunction_by c = chain_by c (λ ws. behind_by c (after_and ws)) conjunction_fr
 abbrev pub expression_by : Reader ConjunctionTree → Reader ExpressionTree
 expression_by c = chain_by c (λ ws. behind_by c (after_or ws)) expression_from
 
--- the terminals behind the call of a size
+-- the terminals after the call of a size
 abbrev pub after_size_call : List Terminal → Option (List Terminal)
 after_size_call ws = after_size ws >>= λ call. after_open_parenthesis call >>= after_close_parenthesis
 
--- what a name begins: a bracket or a dot behind it decides
+-- what a name begins: a bracket or a dot after it decides
 abbrev pub named_by : Reader ExpressionTree → Identifier → List Terminal → Option (List Terminal) → Option (List Terminal) → Option (PrimaryTree × List Terminal)
 named_by e name rest (Some after) dot = e after >>= λ x. after_close_bracket x.1 >>= λ behind. Some (Entry name x.0, behind)
 named_by e name rest None (Some after) = after_size_call after >>= λ behind. Some (Size name, behind)

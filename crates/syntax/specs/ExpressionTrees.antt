@@ -1,5 +1,5 @@
 -- The trees of expressions, one type for each level of the grammar. Where operators of one level stand in a row, the tree has
--- its operands as one list: the last one, or one with the operator behind it and then the others.
+-- its operands as one list: the last one, or one with the operator after it and then the others.
 use Rattle.std.specs.Prelude.{ℤ, Bool}
 use Rattle.syntax.specs.declared.operators.Addition.{Addition}
 use Rattle.syntax.specs.declared.operators.Multiplication.{Multiplication}
@@ -33,7 +33,7 @@ mutual
     LastUnary : UnaryTree → TermTree
     UnaryThen : UnaryTree → Multiplication → TermTree → TermTree
 
-  -- a primary behind any number of `-` and `not`
+  -- a primary after any number of `-` and `not`
   pub data UnaryTree : Type 0 where
     Bare : PrimaryTree → UnaryTree
     Signed : Prefix → UnaryTree → UnaryTree

@@ -45,21 +45,21 @@ changed Opens n = suc n
 changed Closes n = one_less n
 changed Keeps n = n
 
--- how much is open behind a terminal
+-- how much is open after a terminal
 abbrev pub nesting_behind : Terminal → ℕ → ℕ
 nesting_behind terminal n = changed (terminal_change terminal) n
 
--- how much is open behind terminals, where so much is open before them
+-- how much is open after terminals, where so much is open before them
 abbrev pub nesting : ℕ → List Terminal → ℕ
 nesting n [] = n
 nesting n (terminal ∷ terminals) = nesting (nesting_behind terminal n) terminals
 
--- behind no terminal is more open than this
+-- after no terminal is more open than this
 abbrev pub StaysWithin : ℕ → ℕ → List Terminal → Type 0
 StaysWithin most n [] = Unit {0}
 StaysWithin most n (terminal ∷ terminals) = (nesting_behind terminal n ≤ most) × StaysWithin most (nesting_behind terminal n) terminals
 
--- The first of these tokens of a text behind which more is open than the limit stands at this offset; n are open before them.
+-- The first of these tokens of a text after which more is open than the limit stands at this offset; n are open before them.
 abbrev pub PassesAt : List ℕ → ℕ → List Token → ℕ → Type 0
 PassesAt text n [] at = ⊥
 PassesAt text n (token ∷ tokens) at =

@@ -1,4 +1,4 @@
--- Reading terminals from the left: a reader answers with a tree and the terminals behind it.
+-- Reading terminals from the left: a reader answers with a tree and the terminals after it.
 use Rattle.std.specs.Prelude.{ℕ, zero, suc, ℤ, Bool, true, false, List, [], ◌∷◌, ◌++◌, length, Option, Some, None, if◌then◌else◌}
 use Rattle.std.specs.Str.{bytes_eq}
 use Rattle.lexer.specs.declared.keyword.Keyword.{Keyword}
@@ -31,17 +31,17 @@ same_terminal (OfKeyword a) (OfKeyword b) = bytes_eq (keyword_spelling a) (keywo
 same_terminal (OfSymbol a) (OfSymbol b) = bytes_eq (symbol_spelling a) (symbol_spelling b)
 same_terminal _ _ = false
 
--- the terminals behind this one, if it is the first
+-- the terminals after this one, if it is the first
 abbrev pub after_terminal : Terminal → List Terminal → Option (List Terminal)
 after_terminal terminal [] = None
 after_terminal terminal (w ∷ rest) = if same_terminal terminal w then Some rest else None
 
--- the terminals behind these, if they are the first
+-- the terminals after these, if they are the first
 abbrev pub after_terminals : List Terminal → List Terminal → Option (List Terminal)
 after_terminals [] ws = Some ws
 after_terminals (terminal ∷ terminals) ws = after_terminal terminal ws >>= after_terminals terminals
 
--- a tree, where the terminal behind it is this one
+-- a tree, where the terminal after it is this one
 abbrev pub closed : {A : Type 0} → List Terminal → A × List Terminal → Option (A × List Terminal)
 closed terminals x = after_terminals terminals x.1 >>= λ rest. Some (x.0, rest)
 
@@ -61,7 +61,7 @@ text_at _ = None
 unfoldable pub expression : Reader ExpressionTree
 expression = expression_at limit
 
--- what begins the type of an edgeset behind its first terminal: `{Edge}(Vertex, Vertex`
+-- what begins the type of an edgeset after its first terminal: `{Edge}(Vertex, Vertex`
 abbrev pub edge_ends : List Terminal
 edge_ends = in_braces (OfKeyword keyword.Edge) ++ OfSymbol symbol.OpenParenthesis ∷ OfKeyword keyword.Vertex ∷ OfSymbol symbol.Comma ∷ OfKeyword keyword.Vertex ∷ []
 
@@ -89,7 +89,7 @@ typed_at ws =
     name_at ws >>= λ n. after_terminal (OfSymbol symbol.Colon) n.1 >>= λ rest. type_at rest >>= λ t.
     Some (record { name = n.0; declared = t.0 }, t.1)
 
--- the name in parentheses behind the terminals that begin an end
+-- the name in parentheses after the terminals that begin an end
 abbrev pub end_by : List Terminal → Option (List Terminal) → Option (Option Identifier × List Terminal)
 end_by ws None = Some (None, ws)
 end_by ws (Some after) =
@@ -104,7 +104,7 @@ ends_at ws =
     end_at (OfKeyword keyword.From) ws >>= λ f. end_at (OfKeyword keyword.To) f.1 >>= λ t.
     Some (record { from = f.0; to = t.0 }, t.1)
 
--- the keyword behind a dot
+-- the keyword after a dot
 abbrev pub method_at : List Terminal → Option Keyword
 method_at (OfSymbol symbol.Dot ∷ OfKeyword method ∷ rest) = Some method
 method_at _ = None
@@ -161,7 +161,7 @@ reduction_at (OfSymbol symbol.MaxAssign ∷ rest) = Some (reduction.Max, rest)
 reduction_at (OfSymbol symbol.PlusAssign ∷ rest) = Some (reduction.Plus, rest)
 reduction_at _ = None
 
--- what stands behind `name [ index ]`
+-- what stands after `name [ index ]`
 abbrev pub entry_by : Identifier → ExpressionTree → List Terminal → Option (List Terminal) → Option (ActionTree × List Terminal)
 entry_by vector index ws (Some after) = ended_at after >>= λ e. Some (SetEntry vector index e.0, e.1)
 entry_by vector index ws None = reduction_at ws >>= λ r. ended_at r.1 >>= λ e. Some (ReduceEntry vector index r.0 e.0, e.1)
@@ -199,7 +199,7 @@ named_action name (OfSymbol symbol.Dot ∷ rest) =
     method_by name (OfSymbol symbol.Dot ∷ rest) (after_terminals (OfSymbol symbol.Dot ∷ OfKeyword keyword.AddVertex ∷ []) (OfSymbol symbol.Dot ∷ rest))
 named_action name ws = reduced_at name ws
 
--- what stands behind the test and the body of an `if`
+-- what stands after the test and the body of an `if`
 abbrev pub else_by : Reader BlockTree → ℕ → ExpressionTree → BlockTree × List Terminal → Option (List Terminal) → Option (ActionTree × List Terminal)
 else_by block at test body None = closed (OfKeyword keyword.End ∷ []) (If at test body.0, body.1)
 else_by block at test body (Some after) = block after >>= λ b. closed (OfKeyword keyword.End ∷ []) (IfElse at test body.0 b.0, b.1)
@@ -272,7 +272,7 @@ block_at (suc depth) = block_by (action_by (block_at depth))
 unfoldable pub block : Reader BlockTree
 block = block_at limit
 
--- the parameter behind a comma
+-- the parameter after a comma
 abbrev pub next_parameter : List Terminal → Option (Option (ParameterTree × List Terminal))
 next_parameter ws = behind_by typed_at (after_terminal (OfSymbol symbol.Comma) ws)
 
@@ -313,7 +313,7 @@ setting_at (Opening keyword.FuseApplyFunctions at ∷ rest) = Some ((at, setting
 setting_at (Opening keyword.FuseFields at ∷ rest) = Some ((at, setting.FuseFields), rest)
 setting_at _ = None
 
--- the text behind a comma
+-- the text after a comma
 abbrev pub next_text : List Terminal → Option (Option (List ℕ × List Terminal))
 next_text ws = behind_by text_at (after_terminal (OfSymbol symbol.Comma) ws)
 
@@ -322,11 +322,11 @@ call_at ws =
     setting_at ws >>= λ s. after_terminal (OfSymbol symbol.OpenParenthesis) s.1 >>= λ a. text_at a >>= λ t. each_at next_text t.1 >>= λ more.
     closed (OfSymbol symbol.CloseParenthesis ∷ []) (record { at = s.0.0; setting = s.0.1; first = t.0; more = more.0 }, more.1)
 
--- the call behind an arrow
+-- the call after an arrow
 abbrev pub next_call : List Terminal → Option (Option (CallTree × List Terminal))
 next_call ws = behind_by call_at (after_terminal (OfSymbol symbol.Arrow) ws)
 
--- the calls behind `program`
+-- the calls after `program`
 abbrev pub chain_at : Reader ChainTree
 chain_at ws =
     after_terminal (OfSymbol symbol.Arrow) ws >>= λ a. call_at a >>= λ c. each_at next_call c.1 >>= λ more.

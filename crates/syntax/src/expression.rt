@@ -67,7 +67,7 @@ impl Drop for Comparison {
     }
 }
 
-/// One term, or several with `+` and `-` between them: each but the first stands behind its operator.
+/// One term, or several with `+` and `-` between them: each but the first stands after its operator.
 #[cycle(expression)]
 pub struct Sum {
     pub first: Term,
@@ -81,7 +81,7 @@ impl Drop for Sum {
     }
 }
 
-/// One operand, or several with `*`, `/` and `%` between them: each but the first stands behind its
+/// One operand, or several with `*`, `/` and `%` between them: each but the first stands after its
 /// operator.
 #[cycle(expression)]
 pub struct Term {
@@ -96,7 +96,7 @@ impl Drop for Term {
     }
 }
 
-/// A primary behind any number of `-` and `not`, in the order of the text.
+/// A primary after any number of `-` and `not`, in the order of the text.
 #[cycle(expression)]
 pub struct Unary {
     pub signs: Vec<Prefix>,

@@ -32,7 +32,7 @@ pub fn reading_is_exact()
 {}
 
 /// The laws of where an expression ends: before a terminal that is no operator, bracket or dot, and at the
-/// end of all terminals; where it ends, no expression has its terminals and all that are behind them; and where
+/// end of all terminals; where it ends, no expression has its terminals and all that are after them; and where
 /// it does not end before a terminal, some expression has its terminals and then this terminal.
 pub fn what_ends_goes_no_further()
     ensures ends { (tree : ExpressionTree) (rest : List Terminal) → IsEnd rest → EndsExpression tree rest }

@@ -39,7 +39,7 @@ pub fn first_too_deep(tokens: &[Token]) -> Option<usize>
     None
 }
 
-/// How much is open behind a token, where so much is open before it.
+/// How much is open after a token, where so much is open before it.
 fn nesting_behind(kind: TokenKind, depth: u32) -> u32
     requires { depth ≤ limit }
     ensures { (bytes : List ℕ) (at : ℕ) → result ≡ behind (terminal_of kind bytes at) depth }

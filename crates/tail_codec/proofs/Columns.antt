@@ -67,7 +67,7 @@ pub zip_ones : (keys : List ℕ) → zip keys (replicate (length keys) (pos 1)) 
 zip_ones [] = refl
 zip_ones (k ∷ ks) = ap (λ v. (k, pos 1) ∷ v) (zip_ones ks)
 
--- entries behind others, with a column of weights and without one
+-- entries after others, with a column of weights and without one
 pub appended_column : (old keys new : List ℕ) (old' weights new' : List ℤ) → length old' ≡ length old → length weights ≡ length keys → new ≡ old ++ keys → new' ≡ old' ++ weights → AreAppended old old' (zip keys weights) new new'
 appended_column old keys new old' weights new' same same' is is' =
     rw (is, is') (record {

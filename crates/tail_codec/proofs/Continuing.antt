@@ -73,7 +73,7 @@ none high (c ∷ first) rest spells cut = some_bytes c (first ++ rest) (sym cut)
 pub continues_none : (from place k : ℕ) (rest : List ℕ) → Continues from place k rest [] → ⊥
 continues_none from place k rest c = none c.high c.first rest c.spells c.cut
 
--- a number that goes on behind a byte
+-- a number that goes on after a byte
 record GoesOn (high b : ℕ) (rest bytes : List ℕ) : Type 0 where
   large : 128 ≤ high
   low : b ≡ 128 + high % 128

@@ -14,7 +14,7 @@ use Rattle.tail_codec.specs.Spelling.{SpellsNumbers, SpellsFrom, AreWeights, wei
 use Rattle.tail_codec.specs.inside.Writing.{WritesEntry, entry_room, list_room}
 use Rattle.tail_codec.proofs.Numbers.{numbers_append}
 
--- an entry and others behind a list
+-- an entry and others after a list
 list_numbers-joined : (low : ℕ) (xs : List (ℕ × ℤ)) (e : ℕ × ℤ) (ys : List (ℕ × ℤ)) → list_numbers low (xs ++ e ∷ ys) ≡ list_numbers low xs ++ (entry_numbers (e.0 - least_after low (keys_of xs)) e.1 ++ list_numbers (e.0 + 1) ys)
 list_numbers-joined low [] e ys = refl
 list_numbers-joined low (x ∷ xs) e ys =
@@ -54,7 +54,7 @@ AscendsFrom-take low zero xs ascends = tt
 AscendsFrom-take low (suc n) [] ascends = tt
 AscendsFrom-take low (suc n) (x ∷ xs) ascends = (ascends.0, ascends.1, AscendsFrom-take (x + 1) n xs ascends.2)
 
--- the next key of a list, of which the first n are behind
+-- the next key of a list, of which the first n are after
 module _ (low n : ℕ) (xs : List ℕ) (within : n < length xs) where
   pub next_fits : AscendsFrom low xs → (least_after low (take n xs) ≤ get_or xs n 0) × (get_or xs n 0 < 2 ^ 32)
   next_fits ascends =
@@ -79,7 +79,7 @@ pub length_keys : (es : List (ℕ × ℤ)) → length (keys_of es) ≡ length es
 length_keys [] = refl
 length_keys (e ∷ es) = ap suc (length_keys es)
 
--- the key of an entry fits behind those before it
+-- the key of an entry fits after those before it
 pub entry_fits : (low n : ℕ) (es : List (ℕ × ℤ)) → n < length es → AscendsFrom low (keys_of es) → (least_after low (keys_of (take n es)) ≤ (get_or es n (0, pos 0)).0) × ((get_or es n (0, pos 0)).0 < 2 ^ 32)
 entry_fits low n es within ascends =
     let within' : n < length (keys_of es) = omega (arith, within, length_keys es) in

@@ -86,7 +86,7 @@ impl<'a> Entries<'a> {
         self.weights.is_none()
     }
 
-    /// Writes the entries behind those of two columns.
+    /// Writes the entries after those of two columns.
     ///
     /// The only error is out of memory.
     pub(crate) fn append_to(

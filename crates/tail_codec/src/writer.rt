@@ -68,10 +68,10 @@ impl TailWriter {
     }
 }
 
-/// Writes the bytes of an entry behind other bytes, where its key is `distance` above the least that
+/// Writes the bytes of an entry after other bytes, where its key is `distance` above the least that
 /// might stand there.
 ///
-/// The only error is out of memory, and then a part of its bytes may stand behind the others.
+/// The only error is out of memory, and then a part of its bytes may stand after the others.
 #[inline]
 pub fn append_entry(bytes: &mut Vec<u8>, distance: u64, weight: i64) -> Result<(), AllocError>
     requires { distance < 2 ^ 32 }

@@ -22,7 +22,7 @@ pub fn wanted_without_files(err: Option<&[u8]>, is_check: bool) -> Defaults {
     }
 }
 
-// The exit status behind this text of standard error: 3 where a run ended by a fault; where something is refused 4 for want of
+// The exit status after this text of standard error: 3 where a run ended by a fault; where something is refused 4 for want of
 // memory, 5 for a device that failed, and else 1; and 2 for other words about a command line.
 fn status_after(err: &[u8]) -> &'static [u8] {
     let text = str::from_utf8(err).unwrap_or("");

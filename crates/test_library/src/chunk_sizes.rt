@@ -12,7 +12,7 @@ const CHUNK_SIZES: [u32; 3] = [1, 16, 256];
 // More than the 2,048 that are packed.
 const NEIGHBOURS: u32 = 2_100;
 
-// Behind the vertices that come to have so many.
+// After the vertices that come to have so many.
 const FIRST: u32 = 64;
 
 // A batch that gives a vertex so many neighbours in both directions, and the graph a vertex more than for the vertex before.

@@ -8,7 +8,7 @@ use tail_codec::Tail;
 // A head with its weight and its tail's bytes.
 type Chunk = (u32, i64, &'static [u8]);
 
-// A prefix's bytes, and the chunks behind it.
+// A prefix's bytes, and the chunks after it.
 type Cut = (&'static [u8], &'static [Chunk]);
 
 // Chunk sizes, lists, and their cuts.

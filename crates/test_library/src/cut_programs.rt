@@ -30,7 +30,7 @@ struct Counts {
     no_source: usize,
 }
 
-// Whether a text may be refused so: at the mark that begins no token, at its last token or behind it, or at its length.
+// Whether a text may be refused so: at the mark that begins no token, at its last token or after it, or at its length.
 fn may_be_refused(alloc: Global, text: &[u8], number: u16, at: usize) -> Result<bool, Fail> {
     match number {
         201 => Ok(
@@ -68,7 +68,7 @@ fn count(
     }
 }
 
-// A text is a source behind its head and behind each declaration, and there also before the white bytes that follow.
+// A text is a source after its head and after each declaration, and there also before the white bytes that follow.
 const COUNTS: Counts = Counts {
     accepted: 2,
     no_token: 4,

@@ -86,7 +86,7 @@ const SPELLINGS: [&str; 72] = [
 
 const HEAD: &str = "element Vertex end element Edge end ";
 
-// What stands behind the head in ten sources: each form of the grammar stands in one of them.
+// What stands after the head in ten sources: each form of the grammar stands in one of them.
 const RESTS: [&str; 10] = [
     "",
     "const edges : edgeset{Edge}(Vertex, Vertex) = load(argv[1]); const parent : vector{Vertex}(int) = -1; \

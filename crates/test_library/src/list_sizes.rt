@@ -9,7 +9,7 @@ const OTHERS: u32 = 5_303;
 
 const STRIDE: u32 = 3_571;
 
-// Behind the others, at both ends of a block of 64 vertices.
+// After the others, at both ends of a block of 64 vertices.
 const HUBS: [u32; 2] = [5_311, 5_312];
 
 const VERTICES: u32 = 5_313;
@@ -125,7 +125,7 @@ impl Beside {
         Ok(())
     }
 
-    // Makes the count of neighbours so many, by one batch: the first go, or others come behind the last.
+    // Makes the count of neighbours so many, by one batch: the first go, or others come after the last.
     fn resize(&mut self, alloc: Global, count: u32) -> Result<(), Fail> {
         let mut batch = Batch::new(alloc);
         let weights = self.hub.weights;

@@ -13,7 +13,7 @@ pub(crate) struct SlowReader<'a> {
 }
 
 impl SlowReader<'_> {
-    /// A reader that ends behind the bytes.
+    /// A reader that ends after the bytes.
     pub(crate) fn ending(bytes: &[u8], most: usize) -> SlowReader<'_> {
         SlowReader {
             bytes,
@@ -23,7 +23,7 @@ impl SlowReader<'_> {
         }
     }
 
-    /// A reader that fails behind the bytes.
+    /// A reader that fails after the bytes.
     pub(crate) fn failing(bytes: &[u8], most: usize) -> SlowReader<'_> {
         SlowReader {
             bytes,

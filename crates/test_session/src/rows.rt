@@ -30,7 +30,7 @@ fn beside_a_commit(alloc: Global, more: u32) -> Result<Vec<SessionStep>, AllocEr
     Ok(steps)
 }
 
-// What these steps are answered, up to the fourteenth behind the release, at which the search ends.
+// What these steps are answered, up to the fourteenth after the release, at which the search ends.
 const REPLIES: [SessionReply; 26] = [
     SessionReply::Of(Reply::Version(1)),
     SessionReply::Of(Reply::Ticket(1, 1)),

@@ -16,7 +16,7 @@ use version_list::Which;
 // More than the 2,048 that are packed.
 const NEIGHBOURS: u32 = 2_100;
 
-// Behind the vertices that come to have so many.
+// After the vertices that come to have so many.
 const FIRST: u32 = 64;
 
 // A vertex that comes to have neighbours by one commit: as destinations, as sources, or as both, which are so many entries that the

@@ -1,4 +1,4 @@
-//! The newest version, as readers are given it: behind as many commits as each length has, by readers that look all the while and
+//! The newest version, as readers are given it: after as many commits as each length has, by readers that look all the while and
 //! by readers that do not, and after the graph is gone.
 ghost use Rattle.std.specs.Prelude.{◌≡◌};
 
@@ -84,7 +84,7 @@ fn add_run<J: Naming, W: Wait + Drop, R: Threads + Wait + Sync>(
     Ok(last)
 }
 
-// Where the run ends that begins behind so many commits.
+// Where the run ends that begins after so many commits.
 fn end_after(commits: u64) -> u64 {
     for end in ENDS {
         if commits < end {

@@ -1,5 +1,5 @@
 //! Tests of shared graphs on threads: what no contract says of two passes that told each other nothing, of chunk sizes, and of
-//! calls behind a refusal; and calls that memory may run out for.
+//! calls after a refusal; and calls that memory may run out for.
 //!
 //! They stand apart from `test_library`, so that no other test has leave to wait, and both crates are
 //! proved side by side.

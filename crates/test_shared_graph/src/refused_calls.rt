@@ -1,4 +1,4 @@
-//! Calls of a shared graph behind one that is refused: each kind of call is answered then, by the same reader and by another on
+//! Calls of a shared graph after one that is refused: each kind of call is answered then, by the same reader and by another on
 //! another thread, so no refusal leaves the lock taken. 122 has no row: the ticket of what is held is open until a release
 //! spends what is held.
 ghost use Rattle.std.specs.Prelude.{◌≡◌};
@@ -95,7 +95,7 @@ fn is_refused<J: Naming, W: Wait + Drop, R: Threads + Wait + Sync>(
     hold_and_release(rt, alloc, graph, me, Which::At(1_000_000)) == Err(number)
 }
 
-// Whether a call of each kind is answered right behind each of these refusals, and then both readers go on.
+// Whether a call of each kind is answered right after each of these refusals, and then both readers go on.
 fn go_on_after_each<
     J: Naming + Send + Sync,
     W: Wait + Drop + Send + Sync,
@@ -133,7 +133,7 @@ fn fill<J: Naming, W: Wait + Drop, R: Threads + Wait + Sync>(
     false
 }
 
-// Whether a look and a release are answered behind a commit and a hold that found no room, and then both readers go on.
+// Whether a look and a release are answered after a commit and a hold that found no room, and then both readers go on.
 fn go_on_after_full<
     J: Naming + Send + Sync,
     W: Wait + Drop + Send + Sync,

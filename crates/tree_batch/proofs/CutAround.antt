@@ -45,7 +45,7 @@ below_wider : (k m : ℕ) (us : List (EdgeUpdate × ℤ)) → k ≤ m → AreBel
 below_wider k m [] le s = tt
 below_wider k m (u ∷ us) le s = (omega (arith, s.0), below_wider k m us le s.1)
 
--- updates behind one from a block on are from it on
+-- updates after one from a block on are from it on
 from_first : (k : ℕ) (a : EdgeUpdate × ℤ) (us : List (EdgeUpdate × ℤ)) → FollowAscending a.0 (keys_of us) → k ≤ vertex_of a.0 / 64 → AreFrom k us
 from_first k a [] s le = tt
 from_first k a (u ∷ us) s le =

@@ -31,7 +31,7 @@ pub record IsGraph (n m : ℕ) (outgoing incoming : List (ℕ × Block)) : Type 
   pub converse : (u v : ℕ) → weight_between (lists_of incoming) (v, u) ≡ weight_between (lists_of outgoing) (u, v)
   pub count : m ≡ length (edges_of (lists_of outgoing))
 
--- what is left of the block k, and blocks behind it
+-- what is left of the block k, and blocks after it
 pub record AreBlocksLeft (k : ℕ) (left : Block) (bs : List (ℕ × Block)) : Type 0 where
   pub number : k < 2 ^ 18
   pub vertices : IsBlock left

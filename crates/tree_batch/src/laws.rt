@@ -11,7 +11,7 @@ ghost use Rattle.tree_batch.specs.Entry.{made_by, misfits, named_by, vertices_af
 ghost use Rattle.tree_batch.specs.Digraph.{Digraph, graph_after, IsDigraph};
 ghost use Rattle.tree_batch.specs.Neighbours.{destinations_of, sources_of};
 
-/// The law of a batch. For each edge that an entry names, with none behind it that does, the edge is
+/// The law of a batch. For each edge that an entry names, with none after it that does, the edge is
 /// after the batch what that entry makes of it: there with its weight, or not there. An edge that no
 /// entry names is as it was, with the weight that it had. Both hold of the edges that the vertices may
 /// have after the batch. The call does nothing.

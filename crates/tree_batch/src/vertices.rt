@@ -17,7 +17,7 @@ pub(crate) struct AdjacencyIter<'a> {
     number: u32,
     /// Its vertices that are still to come.
     vertices: Option<BlockIter<'a>>,
-    /// The blocks behind it.
+    /// The blocks after it.
     rest: shared_tree::Iter<'a, VertexBlock>,
 }
 

@@ -26,7 +26,7 @@ module _ (low : ℕ) (f g : ℕ → List (ℕ × ℤ)) where
   built_before : built (up_to low f g) low ≡ built f low
   built_before = built_same (up_to low f g) f low before
 
--- lists of old vertices come behind others
+-- lists of old vertices come after others
 module _ (es : Block) (map : Rises 0 64 es) (some_each : HaveNeighbours es) (f : ℕ → List (ℕ × ℤ)) (low high : ℕ) (p : Block) (le : low ≤ high) (is : p ≡ built f low) where
   pub carried_behind : p ++ slice_range es (count_below low es) (count_below high es) ≡ built (up_to low f (λ u. neighbours_of u es)) high
   carried_behind =

@@ -49,7 +49,7 @@ lists_front zero ss ok = tt
 lists_front (suc n) [] ok = tt
 lists_front (suc n) (s ∷ ss) ok = (ok.0, lists_front n ss ok.1)
 
--- some of the lists one behind the other
+-- some of the lists one after the other
 pub lists_between : (from to : ℕ) (ss : List LongEntry) → AreNeighbourLists (long_entries ss) → AreNeighbourLists (long_entries (slice_range ss from to))
 lists_between from to ss ok = lists_front (to - from) (drop from ss) (lists_back from ss ok)
 

@@ -1,4 +1,4 @@
--- Lists that come behind others, in a page or by themselves.
+-- Lists that come after others, in a page or by themselves.
 use Rattle.std.proofs.Common.{◌≡◌, ℕ, ℤ, ◌<◌, inl, inr, Option, Some, None, Result, Ok, Err, OnOk, IfOk, IfSome, List, [], ◌∷◌, ◌++◌, length, refl, sym, ◌∙◌, ap}
 use Rattle.std.proofs.lemmas.List.{append-nil}
 use Rattle.pages.proofs.Building.{entry_some}

@@ -79,7 +79,7 @@ fn weight_size(updates: &Updates<'_>, start: usize, end: usize) -> usize
     size
 }
 
-/// The index behind the updates from one on that are of the same vertex.
+/// The index after the updates from one on that are of the same vertex.
 fn run_end(updates: &Updates<'_>, start: usize) -> usize
     requires { start < length updates.now }
     ensures order { start < result }

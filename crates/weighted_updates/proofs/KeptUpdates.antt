@@ -67,7 +67,7 @@ updates_kept (w ∷ ws) = elim (cases_Bool (begins_same w ws)) [
 pub weighted_ascend : (ws : List WeightedUpdate) → AreInOrder (updates_in ws) → Ascend (updates_in (last_weighted ws))
 weighted_ascend ws order = rw (updates_kept ws) (lasts_ascend (updates_in ws) order)
 
--- an edge that the first update names is decided behind it where the next one names it too
+-- an edge that the first update names is decided after it where the next one names it too
 next_decides : (w : WeightedUpdate) (ws : List WeightedUpdate) (e : Edge) → begins_same w ws ≡ true → names w.update e ≡ true
     → option_or (decided_weight (pairs_in ws) e) (one_decided (w.update, w.weight) e) ≡ decided_weight (pairs_in ws) e
 next_decides w [] e same is = absurd (false≢true same)

@@ -1,4 +1,4 @@
--- Entries of vertices, and the bytes of their lists one behind the other.
+-- Entries of vertices, and the bytes of their lists one after the other.
 use Rattle.std.specs.Prelude.{◌≡◌, ℕ, ℤ, ◌+◌, ◌*◌, ◌<◌, ◌≤◌, Result, Ok, Err, List, [], ◌∷◌, ◌++◌, length, drop}
 use Rattle.ascending_lists.specs.Ascending.{AscendsFrom}
 use Rattle.edge_updates.specs.Weighted.{weighted}
@@ -31,7 +31,7 @@ lists_in bytes [] = []
 lists_in bytes (e ∷ es) = (e.vertex, list_at bytes e) ∷ lists_in bytes es
 
 -- The bytes of an entry are an ascending list of 1 to 256 elements with their weights, and three bytes or
--- more are behind them.
+-- more are after them.
 pub record IsListed (bytes : List ℕ) (e : ListEntry) : Type 0 where
   pub wide : 0 < e.width
   pub width : e.width ≤ 4
@@ -44,7 +44,7 @@ abbrev pub end_of : ℕ → List ListEntry → ℕ
 end_of position [] = position
 end_of position (e ∷ es) = end_of (position + size_of e) es
 
--- the lists of entries are one behind the other from a position on
+-- the lists of entries are one after the other from a position on
 abbrev pub AreListed : ℕ → List ℕ → List ListEntry → Type 0
 AreListed position bytes [] = Unit {0}
 AreListed position bytes (e ∷ es) = (e.start ≡ position) × IsListed bytes e × AreListed (position + size_of e) bytes es
@@ -55,16 +55,16 @@ pub record IsStored (bits : ℕ) (bytes : List ℕ) (es : List ListEntry) : Type
   pub ends : end_of 0 es + 3 ≡ length bytes
   pub index : IsIndex bits (lists_in bytes es)
 
--- The lists of more vertices came behind the others, or all stayed as it was.
+-- The lists of more vertices came after the others, or all stayed as it was.
 abbrev pub IsExtended : {T E : Type 0} → List ListEntry → List ℕ → List (ℕ × List (ℕ × ℤ)) → Result T E → List ListEntry → List ℕ → Type 0
 IsExtended es bytes more (Ok t) es' bytes' = AreListed 0 bytes' es' × (end_of 0 es' + 3 ≡ length bytes') × (lists_in bytes' es' ≡ lists_in bytes es ++ more)
 IsExtended es bytes more (Err e) es' bytes' = (es' ≡ es) × (bytes' ≡ bytes)
 
--- entries whose lists are one behind the other from another position on
+-- entries whose lists are one after the other from another position on
 abbrev pub placed_at : ℕ → List ListEntry → List ListEntry
 placed_at position [] = []
 placed_at position (e ∷ es) = record { start = position; last = e.last; width = e.width; weights = e.weights; vertex = e.vertex } ∷ placed_at (position + size_of e) es
 
--- the lists of entries are one behind the other from some position on
+-- the lists of entries are one after the other from some position on
 abbrev pub AreFrom : List ℕ → List ListEntry → Type 0
 AreFrom bytes es = (position : ℕ) × AreListed position bytes es

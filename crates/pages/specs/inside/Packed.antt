@@ -20,11 +20,11 @@ list_of first w (suc n) bytes = first ∷ after_first first w n bytes
 abbrev pub elements_in : ℕ → ℕ → List ℕ → List ℕ
 elements_in w n bytes = list_of (number_of (take 4 bytes)) w n (drop 4 bytes)
 
--- n elements with their weights, which stand behind the offsets
+-- n elements with their weights, which stand after the offsets
 abbrev pub entries_of : ℕ → ℕ → ℕ → WeightWidth → List ℕ → List (ℕ × ℤ)
 entries_of first w n v bytes = weighted (list_of first w n bytes) (weights_from v n (drop (w * (n - 1)) bytes))
 
--- Offsets of an ascending list of n elements, of at most four bytes each, with three bytes behind the last.
+-- Offsets of an ascending list of n elements, of at most four bytes each, with three bytes after the last.
 pub record IsView (first w mask n : ℕ) (bytes : List ℕ) : Type 0 where
   pub some : 0 < w
   pub width : w ≤ 4
@@ -33,7 +33,7 @@ pub record IsView (first w mask n : ℕ) (bytes : List ℕ) : Type 0 where
   pub within : 0 < n → w * (n - 1) + 3 ≤ length bytes
   pub ascends : AscendsFrom 0 (list_of first w n bytes)
 
--- the same, with the weights behind the offsets
+-- the same, with the weights after the offsets
 pub record IsWeightedView (first w mask n : ℕ) (v : WeightWidth) (bytes : List ℕ) : Type 0 where
   pub view : IsView first w mask n bytes
   pub weights : 0 < n → w * (n - 1) + weight_size v * n ≤ length bytes
@@ -42,7 +42,7 @@ pub record IsWeightedView (first w mask n : ℕ) (v : WeightWidth) (bytes : List
 abbrev pub packed_in : ℕ → ℕ → WeightWidth → List ℕ → List (ℕ × ℤ)
 packed_in w n v bytes = entries_of (number_of (take 4 bytes)) w n v (drop 4 bytes)
 
--- Bytes are such a list of 1 to 2,048 elements, with three bytes or more behind it.
+-- Bytes are such a list of 1 to 2,048 elements, with three bytes or more after it.
 pub record IsPackedIn (w n : ℕ) (v : WeightWidth) (bytes : List ℕ) : Type 0 where
   pub some : 0 < n
   pub view : IsWeightedView (number_of (take 4 bytes)) w (2 ^ (8 * w) - 1) n v (drop 4 bytes)

@@ -22,7 +22,7 @@ weight_in TwoBytes bytes = pos (number_of (take 2 bytes))
 weight_in FourBytes bytes = cast_signed w32 (number_of (take 4 bytes))
 weight_in EightBytes bytes = cast_signed w64 (number_of (take 8 bytes))
 
--- n weights one behind the other
+-- n weights one after the other
 abbrev pub weights_from : WeightWidth → ℕ → List ℕ → List ℤ
 weights_from w zero bytes = []
 weights_from w (suc n) bytes = weight_in w bytes ∷ weights_from w n (drop (weight_size w) bytes)

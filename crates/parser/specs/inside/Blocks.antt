@@ -28,11 +28,11 @@ opening_of keyword.If = Some opening.If
 opening_of keyword.Print = Some opening.Print
 opening_of _ = None
 
--- what stands behind `var`
+-- what stands after `var`
 abbrev pub declared_at : ℕ → Reader ActionTree
 declared_at at ws = typed_at ws >>= λ n. assigned_at n.1 >>= λ i. Some (Declare at n.0 i.0, i.1)
 
--- what stands behind `print`
+-- what stands after `print`
 abbrev pub printed_at : ℕ → Reader ActionTree
 printed_at at ws = ended_at ws >>= λ e. Some (Print at e.0, e.1)
 
@@ -46,12 +46,12 @@ range_at ws =
 abbrev pub to_end_by : Reader BlockTree → Reader BlockTree
 to_end_by block ws = block ws >>= closed (OfKeyword keyword.End ∷ [])
 
--- what stands behind the body of an `if`
+-- what stands after the body of an `if`
 abbrev pub otherwise_by : Reader BlockTree → ℕ → ExpressionTree → BlockTree × List Terminal → Option (List Terminal) → Option (ActionTree × List Terminal)
 otherwise_by block at test body None = closed (OfKeyword keyword.End ∷ []) (If at test body.0, body.1)
 otherwise_by block at test body (Some after) = to_end_by block after >>= λ b. Some (IfElse at test body.0 b.0, b.1)
 
--- what stands behind that keyword
+-- what stands after that keyword
 abbrev pub opened_by : Reader BlockTree → Opening → ℕ → Reader ActionTree
 opened_by block opening.Var at ws = declared_at at ws
 opened_by block opening.While at ws = expression ws >>= λ e. to_end_by block e.1 >>= λ b. Some (While at e.0 b.0, b.1)

@@ -73,11 +73,11 @@ applied_function_at ws =
 abbrev pub applied_by : Identifier → Reader ActionTree
 applied_by target ws = ends_at ws >>= λ e. applied_function_at e.1 >>= λ f. Some (Apply target e.0 f.0, f.1)
 
--- what stands behind `filter`
+-- what stands after `filter`
 abbrev pub filter_at : Identifier → Reader InitialTree
 filter_at set ws = argument_at ws >>= λ n. Some (Filter set n.0, n.1)
 
--- an initial value that is no expression, behind its name
+-- an initial value that is no expression, after its name
 abbrev pub call_by : Identifier → List Terminal → Option Keyword → Option (InitialTree × List Terminal)
 call_by name ws (Some keyword.GetVertices) =
     closed (OfSymbol symbol.Dot ∷ OfKeyword keyword.GetVertices ∷ in_parentheses []) (Vertices name, ws)
@@ -87,13 +87,13 @@ call_by name ws (Some keyword.Filter) =
     after_terminals (OfSymbol symbol.Dot ∷ OfKeyword keyword.Filter ∷ []) ws >>= filter_at name
 call_by name ws _ = modified_by name ws
 
--- what stands behind `new`
+-- what stands after `new`
 abbrev pub new_set_at : Reader InitialTree
 new_set_at ws =
     after_terminals (OfKeyword keyword.VertexSet ∷ (in_braces (OfKeyword keyword.Vertex) ++ OfSymbol symbol.OpenParenthesis ∷ [])) ws >>= λ a.
     number_at a >>= λ n. closed (OfSymbol symbol.CloseParenthesis ∷ []) (NewSet n.0, n.1)
 
--- what stands behind `load`
+-- what stands after `load`
 abbrev pub load_at : Reader InitialTree
 load_at ws =
     after_terminals (OfSymbol symbol.OpenParenthesis ∷ OfKeyword keyword.Argv ∷ OfSymbol symbol.OpenBracket ∷ []) ws >>= λ a.

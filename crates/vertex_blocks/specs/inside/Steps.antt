@@ -15,7 +15,7 @@ pub record IsBuilt (f : ℕ → List (ℕ × ℤ)) (low : ℕ) (p s : Block) : T
   pub lists : (u : ℕ) → u < low → small u ++ large u ≡ f u
   pub apart : (u : ℕ) → u < low → (small u ≡ []) ⊎ (large u ≡ [])
 
--- A list came behind the others at a vertex, if it has an element.
+-- A list came after the others at a vertex, if it has an element.
 pub record IsPut (u : ℕ) (xs : List (ℕ × ℤ)) (p s p' s' : Block) : Type 0 where
   pub small : List (ℕ × ℤ)
   pub large : List (ℕ × ℤ)

@@ -8,7 +8,7 @@ abbrev pub begins_same : WeightedUpdate → List WeightedUpdate → Bool
 begins_same w [] = false
 begins_same w (v ∷ vs) = key_of v.update == key_of w.update
 
--- the updates with no update of the same edge right behind them
+-- the updates with no update of the same edge right after them
 abbrev pub last_weighted : List WeightedUpdate → List WeightedUpdate
 last_weighted [] = []
 last_weighted (w ∷ ws) = if begins_same w ws then last_weighted ws else w ∷ last_weighted ws

@@ -8,7 +8,7 @@ use Rattle.edge_fold.proofs.gathered_ranges.count_below.Goals as goal
 middle_inside : (low high middle : ℕ) → middle ≡ low + (high - low) / 2 → low < high → (low ≤ middle) × (middle < high)
 middle_inside low high middle is some = (omega (arith, is, some), omega (arith, is, some))
 
--- what the number in the middle says of those before it and behind it
+-- what the number in the middle says of those before it and after it
 before_middle : (cs : List EntryChange) (k middle : ℕ) (d e : EntryChange) (x : ℕ) → IsAscending cs → k ≤ middle → middle < length cs → (get_or cs middle e).vertex < x → (get_or cs k d).vertex < x
 before_middle cs k middle d e x up l inside less =
     let most = up k middle d l inside in

@@ -4,7 +4,7 @@ use Rattle.std.proofs.lemmas.Grind.{common_steps}
 use Rattle.std.proofs.Math.Seq.{take-add}
 use Rattle.devices.proofs.text_feed.TextFeedFeed.read.Goals as goal
 
--- a first part of a text, and what was copied from behind it
+-- a first part of a text, and what was copied from after it
 given_more : (text copied rest : List ℕ) (n m : ℕ) → copied ≡ take m (drop n text) → length copied ≡ m → take (n + m) text ≡ take n text ++ take m (copied ++ rest)
 given_more text copied rest n m is len = take-add n m text ∙ ap (λ xs. take n text ++ xs) (sym is ∙ sym (take_at copied rest m len))
 

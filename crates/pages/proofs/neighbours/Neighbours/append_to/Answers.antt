@@ -7,7 +7,7 @@ use Rattle.pages.specs.inside.Weights.{column_of}
 use Rattle.pages.proofs.Weighing.{column_length, weighted_column}
 use Rattle.pages.proofs.neighbours.Neighbours.append_to.Goals as goal
 
--- a part of a list comes behind others in columns
+-- a part of a list comes after others in columns
 appended : (keys keys' : List ℕ) (ws ws' : List ℤ) (es : List (ℕ × ℤ)) (from count n : ℕ) → n ≡ length keys → keys' ≡ keys ++ take count (drop from (keys_of es)) → column_of (n + count) ws' ≡ column_of n ws ++ take count (drop from (values_of es)) → from + count ≤ length es → weighted keys' ws' ≡ weighted keys ws ++ take count (drop from es)
 appended keys keys' ws ws' es from count n len more column room =
     let ks : List ℕ = take count (drop from (keys_of es)) in
