@@ -17,7 +17,7 @@ pub enum Operation {
 }
 
 impl Operation {
-    /// How many elements the answer for lists of so many elements has if they have none in common.
+    /// How many elements the answer for lists of n elements has if they have none in common.
     pub fn most(self, first: usize, second: usize) -> usize
         requires { first + second < 2 ^ 64 }
         ensures { result ≡ most self first second }

@@ -36,7 +36,7 @@ pub fn print_times<T: Threads + Sync>(rt: &HostRuntime, threads: &T) -> io::Resu
     Ok(())
 }
 
-// The times of so many batches, one after another; each lets go the graph before it.
+// The times of n batches, one after another; each lets go the graph before it.
 fn times_of<T: Threads + Sync>(
     rt: &HostRuntime,
     threads: &T,

@@ -23,7 +23,7 @@ use vertex_sets::{Form, VertexSet};
 
 const SEED: u64 = 2026;
 
-// A random graph of so many vertices and about so many edges, and the form of a random set, of which only vertices that
+// A random graph of n vertices and about so many edges, and the form of a random set, of which only vertices that
 // the last number divides are members.
 type Case = (u32, u32, Form, u32);
 

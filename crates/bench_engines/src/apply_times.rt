@@ -40,7 +40,7 @@ pub fn print_times(rt: &HostRuntime) -> io::Result<()> {
     print_graph(rt, "of 10,000,000", 10_000_000)
 }
 
-// Prints the time in a graph of so many vertices.
+// Prints the time in a graph of n vertices.
 fn print_graph(rt: &HostRuntime, name: &str, vertices: u32) -> io::Result<()> {
     let mut random = Random::new(SEED);
     let frontier = ten_vertices(rt.alloc(), vertices, &mut random)?;

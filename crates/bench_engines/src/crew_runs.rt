@@ -75,7 +75,7 @@ pub fn print_times<T: Threads + Sync>(rt: &HostRuntime, threads: &T) -> io::Resu
     Ok(())
 }
 
-// The times of so many rounds of a run.
+// The times of n rounds of a run.
 fn times_of<T: Threads + Sync>(
     rt: &HostRuntime,
     threads: &T,

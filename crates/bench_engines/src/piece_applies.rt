@@ -11,7 +11,7 @@ use std::io;
 use std::io::Error;
 use vectors::Changes;
 
-/// What an apply changes, as its pieces for so many workers make it: merged from the first piece to the last, and from
+/// What an apply changes, as its pieces for n workers make it: merged from the first piece to the last, and from
 /// the last to the first. A dense pull is cut by its destinations, and what any other direction does by its sources.
 pub fn changes_by_pieces(
     alloc: Global,

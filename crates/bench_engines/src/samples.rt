@@ -26,7 +26,7 @@ impl Drop for Sample {
 }
 
 impl Sample {
-    /// A random graph of so many vertices and about so many edges, with random weights.
+    /// A random graph of n vertices and about so many edges, with random weights.
     pub fn new(
         alloc: Global,
         random: &mut Random,

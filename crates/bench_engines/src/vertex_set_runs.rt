@@ -15,7 +15,7 @@ const TURNS: Turns = Turns {
 
 const SEED: u64 = 2026;
 
-// One vertex of so many is a member.
+// One vertex of n is a member.
 const SPREADS: [u32; 3] = [1000, 20, 1];
 
 // What is timed.

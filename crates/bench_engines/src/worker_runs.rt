@@ -119,7 +119,7 @@ fn require(is_same: bool) -> io::Result<()> {
     Err(Error::other("a run by workers differs from the slow run"))
 }
 
-// What a program shows by so many workers.
+// What a program shows by n workers.
 fn by_workers<T: Threads + Sync, G: Gate + Sync>(
     alloc: Global,
     (threads, workers): (&T, usize),

@@ -87,7 +87,7 @@ fn after_batch<T: Threads + Sync>(
     }
 }
 
-// A batch of so many entries over a few vertices; every third takes its edge away.
+// A batch of n entries over a few vertices; every third takes its edge away.
 fn random_batch(alloc: Global, random: &mut Random, entries: u32) -> io::Result<Batch> {
     let mut batch = Batch::new(alloc);
     for _ in 0..entries {

@@ -48,7 +48,7 @@ pub fn print_times(rt: &HostRuntime) -> io::Result<()> {
     print_size(rt, &mut random, 65_536, 20, 50)
 }
 
-// Prints the rows of so many sets of a size, over which each turn goes so often.
+// Prints the rows of n sets of a size, over which each turn goes so often.
 fn print_size(
     rt: &HostRuntime,
     random: &mut Random,
@@ -93,7 +93,7 @@ impl ChunkSetBenchmark {
         }
     }
 
-    // Adds a set of so many elements.
+    // Adds a set of n elements.
     fn add(&mut self, alloc: Global, random: &mut Random, size: usize) -> io::Result<()> {
         let list = neighbours(alloc, random, size)?;
         push_set(alloc, &list, &mut self.sets, &mut self.tails)?;

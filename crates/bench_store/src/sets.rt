@@ -61,7 +61,7 @@ pub fn print_times<T: Threads + Sync>(rt: &HostRuntime, threads: &T) -> io::Resu
     Ok(())
 }
 
-// Prints all rows of a set and another of so many elements.
+// Prints all rows of a set and another of n elements.
 fn print_size<T: Threads + Sync>(
     rt: &HostRuntime,
     threads: &T,
@@ -77,7 +77,7 @@ fn print_size<T: Threads + Sync>(
     Ok(())
 }
 
-// The times of so many rounds of a row.
+// The times of n rounds of a row.
 fn times_of<T: Threads + Sync>(
     rt: &HostRuntime,
     threads: &T,

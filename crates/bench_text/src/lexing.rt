@@ -6,7 +6,7 @@ use std::alloc::{AllocError, Global};
 use std::io;
 use std::io::Error;
 
-// The source that is timed has at least so many bytes.
+// The source that is timed has at least n bytes.
 const BYTES: usize = 10_000_000;
 
 // Three programs: breadth-first search, component labels, and counts that are fused.

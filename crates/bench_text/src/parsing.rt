@@ -56,7 +56,7 @@ fn print_bytes(rt: &HostRuntime, bytes: usize) -> io::Result<()> {
     Ok(())
 }
 
-/// Prints how many statements the parser finds in a source of so many bytes of them.
+/// Prints how many statements the parser finds in a source of n bytes of them.
 pub fn print_statements(rt: &HostRuntime, bytes: usize) -> io::Result<()> {
     let text = source(rt.alloc(), bytes)?;
     let (length, statements) = (text.len(), parsed(rt.alloc(), text.as_bytes())?);

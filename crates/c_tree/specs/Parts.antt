@@ -19,7 +19,7 @@ pub record IsPart (b : ℕ) (prefix : BasedList) (chunks : List (ℕ × HeadValu
   pub front : HasNoHead b prefix.entries
   pub each : All (IsChunk b) chunks
 
--- A prefix and chunks that make a set of so many entries.
+-- A prefix and chunks that make a set of n entries.
 pub record IsMadeOf (b : ℕ) (len : ℕ) (prefix : BasedList) (chunks : List (ℕ × HeadValue)) : Type 0 where
   pub part : IsPart b prefix chunks
   pub base : prefix.base ≡ None

@@ -35,7 +35,7 @@ dynamic_ends workers count =
 abbrev pub edge_aware_ends : (workers : ℕ) → (degrees : List ℕ) → List ℕ
 edge_aware_ends workers degrees = limited_ends (div_ceil (weight degrees) (4 * workers)) 0 0 degrees
 
--- as a schedule says for so many vertices, of these degrees
+-- as a schedule says for n vertices, of these degrees
 abbrev pub boundaries : Parallelization → (workers count : ℕ) → (degrees : List ℕ) → List ℕ
 boundaries Serial workers count degrees = serial_ends count
 boundaries StaticVertex workers count degrees = static_ends workers count

@@ -19,7 +19,7 @@ Finds answers pieces workers (Err NoMemory) = AreWorkers workers
 abbrev pub edges_of_a_worker : ℕ
 edges_of_a_worker = 16384
 
--- a worker for each so many edges, one at least and no more than there are, or the refusal of a number of workers
+-- a worker for each n edges, one at least and no more than there are, or the refusal of a number of workers
 abbrev pub Employs : ℕ → ℕ → Result ℕ CrewError → Type 0
 Employs edges workers (Ok n) = AreWorkers workers × (n ≡ max 1 (min workers (edges / edges_of_a_worker)))
 Employs edges workers (Err BadWorkers) = ¬ AreWorkers workers

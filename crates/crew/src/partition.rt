@@ -25,7 +25,7 @@ impl Model for Partition {
 }
 
 impl Partition {
-    /// The partition of so many vertices for so many workers, as a schedule says. The degrees of the vertices are read where
+    /// The partition of n vertices for n workers, as a schedule says. The degrees of the vertices are read where
     /// it says `EdgeAwareDynamicVertex`, and then it takes time in proportion to the vertices, and else to the workers.
     /// Where there is no vertex, there is no piece.
     ///
@@ -73,7 +73,7 @@ impl Partition {
     }
 }
 
-/// Adds the ends of the pieces of so many vertices.
+/// Adds the ends of the pieces of n vertices.
 fn push_ends(
     ends: &mut Vec<usize>,
     parallelization: Parallelization,
@@ -134,7 +134,7 @@ fn push_edge_aware(ends: &mut Vec<usize>, workers: usize, degrees: &[u32]) -> Re
     Ok(())
 }
 
-/// Adds the ends of so many runs that have so many vertices each, and gives the last one.
+/// Adds the ends of n runs that have so many vertices each, and gives the last one.
 fn push_runs(
     ends: &mut Vec<usize>,
     start: usize,

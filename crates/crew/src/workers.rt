@@ -16,7 +16,7 @@ pub fn is_crew(workers: usize) -> bool
 // The edges for which a further worker is worth its thread.
 const EDGES_OF_A_WORKER: usize = 16_384;
 
-/// How many of so many workers an apply over so many edges is worth: one for each 16,384 edges, but at
+/// How many of n workers an apply over so many edges is worth: one for each 16,384 edges, but at
 /// least one, and no more than there are.
 ///
 /// A run of trivial pieces took 12 µs by two workers and 31 µs by four (4 processors), in which one
@@ -34,7 +34,7 @@ pub fn workers_for(edges: usize, workers: usize) -> Result<usize, CrewError>
     Ok((edges / EDGES_OF_A_WORKER).min(workers).max(1))
 }
 
-/// The number of edges from which an apply is worth all of so many workers.
+/// The number of edges from which an apply is worth all of n workers.
 pub fn edges_for(workers: usize) -> usize
     requires { workers ≤ 64 }
     ensures { result ≡ workers * edges_of_a_worker }

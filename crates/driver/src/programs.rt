@@ -14,7 +14,7 @@ use scripts::Programs;
 use std::alloc::{AllocError, Global};
 use std::thread::Threads;
 
-/// The run of a plan on a snapshot of a graph, for at most so many turns, by so many workers.
+/// The run of a plan on a snapshot of a graph, for at most n turns, by n workers.
 #[derive(Clone, Copy)]
 pub(crate) struct RunOrder<'a> {
     // The place of the program among those of the request.

@@ -10,7 +10,7 @@ use std::alloc::{AllocError, Global};
 use vectors::{Changes, EntryChange};
 use vertex_sets::{Form, VertexSet};
 
-/// The vertices of a graph of so many at which an apply has changed a vector: a list where they are few, and else in the
+/// The vertices of a graph of n at which an apply has changed a vector: a list where they are few, and else in the
 /// form that the schedule has for dense sets. It takes time in proportion to the changes, and that of a dense form.
 ///
 /// The only error is out of memory.

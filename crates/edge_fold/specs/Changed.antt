@@ -9,7 +9,7 @@ use Rattle.vectors.specs.declared.changes.VectorChanges.{VectorChanges}
 abbrev pub change_at : (old new : ℕ → ℤ) → ℕ → List EntryChange
 change_at old new v = if int_equal (old v) (new v) then [] else record { vertex = v; number = new v } ∷ []
 
--- those of so many vertices from one on, ascending
+-- those of n vertices from one on, ascending
 unfoldable pub changed_from : (old new : ℕ → ℤ) → (v count : ℕ) → List EntryChange
 changed_from old new v zero = []
 changed_from old new v (suc n) = change_at old new v ++ changed_from old new (v + 1) n

@@ -30,7 +30,7 @@ impl Accumulator {
         }
     }
 
-    /// Forgets all entries, and makes room for so many vertices. Where the room is there it takes time in proportion to
+    /// Forgets all entries, and makes room for n vertices. Where the room is there it takes time in proportion to
     /// the entries that it had, and to one word for each 4,096 vertices. The only error is out of memory, after which it
     /// has no entry too.
     pub(crate) fn begin(&mut self, vertices: u32) -> Result<(), AllocError>
@@ -40,7 +40,7 @@ impl Accumulator {
         self.make_room(vertices as usize)
     }
 
-    /// Makes room for so many vertices, where it is not there. The entries stay, after an error too.
+    /// Makes room for n vertices, where it is not there. The entries stay, after an error too.
     fn make_room(&mut self, vertices: usize) -> Result<(), AllocError>
         requires { vertices ≤ 2 ^ 32 }
         ensures held { (combine : ℤ → ℤ → ℤ) (v : ℕ) (h : ℤ) → held_with combine self.new v h ≡ held_with combine self.old v h }

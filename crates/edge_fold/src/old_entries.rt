@@ -54,7 +54,7 @@ impl VectorAccumulators {
 }
 
 impl Accumulator {
-    /// The same of one vector, at so many vertices.
+    /// The same of one vector, at n vertices.
     fn fill(&mut self, opening: InitialEntries<'_>, vertices: u32)
         ensures { (r : Reducing) → AreJoined opening.entry r self.old self.new [] }
     {

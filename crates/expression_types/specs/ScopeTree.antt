@@ -19,7 +19,7 @@ pub record ScopeTree : Type 0 where
   pub conditions : ℕ
   pub sets : ℕ
 
--- before the first declaration of a program with so many constant vertex sets
+-- before the first declaration of a program with n constant vertex sets
 abbrev pub empty_scope : ℕ → ScopeTree
 empty_scope sets = record { visible = []; inside = inside.Main; integers = 0; conditions = 0; sets = sets }
 

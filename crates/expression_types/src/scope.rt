@@ -143,7 +143,7 @@ impl Entity {
 }
 
 impl Scope {
-    /// Where no name is visible yet, in a program with so many constant vertex sets.
+    /// Where no name is visible yet, in a program with n constant vertex sets.
     pub fn new(alloc: Global, sets: usize) -> Scope
         requires { sets ≤ 2 ^ 63 }
         ensures { result ≡ empty_scope sets }

@@ -15,7 +15,7 @@ const RMAT_SEED: u64 = 20_240_601;
 // How many edges a batch adds.
 const BATCH: u32 = 1 << 20;
 
-/// A graph of so many vertices and about so many edges, made by batches.
+/// A graph of n vertices and about so many edges, made by batches.
 pub fn random_graph(alloc: Global, vertices: u32, edges: u32) -> io::Result<Graph> {
     let mut random = Random::new(SEED);
     let mut graph = Graph::new(vertices, CHUNK_SIZE).map_err(told)?;

@@ -19,6 +19,6 @@ number_cut (suc w) (suc m) (b ∷ bytes) small le =
     let rest : n % 2 ^ (8 * w) ≡ number_of (take w bytes) = number_cut w m bytes (λ i. small (suc i)) (omega arith) in
     ap (λ k. (b + 256 * n) % 2 ^ k) power ∙ cut ∙ ap (λ h. (h % 2 ^ (8 * w)) * 2 ^ 8 + (b + 256 * n) % 2 ^ 8) high ∙ omega (arith, rest, low)
 
--- a mask of so many bytes cuts them out of four
+-- a mask of n bytes cuts them out of four
 pub masked : (w mask : ℕ) (bytes : List ℕ) → ((i : ℕ) → get_or bytes i 0 < 256) → w ≤ 4 → mask ≡ 2 ^ (8 * w) - 1 → bit_and (number_of (take 4 bytes)) mask ≡ number_of (take w bytes)
 masked w mask bytes small le is = ap (bit_and (number_of (take 4 bytes))) is ∙ and_mask (number_of (take 4 bytes)) (8 * w) ∙ number_cut w 4 bytes small le

@@ -18,7 +18,7 @@ use Rattle.pages.proofs.Decoding.{list_length}
 abbrev pub no_entry : ListEntry
 no_entry = record { start = 0; last = 0; width = 0; weights = Ones; vertex = 0 }
 
--- all bits of so many bytes
+-- all bits of n bytes
 pub mask_of : (w : ℕ) → 0 < w → w ≤ 4 → 4294967295 / 2 ^ (32 - 8 * w) ≡ 2 ^ (8 * w) - 1
 mask_of zero some le = absurd (omega arith)
 mask_of (suc zero) some le = refl

@@ -115,7 +115,7 @@ ones_written (suc n) bytes [] all = ap (λ v. pos 1 ∷ v) (ones_written n bytes
 ones_written (suc n) bytes (w ∷ ws) all =
     ap (λ x. x ∷ weights_from Ones n bytes) (sym (all 0)) ∙ ap (λ v. w ∷ v) (ones_written n bytes ws (λ i. all (suc i)))
 
--- a column of so many weights
+-- a column of n weights
 pub column_length : (n : ℕ) (ws : List ℤ) → length (column_of n ws) ≡ n
 column_length zero ws = refl
 column_length (suc n) [] = ap suc (column_length n [])

@@ -34,7 +34,7 @@ impl Model for EntryColumns {
 }
 
 impl EntryColumns {
-    /// No entry, with room in advance for so many neighbours.
+    /// No entry, with room in advance for n neighbours.
     ///
     /// The only error is out of memory.
     pub fn with_capacity(alloc: Global, count: usize) -> Result<EntryColumns, AllocError>
@@ -81,7 +81,7 @@ impl EntryColumns {
     }
 }
 
-/// Makes a column one of so many weights. The only error is out of memory.
+/// Makes a column one of n weights. The only error is out of memory.
 pub(crate) fn pad(weights: &mut Vec<i64>, count: usize) -> Result<(), AllocError>
     ensures { IfOk result (λ _. weights.new.items ≡ column_of count weights.old.items) }
 {

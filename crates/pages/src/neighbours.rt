@@ -279,7 +279,7 @@ impl<'a> Neighbours<'a> {
         Ok(())
     }
 
-    /// Adds the weights of so many neighbours from an index on after those of so many others, unless all
+    /// Adds the weights of n neighbours from an index on after those of n others, unless all
     /// are 1. The only error is out of memory.
     fn append_weights(
         &self,
@@ -301,7 +301,7 @@ impl<'a> Neighbours<'a> {
         Ok(())
     }
 
-    /// Adds the weights of so many neighbours from an index on after others. The only error is out of
+    /// Adds the weights of n neighbours from an index on after others. The only error is out of
     /// memory.
     fn append_column(
         &self,

@@ -111,7 +111,7 @@ impl Page {
         Page::with_capacity(alloc, 0, 0)
     }
 
-    /// A page of no vertex, with room in advance for so many vertices and so many bytes of lists: a
+    /// A page of no vertex, with room in advance for n vertices and so many bytes of lists: a
     /// list takes 4 bytes, 1 to 4 more for each neighbour after its first, and where not all weights
     /// are 1, 1 to 8 more for each neighbour.
     ///
@@ -129,7 +129,7 @@ impl Page {
         })
     }
 
-    /// A page of no vertex, with room in advance for this one after so many updates.
+    /// A page of no vertex, with room in advance for this one after n updates.
     ///
     /// The only error is out of memory.
     pub fn with_room(&self, alloc: Global, updates: usize) -> Result<Page, AllocError>

@@ -205,7 +205,7 @@ fn updated(
     page_of_columns(alloc, &after)
 }
 
-// Whether walks upward and downward fill blocks of so many with the list and its weights.
+// Whether walks upward and downward fill blocks of n with the list and its weights.
 fn fills_up(page: &Page, list: &[(u32, i64)], room: usize) -> bool {
     let mut walk = page.list(VERTEX).ascending();
     let (mut keys, mut weights) = ([7u32; 4], [7i64; 4]);

@@ -90,7 +90,7 @@ fn put_eight(bytes: &mut [u8], position: usize, number: u64)
     bytes[position..position + 8].copy_from_slice(&number.to_le_bytes());
 }
 
-/// Writes the weights of so many neighbours from a position on: those of a column, and 1 where it is over.
+/// Writes the weights of n neighbours from a position on: those of a column, and 1 where it is over.
 pub(crate) fn write_weights(
     bytes: &mut [u8],
     position: usize,

@@ -12,7 +12,7 @@ abbrev pub is_turn : Option InstructionTree → Bool
 is_turn None = false
 is_turn (Some i) = uses_turn i.operation
 
--- The rank of an index in a plan of so many instructions, by what stands there and whether `turn` stands after it: each step but a turn leads
+-- The rank of an index in a plan of n instructions, by what stands there and whether `turn` stands after it: each step but a turn leads
 -- to a lower rank. An index has a lower rank than those before it. The head of a loop, to which the loop's last instruction jumps, has a
 -- rank between this instruction and what stands after the loop.
 abbrev pub rank_by : (count index : ℕ) → OperationTree → (before_turn : Bool) → ℕ

@@ -17,7 +17,7 @@ use Rattle.plans.specs.declared.instruction.Instruction.{Instruction}
 use Rattle.plans.specs.Kernels.{ArePairwise}
 use Rattle.plans.specs.SetExpression.{set_value}
 
--- the kernel is made for so many visible variables
+-- the kernel is made for n visible variables
 pub record IsFor (d : Depth) (k : ExpressionKernel) : Type 0 where
   pub integers : k.frame.integers ≡ d.integers
   pub conditions : k.frame.conditions ≡ d.conditions

@@ -51,7 +51,7 @@ IsShapeOfApply t first second = (m : StateValue) (sizes : List ℤ) (steps : Lis
 abbrev pub entry_after : StateValue → List StepsTree → (x : ℕ) → Reduction → List Edge → ℕ → ℤ
 entry_after m steps x r es v = reduced_at r v (entry m.vectors x v) (given_on x (all_given m steps) es)
 
--- the changes of a vector are those of an apply to these edges, at so many vertices from one on
+-- the changes of a vector are those of an apply to these edges, at n vertices from one on
 abbrev pub AreChangesFrom : (vector low count : ℕ) → (edges : List Edge) → StateValue → List StepsTree → List EntryChange → Type 0
 AreChangesFrom x low count es m steps cs = (r : Reduction) → IsReducedBy r x m steps → cs ≡ changed_from (entry m.vectors x) (entry_after m steps x r es) low count
 

@@ -20,7 +20,7 @@ use kernels::EndpointFilter;
 use std::alloc::{AllocError, Global};
 use vertex_sets::{Form, VertexSet};
 
-/// Where a schedule cuts vertices for so many workers. The only error is out of memory.
+/// Where a schedule cuts vertices for n workers. The only error is out of memory.
 pub(crate) fn cut_vertices(
     alloc: Global,
     parallelization: Parallelization,

@@ -54,7 +54,7 @@ impl Drop for PullWork<'_> {
 }
 
 impl<'a> PullWork<'a> {
-    /// The pieces of an apply for so many workers, 1 to 64. What is cut is the list of all vertices, which are tested in
+    /// The pieces of an apply for n workers, 1 to 64. What is cut is the list of all vertices, which are tested in
     /// their pieces. Where the schedule cuts by edges, their degrees are read; the sources that pass are put into bits. It
     /// takes time in proportion to the graph's vertices. The scratch serves any apply after this one.
     ///

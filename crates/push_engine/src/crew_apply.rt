@@ -13,7 +13,7 @@ use std::alloc::Global;
 use std::thread::Threads;
 use vectors::Changes;
 
-/// What an apply of edge functions changes, as [`crate::push`] tells it, done in pieces by so many workers, 1 to 64, of whom
+/// What an apply of edge functions changes, as [`crate::push`] tells it, done in pieces by n workers, 1 to 64, of whom
 /// the caller is worker 1: however the pieces fall to them, the changes are the same. The pieces are those of
 /// [`PushWork`]: static ones are fixed to their workers, and others are claimed. `gate` is told of each piece before it is
 /// done. Where the pieces have found much, the workers put it together too, each for its own ranges of destinations, of which

@@ -132,7 +132,7 @@ fn members_of(alloc: Global, set: &VertexSet) -> Result<Vec<u32>, AllocError>
     Ok(found)
 }
 
-/// Where a schedule cuts sources for so many workers. The only error is out of memory.
+/// Where a schedule cuts sources for n workers. The only error is out of memory.
 pub(crate) fn cut_sources(
     alloc: Global,
     apply: &Apply<'_>,

@@ -62,7 +62,7 @@ impl PushWork<'_> {
         Ok(changes)
     }
 
-    /// The same by so many workers, each for its own ranges of destinations, where the pieces have found much. It takes their
+    /// The same by n workers, each for its own ranges of destinations, where the pieces have found much. It takes their
     /// scratches from `states`, where they are again after it.
     pub(crate) fn merge_by_crew<R: Threads + Sync>(
         &self,

@@ -53,7 +53,7 @@ impl Drop for PushWork<'_> {
 }
 
 impl<'a> PushWork<'a> {
-    /// The pieces of an apply for so many workers, 1 to 64. What is cut is the list of the vertices that its end lets
+    /// The pieces of an apply for n workers, 1 to 64. What is cut is the list of the vertices that its end lets
     /// through, and by the direction `DensePush` that of all vertices. Where the schedule cuts by edges, their degrees are
     /// read. Destinations that are tested as edges come are put into bits, where they are not kept so. It takes time in
     /// proportion to the list, and to the vertices where a filter is to be run or bits are made. The scratch serves any

@@ -28,7 +28,7 @@ pub pass_popped : (n : ℕ) (old new : List Pass) (popped : Option Pass) (writer
 pass_popped n old new popped writer are cut some =
     same_from_push new (fresh_passes n) writer (fresh n) (ap (λ (o : Option Pass). new ++ option_to_list o) (sym some) ∙ sym cut ∙ are)
 
--- there is a reader for each of so many others
+-- there is a reader for each of n others
 pub as_many_left : (n : ℕ) (old new : List Pass) (popped : Option Pass) (writer : Pass) → old ≡ fresh_passes (suc n) → old ≡ new ++ option_to_list popped → popped ≡ Some writer
     → length new ≡ n
 as_many_left n old new popped writer are cut some = ap (λ (l : List Pass). length l) (pass_popped n old new popped writer are cut some).0 ∙ length_passes n

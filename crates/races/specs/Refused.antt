@@ -45,7 +45,7 @@ RefusesOpening n b readers (NotRun error) = ⊥
 abbrev pub MayOpen : ℕ → ℕ → ℕ → Type 0
 MayOpen n b readers = (is_vertex_count n ≡ true) × (is_chunk_size b ≡ true) × (is_reader_count readers ≡ true)
 
--- there is no race of so many programs: the graph, with a reader more, is not opened; or a program is not run on it
+-- there is no race of n programs: the graph, with a reader more, is not opened; or a program is not run on it
 abbrev pub RefusesRace : ℕ → ℕ → ℕ → List (List Change) → ℕ → ℕ → RaceError → Type 0
 RefusesRace n b room batches programs workers error =
     RefusesOpening n b (programs + 1) error ⊎ (MayOpen n b (programs + 1) × RefusesOnGraph (opened n room) batches workers error)

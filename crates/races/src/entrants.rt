@@ -64,7 +64,7 @@ pub(crate) fn entrants<'a, J: Naming>(
 }
 
 impl<'a, J: Naming> Entrant<'a, J> {
-    /// Runs the program on the newest version, by so many workers, for at most so many turns.
+    /// Runs the program on the newest version, by n workers, for at most n turns.
     pub(crate) fn run<T: Threads + Sync>(
         self,
         rt: &T,

@@ -26,7 +26,7 @@ pub enum CommitReply {
     Refused(u16),
 }
 
-/// A graph of so many vertices, the replies of the commits, in order, and the runs of each program, in order.
+/// A graph of n vertices, the replies of the commits, in order, and the runs of each program, in order.
 #[derive(Drop)]
 pub struct Race {
     pub vertices: u32,

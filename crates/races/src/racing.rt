@@ -20,7 +20,7 @@ use std::thread::{self, Threads, join};
 use tree_batch::Batch;
 
 /// Opens the graph of a script and commits its batches, in order, on one thread, while for each program another runs it on the
-/// newest version, by so many workers, 1 to 64, for at most so many turns. A batch that is refused (111, 123) is told by its
+/// newest version, by n workers, 1 to 64, for at most n turns. A batch that is refused (111, 123) is told by its
 /// reply, and the next is committed. Once all batches have their replies, each program runs again, on the newest version then.
 ///
 /// Errors: `NotOpened` where the graph is not opened, for its vertices (111), for its chunks (103) or for more than 63

@@ -14,7 +14,7 @@ use std::marker::Model;
 use std::mem::replace;
 use tree_batch::{Batch, Entry};
 
-/// What the script of a race asks for: a graph of so many vertices in chunks of this size, and the batches to commit to it, in
+/// What the script of a race asks for: a graph of n vertices in chunks of this size, and the batches to commit to it, in
 /// order.
 #[derive(Debug, Drop)]
 pub struct RaceScript {

@@ -91,7 +91,7 @@ fn push_place(lines: &mut Vec<u8>, file: &str, text: &[u8], at: usize) -> Result
     lines.extend_from_slice(b"^\n")
 }
 
-// What is shown of a line with so many bytes before a place in it, and how many of these are shown: of a long line a part
+// What is shown of a line with n bytes before a place in it, and how many of these are shown: of a long line a part
 // around the place.
 fn shown_part(line: &[u8], before: usize) -> (&[u8], usize) {
     let start = before.saturating_sub(MOST_BEFORE).min(line.len());

@@ -3,7 +3,7 @@
 /// What a line is answered, where that is one line.
 #[derive(Clone, Copy, Debug, PartialEq, Eq)]
 pub enum LineReply {
-    /// A graph of so many vertices is open.
+    /// A graph of n vertices is open.
     Open(u32),
     /// The number of a new version.
     Version(u64),

@@ -12,7 +12,7 @@ use Rattle.requests.proofs.RaceRows.{found_row, given, look, look_kept, look_mor
 use Rattle.requests.proofs.RaceWords.{race}
 use Rattle.requests.proofs.ScriptWords.{range_quiet}
 
--- ---- what is found of so many files and numbers
+-- ---- what is found of n files and numbers
 
 abbrev pub script_row : List Text → Option Row
 script_row [] = None

@@ -28,7 +28,7 @@ pub enum Request<'a> {
         programs: Vec<&'a str>,
     },
     /// To commit the batches of the script in the file of this name while the programs in the other files run, each by so many
-    /// workers, 1 to 64, for at most so many turns.
+    /// workers, 1 to 64, for at most n turns.
     Race {
         script: &'a str,
         programs: Vec<&'a str>,

@@ -42,7 +42,7 @@ pub fn numbers_out_of_range_are_faults()
         × (accepts false (Unsigned 1 64) (codes "x") ≡ false) }
 {}
 
-/// The law that `race` with both options in front of a script and a program is a race by so many workers within so many turns.
+/// The law that `race` with both options in front of a script and a program is a race by n workers within n turns.
 /// The call does nothing.
 pub fn options_are_numbers()
     ensures { (workers turns script program : Text) → accepts false (Unsigned 1 64) workers ≡ true

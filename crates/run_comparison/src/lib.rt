@@ -49,7 +49,7 @@ pub fn checked(alloc: Global, text: &[u8]) -> Option<Typed> {
     check(alloc, &source).ok()
 }
 
-/// Whether a program shows the same by its plan and by the slow run, on a graph of these edges, with so many turns. The
+/// Whether a program shows the same by its plan and by the slow run, on a graph of these edges, with n turns. The
 /// only error is out of memory.
 pub fn shows_the_same(
     alloc: Global,

@@ -80,7 +80,7 @@ next_named (x ∷ ns) (y ∷ ms) (suc i) n m h k =
     ∙ ap (λ (j : ℕ). with_first_set (get_or ns i n) (get_or ms i m).members (named (drop j ns) (drop j ms))) more
     ∙ ap (λ (j : ℕ). with_first_set (get_or ns i n) (get_or ms i m).members (named (drop j (x ∷ ns)) (drop j (y ∷ ms)))) again
 
--- ---- sets of so many vertices
+-- ---- sets of n vertices
 
 each_push : (n : ℕ) (ms : List VertexSubset) (m : VertexSubset) → AreSetsOf n ms → m.vertices ≡ n → IsAscendingBelow n m.members → AreSetsOf n (ms ++ m ∷ [])
 each_push n [] m each v a = (v, a, tt)

@@ -11,7 +11,7 @@ with_update s update.Nothing = s
 with_update s (update.New name set) = with_new_set s name set.members
 with_update s (update.Other index set) = with_members s index set.members
 
--- the set is one of so many vertices
+-- the set is one of n vertices
 abbrev pub IsUpdateOf : ℕ → SetUpdate → Type 0
 IsUpdateOf n update.Nothing = Unit {0}
 IsUpdateOf n (update.New name set) = set.vertices ≡ n

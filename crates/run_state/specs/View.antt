@@ -17,7 +17,7 @@ members_in (Some set) = set.members
 abbrev pub HasSets : RunView → StateValue → Type 0
 HasSets run m = (index : ℕ) → members_in (slice_get run.sets.now index) ≡ members_of (slice_get m.sets index)
 
--- each vector has an entry for each of so many vertices
+-- each vector has an entry for each of n vertices
 abbrev pub HasEntryForEach : (vertices : ℕ) → List (List ℤ) → Type 0
 HasEntryForEach vertices vectors = (x : ℕ) → x < length vectors → vertices ≤ length (slice_index_or vectors x [])
 

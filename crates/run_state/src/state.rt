@@ -88,7 +88,7 @@ impl Model for State {
 }
 
 impl State {
-    /// The state before the first statement, on a graph, with so many turns: these vectors, of which those of a group
+    /// The state before the first statement, on a graph, with n turns: these vectors, of which those of a group
     /// stand together where the groups fit them, and constant sets of these names. The only error is out of memory.
     pub fn open(
         alloc: Global,
@@ -516,7 +516,7 @@ impl State {
         self.sets.update_sets(first, second)
     }
 
-    /// What a run shows that began with so many turns and ended so: its vectors by these names, and the sets that are
+    /// What a run shows that began with n turns and ended so: its vectors by these names, and the sets that are
     /// visible. All that it shows is copied. The only error is out of memory.
     pub fn show(
         &self,

@@ -28,7 +28,7 @@ loops_of m = reverse m.loops.items
 abbrev pub configuration_of : PlanRun → Configuration
 configuration_of r = position r.end r.index (loops_of r.memory) r.memory.state.state
 
--- the run is on a graph of so many vertices
+-- the run is on a graph of n vertices
 abbrev pub IsOn : GraphValue → Memory → Type 0
 IsOn g m = m.state.vertices ≡ g.vertices
 

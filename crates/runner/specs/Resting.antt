@@ -17,7 +17,7 @@ abbrev pub resting : List Instruction → Configuration → Configuration
 resting is (At index loops s) = kept_at (slice_get is index) index loops s
 resting is (Ended s end) = Ended s end
 
--- a run of a plan on a graph, for at most so many turns, and where it stands
+-- a run of a plan on a graph, for at most n turns, and where it stands
 pub record JobValue : Type 0 where
   pub plan : Plan
   pub graph : Digraph

@@ -7,7 +7,7 @@ use crew::workers_for;
 use flat_snapshot::Flat;
 use kernels::EndpointFilter;
 
-/// How many of so many workers do an apply in pieces, or none where the caller does it as a whole. Where somebody watches,
+/// How many of n workers do an apply in pieces, or none where the caller does it as a whole. Where somebody watches,
 /// all of them do it. Else it is as many as its edges are worth, and the caller alone where it is to be in one piece or is
 /// not worth a second worker.
 pub(crate) fn employed(

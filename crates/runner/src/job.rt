@@ -71,7 +71,7 @@ impl Job {
     ghost use Rattle.runner.specs.Position.{outcome_so_far};
     ghost use Rattle.runner.specs.Resting.{job_value};
 
-    /// A run that stands before the first instruction, for at most so many turns. The only error is out of memory.
+    /// A run that stands before the first instruction, for at most n turns. The only error is out of memory.
     pub fn new(
         alloc: Global,
         plan: Arc<Plan>,

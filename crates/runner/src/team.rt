@@ -41,7 +41,7 @@ impl<R, G> Drop for Team<'_, R, G> {
 }
 
 impl<'a, R, G> Team<'a, R, G> {
-    /// A team of so many workers, of whom the caller is worker 1. No thread is started yet.
+    /// A team of n workers, of whom the caller is worker 1. No thread is started yet.
     ///
     /// The only error is `BadWorkers`, where the number of workers is not 1 to 64.
     pub fn new(rt: &'a R, gate: &'a G, workers: usize) -> Result<Team<'a, R, G>, RunError>

@@ -26,7 +26,7 @@ use std::alloc::{AllocError, Global};
 use std::thread::Threads;
 use vectors::Changes;
 
-/// Runs a plan on a snapshot of a graph, for at most so many turns, and tells what the run shows: what the program means
+/// Runs a plan on a snapshot of a graph, for at most n turns, and tells what the run shows: what the program means
 /// on the graph's edges, under any schedule and whoever does its edge applies. The promise is for a program each of whose
 /// applies gives a vector numbers by one reduction, as each program does that was compiled.
 ///
@@ -71,7 +71,7 @@ pub fn run_alone(
     run_by(alloc, plan, graph, turns, &mut alone)
 }
 
-/// The same by so many workers, 1 to 64, of whom the caller is worker 1, in threads of their own for each edge apply: the
+/// The same by n workers, 1 to 64, of whom the caller is worker 1, in threads of their own for each edge apply: the
 /// outcome does not depend on their number, nor on who does which piece.
 ///
 /// `gate` is told of each piece of an apply before it is done. Where it watches, the pieces and the workers are exactly

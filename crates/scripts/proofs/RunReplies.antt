@@ -9,7 +9,7 @@ use Rattle.scripts.specs.Replies.{OpenState, is_worker_count, meaning_on, ran, r
 pub runs_nowhere : (o : OpenState) (turns workers : ℕ) (found : Option ProgramTree) (p : ProgramTree) (g : Option Digraph) → found ≡ Some p → g ≡ None → running o turns workers found g ≡ refused o 122
 runs_nowhere o turns workers found p g there is = ap (λ (f : Option ProgramTree). running o turns workers f g) there ∙ ap (running o turns workers (Some p)) is
 
--- on a version that is there, by so many workers as there may be, or not
+-- on a version that is there, by n workers as there may be, or not
 runs_by : (o : OpenState) (turns workers : ℕ) (found : Option ProgramTree) (p : ProgramTree) (g : Option Digraph) (graph : Digraph) (may : Bool) → found ≡ Some p → g ≡ Some graph → is_worker_count workers ≡ may
     → running o turns workers found g ≡ (if may then ran o (meaning_on graph p turns) else refused o 411)
 runs_by o turns workers found p g graph may there is count =

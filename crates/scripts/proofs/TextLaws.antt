@@ -9,7 +9,7 @@ use Rattle.scripts.specs.Script.{Input, Taken, input, RepliesInPart, RunsScript}
 use Rattle.scripts.specs.Text.{BeginsReplies, RunsText}
 use Rattle.scripts.proofs.ReadingLaws.{empty_when_none}
 
--- before the text is read, and after so many bytes of it
+-- before the text is read, and after n bytes of it
 abbrev pub unread : Input
 unread = input [] false 0
 

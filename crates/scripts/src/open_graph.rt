@@ -31,7 +31,7 @@ const NO_PROGRAM: u16 = 412;
 /// The refusal of a number of workers that is not 1 to 64.
 const BAD_WORKERS: u16 = 411;
 
-/// A run that a line asks for: of the program at an index, within a bound of turns, by so many workers, on the version that
+/// A run that a line asks for: of the program at an index, within a bound of turns, by n workers, on the version that
 /// a ticket holds, or on the newest.
 #[derive(Clone, Copy)]
 struct RunOrder {

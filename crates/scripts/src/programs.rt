@@ -20,7 +20,7 @@ pub trait Programs {
     fn count(&self) -> usize
         ensures { result ≡ length (trees self.now) };
 
-    /// What the program at an index, counted from 0, shows on a snapshot of a graph within a bound of turns, by so many workers, 1 to 64.
+    /// What the program at an index, counted from 0, shows on a snapshot of a graph within a bound of turns, by n workers, 1 to 64.
     /// The only error is out of memory.
     fn run(
         &self,

@@ -29,14 +29,14 @@ abbrev pub is_step_of : (number : ℕ) → SessionStep → Bool
 is_step_of number (JobStep job) = job == number
 is_step_of number step = false
 
--- The job has the program, the graph and the bound that it had, and stands where the program's machine stands on that graph after so many instructions more.
+-- The job has the program, the graph and the bound that it had, and stands where the program's machine stands on that graph after n instructions more.
 pub record GoesOnAlone (old : WorldJob) (more : ℕ) (new : WorldJob) : Type 0 where
   pub program : new.program ≡ old.program
   pub graph : new.graph ≡ old.graph
   pub turns : new.turns ≡ old.turns
   pub stands : index_of new ≡ index_after old.program old.graph old.turns (old.count + more)
 
--- The job of a session runs a plan of that program on that graph within that bound, and stands where the program's machine stands on it after so many instructions more.
+-- The job of a session runs a plan of that program on that graph within that bound, and stands where the program's machine stands on it after n instructions more.
 pub record RunsAlone (old : WorldJob) (more : ℕ) (new : JobValue) : Type 0 where
   pub plan : IsPlanOf new.plan old.program
   pub is : new ≡ job_value new.plan old.graph old.turns (index_after old.program old.graph old.turns (old.count + more))

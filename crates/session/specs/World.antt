@@ -34,7 +34,7 @@ pub record World : Type 0 where
   pub versions : State
   pub jobs : List WorldJob
 
--- where the machine of a program stands after so many instructions
+-- where the machine of a program stands after n instructions
 abbrev pub index_after : ScheduledProgram → Digraph → (turns count : ℕ) → Configuration
 index_after p g turns count =
     steps p.tree (graph_value g) (plan_of p.tree p.schedule) count (first_configuration (opening p.tree (graph_value g) turns))

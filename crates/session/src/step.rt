@@ -14,7 +14,7 @@ pub enum SessionStep {
     Commit(Batch),
     Acquire(Which),
     Release(u64),
-    /// Starts a job of a program on the version that a ticket holds, for at most so many turns.
+    /// Starts a job of a program on the version that a ticket holds, for at most n turns.
     Start {
         program: u64,
         ticket: u64,

@@ -83,7 +83,7 @@ pub(crate) struct Combined {
 }
 
 impl Combined {
-    /// The set of the answer for two sets of so many entries.
+    /// The set of the answer for two sets of n entries.
     pub(crate) fn into_set(
         self,
         alloc: Global,

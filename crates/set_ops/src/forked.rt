@@ -16,7 +16,7 @@ use std::alloc::{AllocError, Global};
 use std::thread::{self, Threads};
 
 /// The answer for two views that ascend from a base, as `combine` gives it, with halves on two threads
-/// at so many levels, the first of which is `level`.
+/// at n levels, the first of which is `level`.
 #[cycle(forked)]
 pub(crate) fn combine_forked<R: Threads + Sync, F: Fork + Sync>(
     rt: &R,

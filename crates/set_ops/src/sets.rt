@@ -43,7 +43,7 @@ pub fn difference(alloc: Global, first: &CTree, second: &CTree) -> Result<CTree,
     Ok(rest.into_set(alloc, MapOperation::Difference, first.len(), second.len())?)
 }
 
-/// As [`union`], with the two halves on two threads at so many levels, at most 6. Where no thread can
+/// As [`union`], with the two halves on two threads at n levels, at most 6. Where no thread can
 /// be started, the caller does both halves. The answer is that of `union` whatever `forks` is.
 /// `fork` is told of each half that begins.
 ///
@@ -73,7 +73,7 @@ pub fn union_forked<R: Threads + Sync, F: Fork + Sync>(
     Ok(both.into_set(alloc, MapOperation::Union, first.len(), second.len())?)
 }
 
-/// As [`difference`], with the two halves on two threads at so many levels, at most 6. Where no thread
+/// As [`difference`], with the two halves on two threads at n levels, at most 6. Where no thread
 /// can be started, the caller does both halves. The answer is that of `difference` whatever `forks`
 /// is. `fork` is told of each half that begins.
 ///

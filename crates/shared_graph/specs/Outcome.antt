@@ -31,7 +31,7 @@ Answers base old step reply (Err e) new = Refuses base old step e new
 abbrev pub is_reader_count : ℕ → Bool
 is_reader_count readers = nat_le 1 readers && nat_le readers 64
 
--- a shared graph of n vertices in chunks of b is opened, with so many readers; or the first refusal
+-- a shared graph of n vertices in chunks of b is opened, with n readers; or the first refusal
 abbrev pub Opens : {A : Type 0} → ℕ → ℕ → ℕ → (A → List Pass) → Result A SharedError → Type 0
 Opens n b readers passes (Ok x) = (is_vertex_count n ≡ true) × (is_chunk_size b ≡ true) × (is_reader_count readers ≡ true) × (passes x ≡ fresh_passes readers)
 Opens n b readers passes (Err VertexRange) = is_vertex_count n ≡ false

@@ -60,7 +60,7 @@ impl<J: Naming> HistoryPrefix<J> {
         }
     }
 
-    /// What was seen of a legal history of so many entries.
+    /// What was seen of a legal history of n entries.
     pub(crate) fn of_seen(seen: Seen<Entry, u64, Law>, count: u64) -> HistoryPrefix<J>
         requires book { seen.book ≡ J.book }
         requires count { count ≡ length seen.log }

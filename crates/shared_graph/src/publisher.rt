@@ -82,7 +82,7 @@ impl<R: Wait + Drop> Drop for Publisher<R> {
 }
 
 impl<R: Wait + Drop> Publisher<R> {
-    /// Publishes a value to at most so many readers, and takes the memory of each later publishing.
+    /// Publishes a value to at most n readers, and takes the memory of each later publishing.
     pub(crate) fn new(
         alloc: Global,
         rt: R,

@@ -39,7 +39,7 @@ impl<J: Naming, R: Wait + Drop> Drop for SharedGraph<J, R> {
 
 impl<J: Naming, R: Wait + Drop> SharedGraph<J, R> {
     /// Version 0 of a graph with this many vertices, 1 to 16,777,216, and no edges, in chunks of a
-    /// power of two from 1 to 256, with so many readers, 1 to 64, numbered from 0, which have shown
+    /// power of two from 1 to 256, with n readers, 1 to 64, numbered from 0, which have shown
     /// nothing. The history has room for [`MAX_HISTORY`] entries. `rt` is what publishing waits by.
     ///
     /// Errors: `VertexRange` for another number of vertices, else `BadChunkSize` for another chunk

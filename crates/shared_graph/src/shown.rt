@@ -60,7 +60,7 @@ impl Model for Shown {
 }
 
 impl Shown {
-    /// The newest version at the end of a history of a graph that was opened with so many vertices
+    /// The newest version at the end of a history of a graph that was opened with n vertices
     /// and so much room.
     pub(crate) fn new<J: Naming>(
         vertices: u32,

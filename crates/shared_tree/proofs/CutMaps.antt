@@ -69,7 +69,7 @@ module _ {V : Type 0} (es : List (ℕ × V)) (i : ℕ) (x : ℕ × V) (map : IsM
   rises_after k le = rw from_here (le, rises_right 0 (2 ^ 32) (take i es) x.0 x.1 (drop (i + 1) es) whole)
 
 module _ {V : Type 0} where
-  -- entries cut at one of them, with so many before it
+  -- entries cut at one of them, with n before it
   pub cut_at_index : (es f b : List (ℕ × V)) (x : ℕ × V) (r : List (ℕ × V)) → IsMap es → es ≡ f ++ b → b ≡ x ∷ r → IsSplit x.0 es f (Some x.1) r
   cut_at_index es f b x r map w e =
       let is : es ≡ f ++ x ∷ r = w ∙ ap (λ b. f ++ b) e in

@@ -11,6 +11,6 @@ Builds es (Ok t) = IsMap es × (t.entries ≡ es)
 Builds es (Err NotAscending) = ¬ (IsMap es)
 Builds es (Err NoMemory) = IsMap es
 
--- d is the least depth of a tree of so many entries
+-- d is the least depth of a tree of n entries
 abbrev pub IsLeastDepth : ℕ → ℕ → Type 0
 IsLeastDepth count d = (count < 2 ^ d) × (2 ^ d ≤ 2 * count + 1)

@@ -11,7 +11,7 @@ use Rattle.shared_graph.specs.Passes.{Pass, Shows}
 use Rattle.snapshot_runs.specs.declared.error.LatestRunError.{LatestRunError}
 use Rattle.snapshot_runs.specs.declared.error.LatestRunError.TheVariants.{BadWorkers, Closed, NoMemory}
 
--- the outcome is what the program of the plan means on the graph within so many turns, where the plan was compiled
+-- the outcome is what the program of the plan means on the graph within n turns, where the plan was compiled
 abbrev pub IsOutcomeOn : Plan → Digraph → (turns : ℕ) → Outcome → Type 0
 IsOutcomeOn plan graph turns o = IsCompiled plan → o ≡ meaning (program_of plan) (graph_value graph) turns
 

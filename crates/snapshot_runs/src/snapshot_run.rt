@@ -19,7 +19,7 @@ use std::alloc::Global;
 use std::thread::Threads;
 use tree_batch::Graph;
 
-/// Takes the newest version as [`Reader::latest`] does, runs a plan on it by so many workers, 1 to 64, for at most so many
+/// Takes the newest version as [`Reader::latest`] does, runs a plan on it by n workers, 1 to 64, for at most so many
 /// turns, and gives the version's number with what the run shows.
 ///
 /// The history that the reader shows afterwards begins with the one before. The number is the count of its commits, and the
@@ -58,7 +58,7 @@ pub fn run_latest<J: Naming, R: Threads + Sync, G: Gate + Sync>(
     Ok((snapshot.number, outcome))
 }
 
-/// Runs a plan on a version that is held, by so many workers, 1 to 64, for at most so many turns, and gives what the run shows:
+/// Runs a plan on a version that is held, by n workers, 1 to 64, for at most n turns, and gives what the run shows:
 /// what the plan's program means within the turns on the fold of the first batches of the history at whose end the version was
 /// held, as many as the version's number says, whatever was committed since.
 ///
@@ -86,7 +86,7 @@ pub fn run_held<J: Naming, R: Threads + Sync, G: Gate + Sync>(
     run_on(rt, alloc, plan, &snapshot.graph, workers, turns, gate)
 }
 
-// Runs a plan on a graph by so many workers.
+// Runs a plan on a graph by n workers.
 fn run_on<R: Threads + Sync, G: Gate + Sync>(
     rt: &R,
     alloc: Global,

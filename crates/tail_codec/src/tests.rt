@@ -104,7 +104,7 @@ fn refuses_keys_out_of_order(rt: HostRuntime) -> Result<(), Fail> {
     Ok(())
 }
 
-// How many strings of so many bytes spell a list over no base.
+// How many strings of n bytes spell a list over no base.
 const COUNTS: [(usize, u32); 3] = [(0, 1), (1, 64), (2, 20_352)];
 
 #[test]

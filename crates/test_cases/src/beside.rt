@@ -84,7 +84,7 @@ fn add_on_graph(
     Ok(())
 }
 
-// A graph of so many vertices with these edges.
+// A graph of n vertices with these edges.
 fn graph_of(alloc: Global, vertices: u32, edges: &[(u32, u32, i64)]) -> io::Result<Flat> {
     let mut batch = Batch::new(alloc);
     for (source, destination, weight) in edges {

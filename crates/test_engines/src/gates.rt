@@ -63,7 +63,7 @@ impl Work for Witness<'_> {
     }
 }
 
-// Whether each piece was told before it was done, to its worker, by so many workers.
+// Whether each piece was told before it was done, to its worker, by n workers.
 fn is_told_first<R: Threads + AllocGlobal + Sync>(
     rt: &R,
     workers: usize,
@@ -129,7 +129,7 @@ impl Roll {
         })
     }
 
-    // Whether each of so many pieces was entered once, by one of so many workers, and by its own where pieces are fixed; and
+    // Whether each of n pieces was entered once, by one of n workers, and by its own where pieces are fixed; and
     // nothing else was.
     fn has_each_once(&self, pieces: u64, workers: usize, share: PieceAssignment) -> bool {
         let most = ONCE.wrapping_add(workers as u64);
@@ -183,7 +183,7 @@ impl Work for Numbers {
     }
 }
 
-// Whether a gate is told of each of so many pieces once, by its worker.
+// Whether a gate is told of each of n pieces once, by its worker.
 fn is_told_once<R: Threads + AllocGlobal + Sync>(
     rt: &R,
     pieces: usize,

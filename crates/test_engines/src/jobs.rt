@@ -30,7 +30,7 @@ fn fork(alloc: Global) -> Result<Flat, Fail> {
     Ok(Flat::of(alloc, &graph)?)
 }
 
-// How a job of a program stands after so many steps on the fork, and what it shows then.
+// How a job of a program stands after n steps on the fork, and what it shows then.
 fn after(alloc: Global, text: &[u8], turns: u64, steps: usize) -> Result<(Stand, Outcome), Fail> {
     let plan = Arc::new(alloc, compiler::compile(alloc, text)?).map_err(|_| AllocError)?;
     let graph = Arc::new(alloc, fork(alloc)?).map_err(|_| AllocError)?;

@@ -21,7 +21,7 @@ use vertex_sets::{Form, VertexSet};
 // The vectors w and x, which programs declare in this order.
 const X: usize = 1;
 
-// How an apply is done: by an engine alone, or in pieces for so many workers, whose answers come in order or turned round.
+// How an apply is done: by an engine alone, or in pieces for n workers, whose answers come in order or turned round.
 #[derive(Clone, Copy)]
 enum Way {
     Push,
@@ -44,7 +44,7 @@ const WAYS: [Way; 10] = [
     Way::PullPieces(Parallelization::EdgeAwareDynamicVertex, 3),
 ];
 
-// A graph of so many vertices with these edges.
+// A graph of n vertices with these edges.
 pub(crate) fn graph_of(alloc: Global, vertices: u32, edges: &[(u32, u32)]) -> Result<Flat, Fail> {
     let mut batch = Batch::new(alloc);
     for (source, destination) in edges {

@@ -99,7 +99,7 @@ impl Gate for Holding {
     }
 }
 
-// What a program shows with this schedule, by so many workers.
+// What a program shows with this schedule, by n workers.
 pub(crate) fn shown<R: Threads + AllocGlobal + Sync, G: Gate + Sync>(
     rt: &R,
     graph: &Flat,
@@ -130,7 +130,7 @@ fn ends_of(numbers: &[i64]) -> (Option<i64>, Option<i64>) {
     (numbers.first().copied(), numbers.last().copied())
 }
 
-// Whether a search by so many workers finds the same by each share, where nobody watches and where a gate holds pieces.
+// Whether a search by n workers finds the same by each share, where nobody watches and where a gate holds pieces.
 fn searches<R: Threads + AllocGlobal + Sync>(
     rt: &R,
     graph: &Flat,
@@ -207,7 +207,7 @@ fn sixty_four_workers_share_a_thousand_sources(rt: HostRuntime) -> Result<(), Fa
 // several workers put together, and of an apply that is worth a second worker.
 const RINGS: [u32; 9] = [127, 128, 129, 511, 512, 16_383, 16_384, 32_767, 32_768];
 
-// Whether each vertex of a ring has the one before it, by so many workers at whom nobody looks.
+// Whether each vertex of a ring has the one before it, by n workers at whom nobody looks.
 fn has_predecessors<R: Threads + AllocGlobal + Sync>(
     rt: &R,
     graph: &Flat,

@@ -33,7 +33,7 @@ fn applied(alloc: Global, graph: &Graph, hub: u32) -> Result<Graph, Fail> {
     Ok(graph.apply(alloc, &batch)?)
 }
 
-// The same by `apply_forked` at so many forks.
+// The same by `apply_forked` at n forks.
 fn forked<R: Threads + AllocGlobal + Sync>(
     rt: &R,
     graph: &Graph,

@@ -38,7 +38,7 @@ const HELD: [Exchange; 24] = [
 // How a script over these bytes ends, and what its writer took.
 type Ended = (Result<bool, ScriptError>, Vec<u8>);
 
-// Runs a script into a writer of at most so many bytes at a time, with so much room.
+// Runs a script into a writer of at most n bytes at a time, with so much room.
 fn run<P: Programs>(
     alloc: Global,
     programs: &P,

@@ -24,7 +24,7 @@ const LOOPS: [Entry; 7] = [
     Entry::Add(384, 384, 1),
 ];
 
-// Whether these entries leave these edges in a graph of two vertices at so many forks.
+// Whether these entries leave these edges in a graph of two vertices at n forks.
 fn leave<R: Threads + AllocGlobal + Sync>(
     rt: &R,
     entries: &[Entry],
@@ -93,7 +93,7 @@ fn halves_run_at_the_same_time(rt: HostRuntime) -> Result<(), Fail> {
     Ok(())
 }
 
-// A loop in each of so many blocks of 64 vertices.
+// A loop in each of n blocks of 64 vertices.
 fn loops_in(alloc: Global, blocks: u32) -> Result<Batch, Fail> {
     let mut batch = Batch::new(alloc);
     for block in 0..blocks {

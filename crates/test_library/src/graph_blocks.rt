@@ -173,7 +173,7 @@ fn uneven_batch(alloc: Global) -> Result<Batch, Fail> {
     Ok(batch)
 }
 
-// The graph after the batch twice, and then without most of the neighbours of its great vertex, at so many forks.
+// The graph after the batch twice, and then without most of the neighbours of its great vertex, at n forks.
 fn after_uneven<R: Threads + AllocGlobal + Sync>(rt: &R, forks: u32) -> Result<Graph, Fail> {
     let batch = uneven_batch(rt.alloc())?;
     let mut less = Batch::new(rt.alloc());

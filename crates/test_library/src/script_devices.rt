@@ -59,7 +59,7 @@ fn ends_where_the_reader_fails(rt: HostRuntime) {
     }
 }
 
-// Whether a script whose reader fails after so many bytes ends so.
+// Whether a script whose reader fails after n bytes ends so.
 fn fails_at(alloc: Global, count: usize) -> bool {
     let given = &FIRST[..count.min(FIRST.len())];
     let ended = replies_after(given).min(FIRST_REPLIES.len());

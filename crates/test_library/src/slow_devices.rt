@@ -3,7 +3,7 @@ use std::alloc::{AllocError, Global};
 use std::io;
 use std::io::{Error, ErrorKind, Read, Write};
 
-/// Gives at most so many bytes at a time, is interrupted before each read, and fails where another would end, if it is to.
+/// Gives at most n bytes at a time, is interrupted before each read, and fails where another would end, if it is to.
 #[derive(Drop)]
 pub(crate) struct SlowReader<'a> {
     bytes: &'a [u8],
@@ -50,7 +50,7 @@ impl Read for SlowReader<'_> {
     }
 }
 
-/// Takes at most so many bytes at a time, and fails where it has no room for one more.
+/// Takes at most n bytes at a time, and fails where it has no room for one more.
 #[derive(Drop)]
 pub(crate) struct SmallWriter {
     pub(crate) bytes: Vec<u8>,
@@ -97,7 +97,7 @@ pub(crate) fn script_of(alloc: Global, exchanges: &[Exchange]) -> Result<Vec<u8>
     Ok(text)
 }
 
-/// The replies to those of the lines that end within so many bytes.
+/// The replies to those of the lines that end within n bytes.
 pub(crate) fn replies_within(
     alloc: Global,
     exchanges: &[Exchange],

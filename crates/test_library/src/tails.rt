@@ -39,7 +39,7 @@ fn is_spelled(alloc: Global, (base, list, bytes): Spelling) -> Result<bool, Fail
     Ok(made && read.iter().eq(list.iter().copied()))
 }
 
-// How many of the strings of so many bytes, at most 3, spell a list without a base; or `None` where a list is spelled again
+// How many of the strings of n bytes, at most 3, spell a list without a base; or `None` where a list is spelled again
 // otherwise.
 fn spellings_of(alloc: Global, length: usize, strings: u32) -> Result<Option<u32>, Fail> {
     let (mut count, mut list) = (0u32, Vec::new(alloc));

@@ -84,7 +84,7 @@ fn add_run<J: Naming, W: Wait + Drop, R: Threads + Wait + Sync>(
     Ok(last)
 }
 
-// Where the run ends that begins after so many commits.
+// Where the run ends that begins after n commits.
 fn end_after(commits: u64) -> u64 {
     for end in ENDS {
         if commits < end {

@@ -35,7 +35,7 @@ fn one_reader<J: Naming, R: Threads + Wait + AllocGlobal + Sync>(
     commit_all(rt, rt.alloc(), &graph, me)
 }
 
-// Whether each of so many commits has the next number, a version is held after them, and what is dropped by a trim is
+// Whether each of n commits has the next number, a version is held after them, and what is dropped by a trim is
 // all of these steps.
 fn commit_all<J: Naming, W: Wait + Drop, R: Threads + Wait + Sync>(
     rt: &R,

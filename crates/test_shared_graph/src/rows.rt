@@ -441,7 +441,7 @@ fn sixty_five_readers_are_refused(rt: HostRuntime) -> Result<(), Fail> {
     Ok(())
 }
 
-// Why a graph with so many readers is not opened.
+// Why a graph with n readers is not opened.
 fn refused_readers<J: Naming, R: Threads + Wait + AllocGlobal + Sync>(
     rt: &R,
     opening: Opening,
@@ -464,7 +464,7 @@ fn commits_from_4096_entries_on_start_threads(rt: HostRuntime) -> Result<(), Fai
     Ok(())
 }
 
-// Whether commits of so many edges and more make them, beside the size from which on a commit starts threads.
+// Whether commits of n edges and more make them, beside the size from which on a commit starts threads.
 fn large_commits<J: Naming, R: Threads + Wait + AllocGlobal + Sync>(
     rt: &R,
     opening: Opening,

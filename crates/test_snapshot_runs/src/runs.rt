@@ -29,7 +29,7 @@ fn next<J: Naming>(readers: &mut Vec<Reader<J>>) -> Result<Reader<J>, SharedErro
     readers.pop().ok_or(SharedError::BadSeats)
 }
 
-// The number of the newest version, and whether a search on it by so many workers shows its path.
+// The number of the newest version, and whether a search on it by n workers shows its path.
 fn search<J: Naming, R: Threads + Sync>(
     rt: &R,
     alloc: Global,
@@ -325,7 +325,7 @@ fn commit_all<J: Naming, W: Wait + Drop, R: Threads + Wait + Sync>(
     })
 }
 
-// Whether each of so many runs is of its version, and no version is older than the one before.
+// Whether each of n runs is of its version, and no version is older than the one before.
 fn run_all<J: Naming, R: Threads + Sync>(
     rt: &R,
     alloc: Global,

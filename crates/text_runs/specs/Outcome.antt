@@ -12,7 +12,7 @@ use Rattle.compiler.specs.Outcome.{IsProgram}
 use Rattle.text_runs.specs.declared.error.TextRunError.{TextRunError}
 use Rattle.text_runs.specs.declared.error.TextRunError.TheVariants.{NotCompiled, NotRun}
 
--- the text is a program, and the outcome is what it means on the graph within so many turns
+-- the text is a program, and the outcome is what it means on the graph within n turns
 pub record IsMeaningOf (text : List ℕ) (graph : Digraph) (turns : ℕ) (o : Outcome) : Type 0 where
   pub program : ProgramTree
   pub is_program : IsProgram text program

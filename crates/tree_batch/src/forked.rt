@@ -22,7 +22,7 @@ use std::alloc::{AllocError, Global};
 use std::thread::{self, Threads};
 use vertex_blocks::{BlockUpdates, VertexBlock};
 
-/// The tree after updates whose edges ascend, with halves on two threads at so many levels, the first
+/// The tree after updates whose edges ascend, with halves on two threads at n levels, the first
 /// of which is `level`. Where one block has more than half of the updates, that block goes by halves.
 #[cycle(forked)]
 pub(crate) fn change_forked<R: Threads + Sync, F: Fork + Sync>(

@@ -118,7 +118,7 @@ impl Graph {
     }
 
     /// As [`Graph::apply`], with the entries sorted by threads, and with halves of the vertices on two
-    /// threads at so many levels, at most 6. Where one block of 64 vertices has more than half of the
+    /// threads at n levels, at most 6. Where one block of 64 vertices has more than half of the
     /// entries, what is beside it is not forked, and where one vertex of it has more than half of these,
     /// the set of that vertex goes by halves. Where no thread can be started, the caller does both
     /// halves. The answer is that of `apply` whatever `forks` is. `fork` is told of each half that

@@ -87,7 +87,7 @@ impl SortedUpdates {
         }
     }
 
-    /// As `change`, with halves of the tree on two threads at so many levels.
+    /// As `change`, with halves of the tree on two threads at n levels.
     pub(crate) fn change_forked<R: Threads + Sync, F: Fork + Sync>(
         &self,
         rt: &R,

@@ -19,7 +19,7 @@ pub data IntegerTree : Type 0 where
   Negative : IntegerTree → IntegerTree
   Arithmetic : Operator → (left right : IntegerTree) → IntegerTree
 
--- the tree after so many signs
+-- the tree after n signs
 abbrev pub negated : ℕ → IntegerTree → IntegerTree
 negated zero e = e
 negated (suc n) e = Negative (negated n e)

@@ -32,7 +32,7 @@ set_count [] = 0
 set_count (Constant at p initial ∷ others) = counting p.declared (set_count others)
 set_count (Function at name parameters result body ∷ others) = set_count others
 
--- before the first declaration, in a program with so many constant sets
+-- before the first declaration, in a program with n constant sets
 abbrev pub opening : ℕ → DeclaredTree
 opening sets = record {
   checker = record { scope = empty_scope sets; names = []; labels = []; label_names = []; statements = 0; writes = []; written = [] };

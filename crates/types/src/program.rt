@@ -94,7 +94,7 @@ fn sets_of(declaration: &Declaration) -> usize
     }
 }
 
-/// Before the first declaration of a program with so many constant vertex sets.
+/// Before the first declaration of a program with n constant vertex sets.
 fn empty(alloc: Global, sets: usize) -> Declared
     requires { sets ≤ 2 ^ 63 }
     ensures { declared_of result ≡ opening sets }

@@ -91,7 +91,7 @@ pub(crate) fn update_set(
     united(remove_all(alloc, &grown, &removed))
 }
 
-/// As `update_set`, with halves of the set on two threads at so many levels, the first of which is
+/// As `update_set`, with halves of the set on two threads at n levels, the first of which is
 /// `level`.
 pub(crate) fn update_set_forked<R: Threads + Sync, F: Fork + Sync>(
     rt: &R,

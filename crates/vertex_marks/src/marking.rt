@@ -17,7 +17,7 @@ impl VertexMarks {
         }
     }
 
-    /// Makes room for so many vertices, at most 2^32, where it is not there: for whole words of 64. It takes time in
+    /// Makes room for n vertices, at most 2^32, where it is not there: for whole words of 64. It takes time in
     /// proportion to what is missing.
     ///
     /// The only error is out of memory. The marks stay, after an error too.

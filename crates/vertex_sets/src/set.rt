@@ -49,7 +49,7 @@ impl Model for VertexSet {
 }
 
 impl VertexSet {
-    /// The set of no members, of so many vertices. A list takes no memory, flags take a byte a vertex
+    /// The set of no members, of n vertices. A list takes no memory, flags take a byte a vertex
     /// and bits a bit a vertex.
     pub fn empty(alloc: Global, vertices: u32, form: Form) -> Result<VertexSet, AllocError>
         ensures members { IfOk result (λ s. s ≡ subset vertices [] form) }
@@ -63,7 +63,7 @@ impl VertexSet {
         Ok(VertexSet { vertices, members })
     }
 
-    /// The set of all of so many vertices, in `O(n)`, and in `O(n / 64)` as bits.
+    /// The set of all of n vertices, in `O(n)`, and in `O(n / 64)` as bits.
     pub fn full(alloc: Global, vertices: u32, form: Form) -> Result<VertexSet, AllocError>
         ensures { IfOk result (λ s. s ≡ subset vertices (all_vertices vertices) form) }
     {

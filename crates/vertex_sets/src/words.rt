@@ -17,7 +17,7 @@ pub(crate) struct WordSet {
     ghost counted: { count ≡ length (word_members 0 words.items) },
 }
 
-/// How many words have a bit for each of so many vertices.
+/// How many words have a bit for each of n vertices.
 fn word_count(vertices: u32) -> usize
     ensures { result ≡ word_count vertices }
 {

@@ -12,7 +12,7 @@ use Rattle.run_state.specs.State.{RunState}
 abbrev pub nothing : StateValue
 nothing = record { vectors = []; sets = []; scope = main_scope; text = []; turns = 0 }
 
--- vertex sets of so many vertices, and nothing else
+-- vertex sets of n vertices, and nothing else
 abbrev pub sets_alone : (vertices : ℕ) → StateValue → RunState
 sets_alone vertices s = record { vertices = vertices; groups = []; state = s }
 
@@ -40,7 +40,7 @@ sizes_of s = map (λ set. size_of set.members) s.sets
 abbrev pub AreAscending : RunState → Type 0
 AreAscending r = (index : ℕ) → IsAscendingBelow r.vertices (members_of (slice_get r.state.sets index))
 
--- sets of so many vertices
+-- sets of n vertices
 abbrev pub AreSetsOf : ℕ → List VertexSubset → Type 0
 AreSetsOf vertices [] = Unit {0}
 AreSetsOf vertices (set ∷ sets) = (set.vertices ≡ vertices) × IsAscendingBelow vertices set.members × AreSetsOf vertices sets
@@ -51,7 +51,7 @@ pub record AreNamed (vertices : ℕ) (names : List ℕ) (sets : List VertexSubse
   pub measured : sizes ≡ map (λ (set : VertexSubset). size_of set.members) sets
   pub each : AreSetsOf vertices sets
 
--- so many vectors, each with so many entries
+-- so many vectors, each with n entries
 abbrev pub HaveLength : (count vertices : ℕ) → List (List ℤ) → Type 0
 HaveLength count vertices vectors = map (λ (xs : List ℤ). length xs) vectors ≡ replicate count vertices
 
