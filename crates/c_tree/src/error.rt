@@ -4,6 +4,7 @@ ghost use Rattle.std.specs.Prelude.{◌≡◌};
 ghost use Rattle.c_tree.specs.declared.error.CTreeError.TheVariants.{NoMemory};
 ghost use Rattle.c_tree.specs.Refusal.{number_of};
 
+use refusal_numbers::{BAD_CHUNK_SIZE, NO_MEMORY, NOT_ASCENDING};
 use std::alloc::{AllocError, AllocFailed};
 use thiserror::Error;
 
@@ -24,9 +25,9 @@ impl CTreeError {
         ensures { result ≡ number_of self }
     {
         match self {
-            CTreeError::NotAscending => 101,
-            CTreeError::BadChunkSize => 103,
-            CTreeError::NoMemory => 900,
+            CTreeError::NotAscending => NOT_ASCENDING,
+            CTreeError::BadChunkSize => BAD_CHUNK_SIZE,
+            CTreeError::NoMemory => NO_MEMORY,
         }
     }
 }

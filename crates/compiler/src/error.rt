@@ -6,6 +6,7 @@ ghost use Rattle.compiler.specs.Refusal.{number_of, offset_of, of_parser, of_sch
 
 use expression_types::Fault;
 use parser::ParseError;
+use refusal_numbers::NO_MEMORY;
 use schedule::{ScheduleError, ScheduleRule};
 use std::alloc::AllocError;
 use thiserror::Error;
@@ -37,7 +38,7 @@ impl CompileError {
             CompileError::NotParsed(error) => error.number(),
             CompileError::NotTyped(fault) => fault.rule.number(),
             CompileError::NotScheduled { rule, .. } => rule.number(),
-            CompileError::NoMemory => 900,
+            CompileError::NoMemory => NO_MEMORY,
         }
     }
 

@@ -4,6 +4,7 @@ ghost use Rattle.std.specs.Prelude.{◌≡◌};
 ghost use Rattle.crew.specs.declared.error.CrewError.TheVariants.{NoMemory};
 ghost use Rattle.crew.specs.Refusal.{number_of};
 
+use refusal_numbers::{BAD_WORKERS, NO_MEMORY};
 use std::alloc::AllocError;
 use thiserror::Error;
 
@@ -22,8 +23,8 @@ impl CrewError {
         ensures { result ≡ number_of self }
     {
         match self {
-            CrewError::BadWorkers => 411,
-            CrewError::NoMemory => 900,
+            CrewError::BadWorkers => BAD_WORKERS,
+            CrewError::NoMemory => NO_MEMORY,
         }
     }
 }

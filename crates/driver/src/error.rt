@@ -6,6 +6,7 @@ ghost use Rattle.driver.specs.declared.error.ServeError.TheVariants.{NoMemory};
 
 use crate::status;
 use compiler::CompileError;
+use refusal_numbers::{CLOSED, NO_MEMORY, READ_FAILED, WRITE_FAILED};
 use replies::SendError;
 use scripts::ScriptError;
 use std::alloc::{AllocError, AllocFailed};
@@ -38,12 +39,12 @@ impl ServeError<'_> {
         ensures { result ≡ number_of self.now }
     {
         match self {
-            ServeError::NoMemory => 900,
-            ServeError::ReadFailed | ServeError::FileFailed { .. } => 901,
-            ServeError::WriteFailed => 902,
+            ServeError::NoMemory => NO_MEMORY,
+            ServeError::ReadFailed | ServeError::FileFailed { .. } => READ_FAILED,
+            ServeError::WriteFailed => WRITE_FAILED,
             ServeError::Refused { error, .. } => error.number(),
             ServeError::RaceRefused { number, .. } => *number,
-            ServeError::Closed => 125,
+            ServeError::Closed => CLOSED,
         }
     }
 

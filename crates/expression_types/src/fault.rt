@@ -2,6 +2,11 @@
 ghost use Rattle.std.specs.Prelude.{◌≡◌};
 ghost use Rattle.expression_types.specs.Faults.{comes_before, earlier, number_of};
 
+use refusal_numbers::{
+    BAD_LABEL, MIXED_REDUCTIONS, NO_MAIN, NOT_REDUCTION, PRINT_OUTSIDE_MAIN, REDECLARED,
+    UNKNOWN_NAME, WRONG_INDEX, WRONG_TYPE,
+};
+
 /// A rule of types.
 #[derive(Clone, Copy, Debug, PartialEq, Eq)]
 pub enum TypeRule {
@@ -38,15 +43,15 @@ impl TypeRule {
         ensures { result ≡ number_of self }
     {
         match self {
-            TypeRule::UnknownName => 221,
-            TypeRule::Redeclared => 222,
-            TypeRule::WrongType => 223,
-            TypeRule::NotReduction => 224,
-            TypeRule::MixedReductions => 225,
-            TypeRule::WrongIndex => 226,
-            TypeRule::PrintOutsideMain => 227,
-            TypeRule::NoMain => 228,
-            TypeRule::BadLabel => 229,
+            TypeRule::UnknownName => UNKNOWN_NAME,
+            TypeRule::Redeclared => REDECLARED,
+            TypeRule::WrongType => WRONG_TYPE,
+            TypeRule::NotReduction => NOT_REDUCTION,
+            TypeRule::MixedReductions => MIXED_REDUCTIONS,
+            TypeRule::WrongIndex => WRONG_INDEX,
+            TypeRule::PrintOutsideMain => PRINT_OUTSIDE_MAIN,
+            TypeRule::NoMain => NO_MAIN,
+            TypeRule::BadLabel => BAD_LABEL,
         }
     }
 }

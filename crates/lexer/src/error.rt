@@ -4,6 +4,7 @@ ghost use Rattle.std.specs.Prelude.{◌≡◌};
 ghost use Rattle.lexer.specs.declared.error.LexError.TheVariants.{NoMemory};
 ghost use Rattle.lexer.specs.Refusal.{number_of, offset_of};
 
+use refusal_numbers::{BAD_BYTE, NO_MEMORY, NUMBER_TOO_LARGE, UNFINISHED_TEXT};
 use std::alloc::{AllocError, AllocFailed};
 use thiserror::Error;
 
@@ -29,10 +30,10 @@ impl LexError {
         ensures { result ≡ number_of self }
     {
         match self {
-            LexError::BadByte { .. } => 201,
-            LexError::NumberTooLarge { .. } => 202,
-            LexError::UnfinishedText { .. } => 203,
-            LexError::NoMemory => 900,
+            LexError::BadByte { .. } => BAD_BYTE,
+            LexError::NumberTooLarge { .. } => NUMBER_TOO_LARGE,
+            LexError::UnfinishedText { .. } => UNFINISHED_TEXT,
+            LexError::NoMemory => NO_MEMORY,
         }
     }
 

@@ -5,6 +5,9 @@ ghost use Rattle.parser.specs.declared.error.ParseError.TheVariants.{NoMemory};
 ghost use Rattle.parser.specs.Refusal.{number_of, offset_of, of_lexer};
 
 use lexer::LexError;
+use refusal_numbers::{
+    BAD_BYTE, NO_MEMORY, NUMBER_TOO_LARGE, TOO_DEEP, UNEXPECTED, UNFINISHED_TEXT,
+};
 use std::alloc::{AllocError, AllocFailed};
 use thiserror::Error;
 
@@ -36,12 +39,12 @@ impl ParseError {
         ensures { result ≡ number_of self }
     {
         match self {
-            ParseError::BadByte { .. } => 201,
-            ParseError::NumberTooLarge { .. } => 202,
-            ParseError::UnfinishedText { .. } => 203,
-            ParseError::Unexpected { .. } => 211,
-            ParseError::TooDeep { .. } => 212,
-            ParseError::NoMemory => 900,
+            ParseError::BadByte { .. } => BAD_BYTE,
+            ParseError::NumberTooLarge { .. } => NUMBER_TOO_LARGE,
+            ParseError::UnfinishedText { .. } => UNFINISHED_TEXT,
+            ParseError::Unexpected { .. } => UNEXPECTED,
+            ParseError::TooDeep { .. } => TOO_DEEP,
+            ParseError::NoMemory => NO_MEMORY,
         }
     }
 

@@ -11,11 +11,9 @@ ghost use Rattle.algorithm_meaning.specs.Stand.{choice_in, number_in, vertex_in}
 use crate::evaluate::{condition_is_inside, evaluate, holds, is_inside};
 use crate::state::InterpreterState;
 use algorithm_meaning::{Depth, End, LoopCounter, arithmetic_of};
+use refusal_numbers::OUTSIDE;
 use std::alloc::AllocError;
 use typed_tree::{BoolExpression, IntExpression, Operator};
-
-// The number of the fault where an index is no vertex.
-const OUTSIDE: u16 = 401;
 
 /// The end of a run by a fault of the statement of this number.
 pub(crate) fn fault(number: u64) -> Option<End>

@@ -5,6 +5,7 @@ ghost use Rattle.races.specs.declared.error.RaceError.TheVariants.{NotOpened, No
 ghost use Rattle.races.specs.declared.error.RaceScriptError.TheVariants as script;
 ghost use Rattle.snapshot_runs.specs.declared.error.LatestRunError.TheVariants as run;
 
+use refusal_numbers::{BAD_LINE, NO_MEMORY};
 use shared_graph::SharedError;
 use snapshot_runs::LatestRunError;
 use std::alloc::{AllocError, AllocFailed};
@@ -25,8 +26,8 @@ impl RaceScriptError {
         ensures { result ≡ script_number_of self }
     {
         match self {
-            RaceScriptError::NoRace => 801,
-            RaceScriptError::NoMemory => 900,
+            RaceScriptError::NoRace => BAD_LINE,
+            RaceScriptError::NoMemory => NO_MEMORY,
         }
     }
 }

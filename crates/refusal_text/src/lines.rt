@@ -7,18 +7,13 @@ use crate::meaning::meaning_of;
 use crate::place::{line_at, place_of};
 use crate::statements::statement_at;
 use decimal::push_number;
+use refusal_numbers::{UNEXPECTED, WRONG_TYPE};
 use std::alloc::{AllocError, Global};
 
 // How many bytes of a line are shown before a place, and in all.
 const MOST_BEFORE: usize = 80;
 
 const MOST_SHOWN: usize = 120;
-
-// The number of a text outside the grammar.
-const SYNTAX: u16 = 211;
-
-// The number of a wrong type or kind.
-const KIND: u16 = 223;
 
 /// The lines that show where in the text of the file of this name the byte at this offset stands, say what the number of a
 /// refusal means, and what to do. A number by which no text is refused has no meaning, and then the place alone is told.
@@ -35,8 +30,8 @@ pub fn explanation(
     if let Some(meaning) = meaning_of(number) {
         let (before, behind) = text.split_at(at.min(text.len()));
         let guess = match number {
-            SYNTAX => cause_of(before, behind),
-            KIND => Some(kind_rule(behind)),
+            UNEXPECTED => cause_of(before, behind),
+            WRONG_TYPE => Some(kind_rule(behind)),
             _ => None,
         };
         push_told(&mut lines, meaning.means)?;

@@ -1,5 +1,12 @@
 //! What the numbers of refusals mean, and what to do.
 
+use refusal_numbers::{
+    BAD_ARGUMENT, BAD_BYTE, BAD_FIELDS, BAD_LABEL, DIFFERENT_SETS, GIVEN_TWICE, MIXED_REDUCTIONS,
+    NO_APPLY, NO_MAIN, NOT_ADJACENT, NOT_INDEPENDENT, NOT_REDUCTION, NUMBER_TOO_LARGE,
+    PRINT_OUTSIDE_MAIN, REDECLARED, TOO_DEEP, UNEXPECTED, UNFINISHED_TEXT, UNKNOWN_LABEL,
+    UNKNOWN_NAME, WRONG_INDEX, WRONG_TYPE,
+};
+
 /// What a number means, and what to do.
 #[derive(Clone, Copy)]
 pub(crate) struct Meaning {
@@ -10,9 +17,9 @@ pub(crate) struct Meaning {
 /// The meaning of a number by which a program's text is refused, or none of another number.
 pub(crate) fn meaning_of(number: u16) -> Option<Meaning> {
     let (means, cure) = match number {
-        201..=212 => of_tokens(number),
-        221..=229 => of_types(number),
-        301..=308 => of_schedule(number),
+        BAD_BYTE..=TOO_DEEP => of_tokens(number),
+        UNKNOWN_NAME..=BAD_LABEL => of_types(number),
+        UNKNOWN_LABEL..=BAD_FIELDS => of_schedule(number),
         _ => None,
     }?;
     Some(Meaning { means, cure })
@@ -20,23 +27,23 @@ pub(crate) fn meaning_of(number: u16) -> Option<Meaning> {
 
 fn of_tokens(number: u16) -> Option<(&'static str, &'static str)> {
     match number {
-        201 => Some((
+        BAD_BYTE => Some((
             "a byte begins no token",
             "take the byte out; a label is `#name#` without spaces, `!` stands in `!=` alone",
         )),
-        202 => Some((
+        NUMBER_TOO_LARGE => Some((
             "a number is above 9223372036854775807",
             "write a smaller number; the least int is `-9223372036854775807 - 1`",
         )),
-        203 => Some((
+        UNFINISHED_TEXT => Some((
             "a text in quotes is not closed on its line, or holds a byte outside 0x20 to 0x7E",
             "close it; there are no escapes",
         )),
-        211 => Some((
+        UNEXPECTED => Some((
             "no program goes on like this",
             "look before this place too: a `;` or an `end` may be missing",
         )),
-        212 => Some((
+        TOO_DEEP => Some((
             "blocks and brackets nest deeper than 64",
             "use variables for parts of the expression",
         )),
@@ -46,39 +53,39 @@ fn of_tokens(number: u16) -> Option<(&'static str, &'static str)> {
 
 fn of_types(number: u16) -> Option<(&'static str, &'static str)> {
     match number {
-        221 => Some((
+        UNKNOWN_NAME => Some((
             "a name is not visible where it is used",
             "declare it before; a name of a block is forgotten at its `end`",
         )),
-        222 => Some((
+        REDECLARED => Some((
             "a name is visible already, or a second constant is an edgeset",
             "take another name",
         )),
-        223 => Some((
+        WRONG_TYPE => Some((
             "a type or a kind of thing is wrong there",
             "docs/LANGUAGE.md lists what each place takes",
         )),
-        224 => Some((
+        NOT_REDUCTION => Some((
             "an edge function assigns an entry of a vector",
             "reduce it: `min=`, `max=` or `+=`",
         )),
-        225 => Some((
+        MIXED_REDUCTIONS => Some((
             "an edge function reduces one vector in two ways",
             "use a second vector",
         )),
-        226 => Some((
+        WRONG_INDEX => Some((
             "a vector is read or written at another vertex than may stand there, or an index in `main` holds an entry",
             "write at the second parameter; in `main` take the entry into a variable first",
         )),
-        227 => Some((
+        PRINT_OUTSIDE_MAIN => Some((
             "`print` stands in another function than `main`",
             "print in `main`, after the apply",
         )),
-        228 => Some((
+        NO_MAIN => Some((
             "there is no function `main` without parameters and result",
             "add `func main() .. end`",
         )),
-        229 => Some((
+        BAD_LABEL => Some((
             "a label stands twice in the text",
             "rename one; functions and `main` share their labels",
         )),
@@ -88,35 +95,35 @@ fn of_types(number: u16) -> Option<(&'static str, &'static str)> {
 
 fn of_schedule(number: u16) -> Option<(&'static str, &'static str)> {
     match number {
-        301 => Some((
+        UNKNOWN_LABEL => Some((
             "a schedule names a label that the program does not have",
             "write the label without `#`, as the statement has it",
         )),
-        302 => Some((
+        NO_APPLY => Some((
             "the label stands before no apply, or before a vertex apply where an edge apply is wanted",
             "put the label before the apply; a label in a function is no apply",
         )),
-        303 => Some((
+        BAD_ARGUMENT => Some((
             "a call has too few or too many arguments, or a value that its table does not have",
             "take a value of the table in docs/LANGUAGE.md",
         )),
-        304 => Some((
+        GIVEN_TWICE => Some((
             "a label has that value already, or is fused already, or with itself",
             "keep one of the calls",
         )),
-        305 => Some((
+        NOT_ADJACENT => Some((
             "the second of two fused statements does not stand right behind the first in one block",
             "name them in the order of the text, and move what stands between",
         )),
-        306 => Some((
+        DIFFERENT_SETS => Some((
             "two fused applies are of other kinds, sets, sources or destinations",
             "give both the same `from` and `to`",
         )),
-        307 => Some((
+        NOT_INDEPENDENT => Some((
             "the second of two fused edge applies depends on what the first writes",
             "leave them apart",
         )),
-        308 => Some((
+        BAD_FIELDS => Some((
             "fewer than two fields are fused, or a name is no vector, stands twice, or is in an earlier group",
             "name each vector once, in one group",
         )),

@@ -3,6 +3,7 @@ ghost use Rattle.std.specs.Prelude.{◌≡◌};
 ghost use Rattle.replies.specs.declared.send_error.SendError.TheVariants.{NoMemory};
 ghost use Rattle.replies.specs.Refusal.{number_of};
 
+use refusal_numbers::{NO_MEMORY, WRITE_FAILED};
 use std::alloc::{AllocError, AllocFailed};
 use thiserror::Error;
 
@@ -23,8 +24,8 @@ impl SendError {
         ensures { result ≡ number_of self }
     {
         match self {
-            SendError::NoMemory => 900,
-            SendError::WriteFailed => 902,
+            SendError::NoMemory => NO_MEMORY,
+            SendError::WriteFailed => WRITE_FAILED,
         }
     }
 }

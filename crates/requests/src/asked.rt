@@ -6,6 +6,7 @@ ghost use Rattle.requests.specs.Refusal.{number_of, of_fault};
 ghost use Rattle.requests.specs.declared.asked.RequestError.TheVariants.{NoMemory};
 
 use clap::error::ErrorKind;
+use refusal_numbers::NO_MEMORY;
 use std::alloc::AllocError;
 use thiserror::Error;
 
@@ -55,7 +56,7 @@ impl RequestError {
         ensures { result ≡ number_of self.now }
     {
         match self {
-            RequestError::NoMemory => Some(900),
+            RequestError::NoMemory => Some(NO_MEMORY),
             RequestError::NotText | RequestError::Fault(_) => None,
         }
     }

@@ -19,6 +19,7 @@ use algorithm_meaning::{Depth, End, Outcome};
 use flat_snapshot::Flat;
 use kernels::{Block, Registers};
 use plans::{Instruction, Plan};
+use refusal_numbers::OUTSIDE;
 use run_state::State;
 use std::alloc::{AllocError, Global};
 
@@ -82,7 +83,7 @@ impl PlanRun {
         match flow {
             Flow::Next => self.index += 1,
             Flow::Goto(to) => self.index = to,
-            Flow::Fault => self.finish(instruction.shown, End::Fault(401, instruction.number)),
+            Flow::Fault => self.finish(instruction.shown, End::Fault(OUTSIDE, instruction.number)),
             Flow::Ended(end) => self.finish(instruction.shown, end),
         }
     }

@@ -3,6 +3,7 @@ ghost use Rattle.std.specs.Prelude.{◌≡◌};
 ghost use Rattle.runner.specs.declared.run_error.RunError.TheVariants.{NoMemory};
 ghost use Rattle.runner.specs.RunRefusal.{number_of};
 
+use refusal_numbers::{BAD_WORKERS, NO_MEMORY};
 use std::alloc::AllocError;
 use thiserror::Error;
 
@@ -21,8 +22,8 @@ impl RunError {
         ensures { result ≡ number_of self }
     {
         match self {
-            RunError::BadWorkers => 411,
-            RunError::NoMemory => 900,
+            RunError::BadWorkers => BAD_WORKERS,
+            RunError::NoMemory => NO_MEMORY,
         }
     }
 }

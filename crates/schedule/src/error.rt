@@ -3,6 +3,10 @@ ghost use Rattle.std.specs.Prelude.{◌≡◌};
 ghost use Rattle.schedule.specs.Refusal.{number_of, number_of_rule, offset_of};
 ghost use Rattle.schedule.specs.declared.error.ScheduleError.TheVariants.{NoMemory};
 
+use refusal_numbers::{
+    BAD_ARGUMENT, BAD_FIELDS, DIFFERENT_SETS, GIVEN_TWICE, NO_APPLY, NO_MEMORY, NOT_ADJACENT,
+    NOT_INDEPENDENT, UNKNOWN_LABEL,
+};
 use std::alloc::{AllocError, AllocFailed};
 use thiserror::Error;
 
@@ -45,14 +49,14 @@ impl ScheduleRule {
         ensures { result ≡ number_of_rule self }
     {
         match self {
-            ScheduleRule::UnknownLabel => 301,
-            ScheduleRule::NoApply => 302,
-            ScheduleRule::BadArgument => 303,
-            ScheduleRule::GivenTwice => 304,
-            ScheduleRule::NotAdjacent => 305,
-            ScheduleRule::DifferentSets => 306,
-            ScheduleRule::NotIndependent => 307,
-            ScheduleRule::BadFields => 308,
+            ScheduleRule::UnknownLabel => UNKNOWN_LABEL,
+            ScheduleRule::NoApply => NO_APPLY,
+            ScheduleRule::BadArgument => BAD_ARGUMENT,
+            ScheduleRule::GivenTwice => GIVEN_TWICE,
+            ScheduleRule::NotAdjacent => NOT_ADJACENT,
+            ScheduleRule::DifferentSets => DIFFERENT_SETS,
+            ScheduleRule::NotIndependent => NOT_INDEPENDENT,
+            ScheduleRule::BadFields => BAD_FIELDS,
         }
     }
 }
@@ -64,7 +68,7 @@ impl ScheduleError {
     {
         match self {
             ScheduleError::Faulty { rule, .. } => rule.number(),
-            ScheduleError::NoMemory => 900,
+            ScheduleError::NoMemory => NO_MEMORY,
         }
     }
 

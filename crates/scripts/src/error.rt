@@ -3,6 +3,7 @@ ghost use Rattle.std.specs.Prelude.{◌≡◌};
 ghost use Rattle.scripts.specs.declared.error.ScriptError.TheVariants.{NoMemory};
 ghost use Rattle.scripts.specs.Refusal.{number_of, error_of_send};
 
+use refusal_numbers::{NO_MEMORY, READ_FAILED, WRITE_FAILED};
 use replies::SendError;
 use std::alloc::{AllocError, AllocFailed};
 use thiserror::Error;
@@ -27,9 +28,9 @@ impl ScriptError {
         ensures { result ≡ number_of self }
     {
         match self {
-            ScriptError::NoMemory => 900,
-            ScriptError::ReadFailed => 901,
-            ScriptError::WriteFailed => 902,
+            ScriptError::NoMemory => NO_MEMORY,
+            ScriptError::ReadFailed => READ_FAILED,
+            ScriptError::WriteFailed => WRITE_FAILED,
         }
     }
 }

@@ -14,6 +14,7 @@ use crate::host::Host;
 use crate::programs::Programs;
 use apply_options::MAX_WORKERS;
 use devices::Drain;
+use refusal_numbers::{BAD_LINE, BAD_WORKERS, NO_PROGRAM};
 use replies::{LineReply, ReplyWriter, SendError, is_fault};
 use std::alloc::{AllocError, Global};
 use std::marker::Model;
@@ -21,15 +22,6 @@ use std::mem;
 use tree_batch::{Batch, Entry, Graph};
 use version_flats::VersionFlats;
 use version_list::{Ticket, VersionError, Versions, Which};
-
-/// The refusal of a line that is no command, or none that may stand there.
-pub(crate) const BAD_LINE: u16 = 801;
-
-/// The refusal of a run of a program that is not there.
-const NO_PROGRAM: u16 = 412;
-
-/// The refusal of a number of workers that is not 1 to 64.
-const BAD_WORKERS: u16 = 411;
 
 /// A run that a line asks for: of the program at an index, within a bound of turns, by n workers, on the version that
 /// a ticket holds, or on the newest.

@@ -7,11 +7,12 @@ ghost use Rattle.replies.specs.Sending.{Emits};
 
 use crate::commands::Command;
 use crate::host::Host;
-use crate::open_graph::{BAD_LINE, OpenGraph, refusal};
+use crate::open_graph::{OpenGraph, refusal};
 use crate::parse::command;
 use crate::pieces::split_line;
 use crate::programs::Programs;
 use devices::Drain;
+use refusal_numbers::BAD_LINE;
 use replies::{LineReply, ReplyWriter, SendError};
 use std::alloc::Global;
 use std::marker::Model;

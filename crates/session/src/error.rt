@@ -3,6 +3,9 @@ ghost use Rattle.std.specs.Prelude.{◌≡◌};
 ghost use Rattle.session.specs.Refusal.{number_of, of_versions};
 ghost use Rattle.session.specs.declared.error.SessionError.TheVariants.{NoMemory};
 
+use refusal_numbers::{
+    BAD_CHUNK_SIZE, HISTORY_FULL, NO_JOB, NO_MEMORY, NO_PROGRAM, NOT_HELD, NOT_KEPT, VERTEX_RANGE,
+};
 use std::alloc::{AllocError, AllocFailed};
 use thiserror::Error;
 use version_list::VersionError;
@@ -34,14 +37,14 @@ impl SessionError {
         ensures { result ≡ number_of self }
     {
         match self {
-            SessionError::VertexRange => 111,
-            SessionError::BadChunkSize => 103,
-            SessionError::NotKept => 121,
-            SessionError::NotHeld => 122,
-            SessionError::HistoryFull => 123,
-            SessionError::NoProgram => 412,
-            SessionError::NoJob => 413,
-            SessionError::NoMemory => 900,
+            SessionError::VertexRange => VERTEX_RANGE,
+            SessionError::BadChunkSize => BAD_CHUNK_SIZE,
+            SessionError::NotKept => NOT_KEPT,
+            SessionError::NotHeld => NOT_HELD,
+            SessionError::HistoryFull => HISTORY_FULL,
+            SessionError::NoProgram => NO_PROGRAM,
+            SessionError::NoJob => NO_JOB,
+            SessionError::NoMemory => NO_MEMORY,
         }
     }
 }

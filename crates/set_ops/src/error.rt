@@ -4,6 +4,7 @@ ghost use Rattle.std.specs.Prelude.{◌≡◌};
 ghost use Rattle.set_ops.specs.declared.error.SetError.TheVariants.{NoMemory};
 ghost use Rattle.set_ops.specs.Refusal.{number_of};
 
+use refusal_numbers::{CHUNK_SIZES_DIFFER, NO_MEMORY, NOT_ASCENDING};
 use std::alloc::AllocError;
 use thiserror::Error;
 
@@ -24,9 +25,9 @@ impl SetError {
         ensures { result ≡ number_of self }
     {
         match self {
-            SetError::NotAscending => 101,
-            SetError::ChunkSizesDiffer => 104,
-            SetError::NoMemory => 900,
+            SetError::NotAscending => NOT_ASCENDING,
+            SetError::ChunkSizesDiffer => CHUNK_SIZES_DIFFER,
+            SetError::NoMemory => NO_MEMORY,
         }
     }
 }

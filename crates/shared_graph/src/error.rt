@@ -5,6 +5,9 @@ ghost use Rattle.shared_graph.specs.declared.error.SharedError.TheVariants.{NoMe
 ghost use Rattle.shared_graph.specs.declared.error.LatestError.TheVariants as latest;
 ghost use Rattle.shared_graph.specs.Refusal.{number_of, latest_number_of, from_version};
 
+use refusal_numbers::{
+    BAD_CHUNK_SIZE, BAD_SEATS, CLOSED, HISTORY_FULL, NO_MEMORY, NOT_HELD, NOT_KEPT, VERTEX_RANGE,
+};
 use std::alloc::{AllocError, AllocFailed};
 use thiserror::Error;
 use version_list::VersionError;
@@ -34,13 +37,13 @@ impl SharedError {
         ensures { result ≡ number_of self }
     {
         match self {
-            SharedError::VertexRange => 111,
-            SharedError::BadChunkSize => 103,
-            SharedError::NotKept => 121,
-            SharedError::NotHeld => 122,
-            SharedError::HistoryFull => 123,
-            SharedError::BadSeats => 124,
-            SharedError::NoMemory => 900,
+            SharedError::VertexRange => VERTEX_RANGE,
+            SharedError::BadChunkSize => BAD_CHUNK_SIZE,
+            SharedError::NotKept => NOT_KEPT,
+            SharedError::NotHeld => NOT_HELD,
+            SharedError::HistoryFull => HISTORY_FULL,
+            SharedError::BadSeats => BAD_SEATS,
+            SharedError::NoMemory => NO_MEMORY,
         }
     }
 }
@@ -91,8 +94,8 @@ impl LatestError {
         ensures { result ≡ latest_number_of self }
     {
         match self {
-            LatestError::Closed => 125,
-            LatestError::NoMemory => 900,
+            LatestError::Closed => CLOSED,
+            LatestError::NoMemory => NO_MEMORY,
         }
     }
 }

@@ -4,6 +4,7 @@ ghost use Rattle.std.specs.Prelude.{◌≡◌};
 ghost use Rattle.shared_tree.specs.declared.error.TreeError.TheVariants.{NoMemory};
 ghost use Rattle.shared_tree.specs.Refusal.{number_of};
 
+use refusal_numbers::{NO_MEMORY, NOT_ASCENDING};
 use std::alloc::{AllocError, AllocFailed};
 use thiserror::Error;
 
@@ -22,8 +23,8 @@ impl TreeError {
         ensures { result ≡ number_of self }
     {
         match self {
-            TreeError::NotAscending => 101,
-            TreeError::NoMemory => 900,
+            TreeError::NotAscending => NOT_ASCENDING,
+            TreeError::NoMemory => NO_MEMORY,
         }
     }
 }

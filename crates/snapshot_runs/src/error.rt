@@ -2,6 +2,7 @@
 ghost use Rattle.std.specs.Prelude.{◌≡◌};
 ghost use Rattle.snapshot_runs.specs.Refusal.{number_of, of_latest, of_run};
 
+use refusal_numbers::{BAD_WORKERS, CLOSED, NO_MEMORY};
 use runner::RunError;
 use shared_graph::LatestError;
 use thiserror::Error;
@@ -23,9 +24,9 @@ impl LatestRunError {
         ensures { result ≡ number_of self }
     {
         match self {
-            LatestRunError::BadWorkers => 411,
-            LatestRunError::Closed => 125,
-            LatestRunError::NoMemory => 900,
+            LatestRunError::BadWorkers => BAD_WORKERS,
+            LatestRunError::Closed => CLOSED,
+            LatestRunError::NoMemory => NO_MEMORY,
         }
     }
 }

@@ -4,6 +4,7 @@ ghost use Rattle.std.specs.Prelude.{◌≡◌};
 ghost use Rattle.tail_codec.specs.declared.error.TailError.TheVariants.{NoMemory};
 ghost use Rattle.tail_codec.specs.Refusal.{number_of};
 
+use refusal_numbers::{BAD_TAIL, NO_MEMORY, NOT_ASCENDING};
 use std::alloc::{AllocError, AllocFailed};
 use thiserror::Error;
 
@@ -24,9 +25,9 @@ impl TailError {
         ensures { result ≡ number_of self }
     {
         match self {
-            TailError::NotAscending => 101,
-            TailError::BadTail => 102,
-            TailError::NoMemory => 900,
+            TailError::NotAscending => NOT_ASCENDING,
+            TailError::BadTail => BAD_TAIL,
+            TailError::NoMemory => NO_MEMORY,
         }
     }
 }

@@ -4,6 +4,7 @@ ghost use Rattle.std.specs.Prelude.{◌≡◌};
 ghost use Rattle.tree_batch.specs.declared.error.GraphError.TheVariants.{NoMemory};
 ghost use Rattle.tree_batch.specs.Refusal.{number_of};
 
+use refusal_numbers::{BAD_CHUNK_SIZE, NO_MEMORY, VERTEX_RANGE};
 use std::alloc::{AllocError, AllocFailed};
 use thiserror::Error;
 
@@ -24,9 +25,9 @@ impl GraphError {
         ensures { result ≡ number_of self }
     {
         match self {
-            GraphError::VertexRange => 111,
-            GraphError::BadChunkSize => 103,
-            GraphError::NoMemory => 900,
+            GraphError::VertexRange => VERTEX_RANGE,
+            GraphError::BadChunkSize => BAD_CHUNK_SIZE,
+            GraphError::NoMemory => NO_MEMORY,
         }
     }
 }

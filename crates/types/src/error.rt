@@ -4,6 +4,7 @@ ghost use Rattle.types.specs.Refusal.{number_of, offset_of};
 ghost use Rattle.types.specs.declared.error.CheckError.TheVariants.{NoMemory};
 
 use expression_types::Fault;
+use refusal_numbers::NO_MEMORY;
 use std::alloc::{AllocError, AllocFailed};
 
 /// Why a source is no program.
@@ -22,7 +23,7 @@ impl CheckError {
     {
         match self {
             CheckError::Faulty(fault) => fault.rule.number(),
-            CheckError::NoMemory => 900,
+            CheckError::NoMemory => NO_MEMORY,
         }
     }
 

@@ -3,6 +3,7 @@ ghost use Rattle.std.specs.Prelude.{◌≡◌};
 ghost use Rattle.vectors.specs.Refusal.{number_of};
 ghost use Rattle.vectors.specs.declared.error.GroupError.TheVariants.{NoMemory};
 
+use refusal_numbers::{BAD_FIELDS, NO_MEMORY};
 use std::alloc::AllocError;
 use thiserror::Error;
 
@@ -23,8 +24,8 @@ impl GroupError {
         ensures { result ≡ number_of self }
     {
         match self {
-            GroupError::Unfit => 308,
-            GroupError::NoMemory => 900,
+            GroupError::Unfit => BAD_FIELDS,
+            GroupError::NoMemory => NO_MEMORY,
         }
     }
 }

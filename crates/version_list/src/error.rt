@@ -4,6 +4,7 @@ ghost use Rattle.std.specs.Prelude.{◌≡◌};
 ghost use Rattle.version_list.specs.declared.error.VersionError.TheVariants.{NoMemory};
 ghost use Rattle.version_list.specs.Refusal.{number_of, from_graph};
 
+use refusal_numbers::{BAD_CHUNK_SIZE, HISTORY_FULL, NO_MEMORY, NOT_HELD, NOT_KEPT, VERTEX_RANGE};
 use std::alloc::{AllocError, AllocFailed};
 use thiserror::Error;
 use tree_batch::GraphError;
@@ -32,12 +33,12 @@ impl VersionError {
         ensures { result ≡ number_of self }
     {
         match self {
-            VersionError::VertexRange => 111,
-            VersionError::BadChunkSize => 103,
-            VersionError::NotKept => 121,
-            VersionError::NotHeld => 122,
-            VersionError::HistoryFull => 123,
-            VersionError::NoMemory => 900,
+            VersionError::VertexRange => VERTEX_RANGE,
+            VersionError::BadChunkSize => BAD_CHUNK_SIZE,
+            VersionError::NotKept => NOT_KEPT,
+            VersionError::NotHeld => NOT_HELD,
+            VersionError::HistoryFull => HISTORY_FULL,
+            VersionError::NoMemory => NO_MEMORY,
         }
     }
 }
