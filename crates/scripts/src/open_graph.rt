@@ -31,11 +31,11 @@ const NO_PROGRAM: u16 = 412;
 /// The refusal of a number of workers that is not 1 to 64.
 const BAD_WORKERS: u16 = 411;
 
-/// A run that a line asks for: of the program at a place, within a bound of turns, by so many workers, on the version that
+/// What a `run` line asks: the program, by its index from 0, within a bound of turns, by so many workers, on the version that
 /// a ticket holds, or on the newest.
 #[derive(Clone, Copy)]
-struct RunOrder {
-    place: usize,
+struct RunLine {
+    program: usize,
     turns: u64,
     workers: u64,
     ticket: Option<u64>,
@@ -144,13 +144,13 @@ impl OpenGraph {
             } => match place_of(host.programs, program) {
                 None => replies.send_line(LineReply::Refused(NO_PROGRAM)),
                 Some(place) => {
-                    let order = RunOrder {
-                        place,
+                    let line = RunLine {
+                        program: place,
                         turns,
                         workers,
                         ticket,
                     };
-                    self.run(host, order, replies)
+                    self.run(host, line, replies)
                 }
             },
         }
@@ -227,45 +227,45 @@ impl OpenGraph {
         }
     }
 
-    /// Runs a program as is ordered, and writes what the run shows: no reply is kept after it.
+    /// Runs a program as a line asks, and writes what the run shows: no reply is kept after it.
     fn run<P: Programs, W: Drain>(
         &mut self,
         host: &Host<'_, P>,
-        order: RunOrder,
+        line: RunLine,
         replies: &mut ReplyWriter<'_, W>,
     ) -> Result<(), SendError>
         requires ready { P.are_ready host.now.programs.now }
-        requires place { order.place < length (P.trees host.now.programs.now) }
-        ensures emits { Emits replies.old replies.new (running self.old order.turns order.workers
-            (slice_get (P.trees host.now.programs.now) order.place) (graph_of self.old.versions order.ticket)).text result }
-        ensures state { OnOk result (self.new ≡ (running self.old order.turns order.workers
-            (slice_get (P.trees host.now.programs.now) order.place) (graph_of self.old.versions order.ticket)).state) }
+        requires place { line.program < length (P.trees host.now.programs.now) }
+        ensures emits { Emits replies.old replies.new (running self.old line.turns line.workers
+            (slice_get (P.trees host.now.programs.now) line.program) (graph_of self.old.versions line.ticket)).text result }
+        ensures state { OnOk result (self.new ≡ (running self.old line.turns line.workers
+            (slice_get (P.trees host.now.programs.now) line.program) (graph_of self.old.versions line.ticket)).state) }
         ensures written { OnOk result (replies.new.kept ≡ []) }
     {
-        self.send_run(host, order, replies)?;
+        self.send_run(host, line, replies)?;
         replies.flush()
     }
 
-    /// Runs a program as is ordered, and sends what the run shows.
+    /// Runs a program as a line asks, and sends what the run shows.
     fn send_run<P: Programs, W: Drain>(
         &mut self,
         host: &Host<'_, P>,
-        order: RunOrder,
+        line: RunLine,
         replies: &mut ReplyWriter<'_, W>,
     ) -> Result<(), SendError>
         requires ready { P.are_ready host.now.programs.now }
-        requires place { order.place < length (P.trees host.now.programs.now) }
-        ensures emits { Emits replies.old replies.new (running self.old order.turns order.workers
-            (slice_get (P.trees host.now.programs.now) order.place) (graph_of self.old.versions order.ticket)).text result }
-        ensures state { OnOk result (self.new ≡ (running self.old order.turns order.workers
-            (slice_get (P.trees host.now.programs.now) order.place) (graph_of self.old.versions order.ticket)).state) }
+        requires place { line.program < length (P.trees host.now.programs.now) }
+        ensures emits { Emits replies.old replies.new (running self.old line.turns line.workers
+            (slice_get (P.trees host.now.programs.now) line.program) (graph_of self.old.versions line.ticket)).text result }
+        ensures state { OnOk result (self.new ≡ (running self.old line.turns line.workers
+            (slice_get (P.trees host.now.programs.now) line.program) (graph_of self.old.versions line.ticket)).state) }
     {
-        let RunOrder {
-            place,
+        let RunLine {
+            program,
             turns,
             workers,
             ticket,
-        } = order;
+        } = line;
         let Some((version, graph)) = version_of(&self.versions, ticket) else {
             return replies.send_line(LineReply::Refused(VersionError::NotHeld.number()));
         };
@@ -273,7 +273,9 @@ impl OpenGraph {
             return replies.send_line(LineReply::Refused(BAD_WORKERS));
         }
         let flat = self.flats.flat(host.alloc, version, graph)?;
-        let outcome = host.programs.run(host.alloc, place, &flat, turns, workers)?;
+        let outcome = host
+            .programs
+            .run(host.alloc, program, &flat, turns, workers)?;
         self.faulted = self.faulted || is_fault(outcome.end);
         replies.send_outcome(&outcome)
     }
