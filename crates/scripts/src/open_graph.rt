@@ -1,11 +1,12 @@
 //! The state of a script once a graph is open, and the commands on it.
-ghost use Rattle.std.specs.Prelude.{◌≡◌, ◌<◌, [], false, IfErr, IfOk, IfSome, MatchOption, None, OnOk, Some, length};
+ghost use Rattle.std.specs.Prelude.{◌≡◌, ◌<◌, [], false, Err, IfErr, IfOk, IfSome, MatchOption, None, OnOk, Some, length};
 ghost use Rattle.std.specs.List.{slice_get};
 ghost use Rattle.std.specs.Option.{option_map};
 ghost use Rattle.version_list.specs.declared.step.Step.TheVariants as step;
 ghost use Rattle.version_flats.specs.VersionFlats.{IsKept};
 ghost use Rattle.replies.specs.declared.send_error.SendError.TheVariants.{NoMemory};
 ghost use Rattle.scripts.specs.Replies.{on_open, joined, stepping, which_of, graph_of, listing, running, program_of};
+ghost use Rattle.replies.specs.ReplyText.{line_text};
 ghost use Rattle.replies.specs.Sending.{Emits};
 ghost use Rattle.scripts.specs.inside.Stepping.{IsAnswered, refusal_of};
 
@@ -122,18 +123,9 @@ impl OpenGraph {
                 destination,
             } => self.join(Entry::Remove(source, destination)),
             Command::Grow { vertices } => self.join(Entry::Grow(vertices)),
-            Command::Commit => {
-                let reply = self.commit(host.alloc)?;
-                replies.send_line(reply)
-            }
-            Command::Hold { version } => {
-                let reply = self.hold(version)?;
-                replies.send_line(reply)
-            }
-            Command::Release { ticket } => {
-                let reply = self.release(ticket)?;
-                replies.send_line(reply)
-            }
+            Command::Commit => send_reply(self.commit(host.alloc), replies),
+            Command::Hold { version } => send_reply(self.hold(version), replies),
+            Command::Release { ticket } => send_reply(self.release(ticket), replies),
             Command::Edges => self.list(None, replies),
             Command::EdgesOf { ticket } => self.list(Some(ticket), replies),
             Command::Run {
@@ -141,18 +133,7 @@ impl OpenGraph {
                 turns,
                 workers,
                 ticket,
-            } => match place_of(host.programs, program) {
-                None => replies.send_line(LineReply::Refused(NO_PROGRAM)),
-                Some(place) => {
-                    let line = RunLine {
-                        program: place,
-                        turns,
-                        workers,
-                        ticket,
-                    };
-                    self.run(host, line, replies)
-                }
-            },
+            } => self.run_numbered(host, program, turns, workers, ticket, replies),
         }
     }
 
@@ -227,6 +208,34 @@ impl OpenGraph {
         }
     }
 
+    /// Runs the program of this number, which counts from 1, or refuses the number.
+    fn run_numbered<P: Programs, W: Drain>(
+        &mut self,
+        host: &Host<'_, P>,
+        number: u64,
+        turns: u64,
+        workers: u64,
+        ticket: Option<u64>,
+        replies: &mut ReplyWriter<'_, W>,
+    ) -> Result<(), SendError>
+        requires ready { P.are_ready host.now.programs.now }
+        ensures emits { Emits replies.old replies.new (running self.old turns workers
+            (program_of (P.trees host.now.programs.now) number) (graph_of self.old.versions ticket)).text result }
+        ensures state { OnOk result (self.new ≡ (running self.old turns workers
+            (program_of (P.trees host.now.programs.now) number) (graph_of self.old.versions ticket)).state) }
+    {
+        let Some(program) = place_of(host.programs, number) else {
+            return replies.send_line(LineReply::Refused(NO_PROGRAM));
+        };
+        let line = RunLine {
+            program,
+            turns,
+            workers,
+            ticket,
+        };
+        self.run(host, line, replies)
+    }
+
     /// Runs a program as a line asks, and writes what the run shows: no reply is kept after it.
     fn run<P: Programs, W: Drain>(
         &mut self,
@@ -279,6 +288,17 @@ impl OpenGraph {
         self.faulted = self.faulted || is_fault(outcome.end);
         replies.send_outcome(&outcome)
     }
+}
+
+/// Sends the reply to a step. One that was out of memory has none: then nothing is sent.
+fn send_reply<W: Drain>(
+    reply: Result<LineReply, AllocError>,
+    replies: &mut ReplyWriter<'_, W>,
+) -> Result<(), SendError>
+    ensures sent { IfOk reply (λ line. Emits replies.old replies.new (line_text line) result) }
+    ensures unsent { IfErr reply (λ e. (replies.new ≡ replies.old) × (result ≡ Err NoMemory)) }
+{
+    replies.send_line(reply?)
 }
 
 /// The newest version, or the one that a ticket holds, where it is open: its number and its graph.
