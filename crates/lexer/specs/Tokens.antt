@@ -1,4 +1,4 @@
--- Which texts are tokens, and which tokens a text has.
+-- Tokens: which texts are tokens, which tokens a text has and where they stand in it, and where a text without is at fault.
 use Rattle.std.specs.Prelude.{◌≡◌, ◌≢◌, ℕ, pos, ◌+◌, ◌-◌, ◌<◌, ◌≤◌, ◌≤ℤ◌, true, List, [], ◌∷◌, ◌++◌, length, take, drop, Result, Ok, Err}
 use Rattle.std.specs.Str.{all_ascii_digits}
 use Rattle.std.specs.List.{AllByRecursion}

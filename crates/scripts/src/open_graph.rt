@@ -1,11 +1,12 @@
 //! The state of a script once a graph is open, and the commands on it.
-ghost use Rattle.std.specs.Prelude.{◌≡◌, ◌<◌, [], false, IfErr, IfOk, IfSome, MatchOption, None, OnOk, Some, length};
+ghost use Rattle.std.specs.Prelude.{◌≡◌, ◌<◌, [], false, Err, IfErr, IfOk, IfSome, MatchOption, None, OnOk, Some, length};
 ghost use Rattle.std.specs.List.{slice_get};
 ghost use Rattle.std.specs.Option.{option_map};
 ghost use Rattle.version_list.specs.declared.step.Step.TheVariants as step;
 ghost use Rattle.version_flats.specs.VersionFlats.{IsKept};
 ghost use Rattle.replies.specs.declared.send_error.SendError.TheVariants.{NoMemory};
 ghost use Rattle.scripts.specs.Replies.{on_open, joined, stepping, which_of, graph_of, listing, running, program_of};
+ghost use Rattle.replies.specs.ReplyText.{line_text};
 ghost use Rattle.replies.specs.Sending.{Emits};
 ghost use Rattle.scripts.specs.inside.Stepping.{IsAnswered, refusal_of};
 
@@ -23,11 +24,11 @@ use tree_batch::{Batch, Entry, Graph};
 use version_flats::VersionFlats;
 use version_list::{Ticket, VersionError, Versions, Which};
 
-/// A run that a line asks for: of the program at an index, within a bound of turns, by n workers, on the version that
-/// a ticket holds, or on the newest.
+/// What a `run` line asks: the program of a number, which counts from 1, within a bound of turns, by so many workers, on the
+/// version that a ticket holds, or on the newest.
 #[derive(Clone, Copy)]
-struct RunOrder {
-    index: usize,
+struct RunLine {
+    program: u64,
     turns: u64,
     workers: u64,
     ticket: Option<u64>,
@@ -114,18 +115,9 @@ impl OpenGraph {
                 destination,
             } => self.join(Entry::Remove(source, destination)),
             Command::Grow { vertices } => self.join(Entry::Grow(vertices)),
-            Command::Commit => {
-                let reply = self.commit(host.alloc)?;
-                replies.send_line(reply)
-            }
-            Command::Hold { version } => {
-                let reply = self.hold(version)?;
-                replies.send_line(reply)
-            }
-            Command::Release { ticket } => {
-                let reply = self.release(ticket)?;
-                replies.send_line(reply)
-            }
+            Command::Commit => send_reply(self.commit(host.alloc), replies),
+            Command::Hold { version } => send_reply(self.hold(version), replies),
+            Command::Release { ticket } => send_reply(self.release(ticket), replies),
             Command::Edges => self.list(None, replies),
             Command::EdgesOf { ticket } => self.list(Some(ticket), replies),
             Command::Run {
@@ -133,18 +125,15 @@ impl OpenGraph {
                 turns,
                 workers,
                 ticket,
-            } => match index_of(host.programs, program) {
-                None => replies.send_line(LineReply::Refused(NO_PROGRAM)),
-                Some(index) => {
-                    let order = RunOrder {
-                        index,
-                        turns,
-                        workers,
-                        ticket,
-                    };
-                    self.run(host, order, replies)
-                }
-            },
+            } => {
+                let line = RunLine {
+                    program,
+                    turns,
+                    workers,
+                    ticket,
+                };
+                self.run_numbered(host, line, replies)
+            }
         }
     }
 
@@ -219,45 +208,66 @@ impl OpenGraph {
         }
     }
 
-    /// Runs a program as is ordered, and writes what the run shows: no reply is kept after it.
+    /// Runs the program that a line asks for, or refuses its number.
+    fn run_numbered<P: Programs, W: Drain>(
+        &mut self,
+        host: &Host<'_, P>,
+        line: RunLine,
+        replies: &mut ReplyWriter<'_, W>,
+    ) -> Result<(), SendError>
+        requires ready { P.are_ready host.now.programs.now }
+        ensures emits { Emits replies.old replies.new (running self.old line.turns line.workers
+            (program_of (P.trees host.now.programs.now) line.program) (graph_of self.old.versions line.ticket)).text result }
+        ensures state { OnOk result (self.new ≡ (running self.old line.turns line.workers
+            (program_of (P.trees host.now.programs.now) line.program) (graph_of self.old.versions line.ticket)).state) }
+    {
+        let Some(index) = index_of(host.programs, line.program) else {
+            return replies.send_line(LineReply::Refused(NO_PROGRAM));
+        };
+        self.run(host, index, line, replies)
+    }
+
+    /// Runs the program at an index as a line asks, and writes what the run shows: no reply is kept after it.
     fn run<P: Programs, W: Drain>(
         &mut self,
         host: &Host<'_, P>,
-        order: RunOrder,
+        index: usize,
+        line: RunLine,
         replies: &mut ReplyWriter<'_, W>,
     ) -> Result<(), SendError>
         requires ready { P.are_ready host.now.programs.now }
-        requires index { order.index < length (P.trees host.now.programs.now) }
-        ensures emits { Emits replies.old replies.new (running self.old order.turns order.workers
-            (slice_get (P.trees host.now.programs.now) order.index) (graph_of self.old.versions order.ticket)).text result }
-        ensures state { OnOk result (self.new ≡ (running self.old order.turns order.workers
-            (slice_get (P.trees host.now.programs.now) order.index) (graph_of self.old.versions order.ticket)).state) }
+        requires index { index < length (P.trees host.now.programs.now) }
+        ensures emits { Emits replies.old replies.new (running self.old line.turns line.workers
+            (slice_get (P.trees host.now.programs.now) index) (graph_of self.old.versions line.ticket)).text result }
+        ensures state { OnOk result (self.new ≡ (running self.old line.turns line.workers
+            (slice_get (P.trees host.now.programs.now) index) (graph_of self.old.versions line.ticket)).state) }
         ensures written { OnOk result (replies.new.kept ≡ []) }
     {
-        self.send_run(host, order, replies)?;
+        self.send_run(host, index, line, replies)?;
         replies.flush()
     }
 
-    /// Runs a program as is ordered, and sends what the run shows.
+    /// Runs the program at an index as a line asks, and sends what the run shows.
     fn send_run<P: Programs, W: Drain>(
         &mut self,
         host: &Host<'_, P>,
-        order: RunOrder,
+        index: usize,
+        line: RunLine,
         replies: &mut ReplyWriter<'_, W>,
     ) -> Result<(), SendError>
         requires ready { P.are_ready host.now.programs.now }
-        requires index { order.index < length (P.trees host.now.programs.now) }
-        ensures emits { Emits replies.old replies.new (running self.old order.turns order.workers
-            (slice_get (P.trees host.now.programs.now) order.index) (graph_of self.old.versions order.ticket)).text result }
-        ensures state { OnOk result (self.new ≡ (running self.old order.turns order.workers
-            (slice_get (P.trees host.now.programs.now) order.index) (graph_of self.old.versions order.ticket)).state) }
+        requires index { index < length (P.trees host.now.programs.now) }
+        ensures emits { Emits replies.old replies.new (running self.old line.turns line.workers
+            (slice_get (P.trees host.now.programs.now) index) (graph_of self.old.versions line.ticket)).text result }
+        ensures state { OnOk result (self.new ≡ (running self.old line.turns line.workers
+            (slice_get (P.trees host.now.programs.now) index) (graph_of self.old.versions line.ticket)).state) }
     {
-        let RunOrder {
-            index,
+        let RunLine {
             turns,
             workers,
             ticket,
-        } = order;
+            ..
+        } = line;
         let Some((version, graph)) = version_of(&self.versions, ticket) else {
             return replies.send_line(LineReply::Refused(VersionError::NotHeld.number()));
         };
@@ -269,6 +279,17 @@ impl OpenGraph {
         self.faulted = self.faulted || is_fault(outcome.end);
         replies.send_outcome(&outcome)
     }
+}
+
+/// Sends the reply to a step. One that was out of memory has none: then nothing is sent.
+fn send_reply<W: Drain>(
+    reply: Result<LineReply, AllocError>,
+    replies: &mut ReplyWriter<'_, W>,
+) -> Result<(), SendError>
+    ensures sent { IfOk reply (λ line. Emits replies.old replies.new (line_text line) result) }
+    ensures unsent { IfErr reply (λ e. (replies.new ≡ replies.old) × (result ≡ Err NoMemory)) }
+{
+    replies.send_line(reply?)
 }
 
 /// The newest version, or the one that a ticket holds, where it is open: its number and its graph.

@@ -1,4 +1,4 @@
-//! What the definitions that contracts cite come to.
+//! Laws of the spelling of entry lists: each has one spelling, and bytes spell at most one. The calls do nothing.
 
 ghost use Rattle.std.specs.Prelude.{◌≡◌, ℕ, ℤ, Option, List};
 ghost use Rattle.std.specs.Map.{keys_of};

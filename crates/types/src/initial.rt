@@ -48,7 +48,7 @@ impl Drop for Initializer {
 
 /// What the names of an apply stand for.
 #[derive(Clone, Copy)]
-pub(crate) struct Apply {
+pub(crate) struct NamedApply {
     /// What it is on: the edges, or a vertex set.
     pub(crate) target: Entity,
     pub(crate) from: ApplyEnd,
@@ -210,10 +210,10 @@ pub(crate) fn read_apply(
     ends: &WrittenEnds,
     function: &Name,
     first_fault: &mut Option<Fault>,
-) -> Apply
+) -> NamedApply
     ensures { outcome first_fault.old (apply_named scope.now target.now (ends_tree ends.now) function.now) ≡ (apply_tree result, first_fault.new) }
 {
-    Apply {
+    NamedApply {
         target: entity(scope, target, first_fault),
         from: read_end(scope, &ends.from, first_fault),
         to: read_end(scope, &ends.to, first_fault),
@@ -424,14 +424,14 @@ fn filter(at: usize, set: Entity, test: Entity, first_fault: &mut Option<Fault>)
 fn modified(
     checker: &Checker,
     at: usize,
-    apply: Apply,
+    apply: NamedApply,
     vector: Entity,
     first_fault: &mut Option<Fault>,
 ) -> Initializer
     ensures { outcome first_fault.old (vertices_modified (checker_of checker.now) at apply.target (apply_end_tree apply.from) (apply_end_tree apply.to)
         apply.function vector) ≡ (initializer_tree result, first_fault.new) }
 {
-    let Apply {
+    let NamedApply {
         target: edges,
         from,
         to,

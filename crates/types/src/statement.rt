@@ -17,7 +17,7 @@ ghost use Rattle.types.specs.inside.Variables.{variable_as};
 
 use crate::checker::{Checker, declare};
 use crate::initial::{
-    Apply, ApplyEnd, Initializer, are_weights_lacking, edge_function_named, ends_of,
+    ApplyEnd, Initializer, NamedApply, are_weights_lacking, edge_function_named, ends_of,
     is_edges_entity, is_error_entity, is_one_wrong, read_apply, read_initial,
     vertex_function_named,
 };
@@ -351,14 +351,14 @@ fn has_ends(ends: &Ends) -> bool
 
 fn apply_to(
     at: usize,
-    apply: Apply,
+    apply: NamedApply,
     has_ends: bool,
     first_fault: &mut Option<Fault>,
 ) -> StatementKind
     ensures { outcome first_fault.old (applied at apply.target (apply_end_tree apply.from) (apply_end_tree apply.to) has_ends apply.function)
         ≡ (action_tree result, first_fault.new) }
 {
-    let Apply {
+    let NamedApply {
         target,
         from,
         to,

@@ -1,4 +1,4 @@
--- What is known of the version that a ticket holds.
+-- Held versions: which version a ticket holds, its graph, that it is kept, and that the release of the ticket lets no other go.
 use Rattle.std.specs.Prelude.{◌≡◌, ◌≢◌, ℕ, ◌≤◌, true, Some}
 use Rattle.tree_batch.specs.Digraph.{Digraph}
 use Rattle.version_list.specs.declared.step.Step.TheVariants.{Release}

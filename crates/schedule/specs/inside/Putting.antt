@@ -1,4 +1,4 @@
--- What the steps of reading a schedule put.
+-- Steps of reading a schedule: what each puts into a table or a schedule, for the contracts of private functions.
 use Rattle.std.specs.Prelude.{◌≡◌, ℕ, nat_eq, List, ◌++◌, Option, Some, None, Result, Ok, Err, if◌then◌else◌}
 use Rattle.std.specs.Borrow.{Bor}
 use Rattle.std.specs.Map.{lookup}

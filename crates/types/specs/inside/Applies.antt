@@ -5,7 +5,7 @@ use Rattle.expression_types.specs.declared.scope.Entity.{Entity}
 use Rattle.expression_types.specs.Expression.{used}
 use Rattle.expression_types.specs.WithFaults.{WithFaults, sure, ◌>>=◌}
 use Rattle.expression_types.specs.ScopeTree.{ScopeTree}
-use Rattle.types.specs.declared.initial.Apply.{Apply}
+use Rattle.types.specs.declared.initial.NamedApply.{NamedApply}
 use Rattle.types.specs.Initial.{ApplyEndTree, end_of}
 use Rattle.types.specs.Initializer.{apply_end_tree}
 
@@ -16,7 +16,7 @@ pub record ApplyTree : Type 0 where
   pub to : ApplyEndTree
   pub function : Entity
 
-abbrev pub apply_tree : Apply → ApplyTree
+abbrev pub apply_tree : NamedApply → ApplyTree
 apply_tree a = record { target = a.target; from = apply_end_tree a.from; to = apply_end_tree a.to; function = a.function }
 
 abbrev pub apply_named : ScopeTree → Identifier → EndsTree → Identifier → WithFaults ApplyTree

@@ -1,4 +1,4 @@
--- What the fields of versions stand for, and what is true of them.
+-- Fields of versions: the state and the timeline that they stand for, and what is true of them; the invariant of `Versions`.
 use Rattle.std.specs.Prelude.{◌≡◌, ◌+◌, ◌≤◌, length, vec_capacity}
 use Rattle.version_list.specs.declared.versions.Versions.TheInside.{Inside}
 use Rattle.version_list.specs.Machine.{State, newest_number, newest_graph, version_graph}

@@ -1,4 +1,4 @@
--- What is kept of open tickets, and of the versions that they hold.
+-- Tables of open tickets and of the versions that they hold: what they keep, and what one holder more or fewer makes of a version.
 use Rattle.std.specs.Prelude.{◌≡◌, ℕ, ◌+◌, ◌-◌, ◌<◌, ◌==◌, nat_eq, nat_lt, if◌then◌else◌, List, [], ◌∷◌, length, Option, Some, None}
 use Rattle.indexmap.specs.IndexMap.{get, index_map_len, spare}
 use Rattle.tree_batch.specs.Digraph.{Digraph}

@@ -1,8 +1,8 @@
-use Rattle.std.proofs.Common.{Option, sym, ap, ◌∙◌}
-use Rattle.algorithm_meaning.specs.ProgramTree.{ProgramTree}
+use Rattle.std.proofs.Common.{ap}
 use Rattle.scripts.specs.declared.commands.Command.{Command}
-use Rattle.scripts.specs.Replies.{on_open, running, graph_of}
-use Rattle.replies.proofs.SendingLaws.{emits_as, emits_none, emits_nothing}
+use Rattle.scripts.specs.Replies.{on_open}
+use Rattle.replies.proofs.SendingLaws.{emits_as, emits_nothing}
+use Rattle.scripts.proofs.StepLaws.{emits_step, leaves_step}
 use Rattle.scripts.proofs.open_graph.OpenGraph.answer.Goals as goal
 
 pub returns-in-Add-clause-emits : goal.returns-in-Add-clause-emits
@@ -20,42 +20,34 @@ returns-in-Grow-clause-emits g c =
     let text = ap (λ (k : Command). (on_open (g.P.Programs.trees c.args.host.now.programs.now) c.args.self.now k).text) c.in-Grow.is in
     emits_as _ _ _ _ _ (emits_nothing _ c.join-in-Grow.result c.join-in-Grow.ensures.err) text
 
-pub returns-in_err-reply-in-Commit-clause-emits : goal.returns-in_err-reply-in-Commit-clause-emits
-returns-in_err-reply-in-Commit-clause-emits g c = emits_none _ _ _ c.from_residual.ensures.1
+pub returns-in-Commit-clause-emits : goal.returns-in-Commit-clause-emits
+returns-in-Commit-clause-emits g c =
+    emits_step _ _ _ _ _ c.commit.result c.send_reply.result (ap (λ (k : Command). on_open (g.P.Programs.trees c.args.host.now.programs.now) c.args.self.now k) c.in-Commit.is) c.commit.ensures c.send_reply.ensures.sent c.send_reply.ensures.unsent
 
-pub returns-in_err-reply-in-Hold-clause-emits : goal.returns-in_err-reply-in-Hold-clause-emits
-returns-in_err-reply-in-Hold-clause-emits g c = emits_none _ _ _ c.from_residual-in_err-reply-in-Hold.ensures.1
+pub returns-in-Commit-clause-state : goal.returns-in-Commit-clause-state
+returns-in-Commit-clause-state g c =
+    leaves_step _ _ _ _ _ c.commit.result c.send_reply.result (ap (λ (k : Command). on_open (g.P.Programs.trees c.args.host.now.programs.now) c.args.self.now k) c.in-Commit.is) c.commit.ensures c.send_reply.ensures.unsent
 
-pub returns-in_err-reply-in-Release-clause-emits : goal.returns-in_err-reply-in-Release-clause-emits
-returns-in_err-reply-in-Release-clause-emits g c = emits_none _ _ _ c.from_residual-in_err-reply-in-Release.ensures.1
+pub returns-in-Hold-clause-emits : goal.returns-in-Hold-clause-emits
+returns-in-Hold-clause-emits g c =
+    emits_step _ _ _ _ _ c.hold.result c.send_reply-in-Hold.result (ap (λ (k : Command). on_open (g.P.Programs.trees c.args.host.now.programs.now) c.args.self.now k) c.in-Hold.is) c.hold.ensures c.send_reply-in-Hold.ensures.sent c.send_reply-in-Hold.ensures.unsent
 
-pub returns-in_ok-reply-in-Commit-clause-emits : goal.returns-in_ok-reply-in-Commit-clause-emits
-returns-in_ok-reply-in-Commit-clause-emits g c =
-    let text = ap (λ (k : Command). (on_open (g.P.Programs.trees c.args.host.now.programs.now) c.args.self.now k).text) c.in-Commit.is in
-    emits_as _ _ _ _ _ c.send_line-in-Commit.ensures (text ∙ sym c.in_ok-reply-in-Commit.ensures.text)
+pub returns-in-Hold-clause-state : goal.returns-in-Hold-clause-state
+returns-in-Hold-clause-state g c =
+    leaves_step _ _ _ _ _ c.hold.result c.send_reply-in-Hold.result (ap (λ (k : Command). on_open (g.P.Programs.trees c.args.host.now.programs.now) c.args.self.now k) c.in-Hold.is) c.hold.ensures c.send_reply-in-Hold.ensures.unsent
 
-pub returns-in_ok-reply-in-Hold-clause-emits : goal.returns-in_ok-reply-in-Hold-clause-emits
-returns-in_ok-reply-in-Hold-clause-emits g c =
-    let text = ap (λ (k : Command). (on_open (g.P.Programs.trees c.args.host.now.programs.now) c.args.self.now k).text) c.in-Hold.is in
-    emits_as _ _ _ _ _ c.send_line-in-Hold.ensures (text ∙ sym c.in_ok-reply-in-Hold.ensures.text)
+pub returns-in-Release-clause-emits : goal.returns-in-Release-clause-emits
+returns-in-Release-clause-emits g c =
+    emits_step _ _ _ _ _ c.release.result c.send_reply-in-Release.result (ap (λ (k : Command). on_open (g.P.Programs.trees c.args.host.now.programs.now) c.args.self.now k) c.in-Release.is) c.release.ensures c.send_reply-in-Release.ensures.sent c.send_reply-in-Release.ensures.unsent
 
-pub returns-in_ok-reply-in-Release-clause-emits : goal.returns-in_ok-reply-in-Release-clause-emits
-returns-in_ok-reply-in-Release-clause-emits g c =
-    let text = ap (λ (k : Command). (on_open (g.P.Programs.trees c.args.host.now.programs.now) c.args.self.now k).text) c.in-Release.is in
-    emits_as _ _ _ _ _ c.send_line-in-Release.ensures (text ∙ sym c.in_ok-reply-in-Release.ensures.text)
+pub returns-in-Release-clause-state : goal.returns-in-Release-clause-state
+returns-in-Release-clause-state g c =
+    leaves_step _ _ _ _ _ c.release.result c.send_reply-in-Release.result (ap (λ (k : Command). on_open (g.P.Programs.trees c.args.host.now.programs.now) c.args.self.now k) c.in-Release.is) c.release.ensures c.send_reply-in-Release.ensures.unsent
 
 pub returns-in-Edges-clause-emits : goal.returns-in-Edges-clause-emits
 returns-in-Edges-clause-emits g c =
     emits_as _ _ _ _ _ c.list.ensures (ap (λ (k : Command). (on_open (g.P.Programs.trees c.args.host.now.programs.now) c.args.self.now k).text) c.in-Edges.is)
 
-pub returns-in-None-clause-emits : goal.returns-in-None-clause-emits
-returns-in-None-clause-emits g c =
-    let run = λ (p : Option ProgramTree). (running c.args.self.now c.in-Run.turns c.in-Run.workers p (graph_of c.args.self.now.versions c.in-Run.ticket)).text in
-    let text = ap (λ (k : Command). (on_open (g.P.Programs.trees c.args.host.now.programs.now) c.args.self.now k).text) c.in-Run.is in
-    emits_as _ _ _ _ _ c.send_line-in-None.ensures (text ∙ ap run c.in-None.ensures.program)
-
-pub returns-in-Some-clause-emits : goal.returns-in-Some-clause-emits
-returns-in-Some-clause-emits g c =
-    let run = λ (p : Option ProgramTree). (running c.args.self.now c.in-Run.turns c.in-Run.workers p (graph_of c.args.self.now.versions c.in-Run.ticket)).text in
-    let text = ap (λ (k : Command). (on_open (g.P.Programs.trees c.args.host.now.programs.now) c.args.self.now k).text) c.in-Run.is in
-    emits_as _ _ _ _ _ c.run.ensures.emits (text ∙ ap run c.in-Some.ensures.program)
+pub returns-in-Run-clause-emits : goal.returns-in-Run-clause-emits
+returns-in-Run-clause-emits g c =
+    emits_as _ _ _ _ _ c.run_numbered.ensures.emits (ap (λ (k : Command). (on_open (g.P.Programs.trees c.args.host.now.programs.now) c.args.self.now k).text) c.in-Run.is)
