@@ -6,8 +6,8 @@ use flat_snapshot::Degrees;
 use kernels::PAIRS;
 use std::alloc::AllocError;
 
-/// Takes the next vertices, at most 128, in place of what the part has, and none where none is left. The only error is
-/// out of memory.
+/// Takes the next vertices, at most `PAIRS`, in place of what the part has, and none where none is left. The only error
+/// is out of memory.
 pub fn take_part(vertices: &mut Degrees<'_>, part: &mut Vec<u32>) -> Result<(), AllocError>
     ensures taken { OnOk result (part.new.items ++ firsts vertices.new ≡ firsts vertices.old) }
     ensures none { OnOk result (part.new.items ≡ [] → vertices.new ≡ []) }

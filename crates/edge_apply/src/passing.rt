@@ -33,7 +33,7 @@ pub fn passing_set(
     tested_set(alloc, context, end, scratch)
 }
 
-/// The same of any end, 128 vertices at a time.
+/// The same of any end, a block of vertices at a time.
 fn tested_set(
     alloc: Global,
     context: ApplyContext<'_>,

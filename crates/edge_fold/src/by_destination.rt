@@ -6,14 +6,15 @@ ghost use Rattle.edge_fold.specs.Folded.{IsContextOf, HasFolded};
 ghost use Rattle.edge_lists.specs.Edge.{Edge};
 ghost use Rattle.edge_fold.specs.Between.{firsts};
 ghost use Rattle.edge_fold.specs.Given.{column, entries_of};
+ghost use Rattle.kernels.specs.declared.columns.TheConstants.{PAIRS};
 
 use crate::apply_context::ApplyContext;
 use crate::scratch::Scratch;
 use std::alloc::{AllocError, Global};
 
 impl Scratch {
-    /// Folds the edges from sources, at most 128, to a destination, with any weights, where no function reads weights. The
-    /// only error is out of memory.
+    /// Folds the edges from sources, at most `PAIRS`, to a destination, with any weights, where no function reads weights.
+    /// The only error is out of memory.
     pub fn fold_into(
         &mut self,
         alloc: Global,
@@ -21,7 +22,7 @@ impl Scratch {
         sources: &[u32],
         destination: u32,
     ) -> Result<(), AllocError>
-        requires few { length sources.now ≤ 128 }
+        requires few { length sources.now ≤ PAIRS }
         requires unweighted { context.weighted ≡ false }
         ensures { OnOk result ((m : StateValue) (steps : List StepsTree) (edges : List Edge) (entries : List (ℕ × ℤ)) → firsts entries ≡ sources.now
             → IsContextOf context.entry m steps
@@ -35,7 +36,7 @@ impl Scratch {
         self.gather_into(alloc, context, sources, destination)
     }
 
-    /// Adds edges to those that wait, and lets the kernels run where these are 128.
+    /// Adds edges to those that wait, and lets the kernels run where these fill a block.
     fn gather_into(
         &mut self,
         alloc: Global,
@@ -43,7 +44,7 @@ impl Scratch {
         sources: &[u32],
         destination: u32,
     ) -> Result<(), AllocError>
-        requires few { length sources.now ≤ 128 }
+        requires few { length sources.now ≤ PAIRS }
         requires unweighted { context.weighted ≡ false }
         ensures { OnOk result ((m : StateValue) (steps : List StepsTree) (edges : List Edge) → IsContextOf context.entry m steps
             → HasFolded context.entry m steps edges self.old

@@ -1,9 +1,9 @@
 //! What an edge apply folds: the new entries of the vectors that it writes, from the edges that it goes over.
 //!
 //! A run keeps one [`Scratch`] and lends it to each apply. [`Scratch::begin`] forgets the apply before, in constant
-//! time. An engine then lends it edges in any order: [`Scratch::fold`] takes a source with up to 128 of its
-//! destinations, and [`Scratch::fold_into`] a destination with up to 128 of its sources. [`Scratch::changes`] says at the
-//! end what has changed, for each vector once, by ascending vertices.
+//! time. An engine then lends it edges in any order: [`Scratch::fold`] takes a source with up to `PAIRS` of its
+//! destinations, and [`Scratch::fold_into`] a destination with up to `PAIRS` of its sources. [`Scratch::changes`] says at
+//! the end what has changed, for each vector once, by ascending vertices.
 //!
 //! Where a function reads weights ([`reads_weights`] tells), an engine lends them too, to [`Scratch::fold_weighted`] and
 //! [`Scratch::fold_into_weighted`]. Where none does, what is given is the same with any weight: no weight is lent, kept or
@@ -30,11 +30,11 @@
 //!
 //! What depends on the source alone, as an entry of the source with a constant added, is worked out once for a source and
 //! joined to its destinations in one loop. Where it comes from several sources to one destination, it is first reduced to
-//! one number, with no store, and joined once. Other edges wait until they are 128, and the kernels of one or two functions
-//! run over them as a block. The numbers that they give are joined column by column and not edge by edge, which the
+//! one number, with no store, and joined once. Other edges wait until they fill a block, and the kernels of one or two
+//! functions run over them. The numbers that they give are joined column by column and not edge by edge, which the
 //! laws of reductions allow.
 //!
-//! An end of an edge that a filter makes is tested in blocks of 128 too ([`Scratch::keep_passing`]). Destinations are
+//! An end of an edge that a filter makes is tested in blocks too ([`Scratch::keep_passing`]). Destinations are
 //! tested at the end, each once.
 #![tactic(auto)]
 

@@ -1,5 +1,6 @@
 //! Waiting pairs: edges that wait for a run of the kernels.
 ghost use Rattle.std.specs.Prelude.{◌≡◌, ℕ, ◌+◌, ◌<◌, ◌≤◌, ◌++◌, [], false, if◌then◌else◌, length, take};
+ghost use Rattle.kernels.specs.declared.columns.TheConstants.{PAIRS};
 
 use kernels::PAIRS;
 
@@ -11,18 +12,18 @@ pub(crate) struct Pairs {
     pub(crate) destinations: [u32; PAIRS],
     pub(crate) weights: [i64; PAIRS],
     pub(crate) count: usize,
-    ghost few: { count ≤ 128 },
+    ghost few: { count ≤ PAIRS },
 }
 
-/// Columns of pairs, at most 128, with the weights of the first of them; that of each other one is 1.
+/// Columns of pairs, at most `PAIRS`, with the weights of the first of them; that of each other one is 1.
 #[derive(Clone, Copy)]
 pub(crate) struct PairColumns<'a> {
     pub(crate) sources: &'a [u32],
     pub(crate) destinations: &'a [u32],
     pub(crate) weights: &'a [i64],
-    ghost few: { length sources.now ≤ 128 },
+    ghost few: { length sources.now ≤ PAIRS },
     ghost same: { length destinations.now ≡ length sources.now },
-    ghost weighted: { length weights.now ≤ 128 },
+    ghost weighted: { length weights.now ≤ PAIRS },
 }
 
 impl Pairs {
@@ -43,7 +44,7 @@ impl Pairs {
 
     /// How many more there is room for.
     pub(crate) fn room(&self) -> usize
-        ensures { self.now.count + result ≡ 128 }
+        ensures { self.now.count + result ≡ PAIRS }
     {
         PAIRS - self.count
     }
@@ -62,7 +63,7 @@ impl Pairs {
     /// The weights of those that wait, where weights count.
     fn counting(&self, weighted: bool) -> &[i64]
         ensures weights { result.now ≡ (if weighted then take self.now.count self.now.weights else []) }
-        ensures few { length result.now ≤ 128 }
+        ensures few { length result.now ≤ PAIRS }
     {
         if weighted {
             &self.weights[..self.count]
@@ -73,7 +74,7 @@ impl Pairs {
 
     /// Adds the edges from a source to destinations, where no weight counts.
     pub(crate) fn add(&mut self, source: u32, destinations: &[u32])
-        requires { self.old.count + length destinations.now ≤ 128 }
+        requires { self.old.count + length destinations.now ≤ PAIRS }
         ensures waiting { waiting false self.new ≡ waiting false self.old ++ row source (entries_of destinations.now []) }
         ensures count { self.new.count ≡ self.old.count + length destinations.now }
     {
@@ -85,7 +86,7 @@ impl Pairs {
 
     /// Adds the edges from sources to a destination, where no weight counts.
     pub(crate) fn add_into(&mut self, sources: &[u32], destination: u32)
-        requires { self.old.count + length sources.now ≤ 128 }
+        requires { self.old.count + length sources.now ≤ PAIRS }
         ensures waiting { waiting false self.new ≡ waiting false self.old ++ column destination (entries_of sources.now []) }
         ensures count { self.new.count ≡ self.old.count + length sources.now }
     {

@@ -4,6 +4,7 @@ ghost use Rattle.std.specs.List.{filter};
 ghost use Rattle.algorithm_meaning.specs.Arithmetic.{compared};
 ghost use Rattle.algorithm_meaning.specs.EdgeApply.{is_member};
 ghost use Rattle.algorithm_meaning.specs.State.{StateValue};
+ghost use Rattle.kernels.specs.declared.columns.TheConstants.{PAIRS};
 ghost use Rattle.kernels.specs.Cells.{HasSizes};
 ghost use Rattle.kernels.specs.Kernels.{passes_at};
 ghost use Rattle.edge_fold.specs.Ends.{IsFilterTest, IsTest};
@@ -83,7 +84,7 @@ fn keep_compared(
     Ok(())
 }
 
-/// Those that a filter of any shape lets through, 128 at a time.
+/// Those that a filter of any shape lets through, a block at a time.
 fn keep_in_parts(
     context: ApplyContext<'_>,
     kernel: &FilterKernel,
@@ -104,7 +105,7 @@ fn keep_in_parts(
     Ok(())
 }
 
-/// The same of at most 128.
+/// The same of at most a block.
 fn keep_part(
     context: ApplyContext<'_>,
     kernel: &FilterKernel,
@@ -112,7 +113,7 @@ fn keep_part(
     block: &mut Block,
     kept: &mut Vec<u32>,
 ) -> Result<(), AllocError>
-    requires { length part.now ≤ 128 }
+    requires { length part.now ≤ PAIRS }
     ensures { OnOk result ((m : StateValue) (test : ℕ → Bool) → context.entry.vectors.now.vectors ≡ m.vectors → HasSizes context.entry.sizes.now m
         → IsFilterTest kernel.now m test
         → kept.new.items ≡ kept.old.items ++ filter test part.now) }
@@ -133,7 +134,7 @@ fn keep_part(
 
 /// Those that the filter that ran on a block lets through.
 fn keep_all_where(block: &Block, part: &[u32], kept: &mut Vec<u32>) -> Result<(), AllocError>
-    requires { length part.now ≤ 128 }
+    requires { length part.now ≤ PAIRS }
     ensures { OnOk result ((test : ℕ → Bool) → ((i : ℕ) → i < length part.now → passes_at block.now i ≡ test (slice_index_or part.now i 0))
         → kept.new.items ≡ kept.old.items ++ filter test part.now) }
 {

@@ -1,5 +1,6 @@
 //! Scratch: the memory that a run keeps for its applies.
 ghost use Rattle.std.specs.Prelude.{◌≡◌, ℕ, ℤ, false, ◌<◌, ◌≤◌, ◌++◌, List, [], length, IfSome, OnOk};
+ghost use Rattle.kernels.specs.declared.columns.TheConstants.{PAIRS};
 
 use crate::apply_context::ApplyContext;
 use crate::pairs::Pairs;
@@ -53,8 +54,8 @@ impl Scratch {
         self.pairs.count = 0;
     }
 
-    /// Folds the edges from a source to destinations, at most 128, with any weights, where no function reads weights. The
-    /// only error is out of memory.
+    /// Folds the edges from a source to destinations, at most `PAIRS`, with any weights, where no function reads weights.
+    /// The only error is out of memory.
     pub fn fold(
         &mut self,
         alloc: Global,
@@ -62,7 +63,7 @@ impl Scratch {
         source: u32,
         destinations: &[u32],
     ) -> Result<(), AllocError>
-        requires few { length destinations.now ≤ 128 }
+        requires few { length destinations.now ≤ PAIRS }
         requires unweighted { context.weighted ≡ false }
         ensures { OnOk result ((m : StateValue) (steps : List StepsTree) (edges : List Edge) (entries : List (ℕ × ℤ))
             → firsts entries ≡ destinations.now → IsContextOf context.entry m steps
@@ -75,7 +76,7 @@ impl Scratch {
         self.gather(alloc, context, source, destinations)
     }
 
-    /// Adds edges to those that wait, and lets the kernels run where these are 128.
+    /// Adds edges to those that wait, and lets the kernels run where these fill a block.
     fn gather(
         &mut self,
         alloc: Global,
@@ -83,7 +84,7 @@ impl Scratch {
         source: u32,
         destinations: &[u32],
     ) -> Result<(), AllocError>
-        requires few { length destinations.now ≤ 128 }
+        requires few { length destinations.now ≤ PAIRS }
         requires unweighted { context.weighted ≡ false }
         ensures { OnOk result ((m : StateValue) (steps : List StepsTree) (edges : List Edge) → IsContextOf context.entry m steps
             → HasFolded context.entry m steps edges self.old

@@ -7,6 +7,7 @@ ghost use Rattle.edge_fold.specs.EntryNumbers.{each_weighed};
 ghost use Rattle.edge_fold.specs.Given.{IsBy, each_given, entries_of, given_from};
 ghost use Rattle.edge_fold.specs.Held.{held_with};
 ghost use Rattle.edge_fold.specs.VectorAccumulators.{HaveJoined, active, held_in_with, index_in, reduction_in};
+ghost use Rattle.kernels.specs.declared.columns.TheConstants.{PAIRS};
 ghost use Rattle.kernels.specs.ContributionColumns.{contribution_at};
 ghost use Rattle.kernels.specs.Kernels.{HasCells, given_at};
 ghost use Rattle.apply_options.specs.declared.reduction.Reduction.{Reduction};
@@ -242,7 +243,7 @@ impl VectorAccumulators {
         block: &Block,
         destinations: &[u32],
     ) -> Result<(), AllocError>
-        requires few { length destinations.now ≤ 128 }
+        requires few { length destinations.now ≤ PAIRS }
         requires cells { HasCells block.now kernel.now.room }
         ensures { OnOk result ((x : ℕ) (r : Reduction) → ((i : ℕ) → i < length destinations.now → IsBy r x (given_at kernel.now block.now i))
             → HaveJoined context.entry x r self.old self.new (given_from x (given_at kernel.now block.now) 0 destinations.now)) }

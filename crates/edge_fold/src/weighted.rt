@@ -5,6 +5,7 @@ ghost use Rattle.algorithm_meaning.specs.State.{StateValue};
 ghost use Rattle.edge_lists.specs.Edge.{Edge};
 ghost use Rattle.edge_fold.specs.Folded.{IsContextOf, HasFolded};
 ghost use Rattle.edge_fold.specs.Given.{column, entries_of, row};
+ghost use Rattle.kernels.specs.declared.columns.TheConstants.{PAIRS};
 
 use crate::apply_context::ApplyContext;
 use crate::pairs::Pairs;
@@ -16,7 +17,7 @@ impl Pairs {
 
     /// Adds the edges from a source to destinations, with these weights.
     pub(crate) fn add_weighted(&mut self, source: u32, destinations: &[u32], weights: &[i64])
-        requires few { self.old.count + length destinations.now ≤ 128 }
+        requires few { self.old.count + length destinations.now ≤ PAIRS }
         requires same { length weights.now ≡ length destinations.now }
         ensures waiting { waiting true self.new ≡ waiting true self.old ++ row source (entries_of destinations.now weights.now) }
         ensures count { self.new.count ≡ self.old.count + length destinations.now }
@@ -30,7 +31,7 @@ impl Pairs {
 
     /// Adds the edges from sources to a destination, with these weights.
     pub(crate) fn add_into_weighted(&mut self, sources: &[u32], weights: &[i64], destination: u32)
-        requires few { self.old.count + length sources.now ≤ 128 }
+        requires few { self.old.count + length sources.now ≤ PAIRS }
         requires same { length weights.now ≡ length sources.now }
         ensures waiting { waiting true self.new ≡ waiting true self.old ++ column destination (entries_of sources.now weights.now) }
         ensures count { self.new.count ≡ self.old.count + length sources.now }
@@ -44,8 +45,8 @@ impl Pairs {
 }
 
 impl Scratch {
-    /// Folds the edges from a source to destinations, at most 128, with these weights, where a function reads weights. The
-    /// only error is out of memory.
+    /// Folds the edges from a source to destinations, at most `PAIRS`, with these weights, where a function reads weights.
+    /// The only error is out of memory.
     pub fn fold_weighted(
         &mut self,
         alloc: Global,
@@ -54,7 +55,7 @@ impl Scratch {
         destinations: &[u32],
         weights: &[i64],
     ) -> Result<(), AllocError>
-        requires few { length destinations.now ≤ 128 }
+        requires few { length destinations.now ≤ PAIRS }
         requires same { length weights.now ≡ length destinations.now }
         requires weighted { context.weighted ≡ true }
         ensures { OnOk result ((m : StateValue) (steps : List StepsTree) (edges : List Edge) → IsContextOf context.entry m steps
@@ -69,7 +70,7 @@ impl Scratch {
         self.gather_weighted(alloc, context, source, destinations, weights)
     }
 
-    /// Adds edges to those that wait, and lets the kernels run where these are 128.
+    /// Adds edges to those that wait, and lets the kernels run where these fill a block.
     fn gather_weighted(
         &mut self,
         alloc: Global,
@@ -78,7 +79,7 @@ impl Scratch {
         destinations: &[u32],
         weights: &[i64],
     ) -> Result<(), AllocError>
-        requires few { length destinations.now ≤ 128 }
+        requires few { length destinations.now ≤ PAIRS }
         requires same { length weights.now ≡ length destinations.now }
         requires weighted { context.weighted ≡ true }
         ensures { OnOk result ((m : StateValue) (steps : List StepsTree) (edges : List Edge) → IsContextOf context.entry m steps
@@ -98,8 +99,8 @@ impl Scratch {
         Ok(())
     }
 
-    /// Folds the edges from sources, at most 128, with these weights, to a destination, where a function reads weights. The
-    /// only error is out of memory.
+    /// Folds the edges from sources, at most `PAIRS`, with these weights, to a destination, where a function reads weights.
+    /// The only error is out of memory.
     pub fn fold_into_weighted(
         &mut self,
         alloc: Global,
@@ -108,7 +109,7 @@ impl Scratch {
         weights: &[i64],
         destination: u32,
     ) -> Result<(), AllocError>
-        requires few { length sources.now ≤ 128 }
+        requires few { length sources.now ≤ PAIRS }
         requires same { length weights.now ≡ length sources.now }
         requires weighted { context.weighted ≡ true }
         ensures { OnOk result ((m : StateValue) (steps : List StepsTree) (edges : List Edge) → IsContextOf context.entry m steps
@@ -123,7 +124,7 @@ impl Scratch {
         self.gather_into_weighted(alloc, context, sources, weights, destination)
     }
 
-    /// Adds edges to those that wait, and lets the kernels run where these are 128.
+    /// Adds edges to those that wait, and lets the kernels run where these fill a block.
     fn gather_into_weighted(
         &mut self,
         alloc: Global,
@@ -132,7 +133,7 @@ impl Scratch {
         weights: &[i64],
         destination: u32,
     ) -> Result<(), AllocError>
-        requires few { length sources.now ≤ 128 }
+        requires few { length sources.now ≤ PAIRS }
         requires same { length weights.now ≡ length sources.now }
         requires weighted { context.weighted ≡ true }
         ensures { OnOk result ((m : StateValue) (steps : List StepsTree) (edges : List Edge) → IsContextOf context.entry m steps

@@ -4,6 +4,7 @@ ghost use Rattle.std.specs.List.{All};
 ghost use Rattle.edge_apply.specs.Words.{is_set};
 ghost use Rattle.edge_fold.specs.EntryNumbers.{entry_with, reduced_over};
 ghost use Rattle.pull_engine.specs.Columns.{entry_at, passing};
+ghost use Rattle.kernels.specs.declared.columns.TheConstants.{PAIRS};
 
 use apply_options::Reduction;
 use edge_apply::passes;
@@ -49,8 +50,8 @@ pub(crate) fn fold_chosen(
     words: &[u64],
     block: &mut [u32],
 ) -> i64
-    requires { length block.old ≡ 128 }
-    ensures room { length block.new ≡ 128 }
+    requires { length block.old ≡ PAIRS }
+    ensures room { length block.new ≡ PAIRS }
     ensures number { result ≡ reduced_over reduction (entry_with numbers.entry) old (passing (is_set words.now) list.now) }
 {
     let mut number = old;

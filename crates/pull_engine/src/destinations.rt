@@ -2,6 +2,7 @@
 ghost use Rattle.std.specs.Prelude.{◌≡◌, ℕ, ◌++◌, Bool, true, false, List, [], length, OnOk};
 ghost use Rattle.std.specs.List.{filter};
 ghost use Rattle.edge_lists.specs.Edge.{Edge};
+ghost use Rattle.kernels.specs.declared.columns.TheConstants.{PAIRS};
 ghost use Rattle.kernels.specs.StepTree.{StepsTree};
 ghost use Rattle.kernels.specs.EdgeApply.{is_member};
 ghost use Rattle.kernels.specs.State.{StateValue};
@@ -68,8 +69,8 @@ fn fold_all(
     weights: &mut [i64],
     scratch: &mut Scratch,
 ) -> Result<(), AllocError>
-    requires block { length block.old ≡ 128 }
-    requires weights { length weights.old ≡ 128 }
+    requires block { length block.old ≡ PAIRS }
+    requires weights { length weights.old ≡ PAIRS }
     ensures { OnOk result ((m : StateValue) (steps : List StepsTree) (to : ℕ → Bool) → IsContextOf input.entry.context m steps → ((v : ℕ) → to v ≡ true)
         → HasFolded input.entry.context m steps [] scratch.old
         → HasFolded input.entry.context m steps (edges_between (passes_words input.entry.from) to input.entry.flat.now.edges) scratch.new) }
@@ -89,8 +90,8 @@ fn fold_members(
     weights: &mut [i64],
     scratch: &mut Scratch,
 ) -> Result<(), AllocError>
-    requires block { length block.old ≡ 128 }
-    requires weights { length weights.old ≡ 128 }
+    requires block { length block.old ≡ PAIRS }
+    requires weights { length weights.old ≡ PAIRS }
     ensures { OnOk result ((m : StateValue) (steps : List StepsTree) (to : ℕ → Bool) → IsContextOf input.entry.context m steps
         → ((v : ℕ) → to v ≡ is_member v set.now.members)
         → HasFolded input.entry.context m steps [] scratch.old
@@ -111,8 +112,8 @@ fn fold_passing(
     weights: &mut [i64],
     scratch: &mut Scratch,
 ) -> Result<(), AllocError>
-    requires block { length block.old ≡ 128 }
-    requires weights { length weights.old ≡ 128 }
+    requires block { length block.old ≡ PAIRS }
+    requires weights { length weights.old ≡ PAIRS }
     ensures { OnOk result ((m : StateValue) (steps : List StepsTree) (test : ℕ → Bool) → IsContextOf input.entry.context m steps → IsTest to.entry m test
         → HasFolded input.entry.context m steps [] scratch.old
         → HasFolded input.entry.context m steps (edges_between (passes_words input.entry.from) test input.entry.flat.now.edges) scratch.new) }
@@ -168,8 +169,8 @@ fn fold_columns(
     weights: &mut [i64],
     scratch: &mut Scratch,
 ) -> Result<(), AllocError>
-    requires block { length block.old ≡ 128 }
-    requires weights { length weights.old ≡ 128 }
+    requires block { length block.old ≡ PAIRS }
+    requires weights { length weights.old ≡ PAIRS }
     ensures { OnOk result ((m : StateValue) (steps : List StepsTree) (edges : List Edge) → IsContextOf input.entry.context m steps
         → HasFolded input.entry.context m steps edges scratch.old
         → HasFolded input.entry.context m steps (edges ++ columns (passes_words input.entry.from) input.entry.flat.now.edges destinations.now) scratch.new) }
@@ -190,8 +191,8 @@ fn fold_column(
     weights: &mut [i64],
     scratch: &mut Scratch,
 ) -> Result<(), AllocError>
-    requires block { length block.old ≡ 128 }
-    requires weights { length weights.old ≡ 128 }
+    requires block { length block.old ≡ PAIRS }
+    requires weights { length weights.old ≡ PAIRS }
     ensures { OnOk result ((m : StateValue) (steps : List StepsTree) (edges : List Edge) → IsContextOf input.entry.context m steps
         → HasFolded input.entry.context m steps edges scratch.old
         → HasFolded input.entry.context m steps (edges ++ column destination
@@ -215,7 +216,7 @@ fn fold_sources(
     scratch: &mut Scratch,
 ) -> Result<(), AllocError>
     requires unweighted { input.context.weighted ≡ false }
-    requires block { length block.old ≡ 128 }
+    requires block { length block.old ≡ PAIRS }
     ensures { OnOk result ((m : StateValue) (steps : List StepsTree) (edges : List Edge) → IsContextOf input.entry.context m steps
         → HasFolded input.entry.context m steps edges scratch.old
         → HasFolded input.entry.context m steps (edges ++ column destination (passing (passes_words input.entry.from) (listed sources.entry))) scratch.new) }
@@ -241,7 +242,7 @@ fn fold_walk<W: NeighbourWalk + Drop>(
     scratch: &mut Scratch,
 ) -> Result<(), AllocError>
     requires unweighted { input.context.weighted ≡ false }
-    requires block { length block.old ≡ 128 }
+    requires block { length block.old ≡ PAIRS }
     ensures { OnOk result ((m : StateValue) (steps : List StepsTree) (edges : List Edge) → IsContextOf input.entry.context m steps
         → HasFolded input.entry.context m steps edges scratch.old
         → HasFolded input.entry.context m steps (edges ++ column destination (passing (passes_words input.entry.from) (W.coming walk))) scratch.new) }
@@ -265,8 +266,8 @@ fn fold_weighted_sources(
     scratch: &mut Scratch,
 ) -> Result<(), AllocError>
     requires weighted { input.context.weighted ≡ true }
-    requires block { length block.old ≡ 128 }
-    requires weights { length weights.old ≡ 128 }
+    requires block { length block.old ≡ PAIRS }
+    requires weights { length weights.old ≡ PAIRS }
     ensures { OnOk result ((m : StateValue) (steps : List StepsTree) (edges : List Edge) → IsContextOf input.entry.context m steps
         → HasFolded input.entry.context m steps edges scratch.old
         → HasFolded input.entry.context m steps (edges ++ column destination (passing (passes_words input.entry.from) (listed sources.entry))) scratch.new) }
@@ -295,8 +296,8 @@ fn fold_weighted_walk<W: NeighbourWalk + Drop>(
     scratch: &mut Scratch,
 ) -> Result<(), AllocError>
     requires weighted { input.context.weighted ≡ true }
-    requires block { length block.old ≡ 128 }
-    requires weights { length weights.old ≡ 128 }
+    requires block { length block.old ≡ PAIRS }
+    requires weights { length weights.old ≡ PAIRS }
     ensures { OnOk result ((m : StateValue) (steps : List StepsTree) (edges : List Edge) → IsContextOf input.entry.context m steps
         → HasFolded input.entry.context m steps edges scratch.old
         → HasFolded input.entry.context m steps (edges ++ column destination (passing (passes_words input.entry.from) (W.coming walk))) scratch.new) }

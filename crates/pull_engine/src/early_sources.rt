@@ -8,6 +8,7 @@ ghost use Rattle.apply_options.specs.declared.reduction.Reduction.TheVariants.{M
 ghost use Rattle.edge_apply.specs.Words.{passes_words};
 ghost use Rattle.edge_fold.specs.ReducedContributions.{reduced_with};
 ghost use Rattle.pull_engine.specs.EarlySources.{CountsOnce, first_of, last_of, reduced_once};
+ghost use Rattle.kernels.specs.declared.columns.TheConstants.{PAIRS};
 
 use edge_apply::{keep_members, passes};
 use vertex_blocks::{NeighbourForm, NeighbourSet, NeighbourWalk, Neighbours, SetWalk};
@@ -42,8 +43,8 @@ pub(crate) fn last_passing(
     from: Option<&[u64]>,
     block: &mut [u32],
 ) -> Option<u32>
-    requires { length block.old ≡ 128 }
-    ensures room { length block.new ≡ 128 }
+    requires { length block.old ≡ PAIRS }
+    ensures room { length block.new ≡ PAIRS }
     ensures last { result ≡ last_of (filter (passes_words from.entry) (keys_of sources.entry)) }
 {
     match sources.into_form() {
@@ -95,8 +96,8 @@ fn first_chunked(mut sources: SetWalk<'_>, from: Option<&[u64]>) -> Option<u32>
 
 /// A set in chunks is walked upward, whole.
 fn last_chunked(mut sources: SetWalk<'_>, from: Option<&[u64]>, block: &mut [u32]) -> Option<u32>
-    requires { length block.old ≡ 128 }
-    ensures room { length block.new ≡ 128 }
+    requires { length block.old ≡ PAIRS }
+    ensures room { length block.new ≡ PAIRS }
     ensures last { result ≡ last_of (filter (passes_words from.entry) (keys_of sources.entry)) }
 {
     let mut last = None;

@@ -5,9 +5,9 @@
 //! (`after_edges`): the same as a push. Nothing is written: the functions read the vectors that are lent.
 //!
 //! A destination is tested once, and before its sources are read. Sources are tested in bits: those of a set that is
-//! kept so, or bits that are made once for an apply. A filter is run over blocks of 128 vertices, once for each vertex; one
+//! kept so, or bits that are made once for an apply. A filter is run over blocks of vertices, once for each vertex; one
 //! that compares entries with a constant is tested as destinations come, where the function has one of the shapes below.
-//! Sources are read in blocks of 128, and what passes goes to `edge_fold`, where each destination has one writer.
+//! Sources are read in blocks, and what passes goes to `edge_fold`, where each destination has one writer.
 //! Where a function reads the weights of edges, a second block has those of the sources; that is asked once for a destination,
 //! and by other functions no weight is read.
 //!

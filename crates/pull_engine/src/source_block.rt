@@ -2,7 +2,7 @@
 
 use kernels::PAIRS;
 
-/// Room for 128 sources, and for the weights of their edges where these count.
+/// Room for a block of sources, and for the weights of their edges where these count.
 #[derive(Drop)]
 pub(crate) struct SourceBlock {
     pub(crate) sources: [u32; PAIRS],

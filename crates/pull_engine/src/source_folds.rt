@@ -6,6 +6,7 @@ ghost use Rattle.edge_apply.specs.Words.{passes_words};
 ghost use Rattle.edge_fold.specs.EntryNumbers.{entry_with, reduced_over};
 ghost use Rattle.pull_engine.specs.Columns.{passing};
 ghost use Rattle.pull_engine.specs.EarlySources.{CountsOnce};
+ghost use Rattle.kernels.specs.declared.columns.TheConstants.{PAIRS};
 
 use crate::chosen_sources::fold_chosen;
 use crate::early_sources::{first_passing, last_passing};
@@ -203,8 +204,8 @@ fn fold_walk<N: SourceNumbers, W: NeighbourWalk + Drop>(
     from: Option<&[u64]>,
     block: &mut [u32],
 ) -> i64
-    requires { length block.old ≡ 128 }
-    ensures room { length block.new ≡ 128 }
+    requires { length block.old ≡ PAIRS }
+    ensures room { length block.new ≡ PAIRS }
     ensures number { result ≡ reduced_over reduction (λ s _. N.number numbers.now s) old (passing (passes_words from.entry) (W.coming sources)) }
 {
     let mut number = old;

@@ -6,7 +6,7 @@
 //!
 //! Sources that are members of a set are gone over in the set, so that an apply costs what these and their edges cost,
 //! and nothing in proportion to the graph. By the direction `DensePush` all vertices with edges are tested. A filter is
-//! run over the vertices with edges, 128 at a time. Neighbours are read in blocks of 128, with their weights where a
+//! run over the vertices with edges, a block at a time. Neighbours are read in blocks, with their weights where a
 //! function reads these, and folded by `edge_fold`. Where many edges are to come, the destinations that pass are put into
 //! bits first, and a block keeps only these.
 //!

@@ -2,7 +2,7 @@
 
 use kernels::PAIRS;
 
-/// Room for 128 neighbours, and for their weights where these count.
+/// Room for a block of neighbours, and for their weights where these count.
 #[derive(Drop)]
 pub(crate) struct NeighbourBlock {
     pub(crate) keys: [u32; PAIRS],

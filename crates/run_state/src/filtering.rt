@@ -4,12 +4,13 @@ ghost use Rattle.std.specs.List.{filter};
 ghost use Rattle.typed_tree.specs.StepTree.{StepsTree};
 ghost use Rattle.algorithm_meaning.specs.Filter.{result_of};
 ghost use Rattle.algorithm_meaning.specs.State.{StateValue};
+ghost use Rattle.kernels.specs.declared.columns.TheConstants.{PAIRS};
 ghost use Rattle.kernels.specs.Cells.{HasSizes};
 ghost use Rattle.kernels.specs.Kernels.{IsFilterKernel, passes_at};
 ghost use Rattle.run_state.specs.inside.Passing.{passing};
 
 use crate::vertices::take_part;
-use kernels::{Block, BlockInput, FilterKernel};
+use kernels::{Block, BlockInput, FilterKernel, PAIRS};
 use std::alloc::{AllocError, Global};
 use vectors::Vectors;
 use vertex_sets::{Form, VertexSet};
@@ -31,7 +32,7 @@ pub(crate) fn filtered(
     block.make_room(kernel.room())?;
     let mut left = set.iter();
     let mut kept = Vec::new(alloc);
-    let mut part = [0u32; 128];
+    let mut part = [0u32; PAIRS];
     'parts: loop {
         let count = take_part(&mut left, &mut part);
         if count == 0 {
@@ -52,7 +53,7 @@ pub(crate) fn filtered(
 
 /// Appends those that the filter that ran on a block lets through.
 fn keep_passing(block: &Block, part: &[u32], kept: &mut Vec<u32>) -> Result<(), AllocError>
-    requires { length part.now ≤ 128 }
+    requires { length part.now ≤ PAIRS }
     ensures { OnOk result (kept.new.items ≡ kept.old.items ++ passing block.now 0 part.now) }
 {
     'indices: for (index, vertex) in part.iter().enumerate() {

@@ -1,4 +1,4 @@
-//! Vertices in parts of at most 128, and vertex functions that run for them.
+//! Vertices in parts of at most a block, and vertex functions that run for them.
 ghost use Rattle.std.specs.Prelude.{◌≡◌, ℕ, List, ◌≤◌, length, take, drop, min};
 ghost use Rattle.std.specs.List.Sorted.{IsStrictlyIncreasing};
 ghost use Rattle.typed_tree.specs.StepTree.{StepsTree};
@@ -9,7 +9,7 @@ ghost use Rattle.kernels.specs.Meaning.{IsVertexCode};
 ghost use Rattle.kernels.specs.Kernels.{HasCells};
 ghost use Rattle.kernels.specs.RegisterCounts.{RegisterCounts};
 
-use kernels::{Block, VertexKernel};
+use kernels::{Block, PAIRS, VertexKernel};
 use vectors::Vectors;
 use vertex_sets::VertexIter;
 
@@ -45,7 +45,7 @@ pub(crate) fn run_for_all(
     ensures keeps { (other : RegisterCounts) → HasCells block.old other → HasCells block.new other }
 {
     let mut left = vertices;
-    let mut part = [0u32; 128];
+    let mut part = [0u32; PAIRS];
     'parts: loop {
         let count = take_part(&mut left, &mut part);
         if count == 0 {

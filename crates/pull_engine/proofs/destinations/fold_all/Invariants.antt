@@ -1,4 +1,5 @@
 use Rattle.std.proofs.Common.{◌≡◌, ℕ, List, length}
+use Rattle.kernels.specs.declared.columns.TheConstants.{PAIRS}
 use Rattle.edge_fold.specs.Between.{firsts}
 use Rattle.edge_fold.proofs.Walks.{HasWalked}
 use Rattle.flat_snapshot.specs.FlatEdges.{AreDegreesOf}
@@ -10,8 +11,8 @@ use Rattle.pull_engine.proofs.destinations.fold_all.Given as goal
 -- some of the vertices with edges to them are done, and the rest is left
 abbrev pub invariant-destinations : goal.invariant-destinations
 invariant-destinations l = record {
-  room : length l.block ≡ 128;
-  weights : length l.weights ≡ 128;
+  room : length l.block ≡ PAIRS;
+  weights : length l.weights ≡ PAIRS;
   walked : (ds : List (ℕ × ℕ)) × AreDegreesOf (λ u. sources_of u l.input.flat.now.edges) ds
       × HasWalked l.input.context (columns (passes_words l.input.from) l.input.flat.now.edges) (firsts ds) (firsts l.destination-iterator) l.fn.scratch l.scratch;
 }

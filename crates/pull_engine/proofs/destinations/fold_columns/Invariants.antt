@@ -1,5 +1,6 @@
 use Rattle.std.proofs.Common.{◌≡◌, ℕ, ◌++◌, List, length, take}
 use Rattle.edge_lists.specs.Edge.{Edge}
+use Rattle.kernels.specs.declared.columns.TheConstants.{PAIRS}
 use Rattle.kernels.specs.StepTree.{StepsTree}
 use Rattle.kernels.specs.State.{StateValue}
 use Rattle.edge_fold.specs.Folded.{IsContextOf, HasFolded}
@@ -10,8 +11,8 @@ use Rattle.pull_engine.proofs.destinations.fold_columns.Given as goal
 -- the columns of the destinations that have come are folded
 abbrev pub invariant-destinations : goal.invariant-destinations
 invariant-destinations l = record {
-  room : length l.block ≡ 128;
-  weights : length l.weights ≡ 128;
+  room : length l.block ≡ PAIRS;
+  weights : length l.weights ≡ PAIRS;
   folded : (m : StateValue) (steps : List StepsTree) (edges : List Edge) → IsContextOf l.input.context m steps
       → HasFolded l.input.context m steps edges l.fn.scratch → HasFolded l.input.context m steps (edges ++ columns (passes_words l.input.from) l.input.flat.now.edges (take l.destination-index l.destinations)) l.scratch;
 }

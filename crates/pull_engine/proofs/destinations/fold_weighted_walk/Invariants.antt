@@ -1,4 +1,5 @@
 use Rattle.std.proofs.Common.{◌≡◌, length}
+use Rattle.kernels.specs.declared.columns.TheConstants.{PAIRS}
 use Rattle.edge_fold.proofs.Walks.{HasWalked}
 use Rattle.edge_apply.specs.Words.{passes_words}
 use Rattle.pull_engine.proofs.ColumnFolds.{column_from}
@@ -7,8 +8,8 @@ use Rattle.pull_engine.proofs.destinations.fold_weighted_walk.Given as goal
 -- some neighbours are folded, and the rest is left
 abbrev pub invariant-rounds : goal.invariant-rounds
 invariant-rounds g l = record {
-  room : length l.block ≡ 128;
-  weights : length l.weights ≡ 128;
+  room : length l.block ≡ PAIRS;
+  weights : length l.weights ≡ PAIRS;
   walked : HasWalked l.input.context (column_from (passes_words l.input.from) l.destination) (g.W.NeighbourWalk.coming l.fn.walk) (g.W.NeighbourWalk.coming l.walk) l.fn.scratch l.scratch;
 }
 

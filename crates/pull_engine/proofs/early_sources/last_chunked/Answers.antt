@@ -1,6 +1,7 @@
 use Rattle.std.proofs.Common.{rules, ◌≡◌, ◌≤◌, ◌-◌, ◌<◌, Some, get_or, ℕ, List, drop, length, arith, sym, ap, ◌∙◌}
 use Rattle.std.specs.List.{filter}
 use Rattle.std.specs.Map.{keys_of}
+use Rattle.kernels.specs.declared.columns.TheConstants.{PAIRS}
 use Rattle.edge_apply.specs.Words.{passes_words}
 use Rattle.pull_engine.specs.EarlySources.{last_or}
 use Rattle.pull_engine.proofs.Deciding.{keys_behind, last_of_round, none_of_round}
@@ -15,7 +16,7 @@ rounds-preserved-then-kept-gt0 c =
     let few = c.keep_members-kept.ensures.few in
     let count = c.fill-count.ensures.count in
     let was = c.rounds.invariant.room in
-    let room : length second ≡ 128 = search rules in
+    let room : length second ≡ PAIRS = search rules in
     let within : kept ≤ length second = omega (arith, few, count, was, room) in
     record {
       room = room;

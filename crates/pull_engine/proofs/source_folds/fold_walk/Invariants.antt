@@ -1,4 +1,5 @@
 use Rattle.std.proofs.Common.{◌≡◌, length}
+use Rattle.kernels.specs.declared.columns.TheConstants.{PAIRS}
 use Rattle.edge_apply.specs.Words.{passes_words}
 use Rattle.edge_fold.specs.EntryNumbers.{reduced_over}
 use Rattle.pull_engine.specs.Columns.{passing}
@@ -7,7 +8,7 @@ use Rattle.pull_engine.proofs.source_folds.fold_walk.Given as goal
 -- the numbers of those that are left, with the number so far, come to the whole
 abbrev pub invariant-rounds : goal.invariant-rounds
 invariant-rounds g l = record {
-  room : length l.block ≡ 128;
+  room : length l.block ≡ PAIRS;
   folded : reduced_over l.reduction (λ s _. g.N.SourceNumbers.number l.numbers s) l.number (passing (passes_words l.from) (g.W.NeighbourWalk.coming l.sources))
       ≡ reduced_over l.reduction (λ s _. g.N.SourceNumbers.number l.numbers s) l.fn.old (passing (passes_words l.from) (g.W.NeighbourWalk.coming l.fn.sources));
 }

@@ -3,6 +3,7 @@ use Rattle.std.specs.List.{filter}
 use Rattle.typed_tree.specs.StepTree.{StepsTree}
 use Rattle.algorithm_meaning.specs.Filter.{result_of}
 use Rattle.algorithm_meaning.specs.State.{StateValue}
+use Rattle.kernels.specs.declared.columns.TheConstants.{PAIRS}
 use Rattle.kernels.specs.Cells.{HasSizes}
 use Rattle.kernels.specs.Kernels.{HasCells, IsFilterKernel}
 use Rattle.run_state.proofs.Passed.{Ascends}
@@ -11,7 +12,7 @@ use Rattle.run_state.proofs.filtering.filtered.Given as goal
 -- what is kept, and what passes of the rest, are all that pass
 abbrev pub invariant-parts : goal.invariant-parts
 invariant-parts l = record {
-  size : length l.part ≡ 128;
+  size : length l.part ≡ PAIRS;
   ascending : Ascends l.set.vertices 0 (l.kept.items ++ l.left);
   room : HasCells l.block l.kernel.room;
   passed : (steps : StepsTree) (m : StateValue) → IsFilterKernel l.kernel steps → l.vectors.vectors ≡ m.vectors → HasSizes l.sizes m

@@ -2,6 +2,7 @@ use Rattle.std.proofs.Common.{◌≡◌, length}
 use Rattle.typed_tree.specs.StepTree.{StepsTree}
 use Rattle.algorithm_meaning.specs.State.{StateValue}
 use Rattle.algorithm_meaning.specs.VertexApply.{after_vertices}
+use Rattle.kernels.specs.declared.columns.TheConstants.{PAIRS}
 use Rattle.kernels.specs.Cells.{HasSizes}
 use Rattle.kernels.specs.Meaning.{IsVertexCode}
 use Rattle.kernels.specs.RegisterCounts.{RegisterCounts}
@@ -12,7 +13,7 @@ use Rattle.run_state.proofs.vertices.run_for_all.Given as goal
 -- what is left to do comes to what was to be done
 abbrev pub invariant-parts : goal.invariant-parts
 invariant-parts l = record {
-  size : length l.part ≡ 128;
+  size : length l.part ≡ PAIRS;
   ascending : Rises 0 l.left;
   groups : l.vectors.groups ≡ l.fn.vectors.groups;
   keeps : (other : RegisterCounts) → HasCells l.fn.block other → HasCells l.block other;
