@@ -8,12 +8,12 @@ ghost use Rattle.types.specs.Block.{action_typed, block_typed, statement_tree, s
 ghost use Rattle.types.specs.Checker.{checker_of};
 ghost use Rattle.types.specs.inside.Plain.{DeclaresNothing, HasTest, IsFor, ReducesOrSetsEntry};
 
-use crate::checker::{Checker, count, declare, label};
+use crate::checker::{Checker, count, declare_loop_variable, label};
 use crate::statement::{
     add_vertex, apply, assign, declare_variable, print, reduce, reduce_entry, set_entry,
 };
 use crate::wanted::{condition, integer};
-use expression_types::{Entity, Fault};
+use expression_types::Fault;
 use std::alloc::{AllocError, Global};
 use syntax::Action as Written;
 use typed_tree::{MainStatement, StatementKind};
@@ -227,14 +227,7 @@ fn repeat(
     let first = integer(alloc, &checker.scope, *at, first, first_fault)?;
     let limit = integer(alloc, &checker.scope, *at, limit, first_fault)?;
     let mark = checker.scope.mark();
-    let slot = checker.integer_slot();
-    declare(
-        alloc,
-        checker,
-        name,
-        Entity::LoopVariable(slot),
-        first_fault,
-    )?;
+    let slot = declare_loop_variable(alloc, checker, name, first_fault)?;
     let body = statements(alloc, body, checker, first_fault)?;
     checker.scope.leave(mark);
     Ok(StatementKind::For(slot.name, first, limit, body))

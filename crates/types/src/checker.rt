@@ -1,5 +1,6 @@
 //! The state of the checker on its way through a source: the scope, names, labels and statements so far.
 ghost use Rattle.std.specs.Prelude.{◌≡◌, suc, IfOk, OnOk};
+ghost use Rattle.expression_types.specs.declared.scope.Entity.TheVariants.{LoopVariable};
 ghost use Rattle.expression_types.specs.WithFaults.{ReportsFaults};
 ghost use Rattle.expression_types.specs.ScopeTree.{Keeps};
 ghost use Rattle.types.specs.Checker.{checker_of, condition_slot as slot_of_condition, counted};
@@ -107,6 +108,29 @@ pub(crate) fn declare(
     let copy = Sequence::new(Vec::from_slice(alloc, name.bytes())?);
     checker.names.push(copy)?;
     Ok(())
+}
+
+/// Declares the variable of a `for`, which is the next integer, and answers its slot.
+pub(crate) fn declare_loop_variable(
+    alloc: Global,
+    checker: &mut Checker,
+    name: &Name,
+    first_fault: &mut Option<Fault>,
+) -> Result<VarRef, AllocError>
+    ensures declared { ReportsFaults (λ _. checker_of checker.new) first_fault.old first_fault.new result
+        (declared_in (checker_of checker.old) name.now (LoopVariable (slot_of_integer (checker_of checker.old)))) }
+    ensures slot { IfOk result (λ slot. slot ≡ slot_of_integer (checker_of checker.old)) }
+    ensures kept { OnOk result (Keeps checker.old.scope checker.new.scope) }
+{
+    let slot = checker.integer_slot();
+    declare(
+        alloc,
+        checker,
+        name,
+        Entity::LoopVariable(slot),
+        first_fault,
+    )?;
+    Ok(slot)
 }
 
 /// The index of a label among all, where a statement has one.

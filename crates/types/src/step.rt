@@ -9,12 +9,12 @@ ghost use Rattle.types.specs.Checker.{checker_of};
 ghost use Rattle.types.specs.inside.Plain.{DeclaresNothing, HasTest, IsFor, ReducesOrSetsEntry};
 ghost use Rattle.types.specs.Step.{labelled_step, step_typed, steps_inside, steps_typed};
 
-use crate::checker::{Checker, declare, label};
+use crate::checker::{Checker, declare_loop_variable, label};
 use crate::function::{
     add_vertex, apply, assign, declare_variable, print, reduce, reduce_entry, set_entry, wrong,
 };
 use crate::wanted::{condition, integer};
-use expression_types::{Entity, Fault};
+use expression_types::Fault;
 use std::alloc::{AllocError, Global};
 use syntax::{Action as Written, Statement};
 use typed_tree::FunctionStatement;
@@ -236,14 +236,7 @@ fn repeat(
     let _first = integer(alloc, &checker.scope, *at, first, first_fault)?;
     let _limit = integer(alloc, &checker.scope, *at, limit, first_fault)?;
     let mark = checker.scope.mark();
-    let slot = checker.integer_slot();
-    declare(
-        alloc,
-        checker,
-        name,
-        Entity::LoopVariable(slot),
-        first_fault,
-    )?;
+    declare_loop_variable(alloc, checker, name, first_fault)?;
     let _body = steps(alloc, body, checker, first_fault)?;
     checker.scope.leave(mark);
     Ok(step)

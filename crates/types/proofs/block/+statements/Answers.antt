@@ -49,11 +49,11 @@ repeat-returns-clause-typed t c =
     let body = source_block c.deref.result.now in
     let a = integer_tree c.in_ok-first.first in
     let z = integer_tree c.in_ok-limit.limit in
-    let d = checker_of c.declare.new.checker in
+    let d = checker_of c.declare_loop_variable.new.checker in
     let last = checker_of c.statements.new.checker in
     let b = block_tree c.in_ok-body.body.items in
     let new = c.statements.new.first_fault in
-    let kept = keeps_on scope c.declare.new.checker.scope c.statements.new.checker.scope c.in_ok-declare.ensures.kept c.in_ok-body.ensures.kept in
+    let kept = keeps_on scope c.declare_loop_variable.new.checker.scope c.statements.new.checker.scope c.in_ok-slot.ensures.kept c.in_ok-body.ensures.kept in
     let again = c.leave.ensures ∙ ap (λ m. left m c.statements.new.checker.scope) c.mark-mark.ensures.mark ∙ left_again scope c.statements.new.checker.scope kept in
     ap (λ a. outcome c.args.first_fault.now (action_typed checker (source_action a))) c.in-For.is
     ∙ ap (λ a. outcome c.args.first_fault.now (action_typed checker a)) (sources.action_tree-For at c.in-For.name c.in-For.first c.in-For.limit c.in-For.body
@@ -64,12 +64,12 @@ repeat-returns-clause-typed t c =
     ∙ outcome_then c.integer.new.first_fault c.integer-2.new.first_fault (integer_in scope at c.in-For.limit) z
     (λ z. declared_in checker c.in-For.name (entity.LoopVariable (integer_slot checker)) >>= λ d. statements_typed d Empty body >>= λ b.
     sure (For (length checker.names) a z b.0, closed checker b.1)) c.in_ok-limit.ensures
-    ∙ outcome_then c.integer-2.new.first_fault c.declare.new.first_fault (declared_in checker c.in-For.name (entity.LoopVariable (integer_slot checker))) d
+    ∙ outcome_then c.integer-2.new.first_fault c.declare_loop_variable.new.first_fault (declared_in checker c.in-For.name (entity.LoopVariable (integer_slot checker))) d
     (λ d. statements_typed d Empty body >>= λ b. sure (For (length checker.names) a z b.0, closed checker b.1))
-    (subst (λ s. outcome c.integer-2.new.first_fault (declared_in checker c.in-For.name (entity.LoopVariable s)) ≡ (d, c.declare.new.first_fault)) c.integer_slot-slot.ensures c.in_ok-declare.ensures.declared)
-    ∙ outcome_then c.declare.new.first_fault new (statements_typed d Empty body) (b, last) (λ b. sure (For (length checker.names) a z b.0, closed checker b.1)) c.in_ok-body.ensures.typed
-    ∙ (λ i. ((For (ap (λ s. s.name) (sym c.integer_slot-slot.ensures) i) a z b, with_scope last (sym again i)), new))
-    ∙ ap (λ x. ((x, with_scope last c.leave.new.self), new)) (sym (action_tree-For c.integer_slot-slot.result.name c.in_ok-first.first c.in_ok-limit.limit c.in_ok-body.body))
+    c.in_ok-slot.ensures.declared
+    ∙ outcome_then c.declare_loop_variable.new.first_fault new (statements_typed d Empty body) (b, last) (λ b. sure (For (length checker.names) a z b.0, closed checker b.1)) c.in_ok-body.ensures.typed
+    ∙ (λ i. ((For (ap (λ s. s.name) (sym c.in_ok-slot.ensures.slot) i) a z b, with_scope last (sym again i)), new))
+    ∙ ap (λ x. ((x, with_scope last c.leave.new.self), new)) (sym (action_tree-For c.in_ok-slot.slot.name c.in_ok-first.first c.in_ok-limit.limit c.in_ok-body.body))
 
 pub statements-statements-preserved : goal.statements-statements-preserved
 statements-statements-preserved t c =
@@ -121,7 +121,7 @@ pub repeat-returns-clause-kept : goal.repeat-returns-clause-kept
 repeat-returns-clause-kept t c =
     let scope = c.args.checker.now.scope in
     let last = c.statements.new.checker.scope in
-    let kept = keeps_on scope c.declare.new.checker.scope last c.in_ok-declare.ensures.kept c.in_ok-body.ensures.kept in
+    let kept = keeps_on scope c.declare_loop_variable.new.checker.scope last c.in_ok-slot.ensures.kept c.in_ok-body.ensures.kept in
     keeps_same scope c.leave.new.self (c.leave.ensures ∙ ap (λ m. left m last) c.mark-mark.ensures.mark ∙ left_again scope last kept)
 
 pub tested-returns-in_ok-body-in-While-clause-kept : goal.tested-returns-in_ok-body-in-While-clause-kept

@@ -50,11 +50,11 @@ repeat-returns-clause-typed t c =
     let body = source_block c.deref.result.now in
     let a = integer_tree c.in_ok-_first._first in
     let z = integer_tree c.in_ok-_limit._limit in
-    let d = checker_of c.declare.new.checker in
+    let d = checker_of c.declare_loop_variable.new.checker in
     let last = checker_of c.steps.new.checker in
     let b = steps_tree c.in_ok-_body._body.items in
     let new = c.steps.new.first_fault in
-    let kept = keeps_on scope c.declare.new.checker.scope c.steps.new.checker.scope c.in_ok-declare.ensures.kept c.in_ok-_body.ensures.kept in
+    let kept = keeps_on scope c.declare_loop_variable.new.checker.scope c.steps.new.checker.scope c.in_ok-declare_loop_variable.ensures.kept c.in_ok-_body.ensures.kept in
     let again = c.leave.ensures ∙ ap (λ m. left m c.steps.new.checker.scope) c.mark-mark.ensures.mark ∙ left_again scope c.steps.new.checker.scope kept in
     ap (λ a. outcome c.args.first_fault.now (step_typed checker (source_action a))) c.in-For.is
     ∙ ap (λ a. outcome c.args.first_fault.now (step_typed checker a)) (sources.action_tree-For at c.in-For.name c.in-For.first c.in-For.limit c.in-For.body
@@ -68,10 +68,10 @@ repeat-returns-clause-typed t c =
     ∙ outcome_then c.integer.new.first_fault c.integer-2.new.first_fault (integer_in scope at c.in-For.limit) z
     (λ z. declared_in checker c.in-For.name (entity.LoopVariable (integer_slot checker)) >>= λ d. steps_typed d NoStep body >>= λ b.
     sure (no_step, steps_behind checker b.1)) c.in_ok-_limit.ensures
-    ∙ outcome_then c.integer-2.new.first_fault c.declare.new.first_fault (declared_in checker c.in-For.name (entity.LoopVariable (integer_slot checker))) d
+    ∙ outcome_then c.integer-2.new.first_fault c.declare_loop_variable.new.first_fault (declared_in checker c.in-For.name (entity.LoopVariable (integer_slot checker))) d
     (λ d. steps_typed d NoStep body >>= λ b. sure (no_step, steps_behind checker b.1))
-    (subst (λ s. outcome c.integer-2.new.first_fault (declared_in checker c.in-For.name (entity.LoopVariable s)) ≡ (d, c.declare.new.first_fault)) c.integer_slot-slot.ensures c.in_ok-declare.ensures.declared)
-    ∙ outcome_then c.declare.new.first_fault new (steps_typed d NoStep body) (b, last) (λ b. sure (no_step, steps_behind checker b.1)) c.in_ok-_body.ensures.typed
+    c.in_ok-declare_loop_variable.ensures.declared
+    ∙ outcome_then c.declare_loop_variable.new.first_fault new (steps_typed d NoStep body) (b, last) (λ b. sure (no_step, steps_behind checker b.1)) c.in_ok-_body.ensures.typed
     ∙ (λ i. ((sym c.wrong-step.ensures.step i, with_scope last (sym again i)), new))
 
 pub steps-statements-preserved : goal.steps-statements-preserved
@@ -104,7 +104,7 @@ pub repeat-returns-clause-kept : goal.repeat-returns-clause-kept
 repeat-returns-clause-kept t c =
     let scope = c.args.checker.now.scope in
     let last = c.steps.new.checker.scope in
-    let kept = keeps_on scope c.declare.new.checker.scope last c.in_ok-declare.ensures.kept c.in_ok-_body.ensures.kept in
+    let kept = keeps_on scope c.declare_loop_variable.new.checker.scope last c.in_ok-declare_loop_variable.ensures.kept c.in_ok-_body.ensures.kept in
     keeps_same scope c.leave.new.self (c.leave.ensures ∙ ap (λ m. left m last) c.mark-mark.ensures.mark ∙ left_again scope last kept)
 
 pub tested-returns-in_ok-_body-in-While-clause-kept : goal.tested-returns-in_ok-_body-in-While-clause-kept
