@@ -1,6 +1,6 @@
-//! The numbers of refusals, and of the fault of a run. A number never changes. `docs/REFUSALS.md` says of each what to do.
+//! The numbers of refusals: each is spelled here alone, and never changes. `docs/REFUSALS.md` says of each what to do.
 //!
-//! Code spells them here alone. The contracts of other crates have the numbers themselves, so a wrong one here is refused there.
+//! The contracts of the other crates spell the numbers once more, so that a number that changes here is no longer proved there.
 #![tactic(auto)]
 
 // store
@@ -19,19 +19,19 @@ pub const CHUNK_SIZES_DIFFER: u16 = 104;
 
 // versions
 
-/// A number of vertices is not 1 to 16,777,216, a batch asks for fewer than there are, or an entry names what is no vertex.
+/// A number of vertices is not 1 to 16,777,216, or an edge has an end that is no vertex.
 pub const VERTEX_RANGE: u16 = 111;
 
-/// A version is neither the newest nor held.
+/// A version is not kept.
 pub const NOT_KEPT: u16 = 121;
 
 /// A ticket is not open.
 pub const NOT_HELD: u16 = 122;
 
-/// The history has no room for the step.
+/// The history has no room for another step.
 pub const HISTORY_FULL: u16 = 123;
 
-/// A shared graph has no reader, or more than 64 of them.
+/// A shared graph has no reader, or more than 64.
 pub const BAD_SEATS: u16 = 124;
 
 /// A shared graph is gone.
