@@ -1,6 +1,6 @@
 -- Contexts of an apply: the vectors and sizes of sets that its functions read.
 use Rattle.std.specs.Prelude.{◌≡◌, List}
-use Rattle.kernels.specs.Cells.{HasSizes}
+use Rattle.kernels.specs.Registers.{HasSizes}
 use Rattle.kernels.specs.State.{StateValue}
 use Rattle.kernels.specs.StepTree.{StepsTree}
 use Rattle.edge_fold.specs.declared.apply_context.ApplyContext.{ApplyContext}

@@ -7,7 +7,7 @@ use Rattle.kernels.specs.StepTree.{StepsTree}
 use Rattle.kernels.specs.Laws.{IsGivenBy}
 use Rattle.kernels.specs.State.{StateValue}
 use Rattle.kernels.specs.Value.{entry}
-use Rattle.kernels.specs.Cells.{HasSizes}
+use Rattle.kernels.specs.Registers.{HasSizes}
 use Rattle.crew.specs.declared.piece_results.Found.{Found}
 use Rattle.crew.specs.Partition.{end_of}
 use Rattle.crew.specs.Pieces.{pieces_of}

@@ -4,7 +4,7 @@ ghost use Rattle.std.specs.List.{flat_map};
 ghost use Rattle.edge_lists.specs.Edge.{Edge};
 ghost use Rattle.kernels.specs.StepTree.{StepsTree};
 ghost use Rattle.kernels.specs.State.{StateValue};
-ghost use Rattle.kernels.specs.Cells.{HasSizes};
+ghost use Rattle.kernels.specs.Registers.{HasSizes};
 ghost use Rattle.crew.specs.Outcome.{AreWorkers};
 ghost use Rattle.crew.specs.Pieces.{pieces_of};
 ghost use Rattle.edge_fold.specs.Changed.{AreApart};

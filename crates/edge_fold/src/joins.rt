@@ -341,11 +341,11 @@ fn lengthen(numbers: &mut Vec<i64>, count: usize) -> Result<(), AllocError>
 /// Whether a column gives a pair something.
 #[inline(always)]
 fn is_given(contribution: ContributionColumn<'_>, index: usize) -> bool
-    ensures { result ≡ truth_at contribution.entry.when index }
+    ensures { result ≡ truth_at contribution.entry.predicate index }
 {
-    match contribution.when {
+    match contribution.predicate {
         None => true,
-        Some(when) => match when.get(index) {
+        Some(predicate) => match predicate.get(index) {
             Some(n) => *n != 0,
             None => false,
         },
@@ -354,8 +354,8 @@ fn is_given(contribution: ContributionColumn<'_>, index: usize) -> bool
 
 /// Whether a column gives one of the first pairs something.
 pub(crate) fn gives_some(contribution: ContributionColumn<'_>, count: usize) -> bool
-    ensures some { result ≡ true → (i : ℕ) × (i < count) × (truth_at contribution.entry.when i ≡ true) }
-    ensures none { result ≡ false → (i : ℕ) → i < count → truth_at contribution.entry.when i ≡ false }
+    ensures some { result ≡ true → (i : ℕ) × (i < count) × (truth_at contribution.entry.predicate i ≡ true) }
+    ensures none { result ≡ false → (i : ℕ) → i < count → truth_at contribution.entry.predicate i ≡ false }
 {
     'pairs: for pair in 0..count {
         if is_given(contribution, pair) {

@@ -5,7 +5,7 @@ ghost use Rattle.algorithm_meaning.specs.Arithmetic.{compared};
 ghost use Rattle.algorithm_meaning.specs.EdgeApply.{is_member};
 ghost use Rattle.algorithm_meaning.specs.State.{StateValue};
 ghost use Rattle.kernels.specs.declared.columns.TheConstants.{PAIRS};
-ghost use Rattle.kernels.specs.Cells.{HasSizes};
+ghost use Rattle.kernels.specs.Registers.{HasSizes};
 ghost use Rattle.kernels.specs.Kernels.{passes_at};
 ghost use Rattle.edge_fold.specs.Ends.{IsFilterTest, IsTest};
 ghost use Rattle.vectors.specs.Lanes.{lane_entry};

@@ -9,7 +9,7 @@ ghost use Rattle.edge_fold.specs.Held.{held_with};
 ghost use Rattle.edge_fold.specs.VectorAccumulators.{HaveJoined, active, held_in_with, index_in, reduction_in};
 ghost use Rattle.kernels.specs.declared.columns.TheConstants.{PAIRS};
 ghost use Rattle.kernels.specs.ContributionColumns.{contribution_at};
-ghost use Rattle.kernels.specs.Kernels.{HasCells, given_at};
+ghost use Rattle.kernels.specs.Kernels.{HasRegisters, given_at};
 ghost use Rattle.apply_options.specs.declared.reduction.Reduction.{Reduction};
 
 use crate::accumulator::Accumulator;
@@ -244,7 +244,7 @@ impl VectorAccumulators {
         destinations: &[u32],
     ) -> Result<(), AllocError>
         requires few { length destinations.now ≤ PAIRS }
-        requires cells { HasCells block.now kernel.now.room }
+        requires registers { HasRegisters block.now kernel.now.room }
         ensures { OnOk result ((x : ℕ) (r : Reduction) → ((i : ℕ) → i < length destinations.now → IsBy r x (given_at kernel.now block.now i))
             → HaveJoined context.entry x r self.old self.new (given_from x (given_at kernel.now block.now) 0 destinations.now)) }
     {

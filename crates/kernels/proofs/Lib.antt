@@ -1,5 +1,5 @@
-pub mod CellColumns
+pub mod RegisterColumns
 pub mod VertexRows
 pub mod ShapeLaws
-pub mod MainCells
+pub mod MainRegisters
 pub use Rattle.register_code.proofs.Functions

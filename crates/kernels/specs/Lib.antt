@@ -9,7 +9,7 @@ pub use Rattle.algorithm_meaning.specs.EdgeApply
 pub use Rattle.algorithm_meaning.specs.Laws
 pub use Rattle.algorithm_meaning.specs.State
 pub use Rattle.algorithm_meaning.specs.Value
-pub use Rattle.register_code.specs.Cells
+pub use Rattle.register_code.specs.Registers
 pub use Rattle.register_code.specs.FunctionCode
 pub use Rattle.register_code.specs.Meaning
 pub use Rattle.register_code.specs.declared.instruction.ContributionCode

@@ -5,7 +5,7 @@ use Rattle.std.specs.List.Sorted.{IsPermutation}
 use Rattle.edge_lists.specs.Edge.{Edge}
 use Rattle.kernels.specs.StepTree.{StepsTree}
 use Rattle.kernels.specs.State.{StateValue}
-use Rattle.kernels.specs.Cells.{HasSizes}
+use Rattle.kernels.specs.Registers.{HasSizes}
 use Rattle.crew.specs.declared.piece_results.Found.{Found}
 use Rattle.crew.specs.Pieces.{AreAnswers}
 use Rattle.edge_fold.specs.declared.apply_context.ApplyContext.{ApplyContext}

@@ -2,7 +2,7 @@
 ghost use Rattle.std.specs.Prelude.{◌≡◌, ℕ, ◌≤◌, ◌++◌, Bool, IfOk, IfSome, OnOk};
 ghost use Rattle.std.specs.List.{filter};
 ghost use Rattle.kernels.specs.State.{StateValue};
-ghost use Rattle.kernels.specs.Cells.{HasSizes};
+ghost use Rattle.kernels.specs.Registers.{HasSizes};
 ghost use Rattle.edge_apply.specs.Words.{passes_words};
 ghost use Rattle.edge_fold.specs.Changed.{change_at};
 ghost use Rattle.edge_fold.specs.Ends.{IsEndTest};

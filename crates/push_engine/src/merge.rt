@@ -6,7 +6,7 @@ ghost use Rattle.crew.specs.Outcome.{AreWorkers};
 ghost use Rattle.crew.specs.Pieces.{AreAnswers, pieces_of};
 ghost use Rattle.kernels.specs.StepTree.{StepsTree};
 ghost use Rattle.kernels.specs.State.{StateValue};
-ghost use Rattle.kernels.specs.Cells.{HasSizes};
+ghost use Rattle.kernels.specs.Registers.{HasSizes};
 ghost use Rattle.crew.specs.Partition.{piece_of};
 ghost use Rattle.edge_fold.specs.Changed.{AreApart};
 ghost use Rattle.edge_fold.specs.Ends.{IsEndTest};

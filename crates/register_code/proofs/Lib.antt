@@ -1,6 +1,6 @@
 pub mod Codes
 pub mod Runs
-pub mod NeededCells
+pub mod NeededRegisters
 pub mod Keeping
 pub mod Functions
 pub mod Given

@@ -1,4 +1,4 @@
-pub mod Cells
+pub mod Registers
 pub mod Code
 pub mod FunctionCode
 pub mod VertexCode

@@ -1,10 +1,10 @@
 //! Register code: user functions and expressions of `main` as flat code, made once from the checked tree.
 //!
-//! An [`RegisterInstruction`] works on cells. A cell is an entry of the stack, known by its number when the code is made, so that
+//! An [`RegisterInstruction`] works on registers. A register is an entry of the stack, known by its number when the code is made, so that
 //! no instruction pushes or pops. No name is in code: vectors, vertex sets and variables go by their indices. What stands
-//! under an `if` is done always, and counts where the test's cell is true.
+//! under an `if` is done always, and counts where the test's register is true.
 //!
-//! `specs/Cells.antt` says what an instruction does to the cells (`step`, `run`), and what code that writes entries leaves
+//! `specs/Registers.antt` says what an instruction does to the registers (`step`, `run`), and what code that writes entries leaves
 //! (`after`). `specs/Code.antt`, `specs/FunctionCode.antt` and `specs/VertexCode.antt` say what the code of a tree is, for
 //! every tree, also one that no type checker would pass. `specs/Meaning.antt` says when code is that of a function, by the
 //! definitions of `algorithm_meaning`, and the calls here promise it:
@@ -13,9 +13,9 @@
 //! - [`code_of_filter`]: its result is the filter's (`IsFilterCode`).
 //! - [`code_of_vertex_function`]: it writes what the function writes (`IsVertexCode`).
 //! - [`code_of_integer`] and [`code_of_condition`]: the code of an expression, whose run leaves its value in the first
-//!   cell (`integer_runs` and `condition_runs` in `proofs/Runs.antt`).
+//!   register (`integer_runs` and `condition_runs` in `proofs/Runs.antt`).
 //!
-//! [`room_of`] and [`with_gives`] tell how many cells code needs. The kernels run code, over blocks, and stand on this
+//! [`room_of`] and [`with_gives`] tell how many registers code needs. The kernels run code, over blocks, and stand on this
 //! crate.
 #![tactic(auto)]
 

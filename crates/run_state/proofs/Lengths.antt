@@ -14,7 +14,7 @@ use Rattle.algorithm_meaning.specs.Meaning.{opening_entries, out_degree}
 use Rattle.algorithm_meaning.specs.VertexApply.{after_vertex, after_vertices}
 use Rattle.kernels.specs.RegisterInstruction.{RegisterInstruction}
 use Rattle.kernels.specs.RegisterInstruction.TheVariants.{SetEntry}
-use Rattle.kernels.specs.Cells.{Cells, HasSizes, CodeInput, after, is_active, step, written}
+use Rattle.kernels.specs.Registers.{Registers, HasSizes, CodeInput, after, is_active, step, written}
 use Rattle.kernels.specs.Meaning.{IsVertexCode, vertex_input}
 use Rattle.vectors.specs.declared.changes.EntryChange.{EntryChange}
 use Rattle.vectors.specs.declared.changes.VectorChanges.{VectorChanges}
@@ -41,17 +41,17 @@ either : (b : Bool) (xs ys : List (List ℤ)) → lengths xs ≡ lengths ys → 
 either true xs ys h = h
 either false xs ys h = refl
 
-lengths_written : (s : CodeInput) (i : RegisterInstruction) (c : Cells) → lengths (written s i c) ≡ lengths s.vectors
+lengths_written : (s : CodeInput) (i : RegisterInstruction) (c : Registers) → lengths (written s i c) ≡ lengths s.vectors
 lengths_written s (SetEntry vector from when) c =
     either (is_active c.numbers when) (with_entry s.vectors vector s.source (c.numbers from)) s.vectors (lengths_after_entry s.vectors vector s.source (c.numbers from))
 lengths_written s i c = refl
 
-lengths_after_code : (s : CodeInput) (is : List RegisterInstruction) (c : Cells) → lengths (after s is c).0.vectors ≡ lengths s.vectors
+lengths_after_code : (s : CodeInput) (is : List RegisterInstruction) (c : Registers) → lengths (after s is c).0.vectors ≡ lengths s.vectors
 lengths_after_code s [] c = refl
 lengths_after_code s (i ∷ is) c = lengths_after_code (record s { vectors = written s i c }) is (step s i c) ∙ lengths_written s i c
 
-no_cells : Cells
-no_cells = record { numbers = λ _. pos 0; integers = λ _. pos 0; conditions = λ _. pos 0; inside = pos 0 }
+no_registers : Registers
+no_registers = record { numbers = λ _. pos 0; integers = λ _. pos 0; conditions = λ _. pos 0; inside = pos 0 }
 
 -- where code does what statements do
 lengths_after_vertices : (m : StateValue) (sizes : List ℤ) (is : List RegisterInstruction) (steps : StepsTree) → HasSizes sizes m → IsVertexCode is steps → (vertices : List ℕ) (vectors : List (List ℤ))
@@ -59,8 +59,8 @@ lengths_after_vertices : (m : StateValue) (sizes : List ℤ) (is : List Register
 lengths_after_vertices m sizes is steps has code [] vectors = refl
 lengths_after_vertices m sizes is steps has code (v ∷ vs) vectors =
     lengths_after_vertices m sizes is steps has code vs (after_vertex steps m.sets v vectors)
-    ∙ ap lengths (sym (code (record m { vectors = vectors }) sizes 0 v no_cells has))
-    ∙ lengths_after_code (vertex_input vectors sizes 0 v) is no_cells
+    ∙ ap lengths (sym (code (record m { vectors = vectors }) sizes 0 v no_registers has))
+    ∙ lengths_after_code (vertex_input vectors sizes 0 v) is no_registers
 
 pub after_entry : (count n : ℕ) (vectors : List (List ℤ)) (x v : ℕ) (z : ℤ) → HaveLength count n vectors → HaveLength count n (with_entry vectors x v z)
 after_entry count n vectors x v z are = lengths_after_entry vectors x v z ∙ are

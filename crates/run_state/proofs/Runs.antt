@@ -10,7 +10,7 @@ use Rattle.typed_tree.specs.ProgramTree.{ProgramTree}
 use Rattle.plans.specs.declared.set_expression.SetExpression.{SetExpression}
 use Rattle.plans.specs.declared.set_expression.SetExpression.TheVariants.{Nothing, All, Copy, Filter}
 use Rattle.plans.specs.SetExpression.{set_value}
-use Rattle.kernels.specs.Cells.{HasSizes}
+use Rattle.kernels.specs.Registers.{HasSizes}
 use Rattle.vectors.specs.Vectors.{VectorsValue}
 use Rattle.run_state.specs.State.{IsRunState, RunState}
 use Rattle.run_state.specs.inside.NamedSets.{AreAscending, HaveLength, run_state, size_of, sizes_of, with_first_sets}

@@ -4,7 +4,7 @@ use Rattle.typed_tree.specs.ProgramTree.{ProgramTree}
 use Rattle.algorithm_meaning.specs.State.{GraphValue, StateValue}
 use Rattle.algorithm_meaning.specs.Value.{members_of}
 use Rattle.plans.specs.Functions.{AreFunctionKernels}
-use Rattle.kernels.specs.Cells.{HasSizes}
+use Rattle.kernels.specs.Registers.{HasSizes}
 use Rattle.vertex_sets.specs.VertexSet.{VertexSubset}
 use Rattle.run_state.specs.declared.run_view.RunView.{RunView}
 

@@ -5,7 +5,7 @@ ghost use Rattle.typed_tree.specs.StepTree.{StepsTree};
 ghost use Rattle.algorithm_meaning.specs.Filter.{result_of};
 ghost use Rattle.algorithm_meaning.specs.State.{StateValue};
 ghost use Rattle.kernels.specs.declared.columns.TheConstants.{PAIRS};
-ghost use Rattle.kernels.specs.Cells.{HasSizes};
+ghost use Rattle.kernels.specs.Registers.{HasSizes};
 ghost use Rattle.kernels.specs.Kernels.{IsFilterKernel, passes_at};
 ghost use Rattle.run_state.specs.inside.Passing.{passing};
 

@@ -17,7 +17,7 @@ ghost use Rattle.algorithm_meaning.specs.VertexApply.{after_vertices};
 ghost use Rattle.algorithm_meaning.specs.VertexSets.{after_assign_set, after_declare_set, inserted, members_for, with_members, with_new_set};
 ghost use Rattle.kernels.specs.Meaning.{IsVertexCode};
 ghost use Rattle.kernels.specs.Expressions.{IsConditionKernel, IsIntegerKernel, IsMainState};
-ghost use Rattle.kernels.specs.Kernels.{HasCells, IsFilterKernel};
+ghost use Rattle.kernels.specs.Kernels.{HasRegisters, IsFilterKernel};
 ghost use Rattle.kernels.specs.RegisterCounts.{RegisterCounts};
 ghost use Rattle.algorithm_meaning.specs.Loop.{depth_of, forget_beyond};
 ghost use Rattle.vectors.specs.Changes.{with_all_changes};
@@ -461,14 +461,14 @@ impl State {
     /// The same of one function, for which the block has room.
     fn apply(&mut self, set: usize, kernel: &VertexKernel, block: &mut Block)
         requires known { ∥ IsVertexKernel kernel.now ∥₁ }
-        requires room { HasCells block.old kernel.now.room }
+        requires room { HasRegisters block.old kernel.now.room }
         ensures applied { (steps : StepsTree) → IsVertexCode kernel.now.code.items steps
             → self.new ≡ with_state self.old (with_vectors self.old.state
             (after_vertices steps self.old.state.sets (members_of (slice_get self.old.state.sets set)) self.old.state.vectors)) }
         ensures turns { self.new.state.turns ≡ self.old.state.turns }
         ensures vertices { self.new.vertices ≡ self.old.vertices }
         ensures groups { self.new.groups ≡ self.old.groups }
-        ensures keeps { (other : RegisterCounts) → HasCells block.old other → HasCells block.new other }
+        ensures keeps { (other : RegisterCounts) → HasRegisters block.old other → HasRegisters block.new other }
     {
         if let Some(members) = self.sets.get(set) {
             run_for_all(

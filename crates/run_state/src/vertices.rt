@@ -4,9 +4,9 @@ ghost use Rattle.std.specs.List.Sorted.{IsStrictlyIncreasing};
 ghost use Rattle.typed_tree.specs.StepTree.{StepsTree};
 ghost use Rattle.algorithm_meaning.specs.State.{StateValue};
 ghost use Rattle.algorithm_meaning.specs.VertexApply.{after_vertices};
-ghost use Rattle.kernels.specs.Cells.{HasSizes};
+ghost use Rattle.kernels.specs.Registers.{HasSizes};
 ghost use Rattle.kernels.specs.Meaning.{IsVertexCode};
-ghost use Rattle.kernels.specs.Kernels.{HasCells};
+ghost use Rattle.kernels.specs.Kernels.{HasRegisters};
 ghost use Rattle.kernels.specs.RegisterCounts.{RegisterCounts};
 
 use kernels::{Block, PAIRS, VertexKernel};
@@ -37,12 +37,12 @@ pub(crate) fn run_for_all(
     vectors: &mut Vectors,
     block: &mut Block,
 )
-    requires room { HasCells block.old kernel.now.room }
+    requires room { HasRegisters block.old kernel.now.room }
     requires ascending { IsStrictlyIncreasing vertices }
     ensures vectors { (steps : StepsTree) (m : StateValue) → IsVertexCode kernel.now.code.items steps → vectors.old.vectors ≡ m.vectors → HasSizes sizes.now m
         → vectors.new.vectors ≡ after_vertices steps m.sets vertices.entry m.vectors }
     ensures groups { vectors.new.groups ≡ vectors.old.groups }
-    ensures keeps { (other : RegisterCounts) → HasCells block.old other → HasCells block.new other }
+    ensures keeps { (other : RegisterCounts) → HasRegisters block.old other → HasRegisters block.new other }
 {
     let mut left = vertices;
     let mut part = [0u32; PAIRS];

@@ -13,7 +13,7 @@ use Rattle.flat_snapshot.specs.Digraph.{Digraph, IsDigraph}
 use Rattle.flat_snapshot.specs.Edge.{Ends, weight_in, IsWithin}
 use Rattle.edge_fold.specs.Between.{edges_between}
 use Rattle.edge_fold.specs.Changed.{AreApart, changed, changes_of}
-use Rattle.kernels.specs.Cells.{HasSizes}
+use Rattle.kernels.specs.Registers.{HasSizes}
 use Rattle.edge_apply.specs.Applied.{AreChangesOf, AreChangesOn}
 use Rattle.edge_apply.specs.declared.apply.Apply.{Apply}
 use Rattle.vectors.specs.declared.changes.VectorChanges.{VectorChanges}

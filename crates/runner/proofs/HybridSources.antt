@@ -3,7 +3,7 @@ use Rattle.std.proofs.Common.{◌≡◌, ℕ, Bool, List, refl, sym}
 use Rattle.algorithm_meaning.specs.EdgeApply.{is_member}
 use Rattle.algorithm_meaning.specs.State.{StateValue}
 use Rattle.typed_tree.specs.StepTree.{StepsTree}
-use Rattle.kernels.specs.Cells.{HasSizes}
+use Rattle.kernels.specs.Registers.{HasSizes}
 use Rattle.vectors.specs.declared.changes.VectorChanges.{VectorChanges}
 use Rattle.vertex_sets.specs.VertexSet.{VertexSubset}
 use Rattle.edge_fold.specs.Between.{edges_between}

@@ -2,7 +2,7 @@ use Rattle.std.proofs.Common.{◌≡◌, ℕ, ◌-◌, ◌<◌, ◌≤◌, ◌&&
 use Rattle.kernels.specs.EdgeApply.{is_member}
 use Rattle.kernels.specs.State.{StateValue}
 use Rattle.edge_fold.specs.Ends.{IsTest}
-use Rattle.kernels.specs.Cells.{HasSizes}
+use Rattle.kernels.specs.Registers.{HasSizes}
 use Rattle.vertex_sets.specs.declared.form.Form.TheVariants as form
 use Rattle.edge_apply.proofs.passing.tested_set.Given as goal
 

@@ -4,4 +4,4 @@ use Rattle.edge_fold.proofs.joins.gives_some.Given as goal
 
 -- the pairs that have come are given nothing
 abbrev pub invariant-pairs : goal.invariant-pairs
-invariant-pairs l = (i : ℕ) → i < l.pair → truth_at l.contribution.when i ≡ false
+invariant-pairs l = (i : ℕ) → i < l.pair → truth_at l.contribution.predicate i ≡ false

@@ -1,7 +1,7 @@
 use Rattle.std.proofs.Common.{◌≡◌, ℕ, ◌++◌, Bool, length}
 use Rattle.std.specs.List.{filter}
 use Rattle.algorithm_meaning.specs.State.{StateValue}
-use Rattle.kernels.specs.Cells.{HasSizes}
+use Rattle.kernels.specs.Registers.{HasSizes}
 use Rattle.edge_fold.specs.Ends.{IsFilterTest}
 use Rattle.edge_fold.proofs.passing.keep_in_parts.Given as goal
 

@@ -1,6 +1,6 @@
 use Rattle.std.proofs.Common.{◌≡◌, ◌≤◌, ◌-◌, ℕ, Bool}
 use Rattle.kernels.specs.State.{StateValue}
-use Rattle.kernels.specs.Cells.{HasSizes}
+use Rattle.kernels.specs.Registers.{HasSizes}
 use Rattle.kernels.specs.Value.{entry}
 use Rattle.edge_apply.specs.Words.{passes_words}
 use Rattle.edge_fold.specs.Changed.{changed_from}

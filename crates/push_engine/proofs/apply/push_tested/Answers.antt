@@ -4,7 +4,7 @@ use Rattle.kernels.specs.EdgeApply.{is_member}
 use Rattle.kernels.specs.declared.endpoint_filter.EndpointFilter.{EndpointFilter}
 use Rattle.edge_fold.specs.declared.apply_context.ApplyContext.{ApplyContext}
 use Rattle.edge_fold.specs.Ends.{IsTest}
-use Rattle.kernels.specs.Cells.{HasSizes}
+use Rattle.kernels.specs.Registers.{HasSizes}
 use Rattle.edge_apply.proofs.Filtered.{changes_along, to_agree}
 use Rattle.push_engine.proofs.apply.push_tested.Goals as goal
 

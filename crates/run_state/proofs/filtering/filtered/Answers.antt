@@ -2,7 +2,7 @@ use Rattle.std.proofs.Common.{rules, ◌≡◌, ℕ, List, ◌++◌, length, tak
 use Rattle.std.specs.List.{filter}
 use Rattle.std.proofs.lemmas.List.Elements.{filter-append}
 use Rattle.algorithm_meaning.specs.Filter.{result_of}
-use Rattle.kernels.specs.Kernels.{HasCells, passes_at}
+use Rattle.kernels.specs.Kernels.{HasRegisters, passes_at}
 use Rattle.kernels.specs.RegisterCounts.{RegisterCounts}
 use Rattle.vertex_sets.specs.VertexSet.{IsAscendingBelow}
 use Rattle.run_state.specs.inside.Passing.{passing}
@@ -17,7 +17,7 @@ parts-init c =
     record {
       size = refl;
       ascending = subst (Ascends n 0) (sym begun) (ascends n all c.iter-left.ensures.valid);
-      room = subst (λ (room : RegisterCounts). HasCells c.make_room.new.self room) c.room.ensures c.in_ok-make_room.ensures.room;
+      room = subst (λ (room : RegisterCounts). HasRegisters c.make_room.new.self room) c.room.ensures c.in_ok-make_room.ensures.room;
       passed = λ steps m is same has. ap₂ (λ (xs ys : List ℕ). xs ++ filter (result_of steps m.sets m.vectors) ys) c.new-kept.ensures.items c.iter-left.ensures.members;
     }
 

@@ -4,8 +4,8 @@ use Rattle.typed_tree.specs.StepTree.{StepsTree}
 use Rattle.algorithm_meaning.specs.Filter.{result_of}
 use Rattle.algorithm_meaning.specs.State.{StateValue}
 use Rattle.kernels.specs.declared.columns.TheConstants.{PAIRS}
-use Rattle.kernels.specs.Cells.{HasSizes}
-use Rattle.kernels.specs.Kernels.{HasCells, IsFilterKernel}
+use Rattle.kernels.specs.Registers.{HasSizes}
+use Rattle.kernels.specs.Kernels.{HasRegisters, IsFilterKernel}
 use Rattle.run_state.proofs.Passed.{Ascends}
 use Rattle.run_state.proofs.filtering.filtered.Given as goal
 
@@ -14,7 +14,7 @@ abbrev pub invariant-parts : goal.invariant-parts
 invariant-parts l = record {
   size : length l.part ≡ PAIRS;
   ascending : Ascends l.set.vertices 0 (l.kept.items ++ l.left);
-  room : HasCells l.block l.kernel.room;
+  room : HasRegisters l.block l.kernel.room;
   passed : (steps : StepsTree) (m : StateValue) → IsFilterKernel l.kernel steps → l.vectors.vectors ≡ m.vectors → HasSizes l.sizes m
       → l.kept.items ++ filter (result_of steps m.sets m.vectors) l.left ≡ filter (result_of steps m.sets m.vectors) l.set.members;
 }

@@ -1,5 +1,5 @@
 use Rattle.std.proofs.Common.{Option, ap, sym, subst, ◌∙◌, arith}
-use Rattle.kernels.specs.Cells.{HasSizes}
+use Rattle.kernels.specs.Registers.{HasSizes}
 use Rattle.kernels.specs.declared.endpoint_filter.EndpointFilter.{EndpointFilter}
 use Rattle.edge_fold.specs.declared.apply_context.ApplyContext.{ApplyContext}
 use Rattle.edge_fold.specs.Ends.{IsEndTest}

@@ -1,5 +1,5 @@
 use Rattle.std.proofs.Common.{rules, ℕ, ◌<◌, ◌++◌, [], length, take, ap, sym, ◌∙◌, subst}
-use Rattle.kernels.specs.Columns.{cells_at}
+use Rattle.kernels.specs.Columns.{registers_at}
 use Rattle.kernels.specs.FunctionCode.{given_by}
 use Rattle.kernels.specs.ContributionColumns.{contribution_at}
 use Rattle.edge_fold.specs.Given.{IsBy, given_from, reduced_at}
@@ -20,10 +20,10 @@ contributions-preserved c = λ x r by.
     let gives = c.args.kernel.now.gives.items in
     let numbers = c.args.block.now.numbers.items in
     let k = c.contributions.index in
-    let before = λ (i : ℕ). given_by (take k gives) (cells_at numbers i) in
+    let before = λ (i : ℕ). given_by (take k gives) (registers_at numbers i) in
     let row = contribution_at c.contribution.result in
-    let more = λ (i : ℕ). one_contribution_more gives k (cells_at numbers i) ∙ ap (λ gs. before i ++ gs) (sym (c.contribution.ensures.given i)) in
-    let own = λ (i : ℕ) (l : i < length ds). subst (λ gs. IsBy r x gs) (sym (c.contribution.ensures.given i)) (one_of_contributions r x gives k (cells_at numbers i) (by i l)) in
+    let more = λ (i : ℕ). one_contribution_more gives k (registers_at numbers i) ∙ ap (λ gs. before i ++ gs) (sym (c.contribution.ensures.given i)) in
+    let own = λ (i : ℕ) (l : i < length ds). subst (λ gs. IsBy r x gs) (sym (c.contribution.ensures.given i)) (one_of_contributions r x gives k (registers_at numbers i) (by i l)) in
     let then = c.join_contribution.new.self in
     let first = given_from x before 0 ds in
     let last = given_from x row 0 ds in
@@ -35,5 +35,5 @@ pub returns : goal.returns
 returns c x r by =
     let gives = c.args.kernel.now.gives.items in
     let numbers = c.args.block.now.numbers.items in
-    let all = λ (i : ℕ). all_contributions gives c.contributions.index (cells_at numbers i) (search rules) in
+    let all = λ (i : ℕ). all_contributions gives c.contributions.index (registers_at numbers i) (search rules) in
     joined_alike c.args.context x r c.args.self.now c.contributions.self _ _ (λ v n. ap (λ gs. reduced_at r v n gs) (given_same x _ _ all 0 c.args.destinations.now)) (c.contributions.invariant x r by)

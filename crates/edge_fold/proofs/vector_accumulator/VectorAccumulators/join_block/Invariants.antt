@@ -1,6 +1,6 @@
 use Rattle.std.proofs.Common.{ℕ, ◌<◌, length, take}
 use Rattle.apply_options.specs.declared.reduction.Reduction.{Reduction}
-use Rattle.kernels.specs.Columns.{cells_at}
+use Rattle.kernels.specs.Columns.{registers_at}
 use Rattle.kernels.specs.FunctionCode.{given_by}
 use Rattle.edge_fold.specs.Given.{IsBy, given_from}
 use Rattle.edge_fold.specs.VectorAccumulators.{HaveJoined}
@@ -8,5 +8,5 @@ use Rattle.edge_fold.proofs.vector_accumulator.VectorAccumulators.join_block.Giv
 
 -- what the first contributions came to
 abbrev pub invariant-contributions : goal.invariant-contributions
-invariant-contributions l = (x : ℕ) (r : Reduction) → ((i : ℕ) → i < length l.destinations → IsBy r x (given_by l.kernel.gives.items (cells_at l.block.numbers.items i)))
-    → HaveJoined l.context x r l.fn.self l.self (given_from x (λ i. given_by (take l.index l.kernel.gives.items) (cells_at l.block.numbers.items i)) 0 l.destinations)
+invariant-contributions l = (x : ℕ) (r : Reduction) → ((i : ℕ) → i < length l.destinations → IsBy r x (given_by l.kernel.gives.items (registers_at l.block.numbers.items i)))
+    → HaveJoined l.context x r l.fn.self l.self (given_from x (λ i. given_by (take l.index l.kernel.gives.items) (registers_at l.block.numbers.items i)) 0 l.destinations)

@@ -2,7 +2,7 @@ use Rattle.std.proofs.Common.{◌≡◌, ℕ, ◌<◌, Bool, Option, IfSome, ◌
 use Rattle.std.proofs.lemmas.Option.{IfSome_then}
 use Rattle.kernels.specs.EdgeApply.{is_member}
 use Rattle.kernels.specs.State.{StateValue}
-use Rattle.kernels.specs.Cells.{HasSizes}
+use Rattle.kernels.specs.Registers.{HasSizes}
 use Rattle.vertex_sets.specs.VertexSet.{VertexSubset}
 use Rattle.edge_fold.specs.Ends.{IsEndTest}
 use Rattle.edge_apply.proofs.Bits.{words_have_members}

@@ -3,7 +3,7 @@ use Rattle.algorithm_meaning.specs.Entries.{with_vectors}
 use Rattle.algorithm_meaning.specs.State.{StateValue}
 use Rattle.algorithm_meaning.specs.Value.{members_of}
 use Rattle.algorithm_meaning.specs.VertexApply.{after_vertices}
-use Rattle.kernels.specs.Cells.{HasSizes}
+use Rattle.kernels.specs.Registers.{HasSizes}
 use Rattle.run_state.specs.inside.NamedSets.{HaveLength, run_state}
 use Rattle.run_state.specs.State.{RunState, with_state}
 use Rattle.run_state.proofs.Lengths.{after_apply}

@@ -6,7 +6,7 @@ use Rattle.algorithm_meaning.specs.Function.{steps_of}
 use Rattle.algorithm_meaning.specs.State.{GraphValue, StateValue}
 use Rattle.algorithm_meaning.specs.Value.{members_of}
 use Rattle.algorithm_meaning.specs.VertexSets.{members_for}
-use Rattle.kernels.specs.Cells.{HasSizes}
+use Rattle.kernels.specs.Registers.{HasSizes}
 use Rattle.kernels.specs.declared.kernel.FilterKernel.{FilterKernel}
 use Rattle.kernels.specs.Kernels.{IsFilterKernel}
 use Rattle.plans.specs.declared.set_expression.SetExpression.{SetExpression}

@@ -1,6 +1,6 @@
 use Rattle.std.proofs.Common.{ℤ, List, slice_get, ap, sym, subst, ◌∙◌, arith}
 use Rattle.algorithm_meaning.specs.Value.{members_of}
-use Rattle.kernels.specs.Cells.{HasSizes}
+use Rattle.kernels.specs.Registers.{HasSizes}
 use Rattle.run_state.specs.inside.NamedSets.{size_of}
 use Rattle.run_state.specs.State.{RunState}
 use Rattle.run_state.proofs.Runs.{has_sizes}
