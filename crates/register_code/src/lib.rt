@@ -1,6 +1,6 @@
 //! Register code: user functions and expressions of `main` as flat code, made once from the checked tree.
 //!
-//! An [`RegisterInstruction`] works on registers. A register is an entry of the stack, known by its number when the code is made, so that
+//! A [`RegisterInstruction`] works on registers, each known by its number when the code is made, so that
 //! no instruction pushes or pops. No name is in code: vectors, vertex sets and variables go by their indices. What stands
 //! under an `if` is done always, and counts where the test's register is true.
 //!
