@@ -5,4 +5,4 @@ use Rattle.std.specs.Prelude.{◌≡◌, ℕ, ◌<◌, List, ◌++◌, length, t
 pub record TakesPart (old new bytes : List ℕ) : Type 0 where
   pub count : ℕ
   pub within : count < length bytes
-  pub taken : new ≡ old ++ take count bytes
+  pub bytes_written : new ≡ old ++ take count bytes

@@ -2,7 +2,7 @@
 ghost use Rattle.std.specs.Prelude.{◌≡◌, ◌≢◌, ◌⊎◌, ℕ, Bool, false, ◌||◌, ◌^◌, ◌+◌, ◌-◌, ◌<◌, ◌≤◌, List, [], ◌++◌, length, take, IfOk, IfErr, OnOk, OnErr};
 ghost use Rattle.std.specs.IoError.{error_kind};
 ghost use Rattle.std.specs.Io.KnownBytes.{ReadConsumes, WriteAppends};
-ghost use Rattle.devices.specs.Device.{given_by, taken_by, is_ended, read_failures, write_failures, reads_left, inner_of};
+ghost use Rattle.devices.specs.Device.{bytes_read_by, bytes_written_by, is_ended, read_failures, write_failures, reads_left, inner_of};
 ghost use Rattle.devices.specs.Feed.{says_end};
 
 use super::account::Account;
@@ -19,8 +19,8 @@ pub struct Device<T> {
     inner: T,
     reads_left: u64,
     is_ended: bool,
-    given: Account,
-    taken: Account,
+    bytes_read: Account,
+    bytes_written: Account,
 }
 
 impl<T> Device<T> {
@@ -28,8 +28,8 @@ impl<T> Device<T> {
     /// does not count.
     pub fn new(inner: T) -> Device<T>
         ensures inner { inner_of result ≡ inner }
-        ensures given { given_by result ≡ [] }
-        ensures taken { taken_by result ≡ [] }
+        ensures bytes_read { bytes_read_by result ≡ [] }
+        ensures bytes_written { bytes_written_by result ≡ [] }
         ensures not_ended { is_ended result ≡ false }
         ensures failures { (read_failures result ≡ 0) × (write_failures result ≡ 0) }
         ensures reads_left { reads_left result ≡ 2 ^ 64 - 1 }
@@ -38,14 +38,14 @@ impl<T> Device<T> {
             inner,
             reads_left: u64::MAX,
             is_ended: false,
-            given: Account::new(),
-            taken: Account::new(),
+            bytes_read: Account::new(),
+            bytes_written: Account::new(),
         }
     }
 }
 
 impl<T: Read> Feed for Device<T> {
-    ghost given = { given_by };
+    ghost bytes_read = { bytes_read_by };
 
     ghost ended = { is_ended };
 
@@ -60,11 +60,11 @@ impl<T: Read> Feed for Device<T> {
     fn read(&mut self, buffer: &mut [u8]) -> io::Result<usize>
         // As for every feed, and an error is one failure.
         ensures bound { IfOk result (λ count. count ≤ length buffer.new) }
-        ensures given { IfOk result (λ count.
-            given_by self.new ≡ given_by self.old ++ take count buffer.new) }
+        ensures bytes_read { IfOk result (λ count.
+            bytes_read_by self.new ≡ bytes_read_by self.old ++ take count buffer.new) }
         ensures ended { is_ended self.new ≡ (is_ended self.old || says_end result buffer.new) }
         ensures no_failure { OnOk result (read_failures self.new ≡ read_failures self.old) }
-        ensures err { OnErr result ((given_by self.new ≡ given_by self.old)
+        ensures err { OnErr result ((bytes_read_by self.new ≡ bytes_read_by self.old)
             × (read_failures self.new ≡ read_failures self.old + 1)) }
         ensures progress { IfOk result (λ count.
             0 < count → reads_left self.new < reads_left self.old) }
@@ -83,23 +83,23 @@ impl<T: Read> Feed for Device<T> {
             match self.inner.read(buffer) {
                 Ok(count) => {
                     self.is_ended = self.is_ended || (count == 0 && !buffer.is_empty());
-                    self.given.add_bytes(&buffer[..count]);
+                    self.bytes_read.add_bytes(&buffer[..count]);
                     return Ok(count);
                 }
                 Err(error) if error.kind() == ErrorKind::Interrupted => {}
                 Err(error) => {
-                    self.given.add_failure();
+                    self.bytes_read.add_failure();
                     return Err(error);
                 }
             }
         }
-        self.given.add_failure();
+        self.bytes_read.add_failure();
         Err(Error::other("the reader was tried too often"))
     }
 }
 
 impl<T: Write> Drain for Device<T> {
-    ghost taken = { taken_by };
+    ghost bytes_written = { bytes_written_by };
 
     ghost failures = { write_failures };
 
@@ -110,11 +110,11 @@ impl<T: Write> Drain for Device<T> {
     fn write(&mut self, bytes: &[u8]) -> io::Result<usize>
         // As for every drain, and an error is one failure.
         ensures bound { IfOk result (λ count. count ≤ length bytes.now) }
-        ensures taken { IfOk result (λ count.
-            taken_by self.new ≡ taken_by self.old ++ take count bytes.now) }
+        ensures bytes_written { IfOk result (λ count.
+            bytes_written_by self.new ≡ bytes_written_by self.old ++ take count bytes.now) }
         ensures progress { IfOk result (λ count. 0 < length bytes.now → 0 < count) }
         ensures no_failure { OnOk result (write_failures self.new ≡ write_failures self.old) }
-        ensures err { OnErr result ((taken_by self.new ≡ taken_by self.old)
+        ensures err { OnErr result ((bytes_written_by self.new ≡ bytes_written_by self.old)
             × (write_failures self.new ≡ write_failures self.old + 1)) }
 
         // The writer inside holds what it takes, where that is known.
@@ -125,21 +125,21 @@ impl<T: Write> Drain for Device<T> {
         for _ in 0..u64::MAX {
             match self.inner.write(bytes) {
                 Ok(0) if !bytes.is_empty() => {
-                    self.taken.add_failure();
+                    self.bytes_written.add_failure();
                     return Err(Error::new(ErrorKind::WriteZero, "the writer takes no more bytes"));
                 }
                 Ok(count) => {
-                    self.taken.add_bytes(&bytes[..count]);
+                    self.bytes_written.add_bytes(&bytes[..count]);
                     return Ok(count);
                 }
                 Err(error) if error.kind() == ErrorKind::Interrupted => {}
                 Err(error) => {
-                    self.taken.add_failure();
+                    self.bytes_written.add_failure();
                     return Err(error);
                 }
             }
         }
-        self.taken.add_failure();
+        self.bytes_written.add_failure();
         Err(Error::other("the writer was interrupted too often"))
     }
 }

@@ -44,7 +44,7 @@ impl<'a, T: Text> TextFeed<'a, T> {
 }
 
 impl<T: Text> Feed for TextFeed<'_, T> {
-    ghost given = { λ f. take f.count T.text };
+    ghost bytes_read = { λ f. take f.count T.text };
 
     ghost ended = { λ f. f.is_ended };
 

@@ -8,7 +8,7 @@ use std::io;
 /// A reader that tells its bytes.
 pub trait Feed {
     // All the bytes that it has given so far, in order.
-    ghost given: { Self → List ℕ };
+    ghost bytes_read: { Self → List ℕ };
 
     // Whether a read into a buffer with room has said that there is no more.
     ghost ended: { Self → Bool };
@@ -26,11 +26,11 @@ pub trait Feed {
     /// then holds anything. A later read may go on.
     fn read(&mut self, buffer: &mut [u8]) -> io::Result<usize>
         ensures bound { IfOk result (λ count. count ≤ length buffer.new) }
-        ensures given { IfOk result (λ count.
-            given self.new ≡ given self.old ++ take count buffer.new) }
+        ensures bytes_read { IfOk result (λ count.
+            bytes_read self.new ≡ bytes_read self.old ++ take count buffer.new) }
         ensures ended { ended self.new ≡ (ended self.old || says_end result buffer.new) }
         ensures no_failure { OnOk result (failures self.new ≡ failures self.old) }
-        ensures err { OnErr result ((given self.new ≡ given self.old)
+        ensures err { OnErr result ((bytes_read self.new ≡ bytes_read self.old)
             × (failures self.old < failures self.new)) }
 
         // A loop that reads to the end ends.
@@ -42,7 +42,7 @@ pub trait Feed {
 /// A writer that tells its bytes.
 pub trait Drain {
     // All the bytes that it has taken so far, in order.
-    ghost taken: { Self → List ℕ };
+    ghost bytes_written: { Self → List ℕ };
 
     // How often it has failed.
     ghost failures: { Self → ℕ };
@@ -54,11 +54,11 @@ pub trait Drain {
     /// may go on.
     fn write(&mut self, bytes: &[u8]) -> io::Result<usize>
         ensures bound { IfOk result (λ count. count ≤ length bytes.now) }
-        ensures taken { IfOk result (λ count.
-            taken self.new ≡ taken self.old ++ take count bytes.now) }
+        ensures bytes_written { IfOk result (λ count.
+            bytes_written self.new ≡ bytes_written self.old ++ take count bytes.now) }
         ensures progress { IfOk result (λ count. 0 < length bytes.now → 0 < count) }
         ensures no_failure { OnOk result (failures self.new ≡ failures self.old) }
-        ensures err { OnErr result ((taken self.new ≡ taken self.old)
+        ensures err { OnErr result ((bytes_written self.new ≡ bytes_written self.old)
             × (failures self.old < failures self.new)) };
 }
 
@@ -67,9 +67,9 @@ pub trait Drain {
 /// The `Err` is that of the first write that fails. The bytes of the writes before it are taken, a
 /// first part of `bytes` and not all of them, and the failure is counted.
 pub fn write_all<W: Drain>(writer: &mut W, bytes: &[u8]) -> io::Result<()>
-    ensures ok { OnOk result (W.taken writer.new ≡ W.taken writer.old ++ bytes.now) }
+    ensures ok { OnOk result (W.bytes_written writer.new ≡ W.bytes_written writer.old ++ bytes.now) }
     ensures no_failure { OnOk result (W.failures writer.new ≡ W.failures writer.old) }
-    ensures err { OnErr result (TakesPart (W.taken writer.old) (W.taken writer.new) bytes.now
+    ensures err { OnErr result (TakesPart (W.bytes_written writer.old) (W.bytes_written writer.new) bytes.now
         × (W.failures writer.old < W.failures writer.new)) }
 {
     let mut written = 0;

@@ -1,7 +1,7 @@
 -- Races of files.
 use Rattle.std.proofs.Common.{◌≡◌, ◌∙◌, ap, sym, ℕ, List, Bor, Err, length, map, subst, refl, inl, inr}
 use Rattle.std.proofs.lemmas.List.{length-map}
-use Rattle.scripts.specs.Script.{Taken}
+use Rattle.scripts.specs.Script.{Written}
 use Rattle.replies.specs.declared.send_error.SendError.{SendError}
 use Rattle.replies.specs.declared.send_error.SendError.TheVariants.{NoMemory, WriteFailed}
 use Rattle.plans.specs.declared.plan.Plan.{Plan}
@@ -49,11 +49,11 @@ refused_race_of_files holds file names workers programs seen plans lent script e
 }
 
 -- where writing a text failed, a beginning of it was taken
-pub begins_text : (text : List ℕ) (before after : Taken) (e : SendError) → Writes {A = Unit {0}} text before after (Err e) → TakesBeginning text before after
+pub begins_text : (text : List ℕ) (before after : Written) (e : SendError) → Writes {A = Unit {0}} text before after (Err e) → TakesBeginning text before after
 begins_text text before after NoMemory begins = begins.0
 begins_text text before after WriteFailed begins = begins.0
 
 -- writing a text fails since memory ran out, or by the writer
-pub ends_writing : (text : List ℕ) (before after : Taken) (e : SendError) → Writes {A = Unit {0}} text before after (Err e) → EndsWriting before after (of_send e)
+pub ends_writing : (text : List ℕ) (before after : Written) (e : SendError) → Writes {A = Unit {0}} text before after (Err e) → EndsWriting before after (of_send e)
 ends_writing text before after NoMemory begins = inl (refl, begins.1)
 ends_writing text before after WriteFailed begins = inr (refl, begins.1)

@@ -3,7 +3,7 @@ use Rattle.std.specs.Prelude.{◌≡◌, ℕ, ◌<◌, Bool, List, ◌++◌, ◌
 use Rattle.std.specs.Borrow.{Bor}
 use Rattle.std.specs.declared.io.Error.{Error}
 use Rattle.algorithm_meaning.specs.ProgramTree.{ProgramTree}
-use Rattle.scripts.specs.Script.{Input, Taken}
+use Rattle.scripts.specs.Script.{Input, Written}
 use Rattle.races.specs.RaceScript.{Order, ReadsScript, order_by, order_of}
 use Rattle.races.specs.Race.{IsRace, has_faulted}
 use Rattle.races.specs.Refused.{RefusesRace}
@@ -49,18 +49,18 @@ pub record IsRaceOf (holds : List ℕ → List ℕ → Type 0) (script : List �
   pub is_race : IsRace order.vertices 16777216 order.batches (map (λ p. p.plan) programs) turns race
 
 -- all of the text of a race was written
-pub record TellsRace (holds : List ℕ → List ℕ → Type 0) (script : List ℕ) (names : List (List ℕ)) (turns : ℕ) (before after : Taken) (faulted : Bool) : Type 0 where
+pub record TellsRace (holds : List ℕ → List ℕ → Type 0) (script : List ℕ) (names : List (List ℕ)) (turns : ℕ) (before after : Written) (faulted : Bool) : Type 0 where
   pub race : Race
   pub is_race : IsRaceOf holds script names turns race
-  pub taken : after.taken ≡ before.taken ++ race_text race
+  pub bytes_written : after.bytes_written ≡ before.bytes_written ++ race_text race
   pub fault : faulted ≡ has_faulted race
 
 -- memory ran out and the writer did not fail, or it failed in this call
-abbrev pub EndsWriting : Taken → Taken → ServeError → Type 0
+abbrev pub EndsWriting : Written → Written → ServeError → Type 0
 EndsWriting before after e = ((e ≡ NoMemory) × (after.failures ≡ before.failures)) ⊎ ((e ≡ WriteFailed) × (before.failures < after.failures))
 
 -- a beginning of the text of a race was written before memory ran out or the writer failed
-pub record BeginsRace (holds : List ℕ → List ℕ → Type 0) (script : List ℕ) (names : List (List ℕ)) (turns : ℕ) (before after : Taken) (e : ServeError) : Type 0 where
+pub record BeginsRace (holds : List ℕ → List ℕ → Type 0) (script : List ℕ) (names : List (List ℕ)) (turns : ℕ) (before after : Written) (e : ServeError) : Type 0 where
   pub race : Race
   pub is_race : IsRaceOf holds script names turns race
   pub part : TakesBeginning (race_text race) before after
@@ -90,18 +90,18 @@ LacksRace holds fails script names workers e =
     LacksProgram holds fails names e ⊎ (LacksRaceScript holds fails script names e ⊎ (RefusesRaceOf holds script names workers e ⊎ (e ≡ NoMemory)))
 
 -- nothing was written, since there was no race
-pub record TellsNoRace (holds : List ℕ → List ℕ → Type 0) (fails : List ℕ → Error → Type 0) (script : List ℕ) (names : List (List ℕ)) (workers : ℕ) (before after : Taken) (e : ServeError) : Type 0 where
+pub record TellsNoRace (holds : List ℕ → List ℕ → Type 0) (fails : List ℕ → Error → Type 0) (script : List ℕ) (names : List (List ℕ)) (workers : ℕ) (before after : Written) (e : ServeError) : Type 0 where
   pub untouched : after ≡ before
   pub cause : LacksRace holds fails script names workers e
 
 -- what a race of files comes to
-abbrev pub RacesFiles : (List ℕ → List ℕ → Type 0) → (List ℕ → Error → Type 0) → List ℕ → List (List ℕ) → (workers turns : ℕ) → Taken → Taken → Result Bool ServeError → Type 0
+abbrev pub RacesFiles : (List ℕ → List ℕ → Type 0) → (List ℕ → Error → Type 0) → List ℕ → List (List ℕ) → (workers turns : ℕ) → Written → Written → Result Bool ServeError → Type 0
 RacesFiles holds fails script names workers turns before after (Ok faulted) = TellsRace holds script names turns before after faulted
 RacesFiles holds fails script names workers turns before after (Err e) =
     TellsNoRace holds fails script names workers before after e ⊎ BeginsRace holds script names turns before after e
 
 -- the race of the files was done, with this status at the end; the standard input was not read
-pub record ServesRace (holds : List ℕ → List ℕ → Type 0) (fails : List ℕ → Error → Type 0) (script : List ℕ) (names : List (List ℕ)) (workers turns : ℕ) (old new : Input) (before after : Taken) (status : ℕ) : Type 0 where
+pub record ServesRace (holds : List ℕ → List ℕ → Type 0) (fails : List ℕ → Error → Type 0) (script : List ℕ) (names : List (List ℕ)) (workers turns : ℕ) (old new : Input) (before after : Written) (status : ℕ) : Type 0 where
   pub ended : Result Bool ServeError
   pub races : RacesFiles holds fails script names workers turns before after ended
   pub ending : status ≡ status_of_end ended

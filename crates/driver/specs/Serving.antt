@@ -8,7 +8,7 @@ use Rattle.plans.specs.PlanOf.{program_of}
 use Rattle.lowering.specs.Text.{text_of}
 use Rattle.algorithm_meaning.specs.ProgramTree.{ProgramTree}
 use Rattle.scripts.specs.declared.error.ScriptError.{ScriptError}
-use Rattle.scripts.specs.Script.{Input, Taken, RunsScript}
+use Rattle.scripts.specs.Script.{Input, Written, RunsScript}
 use Rattle.scripts.specs.Text.{RunsText}
 use Rattle.driver.specs.Endings.{of_script, status_of_end}
 use Rattle.driver.specs.Racing.{ServesRace}
@@ -24,7 +24,7 @@ end_of (Ok faulted) = Ok faulted
 end_of (Err e) = Err (of_script e)
 
 -- the standard input was run as a script without programs, which ended so
-pub record RunsInput (old new : Input) (before after : Taken) (ended : Result Bool ServeError) : Type 0 where
+pub record RunsInput (old new : Input) (before after : Written) (ended : Result Bool ServeError) : Type 0 where
   pub script_ended : Result Bool ScriptError
   pub runs : RunsScript [] old new before after script_ended
   pub ending : ended ≡ end_of script_ended
@@ -34,27 +34,27 @@ abbrev pub ok_line : List ℕ
 ok_line = codes "ok" ++ 10 ∷ []
 
 -- the file may hold a program, and all of the line `ok` was written
-pub record TellsOk (holds : List ℕ → Type 0) (before after : Taken) (faulted : Bool) : Type 0 where
+pub record TellsOk (holds : List ℕ → Type 0) (before after : Written) (faulted : Bool) : Type 0 where
   pub program : ProgramTree
   pub compiled : HoldsProgram holds program
-  pub taken : after.taken ≡ before.taken ++ ok_line
+  pub bytes_written : after.bytes_written ≡ before.bytes_written ++ ok_line
   pub fault : faulted ≡ false
 
 -- nothing was written, since the file of this name is no program
-pub record TellsNothing (holds : List ℕ → Type 0) (fails : Error → Type 0) (name : List ℕ) (before after : Taken) (e : ServeError) : Type 0 where
+pub record TellsNothing (holds : List ℕ → Type 0) (fails : Error → Type 0) (name : List ℕ) (before after : Written) (e : ServeError) : Type 0 where
   pub untouched : after ≡ before
   pub cause : IsNoProgram holds fails name e
 
 -- the file may hold a program, and a beginning of the line `ok` was written before the writer failed
-pub record BeginsOk (holds : List ℕ → Type 0) (before after : Taken) (e : ServeError) : Type 0 where
+pub record BeginsOk (holds : List ℕ → Type 0) (before after : Written) (e : ServeError) : Type 0 where
   pub program : ProgramTree
   pub compiled : HoldsProgram holds program
-  pub part : TakesPart before.taken after.taken ok_line
+  pub part : TakesPart before.bytes_written after.bytes_written ok_line
   pub failed : before.failures < after.failures
   pub outcome : e ≡ WriteFailed
 
 -- what checking the program in the file of this name comes to
-abbrev pub ChecksFile : (List ℕ → Type 0) → (Error → Type 0) → List ℕ → Taken → Taken → Result Bool ServeError → Type 0
+abbrev pub ChecksFile : (List ℕ → Type 0) → (Error → Type 0) → List ℕ → Written → Written → Result Bool ServeError → Type 0
 ChecksFile holds fails name before after (Ok faulted) = TellsOk holds before after faulted
 ChecksFile holds fails name before after (Err e) = TellsNothing holds fails name before after e ⊎ BeginsOk holds before after e
 
@@ -63,27 +63,27 @@ abbrev pub plan_text : {holds : List ℕ → Type 0} {plan : Plan} → HoldsPlan
 plan_text {plan = plan} held = text_of (program_of plan) held.planned.schedule
 
 -- the file may hold a program, of which this is the plan, and all of its text was written
-pub record TellsPlan (holds : List ℕ → Type 0) (before after : Taken) (faulted : Bool) : Type 0 where
+pub record TellsPlan (holds : List ℕ → Type 0) (before after : Written) (faulted : Bool) : Type 0 where
   pub plan : Plan
   pub planned : HoldsPlan holds plan
-  pub taken : after.taken ≡ before.taken ++ plan_text planned
+  pub bytes_written : after.bytes_written ≡ before.bytes_written ++ plan_text planned
   pub fault : faulted ≡ false
 
 -- the file may hold a program, of which this is the plan, and a beginning of its text was written before the writer failed
-pub record BeginsPlan (holds : List ℕ → Type 0) (before after : Taken) (e : ServeError) : Type 0 where
+pub record BeginsPlan (holds : List ℕ → Type 0) (before after : Written) (e : ServeError) : Type 0 where
   pub plan : Plan
   pub planned : HoldsPlan holds plan
-  pub part : TakesPart before.taken after.taken (plan_text planned)
+  pub part : TakesPart before.bytes_written after.bytes_written (plan_text planned)
   pub failed : before.failures < after.failures
   pub outcome : e ≡ WriteFailed
 
 -- what printing the plan of the program in the file of this name comes to
-abbrev pub PrintsPlan : (List ℕ → Type 0) → (Error → Type 0) → List ℕ → Taken → Taken → Result Bool ServeError → Type 0
+abbrev pub PrintsPlan : (List ℕ → Type 0) → (Error → Type 0) → List ℕ → Written → Written → Result Bool ServeError → Type 0
 PrintsPlan holds fails name before after (Ok faulted) = TellsPlan holds before after faulted
 PrintsPlan holds fails name before after (Err e) = TellsNothing holds fails name before after e ⊎ BeginsPlan holds before after e
 
 -- the files may hold these programs and this script, which was run with them and ended so
-pub record RunsScriptOf (holds : List ℕ → List ℕ → Type 0) (script : List ℕ) (names : List (List ℕ)) (before after : Taken) (ended : Result Bool ServeError) : Type 0 where
+pub record RunsScriptOf (holds : List ℕ → List ℕ → Type 0) (script : List ℕ) (names : List (List ℕ)) (before after : Written) (ended : Result Bool ServeError) : Type 0 where
   pub programs : List ProgramTree
   pub compiled : HoldPrograms holds names programs
   pub text : List ℕ
@@ -93,18 +93,18 @@ pub record RunsScriptOf (holds : List ℕ → List ℕ → Type 0) (script : Lis
   pub ending : ended ≡ end_of script_ended
 
 -- no script was run, and nothing was written, since some file has no program, or that of the script cannot be read
-pub record RunsNone (holds : List ℕ → List ℕ → Type 0) (fails : List ℕ → Error → Type 0) (script : List ℕ) (names : List (List ℕ)) (before after : Taken) (e : ServeError) : Type 0 where
+pub record RunsNone (holds : List ℕ → List ℕ → Type 0) (fails : List ℕ → Error → Type 0) (script : List ℕ) (names : List (List ℕ)) (before after : Written) (e : ServeError) : Type 0 where
   pub untouched : after ≡ before
   pub cause : LacksProgram holds fails names e ⊎ LacksScript holds fails script names e
 
 -- what running the script in a file, with the programs in files, comes to
-abbrev pub RunsFiles : (List ℕ → List ℕ → Type 0) → (List ℕ → Error → Type 0) → List ℕ → List (List ℕ) → Taken → Taken → Result Bool ServeError → Type 0
+abbrev pub RunsFiles : (List ℕ → List ℕ → Type 0) → (List ℕ → Error → Type 0) → List ℕ → List (List ℕ) → Written → Written → Result Bool ServeError → Type 0
 RunsFiles holds fails script names before after (Ok faulted) = RunsScriptOf holds script names before after (Ok faulted)
 RunsFiles holds fails script names before after (Err e) =
     RunsNone holds fails script names before after e ⊎ RunsScriptOf holds script names before after (Err e)
 
 -- the files may hold these programs, and the standard input was run as a script with them, which ended so
-pub record RunsStreamOf (holds : List ℕ → List ℕ → Type 0) (names : List (List ℕ)) (old new : Input) (before after : Taken) (ended : Result Bool ServeError) : Type 0 where
+pub record RunsStreamOf (holds : List ℕ → List ℕ → Type 0) (names : List (List ℕ)) (old new : Input) (before after : Written) (ended : Result Bool ServeError) : Type 0 where
   pub programs : List ProgramTree
   pub compiled : HoldPrograms holds names programs
   pub script_ended : Result Bool ScriptError
@@ -112,57 +112,57 @@ pub record RunsStreamOf (holds : List ℕ → List ℕ → Type 0) (names : List
   pub ending : ended ≡ end_of script_ended
 
 -- nothing was read from the standard input or written, since some file has no program
-pub record RunsNoStream (holds : List ℕ → List ℕ → Type 0) (fails : List ℕ → Error → Type 0) (names : List (List ℕ)) (old new : Input) (before after : Taken) (e : ServeError) : Type 0 where
+pub record RunsNoStream (holds : List ℕ → List ℕ → Type 0) (fails : List ℕ → Error → Type 0) (names : List (List ℕ)) (old new : Input) (before after : Written) (e : ServeError) : Type 0 where
   pub unread : new ≡ old
   pub untouched : after ≡ before
   pub cause : LacksProgram holds fails names e
 
 -- what running the standard input, with the programs in files, comes to
-abbrev pub RunsStream : (List ℕ → List ℕ → Type 0) → (List ℕ → Error → Type 0) → List (List ℕ) → Input → Input → Taken → Taken → Result Bool ServeError → Type 0
+abbrev pub RunsStream : (List ℕ → List ℕ → Type 0) → (List ℕ → Error → Type 0) → List (List ℕ) → Input → Input → Written → Written → Result Bool ServeError → Type 0
 RunsStream holds fails names old new before after (Ok faulted) = RunsStreamOf holds names old new before after (Ok faulted)
 RunsStream holds fails names old new before after (Err e) =
     RunsNoStream holds fails names old new before after e ⊎ RunsStreamOf holds names old new before after (Err e)
 
 -- the standard input was run, with this status at the end
-pub record ServesInput (old new : Input) (before after : Taken) (status : ℕ) : Type 0 where
+pub record ServesInput (old new : Input) (before after : Written) (status : ℕ) : Type 0 where
   pub ended : Result Bool ServeError
   pub runs : RunsInput old new before after ended
   pub ending : status ≡ status_of_end ended
 
 -- the program in the file of this name was checked, with this status at the end; the standard input was not read
-pub record ServesCheck (holds : List ℕ → List ℕ → Type 0) (fails : List ℕ → Error → Type 0) (name : List ℕ) (old new : Input) (before after : Taken) (status : ℕ) : Type 0 where
+pub record ServesCheck (holds : List ℕ → List ℕ → Type 0) (fails : List ℕ → Error → Type 0) (name : List ℕ) (old new : Input) (before after : Written) (status : ℕ) : Type 0 where
   pub ended : Result Bool ServeError
   pub checks : ChecksFile (holds name) (fails name) name before after ended
   pub ending : status ≡ status_of_end ended
   pub unread : new ≡ old
 
 -- the plan of the program in the file of this name was printed, with this status at the end; the standard input was not read
-pub record ServesPlan (holds : List ℕ → List ℕ → Type 0) (fails : List ℕ → Error → Type 0) (name : List ℕ) (old new : Input) (before after : Taken) (status : ℕ) : Type 0 where
+pub record ServesPlan (holds : List ℕ → List ℕ → Type 0) (fails : List ℕ → Error → Type 0) (name : List ℕ) (old new : Input) (before after : Written) (status : ℕ) : Type 0 where
   pub ended : Result Bool ServeError
   pub prints : PrintsPlan (holds name) (fails name) name before after ended
   pub ending : status ≡ status_of_end ended
   pub unread : new ≡ old
 
 -- the files were run, with this status at the end; the standard input was not read
-pub record ServesFiles (holds : List ℕ → List ℕ → Type 0) (fails : List ℕ → Error → Type 0) (script : List ℕ) (names : List (List ℕ)) (old new : Input) (before after : Taken) (status : ℕ) : Type 0 where
+pub record ServesFiles (holds : List ℕ → List ℕ → Type 0) (fails : List ℕ → Error → Type 0) (script : List ℕ) (names : List (List ℕ)) (old new : Input) (before after : Written) (status : ℕ) : Type 0 where
   pub ended : Result Bool ServeError
   pub runs : RunsFiles holds fails script names before after ended
   pub ending : status ≡ status_of_end ended
   pub unread : new ≡ old
 
 -- the standard input was run with the programs in files, with this status at the end
-pub record ServesStream (holds : List ℕ → List ℕ → Type 0) (fails : List ℕ → Error → Type 0) (names : List (List ℕ)) (old new : Input) (before after : Taken) (status : ℕ) : Type 0 where
+pub record ServesStream (holds : List ℕ → List ℕ → Type 0) (fails : List ℕ → Error → Type 0) (names : List (List ℕ)) (old new : Input) (before after : Written) (status : ℕ) : Type 0 where
   pub ended : Result Bool ServeError
   pub runs : RunsStream holds fails names old new before after ended
   pub ending : status ≡ status_of_end ended
 
 -- what running a script comes to: that of the name `-` is the standard input, another one is a file
-abbrev pub ServesScript : (is_stream : Bool) → (List ℕ → List ℕ → Type 0) → (List ℕ → Error → Type 0) → List ℕ → List (List ℕ) → Input → Input → Taken → Taken → ℕ → Type 0
+abbrev pub ServesScript : (is_stream : Bool) → (List ℕ → List ℕ → Type 0) → (List ℕ → Error → Type 0) → List ℕ → List (List ℕ) → Input → Input → Written → Written → ℕ → Type 0
 ServesScript true holds fails script names old new before after status = ServesStream holds fails names old new before after status
 ServesScript false holds fails script names old new before after status = ServesFiles holds fails script names old new before after status
 
 -- what serving a request comes to
-abbrev pub Serves : (List ℕ → List ℕ → Type 0) → (List ℕ → Error → Type 0) → Request → Input → Input → Taken → Taken → ℕ → Type 0
+abbrev pub Serves : (List ℕ → List ℕ → Type 0) → (List ℕ → Error → Type 0) → Request → Input → Input → Written → Written → ℕ → Type 0
 Serves holds fails request.Input old new before after status = ServesInput old new before after status
 Serves holds fails (request.Check file) old new before after status = ServesCheck holds fails file.now old new before after status
 Serves holds fails (request.Plan file) old new before after status = ServesPlan holds fails file.now old new before after status

@@ -3,7 +3,7 @@
 ghost use Rattle.std.specs.Prelude.{◌≡◌, map, IfOk};
 ghost use Rattle.crew.specs.Outcome.{AreWorkers};
 ghost use Rattle.driver.specs.Programs.{ShowsMeaning};
-ghost use Rattle.scripts.specs.Script.{input as input_of, taken_by, RunsScript};
+ghost use Rattle.scripts.specs.Script.{input as input_of, bytes_written_by, RunsScript};
 ghost use Rattle.driver.specs.Reading.{CompilesFile, CompilesFiles};
 ghost use Rattle.driver.specs.Serving.{end_of, ChecksFile, PrintsPlan, RunsFiles, RunsInput, RunsStream, Serves};
 
@@ -53,10 +53,10 @@ pub fn serve<T: Threads + Wait + Sync, F: Files, R: Feed, W: Drain, E: Drain>(
     err: &mut E,
 ) -> (u8, Option<ScriptState>)
     ensures { Serves (F.may_hold files.now) (F.may_fail files.now) request.now
-        (input_of (R.given input.old) (R.ended input.old) (R.failures input.old))
-        (input_of (R.given input.new) (R.ended input.new) (R.failures input.new))
-        (taken_by (W.taken out.old) (W.failures out.old))
-        (taken_by (W.taken out.new) (W.failures out.new)) result.0 }
+        (input_of (R.bytes_read input.old) (R.ended input.old) (R.failures input.old))
+        (input_of (R.bytes_read input.new) (R.ended input.new) (R.failures input.new))
+        (bytes_written_by (W.bytes_written out.old) (W.failures out.old))
+        (bytes_written_by (W.bytes_written out.new) (W.failures out.new)) result.0 }
 {
     let first_fault = &FirstFault::new();
     match request {
@@ -110,10 +110,10 @@ fn run_input<'a, T: Threads + Sync, R: Feed, W: Drain>(
     out: &mut W,
 ) -> (Result<bool, ServeError<'a>>, ScriptState)
     ensures { RunsInput
-        (input_of (R.given input.old) (R.ended input.old) (R.failures input.old))
-        (input_of (R.given input.new) (R.ended input.new) (R.failures input.new))
-        (taken_by (W.taken out.old) (W.failures out.old))
-        (taken_by (W.taken out.new) (W.failures out.new)) result.0 }
+        (input_of (R.bytes_read input.old) (R.ended input.old) (R.failures input.old))
+        (input_of (R.bytes_read input.new) (R.ended input.new) (R.failures input.new))
+        (bytes_written_by (W.bytes_written out.old) (W.failures out.old))
+        (bytes_written_by (W.bytes_written out.new) (W.failures out.new)) result.0 }
 {
     let first_fault = &FirstFault::new();
     let programs = CompiledPrograms::new(
@@ -145,8 +145,8 @@ fn check_file<'a, F: Files, W: Drain>(
     out: &mut W,
 ) -> Result<bool, ServeError<'a>>
     ensures { ChecksFile (F.may_hold files.now file.entry.now) (F.may_fail files.now file.entry.now) file.entry.now
-        (taken_by (W.taken out.old) (W.failures out.old))
-        (taken_by (W.taken out.new) (W.failures out.new)) result }
+        (bytes_written_by (W.bytes_written out.old) (W.failures out.old))
+        (bytes_written_by (W.bytes_written out.new) (W.failures out.new)) result }
 {
     drop(compiled_file(alloc, file, files)?);
     match write_all(out, OK_LINE) {
@@ -163,8 +163,8 @@ fn print_plan<'a, F: Files, W: Drain>(
     out: &mut W,
 ) -> Result<bool, ServeError<'a>>
     ensures { PrintsPlan (F.may_hold files.now file.entry.now) (F.may_fail files.now file.entry.now) file.entry.now
-        (taken_by (W.taken out.old) (W.failures out.old))
-        (taken_by (W.taken out.new) (W.failures out.new)) result }
+        (bytes_written_by (W.bytes_written out.old) (W.failures out.old))
+        (bytes_written_by (W.bytes_written out.new) (W.failures out.new)) result }
 {
     let plan = compiled_file(alloc, file, files)?;
     let text = lowering::write(alloc, &plan)?;
@@ -184,8 +184,8 @@ fn run_files<'a, T: Threads + Sync, F: Files, W: Drain>(
     out: &mut W,
 ) -> (Result<bool, ServeError<'a>>, Option<ScriptState>)
     ensures { RunsFiles (F.may_hold files.now) (F.may_fail files.now) script.entry.now (map (λ p. p.now) programs.entry.names.now)
-        (taken_by (W.taken out.old) (W.failures out.old))
-        (taken_by (W.taken out.new) (W.failures out.new)) result.0 }
+        (bytes_written_by (W.bytes_written out.old) (W.failures out.old))
+        (bytes_written_by (W.bytes_written out.new) (W.failures out.new)) result.0 }
 {
     let plans = match compiled_files(alloc, programs.names, files) {
         Ok(plans) => plans,
@@ -217,10 +217,10 @@ fn run_stream<'a, T: Threads + Sync, F: Files, R: Feed, W: Drain>(
     out: &mut W,
 ) -> (Result<bool, ServeError<'a>>, Option<ScriptState>)
     ensures { RunsStream (F.may_hold files.now) (F.may_fail files.now) (map (λ p. p.now) programs.entry.names.now)
-        (input_of (R.given input.old) (R.ended input.old) (R.failures input.old))
-        (input_of (R.given input.new) (R.ended input.new) (R.failures input.new))
-        (taken_by (W.taken out.old) (W.failures out.old))
-        (taken_by (W.taken out.new) (W.failures out.new)) result.0 }
+        (input_of (R.bytes_read input.old) (R.ended input.old) (R.failures input.old))
+        (input_of (R.bytes_read input.new) (R.ended input.new) (R.failures input.new))
+        (bytes_written_by (W.bytes_written out.old) (W.failures out.old))
+        (bytes_written_by (W.bytes_written out.new) (W.failures out.new)) result.0 }
 {
     let compiled = match compiled_files(alloc, programs.names, files) {
         Ok(compiled) => compiled,

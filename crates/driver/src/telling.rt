@@ -91,7 +91,7 @@ fn show<E: Drain>(lines: Result<Vec<u8>, AllocError>, err: &mut E) {
 pub(crate) struct TextWriter<'a, E: Drain>(pub &'a mut E);
 
 impl<E: Drain> fmt::Write for TextWriter<'_, E> {
-    ghost write_str_gives = { λ old text new. E.taken new.0.now ≡ E.taken old.0.now ++ text };
+    ghost write_str_gives = { λ old text new. E.bytes_written new.0.now ≡ E.bytes_written old.0.now ++ text };
 
     fn write_str(&mut self, text: &str) -> fmt::Result {
         write_all(self.0, text.as_bytes()).map_err(|_| fmt::Error)

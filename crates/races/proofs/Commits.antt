@@ -40,16 +40,16 @@ answering_ends base old all left replies now so_far none =
     (so_far [] now (subst (λ (l : List (List Change)). AreAnswered base now l [] now) (sym none) refl))
 
 -- the reply of a result, or another
-abbrev taken : CommitReply → Result CommitReply AllocError → CommitReply
-taken other (Ok reply) = reply
-taken other (Err error) = other
+abbrev bytes_written : CommitReply → Result CommitReply AllocError → CommitReply
+bytes_written other (Ok reply) = reply
+bytes_written other (Err error) = other
 
 err≢ok : (error : AllocError) (reply : CommitReply) → Err error ≡ Ok reply → ⊥
 err≢ok error reply e = cc
 
 same_reply : (base : State) (old new : Pass) (batch : List Change) (result : Result CommitReply AllocError) (told reply : CommitReply) → result ≡ Ok told → result ≡ Ok reply
     → IsAnswered base old batch told new → IsAnswered base old batch reply new
-same_reply base old new batch result told reply gives is met = subst (λ (r : CommitReply). IsAnswered base old batch r new) (ap (taken reply) (sym gives ∙ is)) met
+same_reply base old new batch result told reply gives is met = subst (λ (r : CommitReply). IsAnswered base old batch r new) (ap (bytes_written reply) (sym gives ∙ is)) met
 
 -- what a commit gives is told by its reply
 pub is_answered : (base : State) (old new : Pass) (batch : List Change) (committed : Result ℕ SharedError) (result : Result CommitReply AllocError) (reply : CommitReply)

@@ -1,7 +1,7 @@
 -- The text of a race.
 use Rattle.std.specs.Prelude.{◌≡◌, ℕ, ◌<◌, suc, List, [], ◌∷◌, ◌++◌, Result, Ok, Err, codes, decimal}
 use Rattle.std.specs.List.{flat_map}
-use Rattle.scripts.specs.Script.{Taken}
+use Rattle.scripts.specs.Script.{Written}
 use Rattle.replies.specs.ReplyText.{word_line}
 use Rattle.replies.specs.OutcomeText.{outcome_text}
 use Rattle.replies.specs.declared.send_error.SendError.{SendError}
@@ -56,11 +56,11 @@ race_text race =
     word_line (codes "open") race.vertices ++ (replies_text race.replies.items ++ (early_text race.runs.items ++ late_text race.runs.items))
 
 -- of the text a beginning was taken
-abbrev pub TakesBeginning : List ℕ → Taken → Taken → Type 0
-TakesBeginning text before after = (written : List ℕ) × (rest : List ℕ) × (after.taken ≡ before.taken ++ written) × (written ++ rest ≡ text)
+abbrev pub TakesBeginning : List ℕ → Written → Written → Type 0
+TakesBeginning text before after = (written : List ℕ) × (rest : List ℕ) × (after.bytes_written ≡ before.bytes_written ++ written) × (written ++ rest ≡ text)
 
 -- all of the text was taken, or a beginning; the writer failed in this call where that is told, and else it did not
-abbrev pub Writes : {A : Type 0} → List ℕ → Taken → Taken → Result A SendError → Type 0
-Writes text before after (Ok x) = (after.taken ≡ before.taken ++ text) × (after.failures ≡ before.failures)
+abbrev pub Writes : {A : Type 0} → List ℕ → Written → Written → Result A SendError → Type 0
+Writes text before after (Ok x) = (after.bytes_written ≡ before.bytes_written ++ text) × (after.failures ≡ before.failures)
 Writes text before after (Err NoMemory) = TakesBeginning text before after × (after.failures ≡ before.failures)
 Writes text before after (Err WriteFailed) = TakesBeginning text before after × (before.failures < after.failures)

@@ -21,7 +21,7 @@ emits_failed a b t r e is fails = let p = err_from_is_err_and r is in rw (p.1, p
 -- nothing is sent
 pub sends_none : (o : Output) → Sends o o []
 sends_none o = record {
-  takes = record { same = refl; sent = []; taken = sym (append-nil o.taken); whole = sym (append-nil o.kept) };
+  takes = record { same = refl; sent = []; bytes_written = sym (append-nil o.bytes_written); whole = sym (append-nil o.kept) };
   failures = refl;
 }
 
@@ -30,7 +30,7 @@ takes_then : (a b c : Output) (t u rest : List ℕ) → Sends a b t → TakesFir
 takes_then a b c t u rest one other = record {
   same = other.same ∙ one.takes.same;
   sent = one.takes.sent ++ other.sent;
-  taken = other.taken ∙ ap (λ xs. xs ++ other.sent) one.takes.taken ∙ append_assoc a.taken one.takes.sent other.sent;
+  bytes_written = other.bytes_written ∙ ap (λ xs. xs ++ other.sent) one.takes.bytes_written ∙ append_assoc a.bytes_written one.takes.sent other.sent;
   whole =
       append_assoc one.takes.sent other.sent rest ∙ ap (λ xs. one.takes.sent ++ xs) other.whole ∙ sym (append_assoc one.takes.sent b.kept u)
       ∙ ap (λ xs. xs ++ u) one.takes.whole ∙ append_assoc a.kept t u;
@@ -51,18 +51,18 @@ part_more a b t u part = (
   record {
     same = part.1.same;
     sent = part.1.sent;
-    taken = part.1.taken;
+    bytes_written = part.1.bytes_written;
     whole = sym (append_assoc part.1.sent part.0 u) ∙ ap (λ xs. xs ++ u) part.1.whole ∙ append_assoc a.kept t u;
   },
 )
 
 -- what was sent before is a part, whatever is kept now
-pub part_before : (a b c : Output) (t u : List ℕ) → Sends a b t → c.writer ≡ b.writer → c.taken ≡ b.taken → SendsPart a c (t ++ u)
+pub part_before : (a b c : Output) (t u : List ℕ) → Sends a b t → c.writer ≡ b.writer → c.bytes_written ≡ b.bytes_written → SendsPart a c (t ++ u)
 part_before a b c t u one who same =
-    part_more a c t u (b.kept, record { same = who ∙ one.takes.same; sent = one.takes.sent; taken = same ∙ one.takes.taken; whole = one.takes.whole })
+    part_more a c t u (b.kept, record { same = who ∙ one.takes.same; sent = one.takes.sent; bytes_written = same ∙ one.takes.bytes_written; whole = one.takes.whole })
 
 -- a text was sent, and memory ran out over what comes after it
-pub lacks_memory : (a b c : Output) (t u : List ℕ) → Sends a b t → c.writer ≡ b.writer → c.taken ≡ b.taken → c.failures ≡ b.failures → Fails a c (t ++ u) NoMemory
+pub lacks_memory : (a b c : Output) (t u : List ℕ) → Sends a b t → c.writer ≡ b.writer → c.bytes_written ≡ b.bytes_written → c.failures ≡ b.failures → Fails a c (t ++ u) NoMemory
 lacks_memory a b c t u one who same failures = (part_before a b c t u one who same, failures ∙ one.failures)
 
 -- nothing is a part of each text
@@ -94,35 +94,35 @@ fails_more a b t u NoMemory h = (part_more a b t u h.0, h.1)
 fails_more a b t u WriteFailed h = (part_more a b t u h.0, h.1)
 
 -- a write that failed took a part of what was kept
-pub part_of_write : (a b : Output) → b.writer ≡ a.writer → TakesPart a.taken b.taken a.kept → SendsPart a b []
+pub part_of_write : (a b : Output) → b.writer ≡ a.writer → TakesPart a.bytes_written b.bytes_written a.kept → SendsPart a b []
 part_of_write a b same part = (
   drop part.count a.kept,
   record {
     same = same;
     sent = take part.count a.kept;
-    taken = part.taken;
+    bytes_written = part.bytes_written;
     whole = take-append-drop part.count a.kept ∙ sym (append-nil a.kept);
   },
 )
 
 -- where nothing was kept and nothing is, what was taken is the text
-pub all_taken : (a b : Output) (t : List ℕ) → a.kept ≡ [] → b.kept ≡ [] → Sends a b t → b.taken ≡ a.taken ++ t
-all_taken a b t before after sends =
+pub all_written : (a b : Output) (t : List ℕ) → a.kept ≡ [] → b.kept ≡ [] → Sends a b t → b.bytes_written ≡ a.bytes_written ++ t
+all_written a b t before after sends =
     let sent : sends.takes.sent ≡ t =
     sym (append-nil sends.takes.sent) ∙ ap (λ xs. sends.takes.sent ++ xs) (sym after) ∙ sends.takes.whole ∙ ap (λ xs. xs ++ t) before in
-    sends.takes.taken ∙ ap (λ xs. a.taken ++ xs) sent
+    sends.takes.bytes_written ∙ ap (λ xs. a.bytes_written ++ xs) sent
 
 -- what was kept is written, and then these bytes
-pub sends_written : (a b c : Output) (bytes : List ℕ) → Sends a b [] → b.kept ≡ [] → c.writer ≡ b.writer → c.kept ≡ b.kept → c.taken ≡ b.taken ++ bytes → c.failures ≡ b.failures → Sends a c bytes
-sends_written a b c bytes one none who kept taken failures =
+pub sends_written : (a b c : Output) (bytes : List ℕ) → Sends a b [] → b.kept ≡ [] → c.writer ≡ b.writer → c.kept ≡ b.kept → c.bytes_written ≡ b.bytes_written ++ bytes → c.failures ≡ b.failures → Sends a c bytes
+sends_written a b c bytes one none who kept bytes_written failures =
     let whole : bytes ++ c.kept ≡ b.kept ++ bytes = ap (λ xs. bytes ++ xs) (kept ∙ none) ∙ append-nil bytes ∙ ap (λ xs. xs ++ bytes) (sym none) in
-    sends_then a b c [] bytes one (record { takes = record { same = who; sent = bytes; taken = taken; whole = whole }; failures = failures })
+    sends_then a b c [] bytes one (record { takes = record { same = who; sent = bytes; bytes_written = bytes_written; whole = whole }; failures = failures })
 
 -- and the writer fails in these
-pub fails_written : (a b c : Output) (bytes : List ℕ) → Sends a b [] → b.kept ≡ [] → c.writer ≡ b.writer → TakesPart b.taken c.taken bytes → b.failures < c.failures → Fails a c bytes WriteFailed
+pub fails_written : (a b c : Output) (bytes : List ℕ) → Sends a b [] → b.kept ≡ [] → c.writer ≡ b.writer → TakesPart b.bytes_written c.bytes_written bytes → b.failures < c.failures → Fails a c bytes WriteFailed
 fails_written a b c bytes one none who part more =
     let whole : take part.count bytes ++ drop part.count bytes ≡ b.kept ++ bytes = take-append-drop part.count bytes ∙ ap (λ xs. xs ++ bytes) (sym none) in
-    fails_then a b c [] bytes WriteFailed one ((drop part.count bytes, record { same = who; sent = take part.count bytes; taken = part.taken; whole = whole }), more)
+    fails_then a b c [] bytes WriteFailed one ((drop part.count bytes, record { same = who; sent = take part.count bytes; bytes_written = part.bytes_written; whole = whole }), more)
 
 -- a text that is known otherwise was sent, and a call sends another
 pub emits_next : {A : Type 0} (a b c : Output) (t u told : List ℕ) (r : Result A SendError) → Sends a b told → told ≡ t → Emits b c u r → Emits a c (t ++ u) r

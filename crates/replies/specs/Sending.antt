@@ -6,19 +6,19 @@ use Rattle.replies.specs.declared.send_error.SendError.TheVariants.{NoMemory, Wr
 -- which writer it is, the bytes that it has taken, those that are kept for it, and how often it has failed
 pub record Output : Type 0 where
   pub writer : ℕ
-  pub taken : List ℕ
+  pub bytes_written : List ℕ
   pub kept : List ℕ
   pub failures : ℕ
 
 -- an output of its parts
 abbrev pub output : ℕ → List ℕ → List ℕ → ℕ → Output
-output writer taken kept failures = record { writer = writer; taken = taken; kept = kept; failures = failures }
+output writer bytes_written kept failures = record { writer = writer; bytes_written = bytes_written; kept = kept; failures = failures }
 
 -- of the text, after what was kept, the same writer took a beginning, and the rest is left
 pub record TakesFirst (old new : Output) (text rest : List ℕ) : Type 0 where
   pub same : new.writer ≡ old.writer
   pub sent : List ℕ
-  pub taken : new.taken ≡ old.taken ++ sent
+  pub bytes_written : new.bytes_written ≡ old.bytes_written ++ sent
   pub whole : sent ++ rest ≡ old.kept ++ text
 
 -- the text is taken or kept, all of it, and the writer did not fail

@@ -32,7 +32,7 @@ impl<'a, W: Drain> Model for ReplyWriter<'a, W> {
 
     ghost Value = { Output };
 
-    ghost view = { λ r. output r.writer.ghost_name (W.taken r.writer.now)
+    ghost view = { λ r. output r.writer.ghost_name (W.bytes_written r.writer.now)
         r.kept.now.items (W.failures r.writer.now) };
 }
 

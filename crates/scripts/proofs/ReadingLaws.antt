@@ -98,7 +98,7 @@ module _ (programs : List ProgramTree) (old : Reading) (bytes : List ℕ) (a : O
       (unended_line-none (now.partial ++ rest) whole)
 
   -- out of memory on the way
-  pub taking_lacks : (c : Output) → c.writer ≡ b.writer → c.taken ≡ b.taken → c.failures ≡ b.failures → Fails a c (replies_within programs old bytes) NoMemory
+  pub taking_lacks : (c : Output) → c.writer ≡ b.writer → c.bytes_written ≡ b.bytes_written → c.failures ≡ b.failures → Fails a c (replies_within programs old bytes) NoMemory
   taking_lacks c who same failures =
       subst (λ text. Fails a c text NoMemory) (sym t.replies) (lacks_memory a b c t.text (replies_within programs now rest) t.sends who same failures)
 

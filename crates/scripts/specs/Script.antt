@@ -7,41 +7,41 @@ use Rattle.scripts.specs.Replies.{replies, replies_to_ended, faults}
 
 -- the bytes that a reader has given, whether it has ended, and how often it has failed
 pub record Input : Type 0 where
-  pub given : List ℕ
+  pub bytes_read : List ℕ
   pub ended : Bool
   pub failures : ℕ
 
 -- the bytes that a writer has taken, and how often it has failed
-pub record Taken : Type 0 where
-  pub taken : List ℕ
+pub record Written : Type 0 where
+  pub bytes_written : List ℕ
   pub failures : ℕ
 
 -- an input of its parts
 abbrev pub input : List ℕ → Bool → ℕ → Input
-input given ended failures = record { given = given; ended = ended; failures = failures }
+input bytes_read ended failures = record { bytes_read = bytes_read; ended = ended; failures = failures }
 
 -- what a writer has taken, of its parts
-abbrev pub taken_by : List ℕ → ℕ → Taken
-taken_by taken failures = record { taken = taken; failures = failures }
+abbrev pub bytes_written_by : List ℕ → ℕ → Written
+bytes_written_by bytes_written failures = record { bytes_written = bytes_written; failures = failures }
 
 -- neither the reader nor the writer failed
-abbrev pub NoneFails : Input → Input → Taken → Taken → Type 0
+abbrev pub NoneFails : Input → Input → Written → Written → Type 0
 NoneFails old new before after = (new.failures ≡ old.failures) × (after.failures ≡ before.failures)
 
 -- all was read, what was written is the replies to the bytes read, and it is known whether a run of them ended by a fault
-pub record RepliesToAll (programs : List ProgramTree) (old new : Input) (before after : Taken) (faulted : Bool) : Type 0 where
+pub record RepliesToAll (programs : List ProgramTree) (old new : Input) (before after : Written) (faulted : Bool) : Type 0 where
   pub bytes : List ℕ
-  pub given : new.given ≡ old.given ++ bytes
+  pub bytes_read : new.bytes_read ≡ old.bytes_read ++ bytes
   pub ended : new.ended ≡ true
-  pub taken : after.taken ≡ before.taken ++ replies programs bytes
+  pub bytes_written : after.bytes_written ≡ before.bytes_written ++ replies programs bytes
   pub fault : faulted ≡ faults programs bytes
   pub quiet : NoneFails old new before after
 
 -- what was written is exactly the replies to the lines that have ended among the bytes read, and these are a beginning of the replies to the bytes
-pub record RepliesToEnded (programs : List ProgramTree) (old new : Input) (before after : Taken) : Type 0 where
+pub record RepliesToEnded (programs : List ProgramTree) (old new : Input) (before after : Written) : Type 0 where
   pub bytes : List ℕ
-  pub given : new.given ≡ old.given ++ bytes
-  pub taken : after.taken ≡ before.taken ++ replies_to_ended programs bytes
+  pub bytes_read : new.bytes_read ≡ old.bytes_read ++ bytes
+  pub bytes_written : after.bytes_written ≡ before.bytes_written ++ replies_to_ended programs bytes
   pub rest : List ℕ
   pub beginning : replies_to_ended programs bytes ++ rest ≡ replies programs bytes
 
@@ -50,15 +50,15 @@ abbrev pub IsBeginning : List ℕ → List ℕ → Type 0
 IsBeginning written whole = (rest : List ℕ) × (written ++ rest ≡ whole)
 
 -- what was written is a beginning of the replies to the bytes read, however they would have gone on; after the end of the reader they would not
-pub record RepliesInPart (programs : List ProgramTree) (old new : Input) (before after : Taken) : Type 0 where
+pub record RepliesInPart (programs : List ProgramTree) (old new : Input) (before after : Written) : Type 0 where
   pub bytes : List ℕ
-  pub given : new.given ≡ old.given ++ bytes
+  pub bytes_read : new.bytes_read ≡ old.bytes_read ++ bytes
   pub written : List ℕ
-  pub taken : after.taken ≡ before.taken ++ written
+  pub bytes_written : after.bytes_written ≡ before.bytes_written ++ written
   pub beginning : (more : List ℕ) → (new.ended ≡ true → more ≡ []) → IsBeginning written (replies programs (bytes ++ more))
 
 -- how a script ends: each error of a device where that device failed and the other did not, and else where none did
-abbrev pub RunsScript : List ProgramTree → Input → Input → Taken → Taken → Result Bool ScriptError → Type 0
+abbrev pub RunsScript : List ProgramTree → Input → Input → Written → Written → Result Bool ScriptError → Type 0
 RunsScript programs old new before after (Ok faulted) = RepliesToAll programs old new before after faulted
 RunsScript programs old new before after (Err NoMemory) = RepliesInPart programs old new before after × NoneFails old new before after
 RunsScript programs old new before after (Err ReadFailed) = RepliesToEnded programs old new before after × (old.failures < new.failures) × (after.failures ≡ before.failures)

@@ -1,7 +1,7 @@
 //! Scripts from their first byte to their last.
 ghost use Rattle.std.specs.Prelude.{◌≡◌, ◌<◌, [], length};
 ghost use Rattle.scripts.specs.inside.Progress.{at_start};
-ghost use Rattle.scripts.specs.Script.{input, taken_by, RunsScript};
+ghost use Rattle.scripts.specs.Script.{input, bytes_written_by, RunsScript};
 
 use crate::error::ScriptError;
 use crate::host::Host;
@@ -29,10 +29,10 @@ pub fn script<P: Programs, R: Feed, W: Drain>(
 ) -> (Result<bool, ScriptError>, ScriptState)
     requires ready { P.are_ready programs.now }
     ensures { RunsScript (P.trees programs.now)
-        (input (R.given reader.old) (R.ended reader.old) (R.failures reader.old))
-        (input (R.given reader.new) (R.ended reader.new) (R.failures reader.new))
-        (taken_by (W.taken writer.old) (W.failures writer.old))
-        (taken_by (W.taken writer.new) (W.failures writer.new)) result.0 }
+        (input (R.bytes_read reader.old) (R.ended reader.old) (R.failures reader.old))
+        (input (R.bytes_read reader.new) (R.ended reader.new) (R.failures reader.new))
+        (bytes_written_by (W.bytes_written writer.old) (W.failures writer.old))
+        (bytes_written_by (W.bytes_written writer.new) (W.failures writer.new)) result.0 }
 {
     let host = Host { alloc, programs };
     let mut state = ScriptState::new(alloc);
@@ -50,10 +50,10 @@ fn run_whole<P: Programs, R: Feed, W: Drain>(
     requires ready { P.are_ready host.now.programs.now }
     requires state { state.old ≡ at_start }
     ensures { RunsScript (P.trees host.now.programs.now)
-        (input (R.given reader.old) (R.ended reader.old) (R.failures reader.old))
-        (input (R.given reader.new) (R.ended reader.new) (R.failures reader.new))
-        (taken_by (W.taken writer.old) (W.failures writer.old))
-        (taken_by (W.taken writer.new) (W.failures writer.new)) result }
+        (input (R.bytes_read reader.old) (R.ended reader.old) (R.failures reader.old))
+        (input (R.bytes_read reader.new) (R.ended reader.new) (R.failures reader.new))
+        (bytes_written_by (W.bytes_written writer.old) (W.failures writer.old))
+        (bytes_written_by (W.bytes_written writer.new) (W.failures writer.new)) result }
 {
     let mut block = vec![in host.alloc; 0u8; BLOCK]?;
     let mut kept = Vec::with_capacity(host.alloc, BLOCK)?;
@@ -83,10 +83,10 @@ fn read_to_end<P: Programs, R: Feed, W: Drain>(
     requires kept { replies.old.kept ≡ [] }
     ensures same_writer { replies.new.writer ≡ replies.old.writer }
     ensures runs { RunsScript (P.trees host.now.programs.now)
-        (input (R.given reader.old) (R.ended reader.old) (R.failures reader.old))
-        (input (R.given reader.new) (R.ended reader.new) (R.failures reader.new))
-        (taken_by replies.old.taken replies.old.failures)
-        (taken_by replies.new.taken replies.new.failures) result }
+        (input (R.bytes_read reader.old) (R.ended reader.old) (R.failures reader.old))
+        (input (R.bytes_read reader.new) (R.ended reader.new) (R.failures reader.new))
+        (bytes_written_by replies.old.bytes_written replies.old.failures)
+        (bytes_written_by replies.new.bytes_written replies.new.failures) result }
 {
     'reads: loop {
         let count = match reader.read(block) {

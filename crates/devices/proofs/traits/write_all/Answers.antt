@@ -5,11 +5,11 @@ use Rattle.std.proofs.lemmas.List.{take_rest}
 use Rattle.devices.proofs.traits.write_all.Goals as goal
 
 -- the first `count` bytes of what is left go on from the first `written` bytes
-taken_more : (old mid new bytes : List ℕ) (written count : ℕ)
+written_more : (old mid new bytes : List ℕ) (written count : ℕ)
     → mid ≡ old ++ take written bytes → new ≡ mid ++ take count (take (length bytes - written) (drop written bytes))
     → new ≡ old ++ take (written + count) bytes
-taken_more old mid new bytes written count so_far taken =
-    taken ∙ ap (λ rest. mid ++ take count rest) (take_rest bytes written) ∙ ap (λ front. front ++ take count (drop written bytes)) so_far
+written_more old mid new bytes written count so_far bytes_written =
+    bytes_written ∙ ap (λ rest. mid ++ take count rest) (take_rest bytes written) ∙ ap (λ front. front ++ take count (drop written bytes)) so_far
     ∙ append_assoc old (take written bytes) (take count (drop written bytes)) ∙ ap (λ all. old ++ all) (sym (take-add written count bytes))
 
 -- it takes no more than is left
@@ -22,6 +22,6 @@ loop-written-preserved g c =
     let before = c.loop-written.invariant in let write = c.in_ok-written.ensures in
     record {
       within = within _ _ _ before.within write.bound;
-      taken = taken_more _ _ _ _ _ _ before.taken write.taken;
+      bytes_written = written_more _ _ _ _ _ _ before.bytes_written write.bytes_written;
       no_failure = cc;
     }

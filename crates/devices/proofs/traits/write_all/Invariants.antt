@@ -5,7 +5,7 @@ use Rattle.devices.proofs.traits.write_all.Given as goal
 abbrev pub invariant-loop-written : goal.invariant-loop-written
 invariant-loop-written g l = record {
   within : l.written ≤ length l.bytes;
-  taken : g.W.Drain.taken l.writer ≡ g.W.Drain.taken l.initial.writer ++ take l.written l.bytes;
+  bytes_written : g.W.Drain.bytes_written l.writer ≡ g.W.Drain.bytes_written l.initial.writer ++ take l.written l.bytes;
   no_failure : g.W.Drain.failures l.writer ≡ g.W.Drain.failures l.initial.writer;
 }
 

@@ -12,7 +12,7 @@ returns-in-Ok g c =
     record {
       plan = c.in_ok-plan.plan;
       planned = held;
-      taken = c.in-Ok.ensures.ok ∙ ap (λ (t : List ℕ). g.W.Drain.taken c.args.out.now ++ t) is;
+      bytes_written = c.in-Ok.ensures.ok ∙ ap (λ (t : List ℕ). g.W.Drain.bytes_written c.args.out.now ++ t) is;
       fault = refl;
     }
 
@@ -24,7 +24,7 @@ returns g c =
     inr (record {
       plan = c.in_ok-plan.plan;
       planned = held;
-      part = subst (λ (t : List ℕ). TakesPart (g.W.Drain.taken c.args.out.now) (g.W.Drain.taken c.write_all.new.writer) t) is c.in-Err.ensures.err.0;
+      part = subst (λ (t : List ℕ). TakesPart (g.W.Drain.bytes_written c.args.out.now) (g.W.Drain.bytes_written c.write_all.new.writer) t) is c.in-Err.ensures.err.0;
       failed = c.in-Err.ensures.err.1;
       outcome = refl;
     })

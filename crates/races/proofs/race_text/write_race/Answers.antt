@@ -1,5 +1,5 @@
 use Rattle.std.proofs.Common.{rules}
-use Rattle.scripts.specs.Script.{taken_by}
+use Rattle.scripts.specs.Script.{bytes_written_by}
 use Rattle.races.specs.RaceText.{race_text}
 use Rattle.races.proofs.Writing.{none_written, written_tied}
 use Rattle.races.proofs.race_text.write_race.Goals as goal
@@ -9,5 +9,5 @@ returns-in_err-kept g c = none_written _ _ _ c.from_residual.ensures.1
 
 pub returns : goal.returns
 returns g c =
-    written_tied g.W.Drain.taken g.W.Drain.failures _ _ (race_text c.args.race.now) (taken_by (g.W.Drain.taken c.args.writer.now) (g.W.Drain.failures c.args.writer.now)) _ _
+    written_tied g.W.Drain.bytes_written g.W.Drain.failures _ _ (race_text c.args.race.now) (bytes_written_by (g.W.Drain.bytes_written c.args.writer.now) (g.W.Drain.failures c.args.writer.now)) _ _
     c.replies.inside.writer.now _ c.send_all-result.ensures.writes c.replies.view_is (search rules)

@@ -11,4 +11,4 @@ returns-in_err-kept g c = runs_failed _ _ _ _ _ _ _ c.from_residual-in_err-kept.
 pub returns : goal.returns
 returns g c =
     let name = sym (ap (λ o. o.writer) c.replies.view_is ∙ c.read_to_end-result.ensures.same_writer) in
-    runs_tied g.W.Drain.taken g.W.Drain.failures _ _ _ _ _ _ _ _ c.replies.inside.writer.now _ c.read_to_end-result.ensures.runs c.replies.view_is (search rules)
+    runs_tied g.W.Drain.bytes_written g.W.Drain.failures _ _ _ _ _ _ _ _ c.replies.inside.writer.now _ c.read_to_end-result.ensures.runs c.replies.view_is (search rules)

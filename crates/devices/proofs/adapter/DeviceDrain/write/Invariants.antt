@@ -5,6 +5,6 @@ use Rattle.devices.proofs.adapter.DeviceDrain.write.Given as goal
 
 abbrev pub invariant-loop : goal.invariant-loop
 invariant-loop g l = record {
-  taken : l.self.taken ≡ l.initial.self.taken;
+  bytes_written : l.self.bytes_written ≡ l.initial.self.bytes_written;
   contents : Keeps (g.T.Write.contents l.initial.self.inner) (g.T.Write.contents l.self.inner);
 }

@@ -5,7 +5,7 @@ use Rattle.devices.proofs.adapter.DeviceFeed.read.Given as goal
 
 abbrev pub invariant-loop-self : goal.invariant-loop-self
 invariant-loop-self g l = record {
-  given : l.self.given ≡ l.initial.self.given;
+  bytes_read : l.self.bytes_read ≡ l.initial.self.bytes_read;
   is_ended : l.self.is_ended ≡ l.initial.self.is_ended;
   reads_left : l.self.reads_left ≤ l.initial.self.reads_left;
   remaining : Keeps (g.T.Read.remaining l.initial.self.inner) (g.T.Read.remaining l.self.inner);
