@@ -3,7 +3,7 @@ use Rattle.std.proofs.Common.{◌≡◌, ℕ, zero, suc, ◌+◌, ◌<◌, ℤ, 
 use Rattle.std.proofs.lemmas.List.{drop-set-lt, length-set, take-set}
 use Rattle.std.proofs.lemmas.List.Filters.{FiltersInPlace, FiltersInPlace-more_no, FiltersInPlace-more_set}
 use Rattle.std.specs.Map.{keys_of, values_of}
-use Rattle.edge_fold.specs.Given.{entries_of}
+use Rattle.edge_fold.specs.Contributions.{entries_of}
 
 -- what is read is written at the front, and counts where it passes
 pub one_more : {X : Type 0} (p : X → Bool) (xs ys : List X) (k i : ℕ) (x : X) (n : ℕ) (b : Bool) → FiltersInPlace p xs ys k i → i < length ys → p x ≡ b → x ≡ get_or ys i x → (b ≡ true → n ≡ k + 1) → (b ≡ false → n ≡ k)

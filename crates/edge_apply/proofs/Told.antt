@@ -14,7 +14,7 @@ use Rattle.crew.specs.Partition.{AreEnds, end_of}
 use Rattle.edge_fold.specs.Changed.{change_at, changed, changed_from}
 use Rattle.edge_fold.specs.Gathered.{is_between}
 use Rattle.kernels.specs.EdgeApply.{after_edges}
-use Rattle.edge_fold.specs.Given.{all_given, given_on, reduced_at}
+use Rattle.edge_fold.specs.Contributions.{all_given, given_on, reduced_at}
 use Rattle.edge_fold.proofs.Ascending.{within_test}
 use Rattle.edge_fold.proofs.ChangedRows.{changed_from-append, nothing_changed}
 use Rattle.edge_fold.proofs.Meaning.{entries_after}

@@ -1,7 +1,7 @@
 //! Tests of vertices in the bits of a set, where each vertex has a weight.
 ghost use Rattle.std.specs.Prelude.{◌≡◌, ◌≤◌, length, take};
 ghost use Rattle.std.specs.List.{filter};
-ghost use Rattle.edge_fold.specs.Given.{entries_of};
+ghost use Rattle.edge_fold.specs.Contributions.{entries_of};
 ghost use Rattle.edge_apply.specs.Words.{is_set, passes_words};
 
 use crate::members::is_set;

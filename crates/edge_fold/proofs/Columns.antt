@@ -10,7 +10,7 @@ use Rattle.algorithm_meaning.specs.Arithmetic.{reduced}
 use Rattle.algorithm_meaning.proofs.Reductions.{reductions}
 use Rattle.edge_fold.specs.declared.apply_context.SourceContribution.{SourceContribution}
 use Rattle.edge_fold.specs.Between.{firsts}
-use Rattle.edge_fold.specs.Given.{column, each_given, entries_of, for_vector, given_on, pairs, reduced_at}
+use Rattle.edge_fold.specs.Contributions.{column, each_given, entries_of, for_vector, given_on, pairs, reduced_at}
 use Rattle.edge_fold.specs.ReducedContributions.{IsReducedTo, IsReducedContribution, numbers_given, reduced_with}
 use Rattle.edge_fold.proofs.Edges.{pairs-append, unit_pairs-append}
 

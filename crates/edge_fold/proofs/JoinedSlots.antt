@@ -16,7 +16,7 @@ use Rattle.typed_tree.specs.StepTree.{StepsTree}
 use Rattle.algorithm_meaning.specs.State.{StateValue}
 use Rattle.algorithm_meaning.specs.Value.{entry}
 use Rattle.edge_fold.specs.Folded.{HasFoldedFor, waiting}
-use Rattle.edge_fold.specs.Given.{all_given, given_on, reduced_at}
+use Rattle.edge_fold.specs.Contributions.{all_given, given_on, reduced_at}
 use Rattle.edge_fold.specs.Held.{held_with}
 use Rattle.edge_fold.specs.FoldStarts.{combined, first_entry, seed}
 use Rattle.edge_fold.specs.VectorAccumulators.{HaveJoined, active, held_in, held_in_with, index_in, reduction_in}

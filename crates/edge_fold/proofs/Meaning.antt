@@ -16,7 +16,7 @@ use Rattle.algorithm_meaning.specs.Value.{entry}
 use Rattle.algorithm_meaning.proofs.EdgeApplies.{entry_after_edges}
 use Rattle.algorithm_meaning.proofs.Reductions.{reduced_all-append}
 use Rattle.kernels.specs.FunctionCode.{each}
-use Rattle.edge_fold.specs.Given.{IsBy, IsReducedBy, all_given, for_vector, given_on, reduced_at}
+use Rattle.edge_fold.specs.Contributions.{IsBy, IsReducedBy, all_given, for_vector, given_on, reduced_at}
 use Rattle.edge_fold.proofs.Folds.{reduced_at-append}
 
 same : (m n : ℕ) → (m == n) ≡ true → m ≡ n

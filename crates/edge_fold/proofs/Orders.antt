@@ -10,7 +10,7 @@ use Rattle.algorithm_meaning.proofs.Lists.{fold-permutation}
 use Rattle.edge_fold.specs.declared.apply_context.ApplyContext.{ApplyContext}
 use Rattle.edge_fold.specs.declared.scratch.Scratch.{Scratch}
 use Rattle.edge_fold.specs.Folded.{HasFolded}
-use Rattle.edge_fold.specs.Given.{all_given, given_on, reduced_at}
+use Rattle.edge_fold.specs.Contributions.{all_given, given_on, reduced_at}
 use Rattle.edge_fold.specs.FoldStarts.{first_entry}
 use Rattle.edge_fold.proofs.Folds.{given_on-append, reduced_at-append, reduced_at-swap}
 

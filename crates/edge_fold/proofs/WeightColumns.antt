@@ -8,7 +8,7 @@ use Rattle.algorithm_meaning.specs.State.{StateValue}
 use Rattle.kernels.specs.Meaning.{given_in}
 use Rattle.edge_fold.specs.Between.{firsts}
 use Rattle.edge_fold.specs.Folded.{AreWeightless}
-use Rattle.edge_fold.specs.Given.{all_given, column, entries_of, for_vector, given_on, row}
+use Rattle.edge_fold.specs.Contributions.{all_given, column, entries_of, for_vector, given_on, row}
 
 pub firsts_of : (ks : List ℕ) (ws : List ℤ) → firsts (entries_of ks ws) ≡ ks
 firsts_of [] ws = refl

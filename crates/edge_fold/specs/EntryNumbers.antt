@@ -7,7 +7,7 @@ use Rattle.vectors.specs.Lanes.{lane_entry}
 use Rattle.edge_fold.specs.declared.apply_context.SourceContribution.{SourceContribution}
 use Rattle.edge_fold.specs.declared.entry_numbers.EntryWith.{EntryWith}
 use Rattle.edge_fold.specs.declared.entry_numbers.NumberWith.{NumberWith}
-use Rattle.edge_fold.specs.Given.{reduced_at}
+use Rattle.edge_fold.specs.Contributions.{reduced_at}
 
 -- the source's entry on the left of the operator, and the weight on its right
 abbrev pub entry_with : EntryWith → (source : ℕ) → (weight : ℤ) → ℤ

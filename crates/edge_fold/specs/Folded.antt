@@ -12,7 +12,7 @@ use Rattle.edge_fold.specs.declared.apply_context.ApplyContext.{ApplyContext}
 use Rattle.edge_fold.specs.declared.pairs.PairColumns.{PairColumns}
 use Rattle.edge_fold.specs.declared.pairs.Pairs.{Pairs}
 use Rattle.edge_fold.specs.declared.scratch.Scratch.{Scratch}
-use Rattle.edge_fold.specs.Given.{IsReducedBy, all_given, given_on, pairs, reduced_at}
+use Rattle.edge_fold.specs.Contributions.{IsReducedBy, all_given, given_on, pairs, reduced_at}
 use Rattle.edge_fold.specs.FoldStarts.{combined, first_entry}
 use Rattle.edge_fold.specs.VectorAccumulators.{active, held_in_with, reduction_in}
 

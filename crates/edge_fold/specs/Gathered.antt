@@ -10,7 +10,7 @@ use Rattle.vertex_marks.specs.Marks.{is_marked}
 use Rattle.edge_fold.specs.declared.accumulator.Accumulator.{Accumulator}
 use Rattle.edge_fold.specs.declared.gathered.Gathered.{Gathered}
 use Rattle.edge_fold.specs.declared.gathered.GatheredIn.{GatheredIn}
-use Rattle.edge_fold.specs.Given.{IsReducedBy, all_given, given_on, reduced_at}
+use Rattle.edge_fold.specs.Contributions.{IsReducedBy, all_given, given_on, reduced_at}
 
 -- the numbers, each given to its vertex
 abbrev pub numbers_of : List EntryChange → List (ℕ × ℤ)

@@ -4,7 +4,7 @@ use Rattle.apply_options.specs.declared.reduction.Reduction.{Reduction}
 use Rattle.vertex_marks.specs.Marks.{is_marked, room as marks_room}
 use Rattle.edge_fold.specs.declared.accumulator.Accumulator.{Accumulator}
 use Rattle.edge_fold.specs.declared.initial_entries.InitialEntries.{InitialEntries}
-use Rattle.edge_fold.specs.Given.{reduced_at}
+use Rattle.edge_fold.specs.Contributions.{reduced_at}
 use Rattle.edge_fold.specs.FoldStarts.{combined, opening_seed, start_of}
 
 -- a number combined with the new entry at a vertex, or the number where nothing was given

@@ -1,4 +1,4 @@
-pub mod Given
+pub mod Contributions
 pub mod Between
 pub mod FoldStarts
 pub mod Held

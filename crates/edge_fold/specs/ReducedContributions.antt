@@ -4,7 +4,7 @@ use Rattle.edge_lists.specs.Edge.{Edge}
 use Rattle.apply_options.specs.declared.reduction.Reduction.{Reduction}
 use Rattle.algorithm_meaning.specs.Arithmetic.{reduced}
 use Rattle.edge_fold.specs.declared.apply_context.SourceContribution.{SourceContribution}
-use Rattle.edge_fold.specs.Given.{reduced_at}
+use Rattle.edge_fold.specs.Contributions.{reduced_at}
 
 -- a number reduced with those of sources
 abbrev pub reduced_with : Reduction → (number : ℕ → ℤ) → ℤ → List ℕ → ℤ

@@ -5,7 +5,7 @@ ghost use Rattle.algorithm_meaning.specs.State.{StateValue};
 ghost use Rattle.edge_fold.specs.Folded.{IsContextOf, HasFolded};
 ghost use Rattle.edge_lists.specs.Edge.{Edge};
 ghost use Rattle.edge_fold.specs.Between.{firsts};
-ghost use Rattle.edge_fold.specs.Given.{column, entries_of};
+ghost use Rattle.edge_fold.specs.Contributions.{column, entries_of};
 ghost use Rattle.kernels.specs.declared.columns.TheConstants.{PAIRS};
 
 use crate::apply_context::ApplyContext;

@@ -9,7 +9,7 @@ ghost use Rattle.kernels.specs.Registers.{HasSizes};
 ghost use Rattle.kernels.specs.Kernels.{IsEdgeKernel};
 ghost use Rattle.kernels.specs.Meaning.{given_in};
 ghost use Rattle.edge_fold.specs.Folded.{IsContextOf};
-ghost use Rattle.edge_fold.specs.Given.{all_given, entries_of};
+ghost use Rattle.edge_fold.specs.Contributions.{all_given, entries_of};
 ghost use Rattle.edge_fold.specs.EntryNumbers.{IsEntryContribution};
 
 use crate::apply_context::{ApplyContext, EntryContribution, SourceContribution};

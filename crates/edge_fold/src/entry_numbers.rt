@@ -1,6 +1,6 @@
 //! Numbers that depend on the source of an edge and on its weight.
 ghost use Rattle.std.specs.Prelude.{◌≡◌, ◌<◌, ℕ, ℤ, pos, List, IfSome, length, get_or};
-ghost use Rattle.edge_fold.specs.Given.{entries_of};
+ghost use Rattle.edge_fold.specs.Contributions.{entries_of};
 ghost use Rattle.edge_fold.specs.EntryNumbers.{IsReducedOver, entry_with, number_with, reduced_over};
 
 use algorithm_meaning::{arithmetic_of, reduce};

@@ -11,7 +11,7 @@ ghost use Rattle.edge_fold.specs.declared.apply_context.FoldStart.TheVariants.{U
 ghost use Rattle.edge_fold.specs.Ends.{IsEndTest};
 ghost use Rattle.edge_fold.specs.Folded.{IsContextOf, HasFolded};
 ghost use Rattle.edge_fold.specs.Gathered.{AreAscending, AreGathered, IsAscending, IsGatheredBy, gathered_for, number_at, numbers_of};
-ghost use Rattle.edge_fold.specs.Given.{reduced_at};
+ghost use Rattle.edge_fold.specs.Contributions.{reduced_at};
 ghost use Rattle.edge_fold.specs.Held.{held_with};
 ghost use Rattle.edge_fold.specs.FoldStarts.{combined};
 ghost use Rattle.edge_fold.specs.VectorAccumulators.{active, held_in_with, reduction_in};

@@ -7,7 +7,7 @@ ghost use Rattle.apply_options.specs.declared.reduction.Reduction.{Reduction};
 ghost use Rattle.typed_tree.specs.StepTree.{StepsTree};
 ghost use Rattle.algorithm_meaning.specs.State.{StateValue};
 ghost use Rattle.edge_fold.specs.Gathered.{AreAscending, AreGathered, IsAscending, is_between, numbers_of};
-ghost use Rattle.edge_fold.specs.Given.{reduced_at};
+ghost use Rattle.edge_fold.specs.Contributions.{reduced_at};
 
 use crate::gathered::{Gathered, GatheredIn};
 use std::alloc::{AllocError, Global};

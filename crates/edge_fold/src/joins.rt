@@ -3,7 +3,7 @@ ghost use Rattle.std.specs.Prelude.{◌≡◌, ℕ, ℤ, pos, ◌^◌, ◌∷◌
 ghost use Rattle.std.specs.List.Sorted.{IsNonDecreasing};
 ghost use Rattle.edge_fold.specs.Gathered.{numbers_of};
 ghost use Rattle.edge_fold.specs.EntryNumbers.{each_weighed, number_with};
-ghost use Rattle.edge_fold.specs.Given.{each_given, entries_of, for_vector, given_from};
+ghost use Rattle.edge_fold.specs.Contributions.{each_given, entries_of, for_vector, given_from};
 ghost use Rattle.edge_fold.specs.Held.{AreJoined, AreMarked, held, held_with, room};
 ghost use Rattle.vertex_marks.specs.Marks.{is_marked};
 ghost use Rattle.kernels.specs.ContributionColumns.{contribution_at, truth_at};

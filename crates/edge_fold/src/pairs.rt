@@ -28,7 +28,7 @@ pub(crate) struct PairColumns<'a> {
 
 impl Pairs {
     ghost use Rattle.edge_fold.specs.Folded.{edges_in, waiting};
-    ghost use Rattle.edge_fold.specs.Given.{column, entries_of, row};
+    ghost use Rattle.edge_fold.specs.Contributions.{column, entries_of, row};
 
     /// None.
     pub(crate) fn new() -> Pairs

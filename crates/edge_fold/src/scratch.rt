@@ -33,7 +33,7 @@ impl Scratch {
     ghost use Rattle.edge_fold.specs.Folded.{IsContextOf, HasFolded};
     ghost use Rattle.edge_lists.specs.Edge.{Edge};
     ghost use Rattle.edge_fold.specs.Between.{firsts};
-    ghost use Rattle.edge_fold.specs.Given.{entries_of, row};
+    ghost use Rattle.edge_fold.specs.Contributions.{entries_of, row};
 
     /// Memory for applies, of which none is taken yet.
     pub fn new(alloc: Global) -> Scratch

@@ -6,7 +6,7 @@ ghost use Rattle.kernels.specs.Registers.{HasSizes};
 ghost use Rattle.kernels.specs.Kernels.{IsEdgeKernel};
 ghost use Rattle.edge_fold.specs.Folded.{IsContextOf};
 ghost use Rattle.kernels.specs.Meaning.{given_in};
-ghost use Rattle.edge_fold.specs.Given.{all_given};
+ghost use Rattle.edge_fold.specs.Contributions.{all_given};
 
 use crate::apply_context::{ApplyContext, SourceContribution};
 use algorithm_meaning::arithmetic_of;

@@ -4,7 +4,7 @@ ghost use Rattle.edge_fold.specs.Gathered.{IsGatheredBy, gathered_for, numbers_o
 ghost use Rattle.algorithm_meaning.specs.Arithmetic.{arithmetic};
 ghost use Rattle.algorithm_meaning.specs.Value.{entry};
 ghost use Rattle.edge_fold.specs.EntryNumbers.{each_weighed};
-ghost use Rattle.edge_fold.specs.Given.{IsBy, each_given, entries_of, given_from};
+ghost use Rattle.edge_fold.specs.Contributions.{IsBy, each_given, entries_of, given_from};
 ghost use Rattle.edge_fold.specs.Held.{held_with};
 ghost use Rattle.edge_fold.specs.VectorAccumulators.{HaveJoined, active, held_in_with, index_in, reduction_in};
 ghost use Rattle.kernels.specs.declared.columns.TheConstants.{PAIRS};

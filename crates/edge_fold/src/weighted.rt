@@ -4,7 +4,7 @@ ghost use Rattle.typed_tree.specs.StepTree.{StepsTree};
 ghost use Rattle.algorithm_meaning.specs.State.{StateValue};
 ghost use Rattle.edge_lists.specs.Edge.{Edge};
 ghost use Rattle.edge_fold.specs.Folded.{IsContextOf, HasFolded};
-ghost use Rattle.edge_fold.specs.Given.{column, entries_of, row};
+ghost use Rattle.edge_fold.specs.Contributions.{column, entries_of, row};
 ghost use Rattle.kernels.specs.declared.columns.TheConstants.{PAIRS};
 
 use crate::apply_context::ApplyContext;

@@ -14,7 +14,7 @@ use Rattle.edge_fold.specs.declared.scratch.Scratch.{Scratch}
 use Rattle.edge_fold.specs.Between.{edges_between}
 use Rattle.edge_fold.specs.declared.apply_context.ApplyContext.{ApplyContext}
 use Rattle.edge_fold.specs.Folded.{HasFolded}
-use Rattle.edge_fold.specs.Given.{column, entries_of, given_on, reduced_at}
+use Rattle.edge_fold.specs.Contributions.{column, entries_of, given_on, reduced_at}
 use Rattle.edge_fold.proofs.Meaning.{filtered_edges}
 use Rattle.edge_fold.proofs.Walks.{InRow}
 use Rattle.edge_fold.proofs.WeightColumns.{firsts-filter}

@@ -12,7 +12,7 @@ use Rattle.edge_fold.specs.declared.scratch.Scratch.{Scratch}
 use Rattle.edge_fold.specs.Between.{edges_between, firsts}
 use Rattle.edge_fold.specs.Ends.{IsTest}
 use Rattle.edge_fold.specs.Folded.{IsContextOf, HasFolded}
-use Rattle.edge_fold.specs.Given.{column}
+use Rattle.edge_fold.specs.Contributions.{column}
 use Rattle.edge_fold.proofs.Walks.{FoldsMore, HasPassed, HasWalked, folded_along, pass_done, walk_done}
 use Rattle.flat_snapshot.specs.FlatEdges.{AreDegreesOf}
 use Rattle.flat_snapshot.specs.Neighbours.{sources_of}

@@ -2,7 +2,7 @@
 use Rattle.std.specs.Prelude.{ℕ, ℤ, pos, Bool, List, [], ◌∷◌, ◌++◌, get_or}
 use Rattle.std.specs.List.{filter}
 use Rattle.edge_lists.specs.Edge.{Edge}
-use Rattle.edge_fold.specs.Given.{column}
+use Rattle.edge_fold.specs.Contributions.{column}
 use Rattle.flat_snapshot.specs.Neighbours.{sources_of}
 
 -- those entries whose neighbour passes; an entry is a neighbour and a weight

@@ -16,7 +16,7 @@ use Rattle.vectors.specs.declared.changes.EntryChange.{EntryChange}
 use Rattle.edge_fold.specs.declared.gathered.GatheredIn.{GatheredIn}
 use Rattle.edge_fold.specs.Changed.{change_at, changed_from}
 use Rattle.edge_fold.specs.Folded.{AreKernels}
-use Rattle.edge_fold.specs.Given.{IsReducedBy, all_given, given_on, reduced_at}
+use Rattle.edge_fold.specs.Contributions.{IsReducedBy, all_given, given_on, reduced_at}
 use Rattle.edge_fold.specs.EntryNumbers.{reduced_over}
 use Rattle.pull_engine.specs.Columns.{passing}
 

@@ -9,7 +9,7 @@ ghost use Rattle.kernels.specs.State.{StateValue};
 ghost use Rattle.edge_fold.specs.Between.{edges_between};
 ghost use Rattle.edge_fold.specs.Ends.{IsEndTest, IsTest};
 ghost use Rattle.edge_fold.specs.Folded.{IsContextOf, HasFolded};
-ghost use Rattle.edge_fold.specs.Given.{column};
+ghost use Rattle.edge_fold.specs.Contributions.{column};
 ghost use Rattle.flat_snapshot.specs.Neighbours.{sources_of};
 ghost use Rattle.vertex_blocks.specs.Forms.{listed};
 ghost use Rattle.pull_engine.specs.Columns.{columns, passing};

@@ -4,7 +4,7 @@ use Rattle.std.proofs.lemmas.List.{take-map}
 use Rattle.std.specs.List.{filter}
 use Rattle.std.specs.Map.{keys_of, values_of}
 use Rattle.edge_fold.specs.Between.{firsts}
-use Rattle.edge_fold.specs.Given.{entries_of}
+use Rattle.edge_fold.specs.Contributions.{entries_of}
 use Rattle.edge_fold.proofs.WeightColumns.{firsts-filter}
 use Rattle.edge_apply.proofs.Kept.{entries_read}
 

@@ -11,7 +11,7 @@ use Rattle.edge_fold.specs.declared.apply_context.ApplyContext.{ApplyContext}
 use Rattle.edge_fold.specs.declared.scratch.Scratch.{Scratch}
 use Rattle.edge_fold.specs.Between.{edges_between}
 use Rattle.edge_fold.specs.Folded.{HasFolded}
-use Rattle.edge_fold.specs.Given.{all_given, given_on, reduced_at}
+use Rattle.edge_fold.specs.Contributions.{all_given, given_on, reduced_at}
 use Rattle.edge_fold.proofs.Orders.{folded_alike, groups_in_any_order}
 use Rattle.crew.specs.Partition.{AreEnds, piece_of}
 use Rattle.crew.proofs.PieceLists.{pieces_are_the_list}

@@ -7,7 +7,7 @@ use Rattle.std.specs.List.{filter}
 use Rattle.edge_lists.specs.Edge.{Edge}
 use Rattle.apply_options.specs.declared.reduction.Reduction.{Reduction}
 use Rattle.kernels.specs.EdgeApply.{is_member}
-use Rattle.edge_fold.specs.Given.{for_vector, given_on, reduced_at, row}
+use Rattle.edge_fold.specs.Contributions.{for_vector, given_on, reduced_at, row}
 use Rattle.edge_fold.proofs.Meaning.{filtered_edges}
 use Rattle.edge_fold.proofs.Folds.{given_on-append, reduced_at-append, reduced_at-swap}
 use Rattle.flat_snapshot.specs.Neighbours.{destinations_of}

@@ -11,7 +11,7 @@ use Rattle.edge_fold.specs.declared.apply_context.ApplyContext.{ApplyContext}
 use Rattle.edge_fold.specs.declared.scratch.Scratch.{Scratch}
 use Rattle.edge_fold.specs.Ends.{IsTest}
 use Rattle.edge_fold.specs.Folded.{IsContextOf, HasFolded}
-use Rattle.edge_fold.specs.Given.{row}
+use Rattle.edge_fold.specs.Contributions.{row}
 use Rattle.edge_fold.proofs.Walks.{FoldsMore, HasPassed, HasWalked, InRow, folded_along, pass_done, walk_done}
 use Rattle.flat_snapshot.specs.FlatEdges.{AreDegreesOf}
 use Rattle.flat_snapshot.specs.Neighbours.{destinations_of}

@@ -2,7 +2,7 @@
 use Rattle.std.specs.Prelude.{ℕ, Bool, List, [], ◌∷◌, ◌++◌}
 use Rattle.std.specs.List.{filter}
 use Rattle.edge_lists.specs.Edge.{Edge}
-use Rattle.edge_fold.specs.Given.{row}
+use Rattle.edge_fold.specs.Contributions.{row}
 use Rattle.flat_snapshot.specs.Neighbours.{destinations_of}
 
 -- those of a graph with these edges

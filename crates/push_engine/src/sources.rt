@@ -8,7 +8,7 @@ ghost use Rattle.kernels.specs.State.{StateValue};
 ghost use Rattle.edge_fold.specs.Between.{edges_between};
 ghost use Rattle.edge_fold.specs.Ends.{IsTest};
 ghost use Rattle.edge_fold.specs.Folded.{IsContextOf, HasFolded};
-ghost use Rattle.edge_fold.specs.Given.{row};
+ghost use Rattle.edge_fold.specs.Contributions.{row};
 ghost use Rattle.flat_snapshot.specs.Neighbours.{destinations_of};
 ghost use Rattle.push_engine.specs.Rows.{rows_to};
 ghost use Rattle.edge_apply.specs.Words.{passes_words};

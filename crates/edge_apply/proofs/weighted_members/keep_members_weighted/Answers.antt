@@ -1,6 +1,6 @@
 use Rattle.std.proofs.Common.{◌≡◌, Option, Bor, ℕ, List, take, sym, subst}
 use Rattle.std.specs.List.{filter}
-use Rattle.edge_fold.specs.Given.{entries_of}
+use Rattle.edge_fold.specs.Contributions.{entries_of}
 use Rattle.edge_apply.specs.Words.{passes_words}
 use Rattle.edge_apply.proofs.Filtered.{all_pass}
 use Rattle.edge_apply.proofs.weighted_members.keep_members_weighted.Goals as goal

@@ -3,7 +3,7 @@ use Rattle.std.proofs.lemmas.Int.{to_z-of_z}
 use Rattle.std.proofs.lemmas.List.{length-set}
 use Rattle.std.proofs.lemmas.List.Filters.{FiltersInPlace}
 use Rattle.std.specs.List.{filter}
-use Rattle.edge_fold.specs.Given.{entries_of}
+use Rattle.edge_fold.specs.Contributions.{entries_of}
 use Rattle.edge_apply.specs.Words.{is_set}
 use Rattle.edge_fold.proofs.WeightColumns.{entries-at, entries-length}
 use Rattle.edge_apply.proofs.Kept.{entries-set, entries-take, one_more}

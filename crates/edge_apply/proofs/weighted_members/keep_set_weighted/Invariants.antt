@@ -1,6 +1,6 @@
 use Rattle.std.proofs.Common.{◌≡◌, length}
 use Rattle.std.proofs.lemmas.List.Filters.{FiltersInPlace}
-use Rattle.edge_fold.specs.Given.{entries_of}
+use Rattle.edge_fold.specs.Contributions.{entries_of}
 use Rattle.edge_apply.specs.Words.{is_set}
 use Rattle.edge_apply.proofs.weighted_members.keep_set_weighted.Given as goal
 

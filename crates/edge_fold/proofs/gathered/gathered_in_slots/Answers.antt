@@ -4,7 +4,7 @@ use Rattle.edge_fold.specs.declared.apply_context.FoldStart.TheVariants as start
 use Rattle.edge_fold.specs.declared.gathered.GatheredIn.{GatheredIn}
 use Rattle.edge_fold.specs.declared.vector_accumulator.VectorAccumulator.{VectorAccumulator}
 use Rattle.edge_fold.specs.Gathered.{AreAscending, IsGatheredBy, gathered_for}
-use Rattle.edge_fold.specs.Given.{reduced_at}
+use Rattle.edge_fold.specs.Contributions.{reduced_at}
 use Rattle.edge_fold.specs.FoldStarts.{combined}
 use Rattle.edge_fold.specs.VectorAccumulators.{held_in_with, index_in, reduction_in}
 use Rattle.edge_fold.proofs.Ascending.{ascending_push}

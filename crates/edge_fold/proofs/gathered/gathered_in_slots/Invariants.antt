@@ -5,7 +5,7 @@ use Rattle.kernels.specs.Registers.{HasSizes}
 use Rattle.edge_fold.specs.declared.apply_context.FoldStart.TheVariants as start
 use Rattle.edge_fold.specs.Ends.{IsEndTest}
 use Rattle.edge_fold.specs.Gathered.{AreAscending, IsGatheredBy, gathered_for}
-use Rattle.edge_fold.specs.Given.{reduced_at}
+use Rattle.edge_fold.specs.Contributions.{reduced_at}
 use Rattle.edge_fold.specs.FoldStarts.{combined}
 use Rattle.edge_fold.specs.VectorAccumulators.{held_in_with, reduction_in}
 use Rattle.edge_fold.proofs.gathered.gathered_in_slots.Given as goal

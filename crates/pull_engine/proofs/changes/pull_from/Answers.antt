@@ -2,7 +2,7 @@ use Rattle.std.proofs.Common.{◌≡◌, ◌-◌, ℕ, List, IfSome, Option, sub
 use Rattle.std.proofs.lemmas.Result.{IfOk-weaker}
 use Rattle.edge_apply.specs.Words.{passes_words}
 use Rattle.edge_fold.specs.Between.{edges_between}
-use Rattle.edge_fold.specs.Given.{all_given}
+use Rattle.edge_fold.specs.Contributions.{all_given}
 use Rattle.pull_engine.specs.Pulls.{IsRangeChanged}
 use Rattle.pull_engine.specs.Ranges.{AreChangesFrom}
 use Rattle.pull_engine.specs.declared.ranges.PullRange.{PullRange}

@@ -3,7 +3,7 @@ use Rattle.edge_lists.specs.Edge.{Edge}
 use Rattle.kernels.specs.StepTree.{StepsTree}
 use Rattle.kernels.specs.State.{StateValue}
 use Rattle.edge_fold.specs.Folded.{IsContextOf, HasFolded}
-use Rattle.edge_fold.specs.Given.{column}
+use Rattle.edge_fold.specs.Contributions.{column}
 use Rattle.vertex_blocks.specs.Forms.{listed}
 use Rattle.edge_apply.specs.Words.{passes_words}
 use Rattle.pull_engine.specs.Columns.{passing}

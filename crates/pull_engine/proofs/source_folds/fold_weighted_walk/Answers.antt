@@ -2,7 +2,7 @@ use Rattle.std.proofs.Common.{rules, take, FitsSigned, to_z, of_z, w64, ◌∙�
 use Rattle.std.proofs.lemmas.Int.{to_z-of_z}
 use Rattle.edge_apply.specs.Words.{passes_words}
 use Rattle.edge_fold.specs.EntryNumbers.{entry_with}
-use Rattle.edge_fold.specs.Given.{entries_of}
+use Rattle.edge_fold.specs.Contributions.{entries_of}
 use Rattle.pull_engine.proofs.ColumnFolds.{kept_entries}
 use Rattle.pull_engine.proofs.EntryFolds.{entries_of_round}
 use Rattle.pull_engine.proofs.source_folds.fold_weighted_walk.Goals as goal

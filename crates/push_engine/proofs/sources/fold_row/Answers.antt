@@ -4,7 +4,7 @@ use Rattle.edge_lists.specs.Edge.{Edge}
 use Rattle.kernels.specs.StepTree.{StepsTree}
 use Rattle.kernels.specs.State.{StateValue}
 use Rattle.edge_fold.specs.Folded.{IsContextOf, HasFolded}
-use Rattle.edge_fold.specs.Given.{row}
+use Rattle.edge_fold.specs.Contributions.{row}
 use Rattle.vertex_blocks.specs.Forms.{listed}
 use Rattle.edge_apply.specs.Words.{passes_words}
 use Rattle.push_engine.proofs.sources.fold_row.Goals as goal

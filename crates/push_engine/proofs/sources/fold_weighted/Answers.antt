@@ -1,5 +1,5 @@
 use Rattle.std.proofs.Common.{◌++◌, take, refl, ap, arith}
-use Rattle.edge_fold.specs.Given.{entries_of, row}
+use Rattle.edge_fold.specs.Contributions.{entries_of, row}
 use Rattle.edge_fold.proofs.Walks.{folded_along, parts_of, walk_begun, walk_done, walk_more}
 use Rattle.edge_apply.specs.Words.{passes_words}
 use Rattle.push_engine.proofs.Blocks.{entries_kept, none_left}

@@ -1,6 +1,6 @@
 use Rattle.std.proofs.Common.{◌<◌, ◌+◌, ℤ, length, drop, ap, ◌∙◌}
 use Rattle.kernels.specs.ContributionColumns.{contribution_at}
-use Rattle.edge_fold.specs.Given.{given_from, reduced_at}
+use Rattle.edge_fold.specs.Contributions.{given_from, reduced_at}
 use Rattle.edge_fold.specs.Held.{held_with}
 use Rattle.edge_fold.specs.FoldStarts.{combined, opening_seed, start_of}
 use Rattle.edge_fold.proofs.Folds.{one_pair_more}

@@ -1,5 +1,5 @@
 use Rattle.std.proofs.Common.{◌≡◌, ℕ, ℤ, drop}
-use Rattle.edge_fold.specs.Given.{each_given, reduced_at}
+use Rattle.edge_fold.specs.Contributions.{each_given, reduced_at}
 use Rattle.edge_fold.specs.Held.{held_with}
 use Rattle.edge_fold.specs.FoldStarts.{combined, opening_seed, start_of}
 use Rattle.edge_fold.proofs.accumulator.Accumulator.join_each.Given as goal

@@ -1,7 +1,7 @@
 use Rattle.std.proofs.Common.{rules, ◌≡◌, ◌==◌, ◌<◌, ◌+◌, if◌then◌else◌, ℤ, pos, length, get_or, drop, to_z, of_z, w64, ap, ◌∙◌}
 use Rattle.algorithm_meaning.specs.Arithmetic.{reduced}
 use Rattle.edge_fold.specs.EntryNumbers.{each_weighed, number_with}
-use Rattle.edge_fold.specs.Given.{entries_of, reduced_at}
+use Rattle.edge_fold.specs.Contributions.{entries_of, reduced_at}
 use Rattle.edge_fold.specs.Held.{held_with}
 use Rattle.edge_fold.specs.FoldStarts.{combined, opening_seed, start_of}
 use Rattle.edge_fold.proofs.EntryRows.{one_weight_more}

@@ -1,6 +1,6 @@
 use Rattle.std.proofs.Common.{◌≡◌, ℕ, ℤ, drop}
 use Rattle.edge_fold.specs.EntryNumbers.{each_weighed, number_with}
-use Rattle.edge_fold.specs.Given.{entries_of, reduced_at}
+use Rattle.edge_fold.specs.Contributions.{entries_of, reduced_at}
 use Rattle.edge_fold.specs.Held.{held_with}
 use Rattle.edge_fold.specs.FoldStarts.{combined, opening_seed, start_of}
 use Rattle.edge_fold.proofs.accumulator.Accumulator.join_each_weight.Given as goal

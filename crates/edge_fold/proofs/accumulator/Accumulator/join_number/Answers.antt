@@ -2,7 +2,7 @@ use Rattle.std.proofs.Common.{rules, ℤ, FitsSigned, w64, OnOk, sym, subst}
 use Rattle.std.proofs.lemmas.Int.{to_z-of_z}
 use Rattle.apply_options.specs.declared.reduction.Reduction.{Reduction}
 use Rattle.apply_options.specs.declared.reduction.Reduction.TheVariants as reduction
-use Rattle.edge_fold.specs.Given.{each_given}
+use Rattle.edge_fold.specs.Contributions.{each_given}
 use Rattle.edge_fold.specs.Held.{AreJoined}
 use Rattle.edge_fold.proofs.accumulator.Accumulator.join_number.Goals as goal
 

@@ -1,7 +1,7 @@
 use Rattle.std.proofs.Common.{OnOk, sym, subst}
 use Rattle.apply_options.specs.declared.reduction.Reduction.{Reduction}
 use Rattle.edge_fold.specs.EntryNumbers.{each_weighed, number_with}
-use Rattle.edge_fold.specs.Given.{entries_of}
+use Rattle.edge_fold.specs.Contributions.{entries_of}
 use Rattle.edge_fold.specs.Held.{AreJoined}
 use Rattle.edge_fold.proofs.accumulator.Accumulator.join_weights.Goals as goal
 

@@ -4,7 +4,7 @@ use Rattle.typed_tree.specs.declared.expression.Operator.{Operator}
 use Rattle.typed_tree.specs.declared.expression.Operator.TheVariants as operator
 use Rattle.algorithm_meaning.specs.Arithmetic.{arithmetic}
 use Rattle.edge_fold.specs.EntryNumbers.{each_weighed}
-use Rattle.edge_fold.specs.Given.{entries_of}
+use Rattle.edge_fold.specs.Contributions.{entries_of}
 use Rattle.edge_fold.specs.Held.{AreJoined}
 use Rattle.edge_fold.proofs.accumulator.Accumulator.join_weights_by.Goals as goal
 

@@ -3,7 +3,7 @@ use Rattle.std.proofs.lemmas.List.Elements.{Contains-get_or}
 use Rattle.apply_options.specs.declared.reduction.Reduction.{Reduction}
 use Rattle.vectors.specs.declared.changes.EntryChange.{EntryChange}
 use Rattle.edge_fold.specs.Gathered.{numbers_of}
-use Rattle.edge_fold.specs.Given.{reduced_at}
+use Rattle.edge_fold.specs.Contributions.{reduced_at}
 use Rattle.edge_fold.proofs.Ascending.{ascends_more, no_numbers}
 use Rattle.edge_fold.proofs.ChangedRows.{between_kept}
 use Rattle.edge_fold.proofs.Gathering.{all_found, found_step, left_step, one_number_more, onto}

@@ -2,7 +2,7 @@ use Rattle.std.proofs.Common.{◌≡◌, ℕ, ◌<◌, ◌≤◌, ◌⊎◌, ℤ
 use Rattle.std.specs.List.Sorted.{IsNonDecreasing}
 use Rattle.apply_options.specs.declared.reduction.Reduction.{Reduction}
 use Rattle.edge_fold.specs.Gathered.{numbers_of}
-use Rattle.edge_fold.specs.Given.{reduced_at}
+use Rattle.edge_fold.specs.Contributions.{reduced_at}
 use Rattle.edge_fold.proofs.Ascending.{AscendBelow}
 use Rattle.edge_fold.proofs.Gathering.{onto}
 use Rattle.edge_fold.proofs.accumulator.Accumulator.numbers.Given as goal

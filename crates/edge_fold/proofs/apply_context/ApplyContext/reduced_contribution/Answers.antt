@@ -2,7 +2,7 @@ use Rattle.std.proofs.Common.{rules, ◌≡◌, None, List, ap, ◌∙◌}
 use Rattle.std.proofs.lemmas.List.{append-nil}
 use Rattle.typed_tree.specs.StepTree.{StepsTree}
 use Rattle.kernels.specs.Meaning.{given_in}
-use Rattle.edge_fold.specs.Given.{all_given}
+use Rattle.edge_fold.specs.Contributions.{all_given}
 use Rattle.edge_fold.proofs.Edges.{one_function}
 use Rattle.edge_fold.proofs.apply_context.ApplyContext.reduced_contribution.Goals as goal
 

@@ -3,7 +3,7 @@ use Rattle.std.proofs.lemmas.Int.{to_z-of_z}
 use Rattle.algorithm_meaning.specs.Arithmetic.{arithmetic}
 use Rattle.algorithm_meaning.specs.Value.{entry}
 use Rattle.vectors.specs.Lanes.{lane_entry}
-use Rattle.edge_fold.specs.Given.{reduced_at}
+use Rattle.edge_fold.specs.Contributions.{reduced_at}
 use Rattle.edge_fold.proofs.apply_context.ApplyContext.reduced_entries.Goals as goal
 
 pub returns : goal.returns

@@ -4,7 +4,7 @@ use Rattle.typed_tree.specs.declared.expression.Operator.TheVariants as operator
 use Rattle.algorithm_meaning.specs.Arithmetic.{arithmetic}
 use Rattle.algorithm_meaning.specs.Value.{entry}
 use Rattle.vectors.specs.Lanes.{lane_entry}
-use Rattle.edge_fold.specs.Given.{reduced_at}
+use Rattle.edge_fold.specs.Contributions.{reduced_at}
 use Rattle.edge_fold.proofs.apply_context.ApplyContext.together_by_first.Goals as goal
 
 pub returns-in_ok-reduce_numbers-in-Entry : goal.returns-in_ok-reduce_numbers-in-Entry

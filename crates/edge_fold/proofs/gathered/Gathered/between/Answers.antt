@@ -2,7 +2,7 @@ use Rattle.std.proofs.Common.{◌≡◌, ◌<◌, ◌≤◌, ◌++◌, ◌∷◌
 use Rattle.std.proofs.lemmas.List.{take_all, take_more}
 use Rattle.edge_fold.specs.declared.gathered.GatheredIn.{GatheredIn}
 use Rattle.edge_fold.specs.Gathered.{IsAscending, IsGatheredBy, gathered_for, is_between}
-use Rattle.edge_fold.specs.Given.{all_given, reduced_at}
+use Rattle.edge_fold.specs.Contributions.{all_given, reduced_at}
 use Rattle.edge_fold.proofs.Ascending.{ascending_at, none_between, part_more}
 use Rattle.edge_fold.proofs.Gathering.{is_gathered_at, is_gathered_by-push}
 use Rattle.edge_fold.proofs.Meaning.{filtered_edges}

@@ -1,7 +1,7 @@
 use Rattle.std.proofs.Common.{◌≡◌, ℕ, ℤ, if◌then◌else◌, take}
 use Rattle.apply_options.specs.declared.reduction.Reduction.{Reduction}
 use Rattle.edge_fold.specs.Gathered.{AreAscending, IsGatheredBy, gathered_for, is_between}
-use Rattle.edge_fold.specs.Given.{reduced_at}
+use Rattle.edge_fold.specs.Contributions.{reduced_at}
 use Rattle.edge_fold.proofs.gathered.Gathered.between.Given as goal
 
 -- the range is taken of the first vectors

@@ -1,7 +1,7 @@
 use Rattle.std.proofs.Common.{pos, ℕ, ℤ, List, [], ◌∷◌, refl, subst}
 use Rattle.std.proofs.lemmas.Result.{on_ok_weaker}
 use Rattle.apply_options.specs.declared.reduction.Reduction.{Reduction}
-use Rattle.edge_fold.specs.Given.{IsBy}
+use Rattle.edge_fold.specs.Contributions.{IsBy}
 use Rattle.edge_fold.proofs.JoinedSlots.{folded_before}
 use Rattle.edge_fold.proofs.scratch.Scratch.begin_whole.Goals as goal
 

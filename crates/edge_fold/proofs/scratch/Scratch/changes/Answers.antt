@@ -4,7 +4,7 @@ use Rattle.edge_lists.specs.Edge.{Edge}
 use Rattle.algorithm_meaning.specs.EdgeApply.{after_edges}
 use Rattle.algorithm_meaning.specs.Value.{entry}
 use Rattle.edge_fold.specs.Folded.{waiting}
-use Rattle.edge_fold.specs.Given.{all_given, given_on, pairs, reduced_at}
+use Rattle.edge_fold.specs.Contributions.{all_given, given_on, pairs, reduced_at}
 use Rattle.edge_fold.specs.VectorAccumulators.{active, held_in}
 use Rattle.edge_fold.proofs.Findings.{changed_agree}
 use Rattle.edge_fold.proofs.JoinedSlots.{old_entries}

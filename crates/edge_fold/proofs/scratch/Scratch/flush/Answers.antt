@@ -1,7 +1,7 @@
 use Rattle.std.proofs.Common.{ℕ, ℤ, List, ap, ◌∙◌}
 use Rattle.edge_lists.specs.Edge.{Edge}
 use Rattle.edge_fold.specs.FoldStarts.{combined, first_entry}
-use Rattle.edge_fold.specs.Given.{all_given, given_on, reduced_at}
+use Rattle.edge_fold.specs.Contributions.{all_given, given_on, reduced_at}
 use Rattle.edge_fold.specs.VectorAccumulators.{active, held_in_with}
 use Rattle.edge_fold.proofs.scratch.Scratch.flush.Goals as goal
 

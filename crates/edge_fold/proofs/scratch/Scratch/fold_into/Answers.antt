@@ -1,7 +1,7 @@
 use Rattle.std.proofs.Common.{◌==◌, pos, ℕ, ℤ, List, [], ◌∷◌, cond, refl, subst}
 use Rattle.std.proofs.lemmas.Result.{on_ok_weaker}
 use Rattle.apply_options.specs.declared.reduction.Reduction.{Reduction}
-use Rattle.edge_fold.specs.Given.{IsBy, all_given, column, each_given, entries_of, given_on}
+use Rattle.edge_fold.specs.Contributions.{IsBy, all_given, column, each_given, entries_of, given_on}
 use Rattle.edge_fold.proofs.Columns.{together_given}
 use Rattle.edge_fold.proofs.JoinedSlots.{folded_before, joined_alike}
 use Rattle.edge_fold.proofs.Orders.{folded_more_alike}

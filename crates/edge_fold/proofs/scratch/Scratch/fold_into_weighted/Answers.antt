@@ -1,6 +1,6 @@
 use Rattle.std.proofs.Common.{◌==◌, pos, ℕ, ℤ, List, [], ◌∷◌, cond, refl, subst}
 use Rattle.apply_options.specs.declared.reduction.Reduction.{Reduction}
-use Rattle.edge_fold.specs.Given.{IsBy, all_given, column, each_given, entries_of, given_on}
+use Rattle.edge_fold.specs.Contributions.{IsBy, all_given, column, each_given, entries_of, given_on}
 use Rattle.edge_fold.proofs.EntryRows.{weighed_together}
 use Rattle.edge_fold.proofs.JoinedSlots.{folded_before, joined_alike}
 use Rattle.edge_fold.proofs.scratch.Scratch.fold_into_weighted.Goals as goal

@@ -3,7 +3,7 @@ use Rattle.apply_options.specs.declared.reduction.Reduction.{Reduction}
 use Rattle.algorithm_meaning.specs.Arithmetic.{arithmetic}
 use Rattle.algorithm_meaning.specs.Value.{entry}
 use Rattle.edge_fold.specs.EntryNumbers.{each_weighed}
-use Rattle.edge_fold.specs.Given.{IsBy, all_given, entries_of, given_on, reduced_at, row}
+use Rattle.edge_fold.specs.Contributions.{IsBy, all_given, entries_of, given_on, reduced_at, row}
 use Rattle.edge_fold.proofs.EntryRows.{weighed_row}
 use Rattle.edge_fold.proofs.JoinedSlots.{folded_before, joined_alike}
 use Rattle.edge_fold.proofs.scratch.Scratch.fold_weighted.Goals as goal

@@ -1,6 +1,6 @@
 use Rattle.std.proofs.Common.{ℕ, ℤ, List, ◌++◌, take, drop, true, refl, ap, ◌∙◌}
 use Rattle.edge_fold.specs.Folded.{waiting}
-use Rattle.edge_fold.specs.Given.{entries_of, row}
+use Rattle.edge_fold.specs.Contributions.{entries_of, row}
 use Rattle.edge_fold.proofs.Edges.{row_parts}
 use Rattle.edge_fold.proofs.JoinedSlots.{folded_later}
 use Rattle.edge_fold.proofs.Walks.{folded_along}

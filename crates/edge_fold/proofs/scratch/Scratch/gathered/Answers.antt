@@ -2,7 +2,7 @@ use Rattle.std.proofs.Common.{ℕ, ◌<◌, ℤ, [], if◌then◌else◌, List, 
 use Rattle.edge_lists.specs.Edge.{Edge}
 use Rattle.edge_fold.specs.declared.apply_context.FoldStart.TheVariants as start
 use Rattle.edge_fold.specs.Folded.{waiting}
-use Rattle.edge_fold.specs.Given.{all_given, given_on, pairs, reduced_at}
+use Rattle.edge_fold.specs.Contributions.{all_given, given_on, pairs, reduced_at}
 use Rattle.edge_fold.specs.FoldStarts.{combined}
 use Rattle.edge_fold.specs.VectorAccumulators.{active, held_in_with}
 use Rattle.edge_fold.proofs.JoinedSlots.{unit_entries}

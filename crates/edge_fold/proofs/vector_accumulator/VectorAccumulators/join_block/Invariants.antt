@@ -2,7 +2,7 @@ use Rattle.std.proofs.Common.{ℕ, ◌<◌, length, take}
 use Rattle.apply_options.specs.declared.reduction.Reduction.{Reduction}
 use Rattle.kernels.specs.Columns.{registers_at}
 use Rattle.kernels.specs.FunctionCode.{given_by}
-use Rattle.edge_fold.specs.Given.{IsBy, given_from}
+use Rattle.edge_fold.specs.Contributions.{IsBy, given_from}
 use Rattle.edge_fold.specs.VectorAccumulators.{HaveJoined}
 use Rattle.edge_fold.proofs.vector_accumulator.VectorAccumulators.join_block.Given as goal
 

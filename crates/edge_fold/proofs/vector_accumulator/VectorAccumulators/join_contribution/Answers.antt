@@ -1,6 +1,6 @@
 use Rattle.std.proofs.Common.{rules, ◌≡◌, ◌≤◌, ℕ, ℤ, false, List, [], length, refl, sym, ap, arith}
 use Rattle.edge_fold.specs.declared.vector_accumulator.VectorAccumulator.{VectorAccumulator}
-use Rattle.edge_fold.specs.Given.{given_from, reduced_at}
+use Rattle.edge_fold.specs.Contributions.{given_from, reduced_at}
 use Rattle.edge_fold.specs.FoldStarts.{start_of}
 use Rattle.kernels.specs.ContributionColumns.{contribution_at}
 use Rattle.edge_fold.proofs.JoinedSlots.{along, equal, joined_alike, joined_nothing, joined_slot}

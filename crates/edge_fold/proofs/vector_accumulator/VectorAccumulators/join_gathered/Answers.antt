@@ -1,7 +1,7 @@
 use Rattle.std.proofs.Common.{◌≡◌, ◌<◌, ◌≤◌, ◌==◌, ◌++◌, ◌+◌, [], cond, length, get_or, take, sym, ap, ◌∙◌}
 use Rattle.std.proofs.lemmas.List.{take_all}
 use Rattle.edge_fold.specs.Gathered.{gathered_for, numbers_of}
-use Rattle.edge_fold.specs.Given.{reduced_at}
+use Rattle.edge_fold.specs.Contributions.{reduced_at}
 use Rattle.edge_fold.proofs.Gathering.{gathered_for_next, is_gathered_at}
 use Rattle.edge_fold.proofs.JoinedSlots.{joined_alike, joined_more}
 use Rattle.edge_fold.proofs.vector_accumulator.VectorAccumulators.join_gathered.Goals as goal

@@ -1,7 +1,7 @@
 use Rattle.std.proofs.Common.{rules, ◌≤◌, ◌==◌, ℕ, ℤ, Bool, [], cond, length, FitsSigned, w64, refl, sym, ap, ◌∙◌}
 use Rattle.std.proofs.lemmas.Int.{to_z-of_z}
 use Rattle.edge_fold.specs.declared.vector_accumulator.VectorAccumulator.{VectorAccumulator}
-use Rattle.edge_fold.specs.Given.{each_given, reduced_at}
+use Rattle.edge_fold.specs.Contributions.{each_given, reduced_at}
 use Rattle.edge_fold.specs.Held.{held_with}
 use Rattle.edge_fold.specs.FoldStarts.{combined, first_entry, opening_seed, start_of}
 use Rattle.edge_fold.proofs.JoinedSlots.{along, equal, joined_slot}

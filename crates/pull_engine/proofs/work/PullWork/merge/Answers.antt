@@ -7,7 +7,7 @@ use Rattle.crew.specs.Partition.{AreEnds}
 use Rattle.crew.specs.Pieces.{pieces_of}
 use Rattle.kernels.specs.Value.{entry}
 use Rattle.edge_fold.specs.Between.{edges_between}
-use Rattle.edge_fold.specs.Given.{all_given}
+use Rattle.edge_fold.specs.Contributions.{all_given}
 use Rattle.pull_engine.specs.Ranges.{entry_after}
 use Rattle.edge_fold.specs.declared.apply_context.ApplyContext.{ApplyContext}
 use Rattle.edge_fold.specs.Folded.{IsContextOf}

@@ -2,7 +2,7 @@ use Rattle.std.proofs.Common.{◌∙◌}
 use Rattle.std.proofs.lemmas.Result.{IfOk-weaker}
 use Rattle.crew.specs.Pieces.{pieces_of}
 use Rattle.edge_fold.specs.Between.{edges_between}
-use Rattle.edge_fold.specs.Given.{all_given}
+use Rattle.edge_fold.specs.Contributions.{all_given}
 use Rattle.std.specs.List.{flat_map}
 use Rattle.edge_apply.proofs.Told.{changed_by_alike}
 use Rattle.push_engine.specs.Pieces.{edges_of_piece}
