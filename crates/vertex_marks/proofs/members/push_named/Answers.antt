@@ -17,17 +17,17 @@ words-preserved c =
     let left = c.words.left in
     let words = c.args.words.now in
     let found = c.words.found.items in
-    let position = c.args.first + count_trailing_zeros 64 left in
+    let index = c.args.first + count_trailing_zeros 64 left in
     let fits : left < 2 ^ 64 = search rules in
-    let listed : c.match-get.found.items ≡ found ++ bit_members 64 (64 * position) (get_or words position 0) =
+    let listed : c.match-get.found.items ≡ found ++ bit_members 64 (64 * index) (get_or words index 0) =
     elim c.match-get.branch [
       | in-Some+in_ok-push_bits w ↦
-          let word : w.in-Some.word.now ≡ get_or words position 0 = search rules in
-          ap (λ v. v.items) w.found-is ∙ w.in_ok-push_bits.ensures ∙ ap (λ n. found ++ bit_members 64 (64 * position) n) word
+          let word : w.in-Some.word.now ≡ get_or words index 0 = search rules in
+          ap (λ v. v.items) w.found-is ∙ w.in_ok-push_bits.ensures ∙ ap (λ n. found ++ bit_members 64 (64 * index) n) word
       | in_default w ↦
-          let none : get_or words position 0 ≡ 0 = search rules in
+          let none : get_or words index 0 ≡ 0 = search rules in
           ap (λ v. v.items) w.found-is ∙ sym (append-nil found)
-          ∙ ap (λ xs. found ++ xs) (sym (ap (bit_members 64 (64 * position)) none ∙ bits_none 64 (64 * position)))
+          ∙ ap (λ xs. found ++ xs) (sym (ap (bit_members 64 (64 * index)) none ∙ bits_none 64 (64 * index)))
     ] in
     named_listed words found c.match-get.found.items c.args.first left c.words-test.true fits listed ∙ c.words.invariant
 
