@@ -39,7 +39,8 @@ pub(crate) fn fold_all(
     scratch: &mut Scratch,
 ) -> Result<(), AllocError>
     ensures { OnOk result ((m : StateValue) (steps : List StepsTree) (from : ℕ → Bool) → IsContextOf input.entry.context m steps → ((v : ℕ) → from v ≡ true)
-        → HasFolded input.entry.context m steps [] scratch.old → HasFolded input.entry.context m steps (edges_between from (passes_words input.entry.to) input.entry.flat.now.edges)
+        → HasFolded input.entry.context m steps [] scratch.old
+        → HasFolded input.entry.context m steps (edges_between from (passes_words input.entry.to) input.entry.flat.now.edges)
         scratch.new) }
 {
     'sources: for (source, _) in input.flat.sources() {
@@ -58,7 +59,8 @@ pub(crate) fn fold_members(
 ) -> Result<(), AllocError>
     ensures { OnOk result ((m : StateValue) (steps : List StepsTree) (from : ℕ → Bool) → IsContextOf input.entry.context m steps
         → ((v : ℕ) → from v ≡ is_member v set.now.members)
-        → HasFolded input.entry.context m steps [] scratch.old → HasFolded input.entry.context m steps (edges_between from (passes_words input.entry.to) input.entry.flat.now.edges)
+        → HasFolded input.entry.context m steps [] scratch.old
+        → HasFolded input.entry.context m steps (edges_between from (passes_words input.entry.to) input.entry.flat.now.edges)
         scratch.new) }
 {
     'sources: for source in set.iter() {
@@ -76,7 +78,8 @@ pub(crate) fn fold_passing(
     scratch: &mut Scratch,
 ) -> Result<(), AllocError>
     ensures { OnOk result ((m : StateValue) (steps : List StepsTree) (test : ℕ → Bool) → IsContextOf input.entry.context m steps → IsTest from.entry m test
-        → HasFolded input.entry.context m steps [] scratch.old → HasFolded input.entry.context m steps (edges_between test (passes_words input.entry.to) input.entry.flat.now.edges)
+        → HasFolded input.entry.context m steps [] scratch.old
+        → HasFolded input.entry.context m steps (edges_between test (passes_words input.entry.to) input.entry.flat.now.edges)
         scratch.new) }
 {
     let mut sources = input.flat.sources();

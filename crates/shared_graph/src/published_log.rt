@@ -218,7 +218,8 @@ fn make_step<J: Naming, T: Wait>(
     requires counts { AreCounts history_prefix.old counts.old.items }
     ensures history_prefix { history_prefix.new ≡ history_prefix.old ++ record { by = me.now.number; done = done.now } ∷ [] }
     ensures counts { AreCounts history_prefix.new counts.new.items }
-    ensures made { HasMade (opened J.vertices J.room) me.now done.now.step done.now.reply (record me.now { shown = history_prefix.new; last = history_prefix.new }) }
+    ensures made { HasMade (opened J.vertices J.room) me.now done.now.step done.now.reply
+        (record me.now { shown = history_prefix.new; last = history_prefix.new }) }
 {
     let (place, steps) = meet(rt, history_prefix, counts, me);
     extend(rt, book, history_prefix, place, done);
