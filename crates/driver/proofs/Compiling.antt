@@ -43,22 +43,22 @@ one_compiled holds fails all left programs name p c held = record {
   fails_on = λ e lacks. c.fails_on e (inr (p, (held, lacks)));
 }
 
--- the file at a place was compiled
-pub compiled_at : (holds : List ℕ → List ℕ → Type 0) (fails : List ℕ → Error → Type 0) (all : List (List ℕ)) (names : List (Bor (List ℕ))) (place : ℕ) (none : Bor (List ℕ)) (compiled new : List CompiledPlan) (p : CompiledPlan) → place < length names
-    → Compiles holds fails all (map (λ n. n.now) (drop place names)) (map tree_of compiled) → HoldsProgram (holds (get_or names place none).now) (tree_of p) → new ≡ compiled ++ p ∷ []
-    → Compiles holds fails all (map (λ n. n.now) (drop (place + 1) names)) (map tree_of new)
-compiled_at holds fails all names place none compiled new p within c held is =
-    let left = map (λ (n : Bor (List ℕ)). n.now) (drop (place + 1) names) in
-    let first = subst (λ (ns : List (Bor (List ℕ))). Compiles holds fails all (map (λ n. n.now) ns) (map tree_of compiled)) (drop_more names place none within) c in
+-- the file at an index was compiled
+pub compiled_at : (holds : List ℕ → List ℕ → Type 0) (fails : List ℕ → Error → Type 0) (all : List (List ℕ)) (names : List (Bor (List ℕ))) (index : ℕ) (none : Bor (List ℕ)) (compiled new : List CompiledPlan) (p : CompiledPlan) → index < length names
+    → Compiles holds fails all (map (λ n. n.now) (drop index names)) (map tree_of compiled) → HoldsProgram (holds (get_or names index none).now) (tree_of p) → new ≡ compiled ++ p ∷ []
+    → Compiles holds fails all (map (λ n. n.now) (drop (index + 1) names)) (map tree_of new)
+compiled_at holds fails all names index none compiled new p within c held is =
+    let left = map (λ (n : Bor (List ℕ)). n.now) (drop (index + 1) names) in
+    let first = subst (λ (ns : List (Bor (List ℕ))). Compiles holds fails all (map (λ n. n.now) ns) (map tree_of compiled)) (drop_more names index none within) c in
     subst (Compiles holds fails all left) (sym (ap (map tree_of) is ∙ map-append tree_of compiled (p ∷ [])))
-    (one_compiled holds fails all left (map tree_of compiled) (get_or names place none).now (tree_of p) first held)
+    (one_compiled holds fails all left (map tree_of compiled) (get_or names index none).now (tree_of p) first held)
 
--- the file at a place is no program
-pub lacks_at : (holds : List ℕ → List ℕ → Type 0) (fails : List ℕ → Error → Type 0) (all : List (List ℕ)) (names : List (Bor (List ℕ))) (place : ℕ) (none : Bor (List ℕ)) (compiled : List CompiledPlan) (e : ServeError) → place < length names
-    → Compiles holds fails all (map (λ n. n.now) (drop place names)) (map tree_of compiled) → IsNoProgram (holds (get_or names place none).now) (fails (get_or names place none).now) (get_or names place none).now e
+-- the file at an index is no program
+pub lacks_at : (holds : List ℕ → List ℕ → Type 0) (fails : List ℕ → Error → Type 0) (all : List (List ℕ)) (names : List (Bor (List ℕ))) (index : ℕ) (none : Bor (List ℕ)) (compiled : List CompiledPlan) (e : ServeError) → index < length names
+    → Compiles holds fails all (map (λ n. n.now) (drop index names)) (map tree_of compiled) → IsNoProgram (holds (get_or names index none).now) (fails (get_or names index none).now) (get_or names index none).now e
     → LacksProgram holds fails all e
-lacks_at holds fails all names place none compiled e within c lacks =
-    let first = subst (λ (ns : List (Bor (List ℕ))). Compiles holds fails all (map (λ n. n.now) ns) (map tree_of compiled)) (drop_more names place none within) c in
+lacks_at holds fails all names index none compiled e within c lacks =
+    let first = subst (λ (ns : List (Bor (List ℕ))). Compiles holds fails all (map (λ n. n.now) ns) (map tree_of compiled)) (drop_more names index none within) c in
     first.fails_on e (inl lacks)
 
 -- memory may run out at any of the files

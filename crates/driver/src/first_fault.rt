@@ -1,9 +1,9 @@
-//! The first of a request's runs that ended by a fault, and the place of the fault.
+//! The first of a request's runs that ended by a fault, and where it was.
 
 use algorithm_meaning::End;
 use std::cell::Cell;
 
-/// A fault of a run: the place of its program among those of the request, from 0, its number, and that of the statement.
+/// A fault of a run: the index of its program among those of the request, from 0, its number, and that of the statement.
 #[derive(Clone, Copy)]
 pub(crate) struct RunFault {
     pub(crate) program: usize,
@@ -20,7 +20,7 @@ impl FirstFault {
         FirstFault(Cell::new(None))
     }
 
-    /// Shows how a run of the program at this place ended.
+    /// Shows how a run of the program at this index ended.
     pub(crate) fn see(&self, program: usize, end: End) {
         let End::Fault(number, statement) = end else {
             return;

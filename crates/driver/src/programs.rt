@@ -17,7 +17,7 @@ use std::thread::Threads;
 /// The run of a plan on a snapshot of a graph, for at most n turns, by n workers.
 #[derive(Clone, Copy)]
 pub(crate) struct RunOrder<'a> {
-    // The place of the program among those of the request.
+    // The index of the program among those of the request.
     pub(crate) program: usize,
     pub(crate) plan: &'a Plan,
     pub(crate) graph: &'a Flat,
@@ -89,14 +89,14 @@ impl<F: Fn(Global, RunOrder<'_>) -> Result<Outcome, AllocError>> Programs for Co
     fn run(
         &self,
         alloc: Global,
-        place: usize,
+        index: usize,
         graph: &Flat,
         turns: u64,
         workers: u64,
     ) -> Result<Outcome, AllocError> {
         let order = RunOrder {
-            program: place,
-            plan: &self.plans[place].plan,
+            program: index,
+            plan: &self.plans[index].plan,
             graph,
             turns,
             workers: workers as usize,

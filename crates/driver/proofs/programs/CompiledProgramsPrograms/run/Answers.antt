@@ -11,15 +11,15 @@ use Rattle.driver.proofs.programs.CompiledProgramsPrograms.run.Goals as goal
 pub by-requires : goal.by-requires
 by-requires g c = c.requires.ready.0 _ _ (counted_workers c.args.workers c.requires.workers)
 
--- the program of the plan at the place is the one that is told of
+-- the program of the plan at the index is the one that is told of
 pub returns : goal.returns
 returns g c =
     let plans = c.args.self.now.plans.items in
     let here = c.index.result.now in
-    let below : c.args.place < length plans = subst (λ (n : ℕ). c.args.place < n) (length-map plans tree_of) c.requires.place in
-    let at : slice_get (map tree_of plans) c.args.place ≡ Some (tree_of here) =
-    slice_get-map tree_of plans c.args.place
-    ∙ ap (option_map tree_of) (slice_get-get_or plans c.args.place here below ∙ ap Some (sym (get_or_read plans c.args.place here below c.index.ensures here))) in
-    IfOk-weaker c.by.result _ (λ o. (program : ProgramTree) → slice_get (map tree_of plans) c.args.place ≡ Some program → o ≡ meaning_on c.args.graph.now program c.args.turns)
+    let below : c.args.index < length plans = subst (λ (n : ℕ). c.args.index < n) (length-map plans tree_of) c.requires.index in
+    let at : slice_get (map tree_of plans) c.args.index ≡ Some (tree_of here) =
+    slice_get-map tree_of plans c.args.index
+    ∙ ap (option_map tree_of) (slice_get-get_or plans c.args.index here below ∙ ap Some (sym (get_or_read plans c.args.index here below c.index.ensures here))) in
+    IfOk-weaker c.by.result _ (λ o. (program : ProgramTree) → slice_get (map tree_of plans) c.args.index ≡ Some program → o ≡ meaning_on c.args.graph.now program c.args.turns)
     (λ o shows program is. subst (λ (p : ProgramTree). o ≡ meaning_on c.args.graph.now p c.args.turns) (same_Some (tree_of here) program (sym at ∙ is)) (shows here.compiled))
     (c.requires.ready.1 _ _ _ c.by.ensures)
