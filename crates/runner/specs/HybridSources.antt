@@ -1,14 +1,8 @@
--- The direction of an edge apply, and the sources of a hybrid, in a set.
-use Rattle.std.specs.Prelude.{◌≡◌, ℕ, ◌<◌, ◌/◌, nat_lt, Bool, true, false, ◌&&◌, List, length, Option, Some, None}
-use Rattle.edge_lists.specs.Edge.{Edge}
-use Rattle.apply_options.specs.declared.apply_schedule.Direction.{Direction}
-use Rattle.apply_options.specs.declared.apply_schedule.Direction.TheVariants as direction
+-- The sources of a hybrid, in a set.
+use Rattle.std.specs.Prelude.{◌≡◌, ℕ, ◌<◌, Bool, Option, Some, None}
 use Rattle.algorithm_meaning.specs.EdgeApply.{is_member}
 use Rattle.algorithm_meaning.specs.State.{StateValue}
 use Rattle.kernels.specs.Registers.{HasSizes}
-use Rattle.kernels.specs.declared.endpoint_filter.EndpointFilter.{EndpointFilter}
-use Rattle.kernels.specs.declared.endpoint_filter.EndpointFilter.TheVariants as end
-use Rattle.push_engine.specs.Work.{work_from}
 use Rattle.flat_snapshot.specs.Digraph.{IsDigraph}
 use Rattle.vertex_sets.specs.VertexSet.{VertexSubset}
 use Rattle.edge_fold.specs.Ends.{IsEndTest}
@@ -20,34 +14,7 @@ pub record HasSources (a : Apply) (set : VertexSubset) : Type 0 where
   pub members : (m : StateValue) (from : ℕ → Bool) → a.vectors.now.vectors ≡ m.vectors → HasSizes a.sizes.now m → IsEndTest a.from m from
       → (v : ℕ) → v < a.flat.now.vertices → is_member v set.members ≡ from v
 
--- whether a direction is the hybrid
-abbrev pub is_hybrid : Direction → Bool
-is_hybrid direction.SparsePush = false
-is_hybrid direction.DensePush = false
-is_hybrid direction.DensePull = false
-is_hybrid direction.Hybrid = true
-
--- whether an end is given by a filter
-abbrev pub is_filtered : Option EndpointFilter → Bool
-is_filtered None = false
-is_filtered (Some (end.Members set)) = false
-is_filtered (Some (end.Filter filter)) = true
-
--- the same where a set is given, as it is for each hybrid whose sources a filter lets through
+-- the same where a set is given
 abbrev pub AreSourcesOf : Apply → Option VertexSubset → Type 0
-AreSourcesOf a None = is_hybrid a.direction && is_filtered a.from ≡ false
+AreSourcesOf a None = Unit {0}
 AreSourcesOf a (Some set) = HasSources a set
-
--- whether the hybrid pulls: where its sources are in no set, or where they and the edges from them are more than the edges of
--- the graph divided by 20
-abbrev pub hybrid_pulls : List Edge → Option EndpointFilter → Bool
-hybrid_pulls edges None = true
-hybrid_pulls edges (Some (end.Members set)) = nat_lt (length edges / 20) (work_from edges set.now.members)
-hybrid_pulls edges (Some (end.Filter filter)) = true
-
--- whether an apply pulls, as its direction says
-abbrev pub pulls : Direction → List Edge → Option EndpointFilter → Bool
-pulls direction.SparsePush edges from = false
-pulls direction.DensePush edges from = false
-pulls direction.DensePull edges from = true
-pulls direction.Hybrid edges from = hybrid_pulls edges from

@@ -186,7 +186,11 @@ fn what_cancels_in_different_pieces_changes_nothing(rt: HostRuntime) -> Result<(
 
 #[test]
 fn sixty_four_workers_share_a_thousand_sources(rt: HostRuntime) -> Result<(), Fail> {
-    let graph = ring_of(rt.alloc(), 1000)?;
+    let mut edges = Vec::new(rt.alloc());
+    for vertex in 0..1000 {
+        edges.push((vertex, (vertex + 1) % 1000))?;
+    }
+    let graph = graph_of(rt.alloc(), 1000, &edges)?;
     let gate = Holding::new(64);
     let choices = ("SparsePush", "bool-array", "dynamic-vertex-parallel");
     let outcome = shown(&rt, &graph, SOURCES, choices, 64, &gate)?;
@@ -203,24 +207,14 @@ fn sixty_four_workers_share_a_thousand_sources(rt: HostRuntime) -> Result<(), Fa
 // several workers put together, and of an apply that is worth a second worker.
 const RINGS: [u32; 9] = [127, 128, 129, 511, 512, 16_383, 16_384, 32_767, 32_768];
 
-// A ring of n vertices, each with an edge to the next.
-fn ring_of(alloc: Global, vertices: u32) -> Result<Flat, Fail> {
-    let mut edges = Vec::new(alloc);
-    for vertex in 0..vertices {
-        edges.push((vertex, vertex.wrapping_add(1) % vertices.max(1)))?;
-    }
-    graph_of(alloc, vertices, &edges)
-}
-
-// Whether each vertex of a ring has the one before it, by n workers.
-fn has_predecessors<R: Threads + AllocGlobal + Sync, G: Gate + Sync>(
+// Whether each vertex of a ring has the one before it, by n workers at whom nobody looks.
+fn has_predecessors<R: Threads + AllocGlobal + Sync>(
     rt: &R,
     graph: &Flat,
-    choices: (&str, &str, &str),
+    (way, form, share): (&str, &str, &str),
     workers: usize,
-    gate: &G,
 ) -> Result<bool, Fail> {
-    let outcome = shown(rt, graph, SOURCES, choices, workers, gate)?;
+    let outcome = shown(rt, graph, SOURCES, (way, form, share), workers, &Open)?;
     let last = i64::from(graph.vertices()).wrapping_sub(1);
     let found = match outcome.vectors.as_slice().first() {
         Some(vector) => match vector.entries.as_slice() {
@@ -235,35 +229,16 @@ fn has_predecessors<R: Threads + AllocGlobal + Sync, G: Gate + Sync>(
 #[test]
 fn rings_of_each_size_are_the_same_by_any_workers(rt: HostRuntime) -> Result<(), Fail> {
     for size in RINGS {
-        let graph = ring_of(rt.alloc(), size)?;
+        let mut edges = Vec::new(rt.alloc());
+        for vertex in 0..size {
+            edges.push((vertex, vertex.wrapping_add(1) % size.max(1)))?;
+        }
+        let graph = graph_of(rt.alloc(), size, &edges)?;
         for (way, form) in &WAYS[..4] {
             for workers in [1, 2, 3] {
                 let choices = (*way, *form, "dynamic-vertex-parallel");
-                let found = has_predecessors(&rt, &graph, choices, workers, &Open)?;
+                let found = has_predecessors(&rt, &graph, choices, workers)?;
                 assert!(rt; found, "{size} by {way} and {workers}");
-            }
-        }
-    }
-    Ok(())
-}
-
-// A gate that does nothing, but looks: so an apply is done in pieces by all workers, however few its edges are.
-#[derive(Drop)]
-struct Looking;
-
-impl Gate for Looking {
-    fn enter(&self, _worker: usize, _piece: usize, _pieces: usize) {}
-}
-
-// 64 workers make 256 pieces of 16,384 vertices, and merge what they found in 256 ranges.
-#[test]
-fn sixty_four_workers_share_rings_of_each_size(rt: HostRuntime) -> Result<(), Fail> {
-    for size in [16_383, 16_384, 20_000] {
-        let graph = ring_of(rt.alloc(), size)?;
-        for (way, form) in &WAYS[..4] {
-            for share in &SHARES[1..] {
-                let found = has_predecessors(&rt, &graph, (*way, *form, *share), 64, &Looking)?;
-                assert!(rt; found, "{size} by {way} and {share}");
             }
         }
     }
