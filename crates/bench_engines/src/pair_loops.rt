@@ -56,11 +56,11 @@ pub fn min_of_less(
 
 /// Joins what a kernel gives to the destinations.
 pub fn join(contribution: ContributionColumn<'_>, destinations: &[u32], new: &mut [i64]) {
-    match (contribution.when, contribution.reduction) {
-        (Some(when), reduction) => join_some(
+    match (contribution.predicate, contribution.reduction) {
+        (Some(predicate), reduction) => join_some(
             reduction,
             contribution.numbers,
-            when,
+            predicate,
             destinations,
             new,
         ),
@@ -78,11 +78,11 @@ pub fn join(contribution: ContributionColumn<'_>, destinations: &[u32], new: &mu
 fn join_some(
     reduction: Reduction,
     numbers: &[i64],
-    when: &[i64],
+    predicate: &[i64],
     destinations: &[u32],
     new: &mut [i64],
 ) {
-    for ((destination, given), active) in destinations.iter().zip(numbers).zip(when) {
+    for ((destination, given), active) in destinations.iter().zip(numbers).zip(predicate) {
         if *active != 0
             && let Some(new) = new.get_mut(*destination as usize)
         {
