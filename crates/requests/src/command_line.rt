@@ -53,7 +53,7 @@ const HELP: &str =
 const CHECK_ABOUT: &str = "Compiles the program in a file, and prints `ok`";
 
 const CHECK_HELP: &str =
-    "Where the text is refused, the number and the index of the first fault are told, then line and column, what the number means\n\
+    "Where the text is refused, the number and the place of the first fault are told, then line and column, what the number means\n\
     and what to do. The exit status is 0 where the program compiles, 1 where its text is refused, and 5 where the file cannot be read.\n\
     \n\
     201 to 203  a byte, a number or a text in quotes is no token\n\

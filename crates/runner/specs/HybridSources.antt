@@ -1,12 +1,18 @@
--- The sources of a hybrid, in a set.
-use Rattle.std.specs.Prelude.{◌≡◌, ℕ, ◌<◌, Bool, Option, Some, None}
+-- The sources of a hybrid, in a set, and which applies go into the destinations.
+use Rattle.std.specs.Prelude.{◌≡◌, ℕ, ◌<◌, ◌/◌, ◌&&◌, Bool, true, false, List, Option, Some, None, length, nat_lt}
+use Rattle.edge_lists.specs.Edge.{Edge}
+use Rattle.apply_options.specs.declared.apply_schedule.Direction.{Direction}
+use Rattle.apply_options.specs.declared.apply_schedule.Direction.TheVariants as direction
 use Rattle.algorithm_meaning.specs.EdgeApply.{is_member}
 use Rattle.algorithm_meaning.specs.State.{StateValue}
 use Rattle.kernels.specs.Registers.{HasSizes}
+use Rattle.kernels.specs.declared.endpoint_filter.EndpointFilter.{EndpointFilter}
+use Rattle.kernels.specs.declared.endpoint_filter.EndpointFilter.TheVariants as end
 use Rattle.flat_snapshot.specs.Digraph.{IsDigraph}
 use Rattle.vertex_sets.specs.VertexSet.{VertexSubset}
 use Rattle.edge_fold.specs.Ends.{IsEndTest}
 use Rattle.edge_apply.specs.declared.apply.Apply.{Apply}
+use Rattle.push_engine.specs.Work.{work_from}
 
 -- the members of a set are the vertices of the graph that the first end of an apply lets through
 pub record HasSources (a : Apply) (set : VertexSubset) : Type 0 where
@@ -14,7 +20,34 @@ pub record HasSources (a : Apply) (set : VertexSubset) : Type 0 where
   pub members : (m : StateValue) (from : ℕ → Bool) → a.vectors.now.vectors ≡ m.vectors → HasSizes a.sizes.now m → IsEndTest a.from m from
       → (v : ℕ) → v < a.flat.now.vertices → is_member v set.members ≡ from v
 
--- the same where a set is given
+-- whether a direction is the hybrid
+pub is_hybrid : Direction → Bool
+is_hybrid direction.SparsePush = false
+is_hybrid direction.DensePush = false
+is_hybrid direction.DensePull = false
+is_hybrid direction.Hybrid = true
+
+-- whether an end is a function of the user that lets vertices through
+pub is_filtered : Option EndpointFilter → Bool
+is_filtered None = false
+is_filtered (Some (end.Members set)) = false
+is_filtered (Some (end.Filter filter)) = true
+
+-- the same where a set is given, which a hybrid with a filter is
 abbrev pub AreSourcesOf : Apply → Option VertexSubset → Type 0
-AreSourcesOf a None = Unit {0}
+AreSourcesOf a None = (is_hybrid a.direction && is_filtered a.from) ≡ false
 AreSourcesOf a (Some set) = HasSources a set
+
+-- whether the hybrid goes into the destinations: where all sources pass, and where those in a set and the edges from them
+-- are more than the edges divided by 20, rounded down
+pub hybrid_pulls : List Edge → Option EndpointFilter → Bool
+hybrid_pulls edges None = true
+hybrid_pulls edges (Some (end.Members set)) = nat_lt (length edges / 20) (work_from edges set.now.members)
+hybrid_pulls edges (Some (end.Filter filter)) = true
+
+-- whether an apply goes into the destinations
+pub pulls : Direction → List Edge → Option EndpointFilter → Bool
+pulls direction.SparsePush edges from = false
+pulls direction.DensePush edges from = false
+pulls direction.DensePull edges from = true
+pulls direction.Hybrid edges from = hybrid_pulls edges from

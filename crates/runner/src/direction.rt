@@ -4,7 +4,7 @@ ghost use Rattle.apply_options.specs.declared.apply_schedule.Direction.TheVarian
 ghost use Rattle.edge_fold.specs.Changed.{AreApart};
 ghost use Rattle.edge_apply.specs.Applied.{AreChangesOf};
 ghost use Rattle.push_engine.specs.Work.{work_from};
-ghost use Rattle.runner.specs.HybridSources.{AreSourcesOf};
+ghost use Rattle.runner.specs.HybridSources.{AreSourcesOf, pulls};
 
 use apply_options::Direction;
 use edge_apply::{Apply, passing_set};
@@ -88,7 +88,9 @@ pub(crate) fn hybrid_sources(
 }
 
 /// Whether an apply goes into the destinations.
-pub(crate) fn is_pulled(apply: &Apply<'_>) -> bool {
+pub(crate) fn is_pulled(apply: &Apply<'_>) -> bool
+    ensures { result ≡ pulls apply.now.direction apply.now.flat.now.edges apply.now.from }
+{
     match apply.direction {
         Direction::SparsePush | Direction::DensePush => false,
         Direction::DensePull => true,
