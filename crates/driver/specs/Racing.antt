@@ -48,11 +48,12 @@ pub record IsRaceOf (holds : List ℕ → List ℕ → Type 0) (script : List �
   pub held : HoldsScript (holds script) order
   pub is_race : IsRace order.vertices 16777216 order.batches (map (λ p. p.plan) programs) turns race
 
--- all of the text of a race was written
+-- all of the text of a race was written, with no failure
 pub record TellsRace (holds : List ℕ → List ℕ → Type 0) (script : List ℕ) (names : List (List ℕ)) (turns : ℕ) (before after : Written) (faulted : Bool) : Type 0 where
   pub race : Race
   pub is_race : IsRaceOf holds script names turns race
   pub bytes_written : after.bytes_written ≡ before.bytes_written ++ race_text race
+  pub quiet : after.failures ≡ before.failures
   pub fault : faulted ≡ has_faulted race
 
 -- memory ran out and the writer did not fail, or it failed in this call

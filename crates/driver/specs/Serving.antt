@@ -33,11 +33,12 @@ pub record RunsInput (old new : Input) (before after : Written) (ended : Result 
 abbrev pub ok_line : List ℕ
 ok_line = codes "ok" ++ 10 ∷ []
 
--- the file may hold a program, and all of the line `ok` was written
+-- the file may hold a program, and all of the line `ok` was written, with no failure
 pub record TellsOk (holds : List ℕ → Type 0) (before after : Written) (faulted : Bool) : Type 0 where
   pub program : ProgramTree
   pub compiled : HoldsProgram holds program
   pub bytes_written : after.bytes_written ≡ before.bytes_written ++ ok_line
+  pub quiet : after.failures ≡ before.failures
   pub fault : faulted ≡ false
 
 -- nothing was written, since the file of this name is no program
@@ -62,11 +63,12 @@ ChecksFile holds fails name before after (Err e) = TellsNothing holds fails name
 abbrev pub plan_text : {holds : List ℕ → Type 0} {plan : Plan} → HoldsPlan holds plan → List ℕ
 plan_text {plan = plan} held = text_of (program_of plan) held.planned.schedule
 
--- the file may hold a program, of which this is the plan, and all of its text was written
+-- the file may hold a program, of which this is the plan, and all of its text was written, with no failure
 pub record TellsPlan (holds : List ℕ → Type 0) (before after : Written) (faulted : Bool) : Type 0 where
   pub plan : Plan
   pub planned : HoldsPlan holds plan
   pub bytes_written : after.bytes_written ≡ before.bytes_written ++ plan_text planned
+  pub quiet : after.failures ≡ before.failures
   pub fault : faulted ≡ false
 
 -- the file may hold a program, of which this is the plan, and a beginning of its text was written before the writer failed

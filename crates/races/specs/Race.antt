@@ -1,8 +1,9 @@
 -- Races of a script and programs: commits of one history, and runs on versions of it.
-use Rattle.std.specs.Prelude.{◌≡◌, ℕ, Bool, ◌||◌, List, [], ◌∷◌, ◌++◌, length}
+use Rattle.std.specs.Prelude.{◌≡◌, ◌<◌, ℕ, Bool, ◌||◌, List, [], ◌∷◌, ◌++◌, length}
 use Rattle.std.specs.List.{list_any}
 use mathlib.Core.List.{IsPrefix}
 use Rattle.tree_batch.specs.declared.batch.Entry.{Entry as Change}
+use Rattle.crew.specs.Outcome.{AreWorkers}
 use Rattle.replies.specs.OutcomeText.{is_fault}
 use Rattle.plans.specs.declared.plan.Plan.{Plan}
 use Rattle.version_list.specs.declared.step.Step.TheVariants.{Commit}
@@ -63,6 +64,10 @@ AllRan n room turns told [] [] = Unit {0}
 AllRan n room turns told [] (runs ∷ more) = ⊥
 AllRan n room turns told (plan ∷ plans) [] = ⊥
 AllRan n room turns told (plan ∷ plans) (runs ∷ more) = RanTwice n room plan turns told runs × AllRan n room turns told plans more
+
+-- where a program ran, the workers are as many as a crew may have
+abbrev pub MayRun : ℕ → List ProgramRuns → Type 0
+MayRun workers runs = 0 < length runs → AreWorkers workers
 
 -- One reader of a graph of n vertices, whose history has so much room, gave these batches to be committed, in order, and was answered so. In the history after its last commit it made just those that were not refused, and the late run of each program knows that history whole.
 pub record AreRaced (n room : ℕ) (batches : List (List Change)) (replies : List CommitReply) (plans : List Plan) (turns : ℕ) (runs : List ProgramRuns) : Type 0 where

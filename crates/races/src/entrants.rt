@@ -1,5 +1,6 @@
 //! Programs in a race, each with the reader by which it takes a version.
 ghost use Rattle.std.specs.Prelude.{◌≡◌, IfErr, IfOk, length, map};
+ghost use Rattle.crew.specs.Outcome.{AreWorkers};
 ghost use Rattle.shared_graph.specs.Passes.{Shows};
 ghost use Rattle.version_list.specs.Machine.{opened};
 ghost use Rattle.races.specs.Race.{IsRunOn, RanTwice};
@@ -93,6 +94,7 @@ impl<'a, J: Naming> EarlyRun<'a, J> {
     ) -> Result<ProgramRuns, LatestRunError>
         requires { RanEarly J.vertices turns workers self }
         ensures ran { IfOk result (RanTwice J.vertices J.room self.entry.plan.now turns told.now) }
+        ensures workers { IfOk result (λ _. AreWorkers workers) }
         ensures refused { IfErr result (RefusesRun workers) }
     {
         let EarlyRun {
@@ -118,6 +120,7 @@ fn run_once<J: Naming, T: Threads + Sync>(
 ) -> Result<VersionRun, LatestRunError>
     ensures history { IfOk result (λ _. Shows (opened J.vertices J.room) reader.old reader.new) }
     ensures run { IfOk result (IsRunOn J.vertices plan.now turns reader.new.shown) }
+    ensures workers { IfOk result (λ _. AreWorkers workers) }
     ensures refused { IfErr result (RefusesRun workers) }
 {
     let (version, outcome) = run_latest(rt, alloc, plan, reader, workers, turns, &Open)?;

@@ -1,10 +1,10 @@
 //! The run of a race, on threads.
-ghost use Rattle.std.specs.Prelude.{◌≡◌, [], IfErr, IfOk, length, map, suc};
+ghost use Rattle.std.specs.Prelude.{◌≡◌, ◌+◌, [], IfErr, IfOk, length, map, suc};
 ghost use Rattle.std.specs.List.{All};
 ghost use Rattle.version_list.specs.Machine.{opened};
 ghost use Rattle.shared_graph.specs.Passes.{fresh_passes};
-ghost use Rattle.races.specs.Race.{AllRan, IsRace};
-ghost use Rattle.races.specs.Refused.{RefusesOnGraph, RefusesRace};
+ghost use Rattle.races.specs.Race.{AllRan, IsRace, MayRun};
+ghost use Rattle.races.specs.Refused.{MayOpen, RefusesOnGraph, RefusesRace};
 ghost use Rattle.races.specs.inside.Racing.{AllRanEarly, AnswersAll, IsRaced, RanEarly, RefusesRuns, RepliesTo};
 
 use crate::entrants::{EarlyRun, Entrant, entrants};
@@ -18,6 +18,14 @@ use std::marker::Brand;
 use std::sync::Wait;
 use std::thread::{self, Threads, join};
 use tree_batch::Batch;
+
+/// The runs of a race: each of these plans, by so many workers, for at most so many turns.
+#[derive(Clone, Copy)]
+struct PlannedRuns<'a> {
+    plans: &'a [&'a Plan],
+    workers: usize,
+    turns: u64,
+}
 
 /// Opens the graph of a script and commits its batches, in order, on one thread, while for each program another runs it on the
 /// newest version, by n workers, 1 to 64, for at most n turns. A batch that is refused (111, 123) is told by its
@@ -35,9 +43,16 @@ pub fn race<T: Threads + Wait + Sync>(
     turns: u64,
 ) -> Result<Race, RaceError>
     ensures race { IfOk result (IsRace script.vertices 16777216 script.batches.items (map (λ p. p.now) plans.now) turns) }
+    ensures opened { IfOk result (λ _. MayOpen script.vertices script.chunk_size (length plans.now + 1)) }
+    ensures workers { IfOk result (λ race. MayRun workers race.runs.items) }
     ensures refused { IfErr result (RefusesRace script.vertices script.chunk_size 16777216 script.batches.items (length plans.now) workers) }
 {
-    race_known::<Brand, T>(rt, alloc, Opening::new(), script, plans, workers, turns)
+    let programs = PlannedRuns {
+        plans,
+        workers,
+        turns,
+    };
+    race_known::<Brand, T>(rt, alloc, Opening::new(), script, programs)
 }
 
 // The race, on a graph that types know.
@@ -46,26 +61,26 @@ fn race_known<J: Naming + Send + Sync, T: Threads + Wait + Sync>(
     alloc: Global,
     opening: Opening,
     script: RaceScript,
-    plans: &[&Plan],
-    workers: usize,
-    turns: u64,
+    programs: PlannedRuns<'_>,
 ) -> Result<Race, RaceError>
     requires book { opening ≡ J.book }
     requires vertices { J.vertices ≡ script.vertices }
     requires room { J.room ≡ 16777216 }
-    ensures race { IfOk result (IsRace J.vertices J.room script.batches.items (map (λ p. p.now) plans.now) turns) }
-    ensures refused { IfErr result (RefusesRace J.vertices script.chunk_size J.room script.batches.items (length plans.now) workers) }
+    ensures race { IfOk result (IsRace J.vertices J.room script.batches.items (map (λ p. p.now) programs.plans.now) programs.turns) }
+    ensures opened { IfOk result (λ _. MayOpen J.vertices script.chunk_size (length programs.plans.now + 1)) }
+    ensures workers { IfOk result (λ race. MayRun programs.workers race.runs.items) }
+    ensures refused { IfErr result (RefusesRace J.vertices script.chunk_size J.room script.batches.items (length programs.plans.now) programs.workers) }
 {
     let RaceScript {
         vertices,
         chunk_size,
         batches,
     } = script;
-    let seats = plans.len() + 1;
+    let seats = programs.plans.len() + 1;
     let (graph, readers) = SharedGraph::<J, &T>::open(
         rt, alloc, opening, vertices, chunk_size, seats,
     )?;
-    let (replies, runs) = race_on(rt, alloc, &graph, readers, batches, plans, workers, turns)?;
+    let (replies, runs) = race_on(rt, alloc, &graph, readers, batches, programs)?;
     Ok(Race {
         vertices,
         replies,
@@ -80,14 +95,18 @@ fn race_on<J: Naming + Send + Sync, T: Threads + Wait + Sync>(
     graph: &SharedGraph<J, &T>,
     readers: Vec<Reader<J>>,
     batches: Vec<Batch>,
-    plans: &[&Plan],
-    workers: usize,
-    turns: u64,
+    programs: PlannedRuns<'_>,
 ) -> Result<(Vec<CommitReply>, Vec<ProgramRuns>), RaceError>
-    requires { readers.items ≡ fresh_passes (suc (length plans.now)) }
-    ensures raced { IfOk result (IsRaced J.vertices J.room batches.items (map (λ p. p.now) plans.now) turns) }
-    ensures refused { IfErr result (RefusesOnGraph (opened J.vertices J.room) batches.items workers) }
+    requires { readers.items ≡ fresh_passes (suc (length programs.plans.now)) }
+    ensures raced { IfOk result (IsRaced J.vertices J.room batches.items (map (λ p. p.now) programs.plans.now) programs.turns) }
+    ensures workers { IfOk result (λ raced. MayRun programs.workers raced.1.items) }
+    ensures refused { IfErr result (RefusesOnGraph (opened J.vertices J.room) batches.items programs.workers) }
 {
+    let PlannedRuns {
+        plans,
+        workers,
+        turns,
+    } = programs;
     let mut readers = readers;
     let Some(writer) = readers.pop() else {
         unreachable!()
@@ -179,6 +198,7 @@ fn run_all_late<J: Naming, T: Threads + Sync>(
 ) -> Result<Vec<ProgramRuns>, RaceError>
     requires { All (RanEarly J.vertices turns workers) ran.items }
     ensures ran { IfOk result (λ runs. AllRan J.vertices J.room turns told.now (map (λ r. r.plan.now) ran.entry.items) runs.items) }
+    ensures workers { IfOk result (λ runs. MayRun workers runs.items) }
     ensures refused { IfErr result (RefusesRuns workers) }
 {
     let mut all = Vec::with_capacity(alloc, ran.len())?;

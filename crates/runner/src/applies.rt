@@ -36,9 +36,10 @@ use typed_tree::{ApplyEnds, VarRef};
 use vectors::Changes;
 use vertex_sets::{Form, VertexSet};
 
-/// What an instruction applies on the edges between two ends: one edge function, or two.
+/// What an instruction applies on the edges of a graph between two ends: one edge function, or two.
 #[derive(Clone, Copy)]
-pub(crate) struct EdgeApplies {
+pub(crate) struct EdgeApplies<'a> {
+    pub(crate) graph: &'a Flat,
     pub(crate) ends: ApplyEnds,
     pub(crate) first: EdgePart,
     pub(crate) second: Option<EdgePart>,
@@ -72,19 +73,18 @@ impl Memory {
         Ok(())
     }
 
-    /// One edge function, or two, on the edges between two ends.
+    /// One edge function, or two, on the edges of a graph between two ends.
     pub(crate) fn apply_edges<E: EdgeApplier>(
         &mut self,
         alloc: Global,
         functions: &FunctionKernels,
-        graph: &Flat,
         instruction: &Instruction,
-        applies: EdgeApplies,
+        applies: EdgeApplies<'_>,
         by: &mut E,
     ) -> Result<(), AllocError>
         requires applier { E.is_ready by.old }
         ensures applier { E.is_ready by.new }
-        ensures done { OnOk result ((p : ProgramTree) (g : GraphValue) (t : OperationTree) → g ≡ graph_value graph.now → IsOn g self.old
+        ensures done { OnOk result ((p : ProgramTree) (g : GraphValue) (t : OperationTree) → g ≡ graph_value applies.graph.now → IsOn g self.old
             → AreFunctionKernels functions.now p → ApplyEdgesOf applies.ends applies.first applies.second t → OperationReduces p t
             → HasDone instruction.now Flow.Next self.old self.new p g t) }
         ensures turns { OnOk result (self.new.state.state.turns ≡ self.old.state.state.turns) }
@@ -94,6 +94,7 @@ impl Memory {
     {
         let schedule = instruction.choice;
         let EdgeApplies {
+            graph,
             ends,
             first,
             second,

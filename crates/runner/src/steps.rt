@@ -111,11 +111,12 @@ impl Memory {
                 second,
             } => {
                 let applies = EdgeApplies {
+                    graph,
                     ends: *ends,
                     first: *first,
                     second: *second,
                 };
-                self.apply_edges(alloc, functions, graph, i, applies, by)?;
+                self.apply_edges(alloc, functions, i, applies, by)?;
                 Ok(Flow::Next)
             }
             PlanOperation::Unless { .. }

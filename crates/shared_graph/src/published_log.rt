@@ -24,6 +24,13 @@ use std::sync::{Arc, Wait};
 use tree_batch::Graph;
 use version_list::{Done, VersionError};
 
+/// What a history begins with: so many vertices, and room for so many entries.
+#[derive(Clone, Copy)]
+pub(crate) struct HistoryStart {
+    pub(crate) vertices: u32,
+    pub(crate) room: u64,
+}
+
 /// The shared history, which is the one that was published, and how many of its entries each reader
 /// made. Contracts see it as the history.
 pub(crate) struct PublishedLog<J: Naming, R: Wait + Drop> {
@@ -71,18 +78,18 @@ impl<J: Naming, R: Wait + Drop> PublishedLog<J, R> {
         rt: R,
         alloc: Global,
         opening: Opening,
-        vertices: u32,
-        room: u64,
+        start: HistoryStart,
         graph: Arc<Graph>,
         readers: usize,
     ) -> Result<(PublishedLog<J, R>, Vec<Reader<J>>), AllocError>
         requires book { opening ≡ J.book }
-        requires base { opened J.vertices J.room ≡ opened vertices room }
+        requires base { opened J.vertices J.room ≡ opened start.vertices start.room }
         requires newest { IsNewest (state_at (opened J.vertices J.room) []) 0 (arc_value graph) }
         requires readers { (0 < readers) × (readers ≤ 64) }
         ensures published_log { IfOk result (λ r. r.0 ≡ []) }
         ensures readers { IfOk result (λ r. r.1.items ≡ fresh_passes readers) }
     {
+        let HistoryStart { vertices, room } = start;
         let (book, history_prefix) = opening.named::<J>();
         let shown = Shown::new(vertices, room, 0, graph, &history_prefix);
         let mut publisher = Publisher::new(alloc, rt, shown, readers)?;

@@ -13,7 +13,7 @@ use crate::error::SharedError;
 use crate::held::{Held, Unreleased};
 use crate::locked_state::LockedState;
 use crate::naming::Naming;
-use crate::published_log::PublishedLog;
+use crate::published_log::{PublishedLog, HistoryStart};
 use crate::reader::Reader;
 use std::alloc::Global;
 use std::sync::{Arc, Mutex, Wait};
@@ -98,9 +98,9 @@ impl<J: Naming, R: Wait + Drop> SharedGraph<J, R> {
             return Err(SharedError::BadSeats);
         }
         let graph = Arc::new(alloc, versions.newest().1.clone()?)?;
-        let (published_log, passes) = PublishedLog::open(
-            rt, alloc, opening, vertices, room, graph, readers,
-        )?;
+        let start = HistoryStart { vertices, room };
+        let (published_log, passes) =
+            PublishedLog::open(rt, alloc, opening, start, graph, readers)?;
         let locked_state = Mutex::new(LockedState::new(versions, published_log));
         Ok((SharedGraph { locked_state }, passes))
     }

@@ -19,6 +19,14 @@ use std::alloc::Global;
 use std::thread::Threads;
 use tree_batch::Graph;
 
+/// A plan, and how it is run: by so many workers, for at most so many turns.
+#[derive(Clone, Copy)]
+struct PlannedRun<'a> {
+    plan: &'a Plan,
+    workers: usize,
+    turns: u64,
+}
+
 /// Takes the newest version as [`Reader::latest`] does, runs a plan on it by n workers, 1 to 64, for at most so many
 /// turns, and gives the version's number with what the run shows.
 ///
@@ -53,8 +61,13 @@ pub fn run_latest<J: Naming, R: Threads + Sync, G: Gate + Sync>(
     if !is_crew(workers) {
         return Err(LatestRunError::BadWorkers);
     }
+    let planned = PlannedRun {
+        plan,
+        workers,
+        turns,
+    };
     let snapshot = reader.latest()?;
-    let outcome = run_on(rt, alloc, plan, &snapshot.graph, workers, turns, gate)?;
+    let outcome = run_on(rt, alloc, planned, &snapshot.graph, gate)?;
     Ok((snapshot.number, outcome))
 }
 
@@ -82,24 +95,32 @@ pub fn run_held<J: Naming, R: Threads + Sync, G: Gate + Sync>(
     ensures workers { IfOk result (λ _. AreWorkers workers) }
     ensures bad_workers { (result ≡ Err run.BadWorkers) ↔ (¬ AreWorkers workers) }
 {
+    let planned = PlannedRun {
+        plan,
+        workers,
+        turns,
+    };
     let snapshot = held.snapshot();
-    run_on(rt, alloc, plan, &snapshot.graph, workers, turns, gate)
+    run_on(rt, alloc, planned, &snapshot.graph, gate)
 }
 
-// Runs a plan on a graph by n workers.
+// Runs a plan on a graph.
 fn run_on<R: Threads + Sync, G: Gate + Sync>(
     rt: &R,
     alloc: Global,
-    plan: &Plan,
+    planned: PlannedRun<'_>,
     graph: &Graph,
-    workers: usize,
-    turns: u64,
     gate: &G,
 ) -> Result<Outcome, RunError>
-    ensures outcome { IfOk result (IsOutcomeOn plan.now graph.now turns) }
-    ensures workers { IfOk result (λ _. AreWorkers workers) }
-    ensures bad_workers { (result ≡ Err run.BadWorkers) ↔ (¬ AreWorkers workers) }
+    ensures outcome { IfOk result (IsOutcomeOn planned.plan.now graph.now planned.turns) }
+    ensures workers { IfOk result (λ _. AreWorkers planned.workers) }
+    ensures bad_workers { (result ≡ Err run.BadWorkers) ↔ (¬ AreWorkers planned.workers) }
 {
+    let PlannedRun {
+        plan,
+        workers,
+        turns,
+    } = planned;
     if !is_crew(workers) {
         return Err(RunError::BadWorkers);
     }

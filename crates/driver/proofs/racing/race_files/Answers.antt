@@ -10,6 +10,7 @@ returns g c = record {
   race = c.in-Ok.raced;
   is_race = race_of_files _ _ _ _ c.in_ok-compiled.compiled.items _ c.in_ok-plans.plans.items _ c.in_ok-order.order c.in-Ok.raced c.in_ok-compiled.ensures c.in_ok-order.ensures c.deref.ensures.value c.in_ok-plans.ensures c.deref-2.ensures.value c.in-Ok.ensures.race;
   bytes_written = c.in_ok-write_race.ensures.0;
+  quiet = c.in_ok-write_race.ensures.1;
   fault = c.has_faulted.ensures;
 }
 

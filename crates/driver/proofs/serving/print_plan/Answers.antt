@@ -13,6 +13,7 @@ returns-in-Ok g c =
       plan = c.in_ok-plan.plan;
       planned = held;
       bytes_written = c.in-Ok.ensures.ok ∙ ap (λ (t : List ℕ). g.W.Drain.bytes_written c.args.out.now ++ t) is;
+      quiet = c.in-Ok.ensures.no_failure;
       fault = refl;
     }
 

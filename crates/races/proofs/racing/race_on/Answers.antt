@@ -11,7 +11,7 @@ use Rattle.races.proofs.Seats.{answered_all, as_many_left, pass_popped, raced}
 use Rattle.races.proofs.racing.race_on.Goals as goal
 
 pub entrants-requires : goal.entrants-requires
-entrants-requires g c = as_many_left (length c.args.plans.now) _ _ _ _ c.requires c.pop.ensures.items c.in-Some.is
+entrants-requires g c = as_many_left (length c.args.programs.plans.now) _ _ _ _ c.requires c.pop.ensures.items c.in-Some.is
 
 size_send : IsSend usize
 size_send = search sendable
@@ -31,7 +31,7 @@ pub returns-clause-raced : goal.returns-clause-raced
 returns-clause-raced g c =
     let ran = IfOk-at_ok _ c.in_ok-ran.was c.join-ran.ensures.first in
     let base = opened g.J.Naming.vertices g.J.Naming.room in
-    let fresh = (pass_popped (length c.args.plans.now) _ _ _ _ c.requires c.pop.ensures.items c.in-Some.is).1 in
+    let fresh = (pass_popped (length c.args.programs.plans.now) _ _ _ _ c.requires c.pop.ensures.items c.in-Some.is).1 in
     let answered = answered_all base c.in-Some.writer _ c.args.batches.items _ _ c.in_ok-replies.was c.join-ran.ensures.second in
-    raced g.J.Naming.vertices g.J.Naming.room _ c.args.batches.items _ c.args.turns c.in-Some.writer _ c.in_ok-replies.replies c.in_ok-runs.runs _ _ fresh answered c.token.ensures
+    raced g.J.Naming.vertices g.J.Naming.room _ c.args.batches.items _ c.args.programs.turns c.in-Some.writer _ c.in_ok-replies.replies c.in_ok-runs.runs _ _ fresh answered c.token.ensures
     (ran.0 ∙ c.in_ok-entrants.ensures) c.in_ok-runs.ensures.ran
