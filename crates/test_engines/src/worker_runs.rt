@@ -207,14 +207,24 @@ fn sixty_four_workers_share_a_thousand_sources(rt: HostRuntime) -> Result<(), Fa
 // several workers put together, and of an apply that is worth a second worker.
 const RINGS: [u32; 9] = [127, 128, 129, 511, 512, 16_383, 16_384, 32_767, 32_768];
 
-// Whether each vertex of a ring has the one before it, by n workers at whom nobody looks.
-fn has_predecessors<R: Threads + AllocGlobal + Sync>(
+// A ring of so many vertices, each with an edge to the next.
+fn ring_of(alloc: Global, size: u32) -> Result<Flat, Fail> {
+    let mut edges = Vec::new(alloc);
+    for vertex in 0..size {
+        edges.push((vertex, vertex.wrapping_add(1) % size.max(1)))?;
+    }
+    graph_of(alloc, size, &edges)
+}
+
+// Whether each vertex of a ring has the one before it, by n workers.
+fn has_predecessors<R: Threads + AllocGlobal + Sync, G: Gate + Sync>(
     rt: &R,
     graph: &Flat,
     (way, form, share): (&str, &str, &str),
     workers: usize,
+    gate: &G,
 ) -> Result<bool, Fail> {
-    let outcome = shown(rt, graph, SOURCES, (way, form, share), workers, &Open)?;
+    let outcome = shown(rt, graph, SOURCES, (way, form, share), workers, gate)?;
     let last = i64::from(graph.vertices()).wrapping_sub(1);
     let found = match outcome.vectors.as_slice().first() {
         Some(vector) => match vector.entries.as_slice() {
@@ -229,16 +239,37 @@ fn has_predecessors<R: Threads + AllocGlobal + Sync>(
 #[test]
 fn rings_of_each_size_are_the_same_by_any_workers(rt: HostRuntime) -> Result<(), Fail> {
     for size in RINGS {
-        let mut edges = Vec::new(rt.alloc());
-        for vertex in 0..size {
-            edges.push((vertex, vertex.wrapping_add(1) % size.max(1)))?;
-        }
-        let graph = graph_of(rt.alloc(), size, &edges)?;
+        let graph = ring_of(rt.alloc(), size)?;
         for (way, form) in &WAYS[..4] {
             for workers in [1, 2, 3] {
                 let choices = (*way, *form, "dynamic-vertex-parallel");
-                let found = has_predecessors(&rt, &graph, choices, workers)?;
+                let found = has_predecessors(&rt, &graph, choices, workers, &Open)?;
                 assert!(rt; found, "{size} by {way} and {workers}");
+            }
+        }
+    }
+    Ok(())
+}
+
+// Looks at each piece, and does nothing.
+struct Watching;
+
+impl Gate for Watching {
+    fn enter(&self, _worker: usize, _piece: usize, _pieces: usize) {}
+}
+
+// Rings that so many workers put together one by one, and by ranges.
+const SHARED_RINGS: [u32; 3] = [16_383, 16_384, 20_000];
+
+#[test]
+fn sixty_four_workers_share_rings_of_each_size(rt: HostRuntime) -> Result<(), Fail> {
+    for size in SHARED_RINGS {
+        let graph = ring_of(rt.alloc(), size)?;
+        for (way, form) in &WAYS[..4] {
+            for share in &SHARES[1..] {
+                let choices = (*way, *form, *share);
+                let found = has_predecessors(&rt, &graph, choices, 64, &Watching)?;
+                assert!(rt; found, "{size} by {way} and {share}");
             }
         }
     }
