@@ -2,6 +2,7 @@
 ghost use Rattle.std.specs.Prelude.{◌≡◌, ◌<◌, [], false, Err, IfErr, IfOk, IfSome, MatchOption, None, OnOk, Some, length};
 ghost use Rattle.std.specs.List.{slice_get};
 ghost use Rattle.std.specs.Option.{option_map};
+ghost use Rattle.algorithm_meaning.specs.ProgramTree.{ProgramTree};
 ghost use Rattle.version_list.specs.declared.step.Step.TheVariants as step;
 ghost use Rattle.version_flats.specs.VersionFlats.{IsKept};
 ghost use Rattle.replies.specs.declared.send_error.SendError.TheVariants.{NoMemory};
@@ -208,7 +209,7 @@ impl OpenGraph {
         }
     }
 
-    /// Runs the program that a line asks for, or refuses its number.
+    /// Runs the program that a line asks for, after which no reply is kept, or refuses its number.
     fn run_numbered<P: Programs, W: Drain>(
         &mut self,
         host: &Host<'_, P>,
@@ -220,6 +221,8 @@ impl OpenGraph {
             (program_of (P.trees host.now.programs.now) line.program) (graph_of self.old.versions line.ticket)).text result }
         ensures state { OnOk result (self.new ≡ (running self.old line.turns line.workers
             (program_of (P.trees host.now.programs.now) line.program) (graph_of self.old.versions line.ticket)).state) }
+        ensures written { (program : ProgramTree) → program_of (P.trees host.now.programs.now) line.program ≡ Some program
+            → OnOk result (replies.new.kept ≡ []) }
     {
         let Some(index) = index_of(host.programs, line.program) else {
             return replies.send_line(LineReply::Refused(NO_PROGRAM));
