@@ -105,7 +105,7 @@ each_gathered w (f ∷ fs) m steps from to answers vectors sizes kernels is_from
 -- the answers of pieces, where no common shape is known
 pub gathers_pieces : (w : PullWork) (fs : List (Found Gathered)) → shape_vector w.shape ≡ None → AreAnswers (Answers w) fs → AreAnswers (GathersPiece w) fs
 gathers_pieces w [] none answers = tt
-gathers_pieces w (f ∷ fs) none answers = (subst (λ (o : Option ℕ). AnswersFor o w f.piece f.out) none answers.0, gathers_pieces w fs none answers.1)
+gathers_pieces w (f ∷ fs) none answers = (subst (λ (o : Option ℕ). AnswersFor o w f.piece f.out) none answers.0.0, gathers_pieces w fs none answers.1)
 
 -- the same where one is
 pub pulled_parts : (w : PullWork) (fs : List (Found Gathered)) (y : ℕ) → shape_vector w.shape ≡ Some y → AreAnswers (Answers w) fs
@@ -114,6 +114,6 @@ pub pulled_parts : (w : PullWork) (fs : List (Found Gathered)) (y : ℕ) → sha
     → ListParts (told_in_piece (entry m.vectors y) (entry_after m steps y r (edges_between from to w.apply.flat.now.edges)) w.cuts) fs
 pulled_parts w [] y at answers m steps from to vectors sizes kernels is_from is_to r by = tt
 pulled_parts w (f ∷ fs) y at answers m steps from to vectors sizes kernels is_from is_to r by = (
-  subst (λ (o : Option ℕ). AnswersFor o w f.piece f.out) at answers.0 m steps from to vectors sizes kernels is_from is_to r by,
+  subst (λ (o : Option ℕ). AnswersFor o w f.piece f.out) at answers.0.0 m steps from to vectors sizes kernels is_from is_to r by,
   pulled_parts w fs y at answers.1 m steps from to vectors sizes kernels is_from is_to r by,
 )

@@ -42,6 +42,15 @@ shape_vector (shape.EntryPlus x r y n) = Some x
 shape_vector (shape.Constant x r n) = Some x
 shape_vector (shape.EntryWith x r y o) = Some x
 
+-- the reduction by which it gives
+abbrev pub shape_reduction : Shape → Option Reduction
+shape_reduction shape.Other = None
+shape_reduction (shape.Source x r) = Some r
+shape_reduction (shape.Entry x r y) = Some r
+shape_reduction (shape.EntryPlus x r y n) = Some r
+shape_reduction (shape.Constant x r n) = Some r
+shape_reduction (shape.EntryWith x r y o) = Some r
+
 -- what the functions give on every edge is what one of this shape gives
 abbrev pub IsShapeOfApply : Shape → EdgeKernel → Option (Bor EdgeKernel) → Type 0
 IsShapeOfApply t first second = (m : StateValue) (sizes : List ℤ) (steps : List StepsTree) → HasSizes sizes m → AreKernels first second steps

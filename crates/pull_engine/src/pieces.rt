@@ -1,12 +1,12 @@
 //! Pieces of an apply by pull, and their merge.
-ghost use Rattle.std.specs.Prelude.{◌≡◌, ℕ, ◌<◌, ◌≤◌, ◌++◌, List, [], length, Contains, IfNone, IfOk, IfSome, OnOk};
+ghost use Rattle.std.specs.Prelude.{◌≡◌, ℕ, ◌<◌, ◌≤◌, ◌++◌, List, [], length, Contains, IfNone, IfOk, IfSome, OnOk, Some};
 ghost use Rattle.std.specs.List.{flat_map, range_with_len};
 ghost use Rattle.std.specs.List.Sorted.{IsPermutation};
 ghost use Rattle.crew.specs.Pieces.{AreAnswers, pieces_of};
 ghost use Rattle.edge_fold.specs.Changed.{AreApart};
 ghost use Rattle.edge_apply.specs.Applied.{AreChangesOf};
 ghost use Rattle.vectors.specs.declared.changes.EntryChange.{EntryChange as Change};
-ghost use Rattle.pull_engine.specs.Pieces.{Answers, GathersPiece, IsPiecePulled};
+ghost use Rattle.pull_engine.specs.Pieces.{Answers, AreFor, GathersPiece, IsPiecePulled};
 ghost use Rattle.pull_engine.specs.Ranges.{all_listed, shape_vector as vector_of};
 
 use crate::changes::changes_in;
@@ -162,7 +162,8 @@ fn listed_in(
     target: ShapeTarget,
     changes: Vec<EntryChange>,
 ) -> Result<Gathered, AllocError>
-    ensures { IfOk result (λ g. all_listed g.vectors.items ≡ changes.items) }
+    ensures { IfOk result (λ g. (all_listed g.vectors.items ≡ changes.items)
+        × AreFor (Some target.vector) (Some target.reduction) g.vectors.items) }
 {
     let mut vectors = Vec::with_capacity(alloc, 1)?;
     vectors.push(GatheredIn {

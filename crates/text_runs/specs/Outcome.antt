@@ -8,7 +8,8 @@ use Rattle.run_state.specs.State.{graph_value}
 use Rattle.version_list.specs.Machine.{State}
 use Rattle.shared_graph.specs.Passes.{Pass}
 use Rattle.snapshot_runs.specs.Outcome.{Leaves}
-use Rattle.compiler.specs.Outcome.{IsProgram}
+use Rattle.plans.specs.declared.plan.Plan.{Plan}
+use Rattle.compiler.specs.Outcome.{IsPlanOfText, IsProgram}
 use Rattle.text_runs.specs.declared.error.TextRunError.{TextRunError}
 use Rattle.text_runs.specs.declared.error.TextRunError.TheVariants.{NotCompiled, NotRun}
 
@@ -17,6 +18,11 @@ pub record IsMeaningOf (text : List ℕ) (graph : Digraph) (turns : ℕ) (o : Ou
   pub program : ProgramTree
   pub is_program : IsProgram text program
   pub shows : o ≡ meaning program (graph_value graph) turns
+
+-- the text has a plan
+pub record HasPlan (text : List ℕ) : Type 0 where
+  pub plan : Plan
+  pub of : IsPlanOfText text plan
 
 -- the reader is as it was where the text was not compiled, else as the refused run leaves it
 abbrev pub LeavesText : State → TextRunError → Pass → Pass → Type 0

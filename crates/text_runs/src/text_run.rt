@@ -5,9 +5,10 @@ ghost use Rattle.compiler.specs.Outcome.{Compiles};
 ghost use Rattle.crew.specs.Outcome.{AreWorkers};
 ghost use Rattle.shared_graph.specs.Histories.{batches_of, fold_of};
 ghost use Rattle.shared_graph.specs.Passes.{Shows};
+ghost use Rattle.snapshot_runs.specs.declared.error.LatestRunError as run;
 ghost use Rattle.snapshot_runs.specs.declared.error.LatestRunError.TheVariants.{BadWorkers};
 ghost use Rattle.text_runs.specs.declared.error.TextRunError.TheVariants.{NotCompiled, NotRun};
-ghost use Rattle.text_runs.specs.Outcome.{IsMeaningOf, LeavesText};
+ghost use Rattle.text_runs.specs.Outcome.{HasPlan, IsMeaningOf, LeavesText};
 ghost use Rattle.version_list.specs.Machine.{opened};
 
 use crate::error::TextRunError;
@@ -39,6 +40,7 @@ pub fn run_text_on_latest<J: Naming, R: Threads + Sync, G: Gate + Sync>(
     ensures workers { IfOk result (λ _. AreWorkers workers) }
     ensures bad_workers { result ≡ Err (NotRun BadWorkers) → ¬ AreWorkers workers }
     ensures not_compiled { (reason : why.CompileError) → result ≡ Err (NotCompiled reason) → Compiles text.now (Err reason) }
+    ensures planned { (reason : run.LatestRunError) → result ≡ Err (NotRun reason) → HasPlan text.now }
     ensures refused { IfErr result (λ e. LeavesText (opened J.vertices J.room) e reader.old reader.new) }
 {
     let plan = compile(alloc, text)?;
