@@ -41,14 +41,14 @@ const PIECES: &[u8] = b"element Vertex end element Edge end \
 
 // Counts the pieces.
 #[derive(Drop)]
-struct Counting(AtomicU64);
+pub(crate) struct Counting(AtomicU64);
 
 impl Counting {
-    fn new() -> Counting {
+    pub(crate) fn new() -> Counting {
         Counting(AtomicU64::new(0))
     }
 
-    fn count(&self) -> u64 {
+    pub(crate) fn count(&self) -> u64 {
         self.0.load(Ordering::SeqCst)
     }
 }

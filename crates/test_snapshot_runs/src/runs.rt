@@ -2,6 +2,7 @@
 ghost use Rattle.std.specs.Prelude.{◌≡◌};
 
 use crate::paths::{SEARCH, VERTICES, commit, is_of};
+use crate::refused_growths::Counting;
 use compiler::compile;
 use crew::Open;
 use plans::Plan;
@@ -369,7 +370,7 @@ fn texts<J: Naming, R: Threads + Wait + AllocGlobal + Sync>(
     Ok(run_texts(rt, rt.alloc(), &graph, &mut me))
 }
 
-// Whether a text is run on the version just committed, another text is refused, and so are 65 workers.
+// Whether a text is run on the version just committed, and the gate is told; another text is refused, and so are 65 workers.
 fn run_texts<J: Naming, W: Wait + Drop, R: Threads + Wait + Sync>(
     rt: &R,
     alloc: Global,
@@ -377,11 +378,12 @@ fn run_texts<J: Naming, W: Wait + Drop, R: Threads + Wait + Sync>(
     me: &mut Reader<J>,
 ) -> [bool; 3] {
     let committed = commit(rt, alloc, graph, me, 1) == Ok(1);
-    let ran = run_text_on_latest(rt, alloc, SEARCH, me, 1, TURNS, &Open);
+    let gate = Counting::new();
+    let ran = run_text_on_latest(rt, alloc, SEARCH, me, 2, TURNS, &gate);
     let broken = run_text_on_latest(rt, alloc, b"func", me, 1, TURNS, &Open);
     let many = run_text_on_latest(rt, alloc, SEARCH, me, 65, TURNS, &Open);
     let is_run = match ran {
-        Ok((number, outcome)) => number == 1 && is_of(1, &outcome),
+        Ok((number, outcome)) => number == 1 && is_of(1, &outcome) && gate.count() > 0,
         Err(_) => false,
     };
     let is_broken = match broken {
