@@ -23,6 +23,8 @@ mod beside;
 mod case;
 mod compare;
 mod listing;
+#[cfg(test)]
+mod reads;
 mod repeated;
 #[cfg(test)]
 mod tests;
