@@ -13,7 +13,7 @@ use crate::error::SharedError;
 use crate::held::{Held, Unreleased};
 use crate::locked_state::LockedState;
 use crate::naming::Naming;
-use crate::published_log::{PublishedLog, HistoryStart};
+use crate::published_log::{HistoryStart, PublishedLog};
 use crate::reader::Reader;
 use std::alloc::Global;
 use std::sync::{Arc, Mutex, Wait};
@@ -99,8 +99,9 @@ impl<J: Naming, R: Wait + Drop> SharedGraph<J, R> {
         }
         let graph = Arc::new(alloc, versions.newest().1.clone()?)?;
         let start = HistoryStart { vertices, room };
-        let (published_log, passes) =
-            PublishedLog::open(rt, alloc, opening, start, graph, readers)?;
+        let (published_log, passes) = PublishedLog::open(
+            rt, alloc, opening, start, graph, readers,
+        )?;
         let locked_state = Mutex::new(LockedState::new(versions, published_log));
         Ok((SharedGraph { locked_state }, passes))
     }

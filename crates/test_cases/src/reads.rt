@@ -24,7 +24,10 @@ struct NotingFiles(AtomicU64);
 impl NotingFiles {
     fn note(&self, digit: u64) {
         let before = self.0.load(Ordering::SeqCst);
-        self.0.store(before.wrapping_mul(10).wrapping_add(digit), Ordering::SeqCst);
+        self.0.store(
+            before.wrapping_mul(10).wrapping_add(digit),
+            Ordering::SeqCst,
+        );
     }
 }
 
