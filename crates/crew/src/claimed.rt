@@ -12,7 +12,7 @@ use crate::gate::Gate;
 use crate::piece::{NextPiece, do_piece, state_or_new};
 use crate::piece_results::Found;
 use crate::work::Work;
-use crate::worker::{FinishedWorker, StartingWorker, bring_back};
+use crate::worker::{FinishedWorker, Run, StartingWorker, bring_back};
 use std::alloc::{AllocError, Global};
 use std::thread::{self, Threads};
 
@@ -20,25 +20,23 @@ use std::thread::{self, Threads};
 pub(crate) fn find_claimed<R: Threads + Sync, G: Gate + Sync, W: Work + Sync>(
     rt: &R,
     alloc: Global,
-    gate: &G,
-    work: &W,
-    pieces: usize,
+    run: &Run<'_, G, W>,
     workers: usize,
     states: &mut Vec<W::State>,
 ) -> Result<Vec<Found<W::Out>>, AllocError>
-    requires pieces { (pieces ≤ W.pieces work.now) × (pieces ≤ 2 ^ 32) }
+    requires pieces { (run.now.pieces ≤ W.pieces run.now.work.now) × (run.now.pieces ≤ 2 ^ 32) }
     requires workers { (0 < workers) × (workers ≤ 64) }
-    requires states { All (W.keeps work.now) states.old.items }
-    ensures found { IfOk result (λ found. All (IsAnswered (W.answers work.now) pieces) found.items
-        × AreAll pieces found.items) }
-    ensures states { All (W.keeps work.now) states.new.items }
+    requires states { All (W.keeps run.now.work.now) states.old.items }
+    ensures found { IfOk result (λ found. All (IsAnswered (W.answers run.now.work.now) run.now.pieces) found.items
+        × AreAll run.now.pieces found.items) }
+    ensures states { All (W.keeps run.now.work.now) states.new.items }
     ensures back { IfOk result (λ _. length states.new.items ≡ max (length states.old.items) workers) }
 {
     let (table, mut own) = open_word(alloc)?;
     let word = &table.shared;
-    let jobs = hire_all::<W>(alloc, word, &mut own, work, workers, states)?;
-    let done = claim_all(rt, alloc, word, gate, work, pieces, jobs)?;
-    gather(alloc, word, own, work, pieces, done, states)
+    let jobs = hire_all::<W>(alloc, word, &mut own, run.work, workers, states)?;
+    let done = claim_all(rt, alloc, word, run, jobs)?;
+    gather(alloc, word, own, run, done, states)
 }
 
 // What these workers bring back, each of which claims pieces on a thread of its own.
@@ -46,16 +44,16 @@ fn claim_all<R: Threads + Sync, G: Gate + Sync, W: Work + Sync>(
     rt: &R,
     alloc: Global,
     word: &ClaimWord,
-    gate: &G,
-    work: &W,
-    pieces: usize,
+    run: &Run<'_, G, W>,
     jobs: Vec<StartingWorker<Claim, W::State>>,
 ) -> Result<Vec<Result<FinishedWorker<Claim, W::State, W::Out>, AllocError>>, AllocError>
-    requires pieces { (pieces ≤ W.pieces work.now) × (pieces ≤ 2 ^ 32) }
-    requires jobs { All (IsHired (W.keeps work.now) word.now.table_id) jobs.items }
+    requires pieces { (run.now.pieces ≤ W.pieces run.now.work.now) × (run.now.pieces ≤ 2 ^ 32) }
+    requires jobs { All (IsHired (W.keeps run.now.work.now) word.now.table_id) jobs.items }
     ensures { IfOk result (λ done. (length done.items ≡ length jobs.items)
-        × All (λ r. IfOk r (HasClaimed (W.keeps work.now) (W.answers work.now) word.now.table_id pieces)) done.items) }
+        × All (λ r. IfOk r (HasClaimed (W.keeps run.now.work.now) (W.answers run.now.work.now) word.now.table_id run.now.pieces))
+        done.items) }
 {
+    let &Run { gate, work, pieces } = run;
     thread::map_vec(
         rt,
         jobs,
@@ -135,24 +133,24 @@ fn claim_pieces<G: Gate, W: Work>(
     Ok(FinishedWorker { turn, state, found })
 }
 
-// What the workers found, worker by worker, once all of them are back. `work` says what it answers.
-fn gather<W: Work>(
+// What the workers found, worker by worker, once all of them are back. `run` says what its work answers.
+fn gather<G: Gate, W: Work>(
     alloc: Global,
     word: &ClaimWord,
     mut own: Claim,
-    work: &W,
-    pieces: usize,
+    run: &Run<'_, G, W>,
     mut workers: Vec<Result<FinishedWorker<Claim, W::State, W::Out>, AllocError>>,
     states: &mut Vec<W::State>,
 ) -> Result<Vec<Found<W::Out>>, AllocError>
     requires workers { (0 < length workers.items) × (length workers.items ≤ 64)
-        × All (λ r. IfOk r (HasClaimed (W.keeps work.now) (W.answers work.now) word.now.table_id pieces)) workers.items }
+        × All (λ r. IfOk r (HasClaimed (W.keeps run.now.work.now) (W.answers run.now.work.now) word.now.table_id run.now.pieces))
+        workers.items }
     requires own { IsClaimAt word.now.table_id own
         × (view_of own ≡ claim_view (all_rights - length workers.items * worker_rights) [] 0) }
-    requires states { All (W.keeps work.now) states.old.items }
-    ensures found { IfOk result (λ found. All (IsAnswered (W.answers work.now) pieces) found.items
-        × AreAll pieces found.items) }
-    ensures states { All (W.keeps work.now) states.new.items }
+    requires states { All (W.keeps run.now.work.now) states.old.items }
+    ensures found { IfOk result (λ found. All (IsAnswered (W.answers run.now.work.now) run.now.pieces) found.items
+        × AreAll run.now.pieces found.items) }
+    ensures states { All (W.keeps run.now.work.now) states.new.items }
     ensures back { IfOk result (λ _. length states.new.items ≡ length states.old.items + length workers.items) }
 {
     let mut found = Vec::new(alloc);

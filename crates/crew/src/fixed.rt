@@ -9,7 +9,7 @@ use crate::gate::Gate;
 use crate::piece::{NextPiece, do_piece, state_or_new};
 use crate::piece_results::Found;
 use crate::work::Work;
-use crate::worker::{FinishedWorker, StartingWorker, bring_back};
+use crate::worker::{FinishedWorker, Run, StartingWorker, bring_back};
 use std::alloc::{AllocError, Global};
 use std::thread::{self, Threads};
 
@@ -17,20 +17,19 @@ use std::thread::{self, Threads};
 pub(crate) fn find_fixed<R: Threads + Sync, G: Gate + Sync, W: Work + Sync>(
     rt: &R,
     alloc: Global,
-    gate: &G,
-    work: &W,
-    pieces: usize,
+    run: &Run<'_, G, W>,
     workers: usize,
     states: &mut Vec<W::State>,
 ) -> Result<Vec<Found<W::Out>>, AllocError>
-    requires pieces { (pieces ≤ W.pieces work.now) × (pieces ≤ 2 ^ 32) }
+    requires pieces { (run.now.pieces ≤ W.pieces run.now.work.now) × (run.now.pieces ≤ 2 ^ 32) }
     requires workers { (0 < workers) × (workers ≤ 64) }
-    requires states { All (W.keeps work.now) states.old.items }
-    ensures found { IfOk result (λ found. All (IsAnswered (W.answers work.now) pieces) found.items
-        × AreAll pieces found.items) }
-    ensures states { All (W.keeps work.now) states.new.items }
+    requires states { All (W.keeps run.now.work.now) states.old.items }
+    ensures found { IfOk result (λ found. All (IsAnswered (W.answers run.now.work.now) run.now.pieces) found.items
+        × AreAll run.now.pieces found.items) }
+    ensures states { All (W.keeps run.now.work.now) states.new.items }
     ensures back { IfOk result (λ _. length states.new.items ≡ max (length states.old.items) workers) }
 {
+    let &Run { gate, work, pieces } = run;
     let jobs = number_all(alloc, work, workers, states)?;
     let done = thread::map_vec(
         rt,

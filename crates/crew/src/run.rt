@@ -14,6 +14,7 @@ use crate::in_order::in_order;
 use crate::piece_assignment::PieceAssignment;
 use crate::piece_results::Found;
 use crate::work::Work;
+use crate::worker::Run;
 use crate::workers::is_crew;
 use std::alloc::{AllocError, Global};
 use std::thread::Threads;
@@ -55,30 +56,29 @@ pub fn run_pieces<R: Threads + Sync, G: Gate + Sync, W: Work + Sync>(
     if workers <= 1 {
         return Ok(run_alone(alloc, gate, work, pieces, states)?);
     }
-    Ok(run_together(rt, alloc, pieces, workers, share, gate, work, states)?)
+    let run = Run { gate, work, pieces };
+    Ok(run_together(rt, alloc, &run, workers, share, states)?)
 }
 
 // A run of two workers or more.
 fn run_together<R: Threads + Sync, G: Gate + Sync, W: Work + Sync>(
     rt: &R,
     alloc: Global,
-    pieces: usize,
+    run: &Run<'_, G, W>,
     workers: usize,
     share: PieceAssignment,
-    gate: &G,
-    work: &W,
     states: &mut Vec<W::State>,
 ) -> Result<Vec<Found<W::Out>>, AllocError>
-    requires pieces { (pieces ≤ W.pieces work.now) × (pieces ≤ 2 ^ 32) }
+    requires pieces { (run.now.pieces ≤ W.pieces run.now.work.now) × (run.now.pieces ≤ 2 ^ 32) }
     requires workers { (0 < workers) × (workers ≤ 64) }
-    requires states { All (W.keeps work.now) states.old.items }
-    ensures found { IfOk result (λ found. AreFound (W.answers work.now) pieces found.items) }
-    ensures states { All (W.keeps work.now) states.new.items }
+    requires states { All (W.keeps run.now.work.now) states.old.items }
+    ensures found { IfOk result (λ found. AreFound (W.answers run.now.work.now) run.now.pieces found.items) }
+    ensures states { All (W.keeps run.now.work.now) states.new.items }
     ensures back { IfOk result (λ _. length states.new.items ≡ max (length states.old.items) workers) }
 {
     let found = match share {
-        PieceAssignment::Claimed => find_claimed(rt, alloc, gate, work, pieces, workers, states)?,
-        PieceAssignment::Fixed => find_fixed(rt, alloc, gate, work, pieces, workers, states)?,
+        PieceAssignment::Claimed => find_claimed(rt, alloc, run, workers, states)?,
+        PieceAssignment::Fixed => find_fixed(rt, alloc, run, workers, states)?,
     };
-    in_order(alloc, found, pieces)
+    in_order(alloc, found, run.pieces)
 }

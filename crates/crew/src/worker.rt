@@ -1,9 +1,26 @@
-//! Workers: as they start, and as they come back.
+//! Workers: what they do, as they start, and as they come back.
 
 ghost use Rattle.std.specs.Prelude.{◌≡◌, [], ◌∷◌, ◌++◌, IfOk, IfErr};
 
 use crate::piece_results::Found;
 use std::alloc::AllocError;
+
+/// What the workers of a run do: so many pieces of a work, of each of which the gate is told first.
+pub(crate) struct Run<'a, G, W> {
+    pub gate: &'a G,
+    pub work: &'a W,
+    pub pieces: usize,
+}
+
+impl<G, W> Drop for Run<'_, G, W> {
+    fn drop(self) {
+        let Run {
+            gate: _,
+            work: _,
+            pieces: _,
+        } = self;
+    }
+}
 
 /// A worker that is to start: its number from 1, where its pieces come from, and a state that an
 /// earlier run left.

@@ -6,6 +6,6 @@ use Rattle.crew.proofs.claimed.claim_all.Goals as goal
 
 pub returns : goal.returns
 returns g c =
-    let Claimed = HasClaimed (g.W.Work.keeps c.args.work.now) (g.W.Work.answers c.args.work.now) c.args.word.now.table_id c.args.pieces in
+    let Claimed = HasClaimed (g.W.Work.keeps c.args.run.now.work.now) (g.W.Work.answers c.args.run.now.work.now) c.args.word.now.table_id c.args.run.now.pieces in
     all_given (λ r. IfOk r Claimed) c.args.jobs c.map_vec.result c.map_vec.ensures.len
     (IfOk-weaker c.map_vec.result _ _ (λ v each i d below. (each i d below).1.call.met) c.map_vec.ensures.each)

@@ -10,10 +10,10 @@ use Rattle.crew.proofs.claimed.gather.Given as goal
 abbrev pub invariant-loop-worker : goal.invariant-loop-worker
 invariant-loop-worker g l = record {
   own : IsClaimAt l.word.table_id l.own;
-  claimed : IsGathered l.pieces (length l.workers.items) (view_of l.own) (pieces_of l.found.items);
-  workers : All (λ r. IfOk r (HasClaimed (g.W.Work.keeps l.work) (g.W.Work.answers l.work) l.word.table_id l.pieces)) l.workers.items;
-  answered : All (IsAnswered (g.W.Work.answers l.work) l.pieces) l.found.items;
-  states : All (g.W.Work.keeps l.work) l.states.items;
+  claimed : IsGathered l.run.pieces (length l.workers.items) (view_of l.own) (pieces_of l.found.items);
+  workers : All (λ r. IfOk r (HasClaimed (g.W.Work.keeps l.run.work.now) (g.W.Work.answers l.run.work.now) l.word.table_id l.run.pieces)) l.workers.items;
+  answered : All (IsAnswered (g.W.Work.answers l.run.work.now) l.run.pieces) l.found.items;
+  states : All (g.W.Work.keeps l.run.work.now) l.states.items;
   back : length l.states.items + length l.workers.items ≡ length l.fn.states.items + length l.fn.workers.items;
 }
 

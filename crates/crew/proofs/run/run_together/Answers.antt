@@ -10,8 +10,8 @@ use Rattle.crew.proofs.run.run_together.Goals.{in-Claimed+in_ok-found-in-Claimed
 
 pub in_order-requires-clause-ranged : goal.in_order-requires-clause-ranged
 in_order-requires-clause-ranged g c =
-    let answers = g.W.Work.answers c.args.work.now in
-    let n = c.args.pieces in
+    let answers = g.W.Work.answers c.args.run.now.work.now in
+    let n = c.args.run.now.pieces in
     let answered : All (IsAnswered answers n) c.match-share.found.items = elim c.match-share.branch [
       | in-Claimed+in_ok-found-in-Claimed w ↦ subst (λ v. All (IsAnswered answers n) v.items) (sym w.found-is) w.in_ok-found-in-Claimed.ensures.found.0
       | in-Fixed+in_ok-found-in-Fixed w ↦ subst (λ v. All (IsAnswered answers n) v.items) (sym w.found-is) w.in_ok-found-in-Fixed.ensures.found.0
@@ -21,13 +21,13 @@ in_order-requires-clause-ranged g c =
 pub in_order-requires-clause-all : goal.in_order-requires-clause-all
 in_order-requires-clause-all g c =
     elim c.match-share.branch [
-      | in-Claimed+in_ok-found-in-Claimed w ↦ subst (λ v. AreAll c.args.pieces v.items) (sym w.found-is) w.in_ok-found-in-Claimed.ensures.found.1
-      | in-Fixed+in_ok-found-in-Fixed w ↦ subst (λ v. AreAll c.args.pieces v.items) (sym w.found-is) w.in_ok-found-in-Fixed.ensures.found.1
+      | in-Claimed+in_ok-found-in-Claimed w ↦ subst (λ v. AreAll c.args.run.now.pieces v.items) (sym w.found-is) w.in_ok-found-in-Claimed.ensures.found.1
+      | in-Fixed+in_ok-found-in-Fixed w ↦ subst (λ v. AreAll c.args.run.now.pieces v.items) (sym w.found-is) w.in_ok-found-in-Fixed.ensures.found.1
     ]
 
 pub returns-clause-states : goal.returns-clause-states
 returns-clause-states g c =
-    let keeps = g.W.Work.keeps c.args.work.now in
+    let keeps = g.W.Work.keeps c.args.run.now.work.now in
     elim c.match-share.branch [
       | in-Claimed+in_ok-found-in-Claimed w ↦ subst (λ v. All keeps v.items) (sym w.states-is) w.in_ok-found-in-Claimed.ensures.states
       | in-Fixed+in_ok-found-in-Fixed w ↦ subst (λ v. All keeps v.items) (sym w.states-is) w.in_ok-found-in-Fixed.ensures.states
@@ -35,8 +35,8 @@ returns-clause-states g c =
 
 pub returns-clause-found : goal.returns-clause-found
 returns-clause-found g c =
-    let answers = g.W.Work.answers c.args.work.now in
-    let n = c.args.pieces in
+    let answers = g.W.Work.answers c.args.run.now.work.now in
+    let n = c.args.run.now.pieces in
     let answered : All (IsAnswered answers n) c.match-share.found.items = elim c.match-share.branch [
       | in-Claimed+in_ok-found-in-Claimed w ↦ subst (λ v. All (IsAnswered answers n) v.items) (sym w.found-is) w.in_ok-found-in-Claimed.ensures.found.0
       | in-Fixed+in_ok-found-in-Fixed w ↦ subst (λ v. All (IsAnswered answers n) v.items) (sym w.found-is) w.in_ok-found-in-Fixed.ensures.found.0
