@@ -43,6 +43,14 @@ pub trait SourceEntries {
         ensures { result ≡ (get_or (entries self.now) index (0, pos 1)).1 };
 }
 
+/// The edges from a source to destinations, each with its weight.
+#[derive(Clone, Copy)]
+pub(crate) struct WeightedRow<'a> {
+    pub(crate) source: u32,
+    pub(crate) destinations: &'a [u32],
+    pub(crate) weights: &'a [i64],
+}
+
 /// Sources in a column, and the weights of their edges in another.
 #[derive(Drop)]
 struct EntryColumn<'a> {

@@ -14,7 +14,7 @@ ghost use Rattle.apply_options.specs.declared.reduction.Reduction.{Reduction};
 
 use crate::accumulator::Accumulator;
 use crate::apply_context::{ApplyContext, EntryContribution, SourceContribution};
-use crate::entry_numbers::NumberWith;
+use crate::entry_numbers::{NumberWith, WeightedRow};
 use crate::gathered::GatheredIn;
 use crate::joins::gives_some;
 use crate::vector_accumulator::{VectorAccumulator, VectorAccumulators};
@@ -176,24 +176,23 @@ impl VectorAccumulators {
         alloc: Global,
         context: ApplyContext<'_>,
         given: EntryContribution,
-        source: u32,
-        destinations: &[u32],
-        weights: &[i64],
+        row: WeightedRow<'_>,
     ) -> Result<(), AllocError>
-        requires { length weights.now ≡ length destinations.now }
+        requires { length row.weights.now ≡ length row.destinations.now }
         ensures { OnOk result ((x : ℕ) (r : Reduction) → (given.vector ≡ x → given.reduction ≡ r)
             → HaveJoined context.entry x r self.old self.new
-            (if given.vector == x then each_weighed (arithmetic given.operator (entry context.entry.vectors.now.vectors given.from source))
-            (entries_of destinations.now weights.now) else [])) }
+            (if given.vector == x then each_weighed (arithmetic given.operator (entry context.entry.vectors.now.vectors given.from row.entry.source))
+            (entries_of row.entry.destinations.now row.entry.weights.now) else [])) }
     {
         let position = self.position(alloc, given.vector, given.reduction, context.vertices)?;
         let opening = context.opening(given.vector);
         let numbers = NumberWith {
-            number: context.vectors.lane(given.from).get(source as usize),
+            number: context.vectors.lane(given.from).get(row.source as usize),
             operator: given.operator,
         };
+        let reduction = given.reduction;
         let entries = &mut self.slots[position].entries;
-        entries.join_weights(given.reduction, opening, numbers, destinations, weights)?;
+        entries.join_weights(reduction, opening, numbers, row.destinations, row.weights)?;
         Ok(())
     }
 

@@ -8,6 +8,7 @@ ghost use Rattle.edge_fold.specs.Contributions.{column, entries_of, row};
 ghost use Rattle.kernels.specs.declared.columns.TheConstants.{PAIRS};
 
 use crate::apply_context::ApplyContext;
+use crate::entry_numbers::WeightedRow;
 use crate::pairs::Pairs;
 use crate::scratch::Scratch;
 use std::alloc::{AllocError, Global};
@@ -63,8 +64,12 @@ impl Scratch {
             → HasFolded context.entry m steps (edges ++ row source (entries_of destinations.now weights.now)) self.new) }
     {
         if let Some(given) = context.entry_contribution() {
-            self.slots
-                .join_weights(alloc, context, given, source, destinations, weights)?;
+            let row = WeightedRow {
+                source,
+                destinations,
+                weights,
+            };
+            self.slots.join_weights(alloc, context, given, row)?;
             return Ok(());
         }
         self.gather_weighted(alloc, context, source, destinations, weights)

@@ -1,6 +1,7 @@
 //! `apply` of edge functions, and `applyModified`.
 ghost use Rattle.std.specs.Prelude.{◌≡◌, [], ◌∷◌, ◌++◌, Some, false, true, if◌then◌else◌, IfOk, OnOk, map, replicate, slice_index_or, slice_set};
 ghost use Rattle.std.specs.List.{filter, range_with_len};
+ghost use Rattle.typed_tree.specs.ProgramTree.{program_tree};
 ghost use Rattle.typed_tree.specs.StepTree.{function_tree, steps_tree};
 ghost use Rattle.algorithm_meaning.specs.EdgeApply.{after_edge_apply, after_edges, gives, is_end, is_modified, modified, with_given};
 ghost use Rattle.algorithm_meaning.specs.Filter.{result_of};
@@ -11,7 +12,7 @@ use crate::entries::{copied, reduce_entry_at};
 use crate::evaluate::{entry_of, members_at};
 use crate::filter::filter_passes;
 use crate::function::{FunctionFrame, begin, new_frame, run_steps, steps_at};
-use crate::state::{EdgeList, InterpreterState};
+use crate::state::{EdgeList, InterpreterState, RunInput};
 use algorithm_meaning::{Contribution, SetBinding, Writing};
 use std::alloc::{AllocError, Global};
 use typed_tree::{ApplyEnds, Function, FunctionStatement, Sequence, VertexFilter};
@@ -35,40 +36,31 @@ impl Drop for Passing {
 /// state stays. It looks at each edge and each vertex once.
 pub(crate) fn apply_edges(
     alloc: Global,
-    filters: &[Function],
-    functions: &[Function],
-    graph: &EdgeList,
     ends: ApplyEnds,
     function: usize,
+    input: RunInput<'_>,
     state: &mut InterpreterState,
 ) -> Result<Vec<Sequence<i64>>, AllocError>
     ensures vectors { IfOk result (λ v. v.items
-        ≡ after_edge_apply (map function_tree filters.now) (map function_tree functions.now) (graph_of graph.now) ends (function ∷ []) (state_of state.old)) }
+        ≡ after_edge_apply (program_tree input.entry.program.now).filters (program_tree input.entry.program.now).edge_functions
+        (graph_of input.entry.graph.now) ends (function ∷ []) (state_of state.old)) }
     ensures state { OnOk result (state_of state.new ≡ state_of state.old) }
     ensures turns { state.new.turns ≡ state.old.turns }
 {
+    let RunInput { program, graph } = input;
+    let filters: &[Function] = &program.filters;
     let sources = flags_of(alloc, filters, graph, ends.from, state)?;
     let destinations = flags_of(alloc, filters, graph, ends.to, state)?;
     let passing = Passing {
         sources,
         destinations,
     };
-    let mut after = copied(alloc, &state.vectors)?;
-    let steps = steps_at(functions, function);
+    let steps = steps_at(&program.edge_functions, function);
     let InterpreterState { vectors, sets, .. } = state;
-    run_for_edges(
-        alloc,
-        steps,
-        &passing,
-        graph.edges,
-        sets,
-        vectors,
-        &mut after,
-    )?;
-    Ok(after)
+    run_for_edges(alloc, steps, &passing, graph.edges, sets, vectors)
 }
 
-/// Runs statements for each of these edges that passes, and puts what they give into the vectors after it.
+/// Runs statements for each of these edges that passes, and gives the vectors after it.
 fn run_for_edges(
     alloc: Global,
     steps: &[FunctionStatement],
@@ -76,19 +68,19 @@ fn run_for_edges(
     edges: &[(u32, u32, i64)],
     sets: &[SetBinding],
     before: &mut Vec<Sequence<i64>>,
-    after: &mut Vec<Sequence<i64>>,
-) -> Result<(), AllocError>
-    ensures after { OnOk result (after.new.items ≡ after_edges (steps_tree steps.now ∷ []) sets.now before.old.items
-        (filter (flagged passing.now) edges.now) after.old.items) }
+) -> Result<Vec<Sequence<i64>>, AllocError>
+    ensures after { IfOk result (λ v. v.items ≡ after_edges (steps_tree steps.now ∷ []) sets.now before.old.items
+        (filter (flagged passing.now) edges.now) before.old.items) }
     ensures before { OnOk result (before.new.items ≡ before.old.items) }
 {
+    let mut after = copied(alloc, before)?;
     let mut frame = new_frame(alloc);
     'edges: for edge in edges {
         if passes(passing, *edge) {
-            run_for_edge(steps, sets, *edge, before, after, &mut frame)?;
+            run_for_edge(steps, sets, *edge, before, &mut after, &mut frame)?;
         }
     }
-    Ok(())
+    Ok(after)
 }
 
 fn passes(passing: &Passing, edge: (u32, u32, i64)) -> bool

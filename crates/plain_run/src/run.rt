@@ -17,7 +17,7 @@ use crate::initial_state::open;
 use crate::outcome::show;
 use crate::print::{print_condition_in, print_integer_in};
 use crate::sets::{add_vertex, assign_set, declare_set};
-use crate::state::{EdgeList, InterpreterState, StatementContext};
+use crate::state::{EdgeList, InterpreterState, RunInput, StatementContext};
 use crate::values::{counter_of, decide, depth, fault, forget, go_on, is_below, push_counter};
 use crate::variables::{
     declare_condition, declare_integer, reduce_integer, set_condition, set_integer,
@@ -44,7 +44,11 @@ pub fn plain_run(
 {
     let graph = EdgeList { vertices, edges };
     let mut state = open(alloc, program, &graph, turns)?;
-    let end = run_all(alloc, &program.main, program, &graph, &mut state)?;
+    let input = RunInput {
+        program,
+        graph: &graph,
+    };
+    let end = run_all(alloc, &program.main, input, &mut state)?;
     show(alloc, program, turns, state, end)
 }
 
@@ -53,16 +57,15 @@ pub fn plain_run(
 fn run_all(
     alloc: Global,
     block: &[MainStatement],
-    program: &Typed,
-    graph: &EdgeList,
+    input: RunInput<'_>,
     state: &mut InterpreterState,
 ) -> Result<Option<End>, AllocError>
     ensures meaning { IfOk result (λ end. stand end (state_of state.new)
-        ≡ after_all (program_tree program.now) (graph_of graph.now) (block_tree block.now) (state_of state.old)) }
+        ≡ after_all (program_tree input.entry.program.now) (graph_of input.entry.graph.now) (block_tree block.now) (state_of state.old)) }
     ensures turns { state.new.turns ≤ state.old.turns }
 {
     'statements: for statement in block {
-        let end = run_statement(alloc, statement, program, graph, state)?;
+        let end = run_statement(alloc, statement, input, state)?;
         if end.is_some() {
             return Ok(end);
         }
@@ -74,33 +77,33 @@ fn run_all(
 fn run_statement(
     alloc: Global,
     statement: &MainStatement,
-    program: &Typed,
-    graph: &EdgeList,
+    input: RunInput<'_>,
     state: &mut InterpreterState,
 ) -> Result<Option<End>, AllocError>
     ensures meaning { IfOk result (λ end. stand end (state_of state.new)
-        ≡ after (program_tree program.now) (graph_of graph.now) statement.now.number (action_tree statement.now.action) (state_of state.old)) }
+        ≡ after (program_tree input.entry.program.now) (graph_of input.entry.graph.now) statement.now.number
+        (action_tree statement.now.action) (state_of state.old)) }
     ensures turns { state.new.turns ≤ state.old.turns }
 {
     let number = statement.number;
-    let vertices = graph.vertices;
+    let vertices = input.graph.vertices;
     match &statement.action {
         StatementKind::If(c, body) => match decide(c, vertices, state) {
             None => Ok(fault(number)),
-            Some(true) => run_inside(alloc, body, program, graph, state),
+            Some(true) => run_inside(alloc, body, input, state),
             Some(false) => Ok(None),
         },
         StatementKind::IfElse(c, body, other) => match decide(c, vertices, state) {
             None => Ok(fault(number)),
-            Some(true) => run_inside(alloc, body, program, graph, state),
-            Some(false) => run_inside(alloc, other, program, graph, state),
+            Some(true) => run_inside(alloc, body, input, state),
+            Some(false) => run_inside(alloc, other, input, state),
         },
-        StatementKind::While(c, body) => run_while(alloc, body, c, number, program, graph, state),
+        StatementKind::While(c, body) => run_while(alloc, body, c, number, input, state),
         StatementKind::For(_, first, end, body) => match counter_of(first, end, vertices, state) {
             None => Ok(fault(number)),
-            Some(counter) => run_for(alloc, body, counter, number, program, graph, state),
+            Some(counter) => run_for(alloc, body, counter, number, input, state),
         },
-        action => run_without_block(alloc, action, number, program, graph, state),
+        action => run_without_block(alloc, action, number, input, state),
     }
 }
 
@@ -109,18 +112,17 @@ fn run_without_block(
     alloc: Global,
     action: &StatementKind,
     number: u64,
-    program: &Typed,
-    graph: &EdgeList,
+    input: RunInput<'_>,
     state: &mut InterpreterState,
 ) -> Result<Option<End>, AllocError>
     requires { HasNoBlock action.now }
     ensures meaning { IfOk result (λ end. stand end (state_of state.new)
-        ≡ after (program_tree program.now) (graph_of graph.now) number (action_tree action.now) (state_of state.old)) }
+        ≡ after (program_tree input.entry.program.now) (graph_of input.entry.graph.now) number (action_tree action.now) (state_of state.old)) }
     ensures turns { state.new.turns ≡ state.old.turns }
 {
     let context = StatementContext {
         number,
-        vertices: graph.vertices,
+        vertices: input.graph.vertices,
     };
     match action {
         StatementKind::DeclareInteger(_, e) => declare_integer(e, context, state),
@@ -143,7 +145,7 @@ fn run_without_block(
         | StatementKind::AssignSet(_, _)
         | StatementKind::ApplyVertex(_, _)
         | StatementKind::ApplyEdges(_, _) => {
-            run_over_sets(alloc, action, program, graph, state)?;
+            run_over_sets(alloc, action, input, state)?;
             Ok(None)
         }
         StatementKind::If(_, _)
@@ -157,28 +159,27 @@ fn run_without_block(
 fn run_over_sets(
     alloc: Global,
     action: &StatementKind,
-    program: &Typed,
-    graph: &EdgeList,
+    input: RunInput<'_>,
     state: &mut InterpreterState,
 ) -> Result<(), AllocError>
     requires { IsOverSets action.now }
     ensures meaning { OnOk result ((number : ℕ) → Live (state_of state.new)
-        ≡ after (program_tree program.now) (graph_of graph.now) number (action_tree action.now) (state_of state.old)) }
+        ≡ after (program_tree input.entry.program.now) (graph_of input.entry.graph.now) number (action_tree action.now) (state_of state.old)) }
     ensures turns { state.new.turns ≡ state.old.turns }
 {
     match action {
         StatementKind::DeclareSet(name, value) => {
-            declare_set(alloc, *name, *value, program, graph, state)
+            declare_set(alloc, *name, *value, input, state)
         }
         StatementKind::AssignSet(slot, value) => {
-            assign_set(alloc, slot.index, *value, program, graph, state)
+            assign_set(alloc, slot.index, *value, input, state)
         }
         StatementKind::ApplyVertex(set, function) => {
-            let functions = &program.vertex_functions;
+            let functions = &input.program.vertex_functions;
             apply_vertex(alloc, functions, set.index, *function, state)
         }
         StatementKind::ApplyEdges(ends, function) => {
-            apply_in(alloc, *ends, *function, program, graph, state)
+            apply_in(alloc, *ends, *function, input, state)
         }
         _ => { unreachable!() }
     }
@@ -189,24 +190,15 @@ fn apply_in(
     alloc: Global,
     ends: ApplyEnds,
     function: usize,
-    program: &Typed,
-    graph: &EdgeList,
+    input: RunInput<'_>,
     state: &mut InterpreterState,
 ) -> Result<(), AllocError>
     ensures meaning { OnOk result (state_of state.new ≡ with_vectors (state_of state.old)
-        (after_edge_apply (program_tree program.now).filters (program_tree program.now).edge_functions (graph_of graph.now) ends (function ∷ [])
-        (state_of state.old))) }
+        (after_edge_apply (program_tree input.entry.program.now).filters (program_tree input.entry.program.now).edge_functions
+        (graph_of input.entry.graph.now) ends (function ∷ []) (state_of state.old))) }
     ensures turns { state.new.turns ≡ state.old.turns }
 {
-    let after = apply_edges(
-        alloc,
-        &program.filters,
-        &program.edge_functions,
-        graph,
-        ends,
-        function,
-        state,
-    )?;
+    let after = apply_edges(alloc, ends, function, input, state)?;
     state.vectors = after;
     Ok(())
 }
@@ -216,16 +208,15 @@ fn apply_in(
 fn run_inside(
     alloc: Global,
     block: &[MainStatement],
-    program: &Typed,
-    graph: &EdgeList,
+    input: RunInput<'_>,
     state: &mut InterpreterState,
 ) -> Result<Option<End>, AllocError>
     ensures meaning { IfOk result (λ end. stand end (state_of state.new)
-        ≡ inside (after_all (program_tree program.now) (graph_of graph.now) (block_tree block.now)) (state_of state.old)) }
+        ≡ inside (after_all (program_tree input.entry.program.now) (graph_of input.entry.graph.now) (block_tree block.now)) (state_of state.old)) }
     ensures turns { state.new.turns ≤ state.old.turns }
 {
     let depth = depth(state);
-    let end = run_all(alloc, block, program, graph, state)?;
+    let end = run_all(alloc, block, input, state)?;
     if end.is_none() {
         forget(depth, state);
     }
@@ -239,22 +230,21 @@ fn run_while(
     body: &[MainStatement],
     test: &BoolExpression,
     number: u64,
-    program: &Typed,
-    graph: &EdgeList,
+    input: RunInput<'_>,
     state: &mut InterpreterState,
 ) -> Result<Option<End>, AllocError>
     ensures meaning { IfOk result (λ end. stand end (state_of state.new)
-        ≡ after_while graph.now.vertices number (condition_tree test.now)
-        (after_all (program_tree program.now) (graph_of graph.now) (block_tree body.now)) (state_of state.old)) }
+        ≡ after_while input.entry.graph.now.vertices number (condition_tree test.now)
+        (after_all (program_tree input.entry.program.now) (graph_of input.entry.graph.now) (block_tree body.now)) (state_of state.old)) }
     ensures turns { state.new.turns ≤ state.old.turns }
 {
     'turns: loop {
-        match decide(test, graph.vertices, state) {
+        match decide(test, input.graph.vertices, state) {
             None => return Ok(fault(number)),
             Some(false) => return Ok(None),
             Some(true) => {}
         }
-        let end = run_turn(alloc, body, program, graph, state)?;
+        let end = run_turn(alloc, body, input, state)?;
         if end.is_some() {
             return Ok(end);
         }
@@ -267,13 +257,12 @@ fn run_while(
 fn run_turn(
     alloc: Global,
     body: &[MainStatement],
-    program: &Typed,
-    graph: &EdgeList,
+    input: RunInput<'_>,
     state: &mut InterpreterState,
 ) -> Result<Option<End>, AllocError>
     ensures meaning { IfOk result (λ end. stand end (state_of state.new)
         ≡ take_turn state.old.turns (state_of state.old)
-        (inside (after_all (program_tree program.now) (graph_of graph.now) (block_tree body.now)))) }
+        (inside (after_all (program_tree input.entry.program.now) (graph_of input.entry.graph.now) (block_tree body.now)))) }
     ensures turns { state.new.turns ≤ state.old.turns }
     ensures fewer { IfOk result (λ end. IfNone end (state.new.turns < state.old.turns)) }
 {
@@ -281,7 +270,7 @@ fn run_turn(
         return Ok(Some(End::TurnsOver));
     }
     state.turns -= 1;
-    run_inside(alloc, body, program, graph, state)
+    run_inside(alloc, body, input, state)
 }
 
 /// Runs the body with each value up to the bound.
@@ -291,12 +280,11 @@ fn run_for(
     body: &[MainStatement],
     counter: LoopCounter,
     number: u64,
-    program: &Typed,
-    graph: &EdgeList,
+    input: RunInput<'_>,
     state: &mut InterpreterState,
 ) -> Result<Option<End>, AllocError>
     ensures meaning { IfOk result (λ end. stand end (state_of state.new)
-        ≡ after_for number (after_all (program_tree program.now) (graph_of graph.now) (block_tree body.now)) counter (state_of state.old)) }
+        ≡ after_for number (after_all (program_tree input.entry.program.now) (graph_of input.entry.graph.now) (block_tree body.now)) counter (state_of state.old)) }
     ensures turns { state.new.turns ≤ state.old.turns }
 {
     let mut counter = counter;
@@ -304,7 +292,7 @@ fn run_for(
         if !is_below(&counter) {
             return Ok(None);
         }
-        let end = run_for_turn(alloc, body, &counter, program, graph, state)?;
+        let end = run_for_turn(alloc, body, &counter, input, state)?;
         if end.is_some() {
             return Ok(end);
         }
@@ -319,13 +307,12 @@ fn run_for_turn(
     alloc: Global,
     body: &[MainStatement],
     counter: &LoopCounter,
-    program: &Typed,
-    graph: &EdgeList,
+    input: RunInput<'_>,
     state: &mut InterpreterState,
 ) -> Result<Option<End>, AllocError>
     ensures meaning { IfOk result (λ end. stand end (state_of state.new)
         ≡ take_turn state.old.turns (state_of state.old)
-        (for_body (after_all (program_tree program.now) (graph_of graph.now) (block_tree body.now)) counter.now)) }
+        (for_body (after_all (program_tree input.entry.program.now) (graph_of input.entry.graph.now) (block_tree body.now)) counter.now)) }
     ensures turns { state.new.turns ≤ state.old.turns }
     ensures fewer { IfOk result (λ end. IfNone end (state.new.turns < state.old.turns)) }
 {
@@ -335,7 +322,7 @@ fn run_for_turn(
     state.turns -= 1;
     let depth = depth(state);
     push_counter(counter, state)?;
-    let end = run_all(alloc, body, program, graph, state)?;
+    let end = run_all(alloc, body, input, state)?;
     if end.is_none() {
         forget(depth, state);
     }

@@ -14,25 +14,25 @@ use crate::edge_apply::{apply_edges, modified_vertices};
 use crate::evaluate::members_at;
 use crate::filter::filter_members;
 use crate::initial_state::vertices_below;
-use crate::state::{EdgeList, InterpreterState, StatementContext};
+use crate::state::{InterpreterState, RunInput, StatementContext};
 use crate::values::{fault, vertex_of};
 use algorithm_meaning::{End, SetBinding};
 use std::alloc::{AllocError, Global};
-use typed_tree::{ApplyEnds, Function, IntExpression, Sequence, SetValue, Typed};
+use typed_tree::{ApplyEnds, Function, IntExpression, Sequence, SetValue};
 
 /// A set variable begins with this value. Where that is what an apply changed, the vectors are changed too.
 pub(crate) fn declare_set(
     alloc: Global,
     name: usize,
     value: SetValue,
-    program: &Typed,
-    graph: &EdgeList,
+    input: RunInput<'_>,
     state: &mut InterpreterState,
 ) -> Result<(), AllocError>
-    ensures meaning { OnOk result (state_of state.new ≡ after_declare_set (program_tree program.now) (graph_of graph.now) name value (state_of state.old)) }
+    ensures meaning { OnOk result (state_of state.new
+        ≡ after_declare_set (program_tree input.entry.program.now) (graph_of input.entry.graph.now) name value (state_of state.old)) }
     ensures turns { state.new.turns ≡ state.old.turns }
 {
-    let members = value_of(alloc, value, program, graph, state)?;
+    let members = value_of(alloc, value, input, state)?;
     state.sets.push(SetBinding { name, members })?;
     Ok(())
 }
@@ -42,14 +42,14 @@ pub(crate) fn assign_set(
     alloc: Global,
     index: usize,
     value: SetValue,
-    program: &Typed,
-    graph: &EdgeList,
+    input: RunInput<'_>,
     state: &mut InterpreterState,
 ) -> Result<(), AllocError>
-    ensures meaning { OnOk result (state_of state.new ≡ after_assign_set (program_tree program.now) (graph_of graph.now) index value (state_of state.old)) }
+    ensures meaning { OnOk result (state_of state.new
+        ≡ after_assign_set (program_tree input.entry.program.now) (graph_of input.entry.graph.now) index value (state_of state.old)) }
     ensures turns { state.new.turns ≡ state.old.turns }
 {
-    let members = value_of(alloc, value, program, graph, state)?;
+    let members = value_of(alloc, value, input, state)?;
     put_members(index, members, &mut state.sets);
     Ok(())
 }
@@ -78,27 +78,27 @@ pub(crate) fn add_vertex(
 fn value_of(
     alloc: Global,
     value: SetValue,
-    program: &Typed,
-    graph: &EdgeList,
+    input: RunInput<'_>,
     state: &mut InterpreterState,
 ) -> Result<Sequence<u32>, AllocError>
-    ensures members { IfOk result (λ members. members ≡ members_for (program_tree program.now) (graph_of graph.now) value (state_of state.old)) }
+    ensures members { IfOk result (λ members. members
+        ≡ members_for (program_tree input.entry.program.now) (graph_of input.entry.graph.now) value (state_of state.old)) }
     ensures vectors { OnOk result (state_of state.new
-        ≡ with_vectors (state_of state.old) (vectors_after (program_tree program.now) (graph_of graph.now) value (state_of state.old))) }
+        ≡ with_vectors (state_of state.old) (vectors_after (program_tree input.entry.program.now) (graph_of input.entry.graph.now) value (state_of state.old))) }
     ensures turns { state.new.turns ≡ state.old.turns }
 {
     match value {
         SetValue::Empty => Ok(Sequence::new(Vec::new(alloc))),
-        SetValue::All => Ok(Sequence::new(vertices_below(alloc, graph.vertices)?)),
+        SetValue::All => Ok(Sequence::new(vertices_below(alloc, input.graph.vertices)?)),
         SetValue::Copy(slot) => {
             let members = Vec::from_slice(alloc, members_at(&state.sets, slot.index))?;
             Ok(Sequence::new(members))
         }
         SetValue::Filter(slot, function) => {
-            filter_set(alloc, slot.index, function, &program.filters, state)
+            filter_set(alloc, slot.index, function, &input.program.filters, state)
         }
         SetValue::Modified(ends, function, vector) => {
-            apply_modified(alloc, ends, function, vector, program, graph, state)
+            apply_modified(alloc, ends, function, vector, input, state)
         }
     }
 }
@@ -134,28 +134,19 @@ fn apply_modified(
     ends: ApplyEnds,
     function: usize,
     vector: usize,
-    program: &Typed,
-    graph: &EdgeList,
+    input: RunInput<'_>,
     state: &mut InterpreterState,
 ) -> Result<Sequence<u32>, AllocError>
-    ensures members { IfOk result (λ members. members ≡ modified graph.now.vertices vector state.old.vectors.items
-        (after_edge_apply (program_tree program.now).filters (program_tree program.now).edge_functions (graph_of graph.now) ends (function ∷ [])
-        (state_of state.old))) }
+    ensures members { IfOk result (λ members. members ≡ modified input.entry.graph.now.vertices vector state.old.vectors.items
+        (after_edge_apply (program_tree input.entry.program.now).filters (program_tree input.entry.program.now).edge_functions
+        (graph_of input.entry.graph.now) ends (function ∷ []) (state_of state.old))) }
     ensures vectors { OnOk result (state_of state.new ≡ with_vectors (state_of state.old)
-        (after_edge_apply (program_tree program.now).filters (program_tree program.now).edge_functions (graph_of graph.now) ends (function ∷ [])
-        (state_of state.old))) }
+        (after_edge_apply (program_tree input.entry.program.now).filters (program_tree input.entry.program.now).edge_functions
+        (graph_of input.entry.graph.now) ends (function ∷ []) (state_of state.old))) }
     ensures turns { state.new.turns ≡ state.old.turns }
 {
-    let after = apply_edges(
-        alloc,
-        &program.filters,
-        &program.edge_functions,
-        graph,
-        ends,
-        function,
-        state,
-    )?;
-    let changed = modified_vertices(alloc, graph.vertices, vector, &state.vectors, &after)?;
+    let after = apply_edges(alloc, ends, function, input, state)?;
+    let changed = modified_vertices(alloc, input.graph.vertices, vector, &state.vectors, &after)?;
     state.vectors = after;
     Ok(Sequence::new(changed))
 }

@@ -1,12 +1,19 @@
-//! State of a run, and the graph that it works on.
+//! State of a run, and what it works on.
 use algorithm_meaning::SetBinding;
-use typed_tree::Sequence;
+use typed_tree::{Sequence, Typed};
 
 /// The graph that a program runs on.
 #[derive(Clone, Copy, Debug)]
 pub(crate) struct EdgeList<'a> {
     pub(crate) vertices: u32,
     pub(crate) edges: &'a [(u32, u32, i64)],
+}
+
+/// What is run: a program, on a graph.
+#[derive(Clone, Copy)]
+pub(crate) struct RunInput<'a> {
+    pub(crate) program: &'a Typed,
+    pub(crate) graph: &'a EdgeList<'a>,
 }
 
 /// What a statement of `main` is told: its number, and how many vertices the graph has.

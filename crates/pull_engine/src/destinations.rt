@@ -32,6 +32,13 @@ pub(crate) struct ColumnInput<'a> {
     pub(crate) from: Option<&'a [u64]>,
 }
 
+/// What the column of one destination is folded of.
+#[derive(Clone, Copy)]
+struct DestinationInput<'a> {
+    columns: ColumnInput<'a>,
+    destination: u32,
+}
+
 /// Folds the edges to the destinations that an end lets through; one that is not given lets all through.
 pub(crate) fn fold_to(
     alloc: Global,
@@ -200,7 +207,11 @@ fn fold_column(
 {
     let sources = input.flat.in_set(destination).into_form();
     if input.context.weighted {
-        return fold_weighted_sources(alloc, input, sources, destination, block, weights, scratch);
+        let one = DestinationInput {
+            columns: input,
+            destination,
+        };
+        return fold_weighted_sources(alloc, one, sources, block, weights, scratch);
     }
     fold_sources(alloc, input, sources, destination, block, scratch)
 }
@@ -258,28 +269,28 @@ fn fold_walk<W: NeighbourWalk + Drop>(
 /// The same from these sources with the weights of their edges, where a function reads weights.
 fn fold_weighted_sources(
     alloc: Global,
-    input: ColumnInput<'_>,
+    input: DestinationInput<'_>,
     sources: NeighbourForm<'_>,
-    destination: u32,
     block: &mut [u32],
     weights: &mut [i64],
     scratch: &mut Scratch,
 ) -> Result<(), AllocError>
-    requires weighted { input.context.weighted ≡ true }
+    requires weighted { input.columns.context.weighted ≡ true }
     requires block { length block.old ≡ PAIRS }
     requires weights { length weights.old ≡ PAIRS }
-    ensures { OnOk result ((m : StateValue) (steps : List StepsTree) (edges : List Edge) → IsContextOf input.entry.context m steps
-        → HasFolded input.entry.context m steps edges scratch.old
-        → HasFolded input.entry.context m steps (edges ++ column destination (passing (passes_words input.entry.from) (listed sources.entry))) scratch.new) }
+    ensures { OnOk result ((m : StateValue) (steps : List StepsTree) (edges : List Edge) → IsContextOf input.entry.columns.context m steps
+        → HasFolded input.entry.columns.context m steps edges scratch.old
+        → HasFolded input.entry.columns.context m steps
+        (edges ++ column input.entry.destination (passing (passes_words input.entry.columns.from) (listed sources.entry))) scratch.new) }
 {
     match sources {
         NeighbourForm::Packed(list) => {
             let walk = list.ascending();
-            fold_weighted_walk(alloc, input, walk, destination, block, weights, scratch)
+            fold_weighted_walk(alloc, input, walk, block, weights, scratch)
         }
         NeighbourForm::Chunked(set) => {
             let walk = SetWalk::new(set);
-            fold_weighted_walk(alloc, input, walk, destination, block, weights, scratch)
+            fold_weighted_walk(alloc, input, walk, block, weights, scratch)
         }
     }
 }
@@ -288,25 +299,26 @@ fn fold_weighted_sources(
 #[inline]
 fn fold_weighted_walk<W: NeighbourWalk + Drop>(
     alloc: Global,
-    input: ColumnInput<'_>,
+    input: DestinationInput<'_>,
     mut walk: W,
-    destination: u32,
     block: &mut [u32],
     weights: &mut [i64],
     scratch: &mut Scratch,
 ) -> Result<(), AllocError>
-    requires weighted { input.context.weighted ≡ true }
+    requires weighted { input.columns.context.weighted ≡ true }
     requires block { length block.old ≡ PAIRS }
     requires weights { length weights.old ≡ PAIRS }
-    ensures { OnOk result ((m : StateValue) (steps : List StepsTree) (edges : List Edge) → IsContextOf input.entry.context m steps
-        → HasFolded input.entry.context m steps edges scratch.old
-        → HasFolded input.entry.context m steps (edges ++ column destination (passing (passes_words input.entry.from) (W.coming walk))) scratch.new) }
+    ensures { OnOk result ((m : StateValue) (steps : List StepsTree) (edges : List Edge) → IsContextOf input.entry.columns.context m steps
+        → HasFolded input.entry.columns.context m steps edges scratch.old
+        → HasFolded input.entry.columns.context m steps
+        (edges ++ column input.entry.destination (passing (passes_words input.entry.columns.from) (W.coming walk))) scratch.new) }
 {
     'rounds: while walk.len() > 0 {
         let count = walk.fill_weighted(block, weights);
-        let kept = keep_members_weighted(input.from, block, weights, count);
+        let kept = keep_members_weighted(input.columns.from, block, weights, count);
         let lent = &weights[..kept];
-        scratch.fold_into_weighted(alloc, input.context, &block[..kept], lent, destination)?;
+        let context = input.columns.context;
+        scratch.fold_into_weighted(alloc, context, &block[..kept], lent, input.destination)?;
     }
     Ok(())
 }

@@ -5,6 +5,7 @@ ghost use Rattle.crew.specs.Outcome.{AreWorkers};
 ghost use Rattle.edge_fold.specs.Changed.{AreApart};
 ghost use Rattle.edge_apply.specs.Applied.{AreChangesOf};
 
+use crate::merge::Workers;
 use crate::work::PushWork;
 use crew::{CrewError, Gate, PieceAssignment, run_pieces};
 use edge_apply::Apply;
@@ -47,6 +48,7 @@ pub fn push_crew<R: Threads + Sync, G: Gate + Sync>(
     }
     let assignment = PieceAssignment::of(apply.parallelization);
     let found = run_pieces(rt, alloc, pieces, workers, assignment, gate, &work, states)?;
-    let changes = work.merge_by_crew(rt, workers, alloc, &found, scratch, states)?;
+    let crew = Workers { rt, count: workers };
+    let changes = work.merge_by_crew(crew, alloc, &found, scratch, states)?;
     Ok(changes)
 }

@@ -31,6 +31,12 @@ use std::alloc::{AllocError, Global};
 use std::thread::Threads;
 use vectors::Changes;
 
+/// So many workers, and who starts their threads.
+pub(crate) struct Workers<'a, R> {
+    pub(crate) rt: &'a R,
+    pub(crate) count: usize,
+}
+
 impl PushWork<'_> {
     /// How many pieces there are: none where the list that is cut is empty.
     pub fn pieces(&self) -> usize
@@ -62,25 +68,25 @@ impl PushWork<'_> {
         Ok(changes)
     }
 
-    /// The same by n workers, each for its own ranges of destinations, where the pieces have found much. It takes their
+    /// The same by these workers, each for its own ranges of destinations, where the pieces have found much. It takes their
     /// scratches from `states`, where they are again after it.
     pub(crate) fn merge_by_crew<R: Threads + Sync>(
         &self,
-        rt: &R,
-        workers: usize,
+        crew: Workers<'_, R>,
         alloc: Global,
         found: &[Found<Gathered>],
         scratch: &mut Scratch,
         states: &mut Vec<Scratch>,
     ) -> Result<Changes, AllocError>
-        requires { AreWorkers workers }
+        requires { AreWorkers crew.count }
         ensures once { IfOk result (λ c. AreApart c.vectors.items) }
         ensures changes { IfOk result (λ c. AreAnswers (Answers self.now) found.now
             → IsPermutation (pieces_of found.now) (range_with_len 1 (length self.now.cuts))
             → AreChangesOf self.now.apply c.vectors.items) }
     {
-        if workers > 1 && is_worth_workers(found) {
-            return merge_by_ranges(rt, workers, alloc, &self.apply, found, states);
+        let Workers { rt, count } = crew;
+        if count > 1 && is_worth_workers(found) {
+            return merge_by_ranges(rt, count, alloc, &self.apply, found, states);
         }
         self.merge(alloc, found, scratch)
     }

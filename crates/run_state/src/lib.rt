@@ -17,11 +17,13 @@ mod initial_vectors;
 mod named_sets;
 mod outcome;
 mod printed_text;
+mod run_end;
 mod run_view;
 mod set_update;
 mod state;
 mod vertices;
 
+pub use run_end::RunEnd;
 pub use run_view::RunView;
 pub use set_update::SetUpdate;
 pub use state::State;

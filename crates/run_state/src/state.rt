@@ -34,10 +34,11 @@ use crate::initial_vectors::open_vectors;
 use crate::named_sets::NamedSets;
 use crate::outcome::{first, name_vectors};
 use crate::printed_text::{push_condition_line, push_integer_line};
+use crate::run_end::RunEnd;
 use crate::run_view::RunView;
 use crate::set_update::SetUpdate;
 use crate::vertices::run_for_all;
-use algorithm_meaning::{Depth, End, Outcome, reduce};
+use algorithm_meaning::{Depth, Outcome, reduce};
 use apply_options::Reduction;
 use flat_snapshot::Flat;
 use kernels::{Block, ExpressionKernel, FilterKernel, MainState, Registers, VertexKernel};
@@ -516,20 +517,23 @@ impl State {
         self.sets.update_sets(first, second)
     }
 
-    /// What a run shows that began with n turns and ended so: its vectors by these names, and the sets that are
-    /// visible. All that it shows is copied. The only error is out of memory.
+    /// What a run shows that ended so: its vectors by these names, and the sets that are visible. All that it shows is
+    /// copied. The only error is out of memory.
     pub fn show(
         &self,
         alloc: Global,
         names: &[Name],
         vectors: &[Vector],
-        turns: u64,
-        end: End,
-        visible: Depth,
+        run_end: RunEnd,
     ) -> Result<Outcome, AllocError>
         ensures { IfOk result (λ o. (p : ProgramTree) → p.names ≡ names.now → p.vectors ≡ vectors.now
-            → o ≡ shown p turns (forget_beyond visible self.now.state) end) }
+            → o ≡ shown p run_end.turns (forget_beyond run_end.visible self.now.state) run_end.end) }
     {
+        let RunEnd {
+            turns,
+            end,
+            visible,
+        } = run_end;
         let arrays = self.vectors.to_arrays(alloc)?;
         let shown = name_vectors(alloc, names, vectors, arrays)?;
         let sets = self.sets.shown(alloc, names, visible.sets)?;
@@ -549,13 +553,16 @@ impl State {
         alloc: Global,
         names: &[Name],
         vectors: &[Vector],
-        turns: u64,
-        end: End,
-        visible: Depth,
+        run_end: RunEnd,
     ) -> Result<Outcome, AllocError>
         ensures { IfOk result (λ o. (p : ProgramTree) → p.names ≡ names.now → p.vectors ≡ vectors.now
-            → o ≡ shown p turns (forget_beyond visible self.state) end) }
+            → o ≡ shown p run_end.turns (forget_beyond run_end.visible self.state) run_end.end) }
     {
+        let RunEnd {
+            turns,
+            end,
+            visible,
+        } = run_end;
         let visible_sets = self.sets.shown(alloc, names, visible.sets)?;
         let State {
             vectors: kept,

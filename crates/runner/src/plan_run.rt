@@ -20,7 +20,7 @@ use flat_snapshot::Flat;
 use kernels::{Block, Registers};
 use plans::{Instruction, Plan};
 use refusal_numbers::OUTSIDE;
-use run_state::State;
+use run_state::{RunEnd, State};
 use std::alloc::{AllocError, Global};
 
 /// Where a run of a plan stands, and what its instructions work on.
@@ -105,9 +105,14 @@ impl PlanRun {
     {
         let end = self.shown_end();
         let shown = self.shown(plan);
+        let run_end = RunEnd {
+            turns,
+            end,
+            visible: shown,
+        };
         self.memory
             .state
-            .show(alloc, &plan.names, &plan.vectors, turns, end, shown)
+            .show(alloc, &plan.names, &plan.vectors, run_end)
     }
 
     /// The same of a run that is over: what it has is handed over. The only error is out of memory.
@@ -128,7 +133,12 @@ impl PlanRun {
             memory,
         } = self;
         let state = memory.into_state();
-        state.into_outcome(alloc, &plan.names, &plan.vectors, turns, end, shown)
+        let run_end = RunEnd {
+            turns,
+            end,
+            visible: shown,
+        };
+        state.into_outcome(alloc, &plan.names, &plan.vectors, run_end)
     }
 
     /// How it ended; one that goes on is shown as if its turns were over.

@@ -8,6 +8,24 @@ pub trait Fork {
     fn enter(&self, level: u32, second: bool);
 }
 
+/// How a recursion by halves goes on: at so many more levels its halves go to two threads, the first of
+/// which is `level`, and `fork` is told of each half.
+pub struct Forking<'a, F> {
+    pub forks: u32,
+    pub level: u32,
+    pub fork: &'a F,
+}
+
+impl<F> Drop for Forking<'_, F> {
+    fn drop(self) {
+        let Forking {
+            forks: _,
+            level: _,
+            fork: _,
+        } = self;
+    }
+}
+
 /// A [`Fork`] that does nothing.
 #[derive(Clone, Copy, Debug)]
 pub struct Quiet;

@@ -9,14 +9,14 @@ ghost use Rattle.set_ops.specs.inside.Halving.{HasForks, AreLent, AreLentAnswers
 
 use crate::combine::combine;
 use crate::combined::{Combined, Head, Task, rejoin};
-use crate::fork::Fork;
+use crate::fork::{Fork, Forking};
 use crate::halves::{Begun, OwnedHalves, begin};
 use c_tree::View;
 use std::alloc::{AllocError, Global};
 use std::thread::{self, Threads};
 
 /// The answer for two views that ascend from a base, as `combine` gives it, with halves on two threads
-/// at n levels, the first of which is `level`.
+/// as `forking` says.
 #[cycle(forked)]
 pub(crate) fn combine_forked<R: Threads + Sync, F: Fork + Sync>(
     rt: &R,
@@ -24,25 +24,23 @@ pub(crate) fn combine_forked<R: Threads + Sync, F: Fork + Sync>(
     task: Task,
     first: &View<'_>,
     second: &View<'_>,
-    forks: u32,
-    level: u32,
-    fork: &F,
+    forking: &Forking<'_, F>,
 ) -> Result<Combined, AllocError>
     requires sizes { first.now.chunk_size ≡ second.now.chunk_size }
     requires first_over { Ascends task.base (keys_of first.now.entries) }
     requires second_over { Ascends task.base (keys_of second.now.entries) }
-    requires few { forks + level ≤ 7 }
+    requires few { forking.now.forks + forking.now.level ≤ 7 }
     ensures { IfOk result (λ c. IsCombined task.operation first.now.chunk_size first.now.entries
         second.now.entries c.part c.common) }
 {
-    if forks == 0 {
+    if forking.forks == 0 {
         return combine(alloc, task, first, second);
     }
     let halves = match begin(alloc, task, first, second)? {
         Begun::Whole(combined) => return Ok(combined),
         Begun::Halved(halves) => halves.into_owned()?,
     };
-    let (below, above) = in_two(rt, alloc, task, &halves, forks, level, fork)?;
+    let (below, above) = in_two(rt, alloc, task, &halves, forking)?;
     let head = Head {
         key: halves.key,
         weight: halves.weight,
@@ -58,13 +56,12 @@ fn in_two<R: Threads + Sync, F: Fork + Sync>(
     alloc: Global,
     task: Task,
     halves: &OwnedHalves,
-    forks: u32,
-    level: u32,
-    fork: &F,
+    forking: &Forking<'_, F>,
 ) -> Result<(Combined, Combined), AllocError>
-    requires { HasForks forks level × AreLent task.base halves.now }
+    requires { HasForks forking.now.forks forking.now.level × AreLent task.base halves.now }
     ensures { IfOk result (λ p. AreLentAnswers task.operation halves.now p.0 p.1) }
 {
+    let (forks, level, fork) = (forking.forks, forking.level, forking.fork);
     let (below, above) = thread::join(
         rt,
         || -> Result<Combined, AllocError>
@@ -73,7 +70,12 @@ fn in_two<R: Threads + Sync, F: Fork + Sync>(
         {
             fork.enter(level, false);
             let (first, second) = halves.below();
-            combine_forked(rt, alloc, task, &first, &second, forks - 1, level + 1, fork)
+            let deeper = Forking {
+                forks: forks - 1,
+                level: level + 1,
+                fork,
+            };
+            combine_forked(rt, alloc, task, &first, &second, &deeper)
         },
         || -> Result<Combined, AllocError>
             requires { IsSync R.row × IsSync F.row × HasForks forks level × AreLent task.base halves.now }
@@ -82,7 +84,12 @@ fn in_two<R: Threads + Sync, F: Fork + Sync>(
             fork.enter(level, true);
             let task = task.above(halves.key);
             let (first, second) = halves.above();
-            combine_forked(rt, alloc, task, &first, &second, forks - 1, level + 1, fork)
+            let deeper = Forking {
+                forks: forks - 1,
+                level: level + 1,
+                fork,
+            };
+            combine_forked(rt, alloc, task, &first, &second, &deeper)
         },
     );
     both(below, above)

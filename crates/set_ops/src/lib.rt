@@ -43,6 +43,6 @@ mod tests;
 mod with_list;
 
 pub use error::SetError;
-pub use fork::{Fork, Quiet};
+pub use fork::{Fork, Forking, Quiet};
 pub use lists::{insert_all, remove_all};
 pub use sets::{MAX_FORKS, difference, difference_forked, union, union_forked};

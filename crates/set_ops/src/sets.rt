@@ -7,7 +7,7 @@ ghost use Rattle.set_ops.specs.Outcome.{Unites, Subtracts};
 use crate::combine::combine;
 use crate::combined::Task;
 use crate::error::SetError;
-use crate::fork::Fork;
+use crate::fork::{Fork, Forking};
 use crate::forked::combine_forked;
 use c_tree::{CTree, View};
 use std::alloc::Global;
@@ -59,17 +59,12 @@ pub fn union_forked<R: Threads + Sync, F: Fork + Sync>(
     ensures { Unites first.now second.now result }
 {
     let (a, b) = views_of(first, second)?;
-    let forks = forks.min(MAX_FORKS);
-    let both = combine_forked(
-        rt,
-        alloc,
-        Task::new(MapOperation::Union),
-        &a,
-        &b,
-        forks,
-        1,
+    let forking = Forking {
+        forks: forks.min(MAX_FORKS),
+        level: 1,
         fork,
-    )?;
+    };
+    let both = combine_forked(rt, alloc, Task::new(MapOperation::Union), &a, &b, &forking)?;
     Ok(both.into_set(alloc, MapOperation::Union, first.len(), second.len())?)
 }
 
@@ -89,16 +84,18 @@ pub fn difference_forked<R: Threads + Sync, F: Fork + Sync>(
     ensures { Subtracts first.now second.now result }
 {
     let (a, b) = views_of(first, second)?;
-    let forks = forks.min(MAX_FORKS);
+    let forking = Forking {
+        forks: forks.min(MAX_FORKS),
+        level: 1,
+        fork,
+    };
     let left = combine_forked(
         rt,
         alloc,
         Task::new(MapOperation::Difference),
         &a,
         &b,
-        forks,
-        1,
-        fork,
+        &forking,
     )?;
     Ok(left.into_set(alloc, MapOperation::Difference, first.len(), second.len())?)
 }

@@ -16,14 +16,14 @@ use crate::cuts::changed;
 use crate::middle::{Middle, cut_at_middle};
 use c_tree::ChunkSize;
 use edge_updates::Updates;
-use set_ops::Fork;
+use set_ops::{Fork, Forking};
 use shared_tree::{Changed, Tree, ValueChange, join_around};
 use std::alloc::{AllocError, Global};
 use std::thread::{self, Threads};
 use vertex_blocks::{BlockUpdates, VertexBlock};
 
-/// The tree after updates whose edges ascend, with halves on two threads at n levels, the first
-/// of which is `level`. Where one block has more than half of the updates, that block goes by halves.
+/// The tree after updates whose edges ascend, with halves on two threads as `forking` says.
+/// Where one block has more than half of the updates, that block goes by halves.
 #[cycle(forked)]
 pub(crate) fn change_forked<R: Threads + Sync, F: Fork + Sync>(
     rt: &R,
@@ -31,22 +31,20 @@ pub(crate) fn change_forked<R: Threads + Sync, F: Fork + Sync>(
     tree: &Tree<VertexBlock>,
     updates: &Updates<'_>,
     chunk_size: ChunkSize,
-    forks: u32,
-    level: u32,
-    fork: &F,
+    forking: &Forking<'_, F>,
 ) -> Result<Changed<VertexBlock>, AllocError>
     requires order { Ascend (keys_of updates.now) }
-    requires few { forks + level ≤ 7 }
+    requires few { forking.now.forks + forking.now.level ≤ 7 }
     ensures { IfOk result (λ c. IsChangedTree updates.now tree.now.entries c) }
 {
-    if forks == 0 {
+    if forking.forks == 0 {
         return changed(alloc, tree, updates, chunk_size);
     }
     let Some(middle) = cut_at_middle(alloc, tree, updates)? else {
         return changed(alloc, tree, updates, chunk_size);
     };
-    let (below, above) = sides(rt, alloc, &middle, chunk_size, forks, level, fork)?;
-    let block = block_after(rt, alloc, &middle, chunk_size, forks, level, fork)?;
+    let (below, above) = sides(rt, alloc, &middle, chunk_size, forking)?;
+    let block = block_after(rt, alloc, &middle, chunk_size, forking)?;
     rejoin(alloc, &middle, below, block, above)
 }
 
@@ -58,12 +56,10 @@ fn sides<R: Threads + Sync, F: Fork + Sync>(
     alloc: Global,
     middle: &Middle<'_>,
     chunk_size: ChunkSize,
-    forks: u32,
-    level: u32,
-    fork: &F,
+    forking: &Forking<'_, F>,
 ) -> Result<(Changed<VertexBlock>, Changed<VertexBlock>), AllocError>
-    requires left { 0 < forks }
-    requires few { forks + level ≤ 7 }
+    requires left { 0 < forking.now.forks }
+    requires few { forking.now.forks + forking.now.level ≤ 7 }
     requires below { Ascend (keys_of middle.now.below.updates) }
     requires above { Ascend (keys_of middle.now.above.updates) }
     ensures { IfOk result (λ p. AreSides middle.now p.0 p.1) }
@@ -71,7 +67,7 @@ fn sides<R: Threads + Sync, F: Fork + Sync>(
     if middle.is_heavy {
         return sides_alone(alloc, middle, chunk_size);
     }
-    in_two(rt, alloc, middle, chunk_size, forks, level, fork)
+    in_two(rt, alloc, middle, chunk_size, forking)
 }
 
 /// Both sides of a block, one after the other.
@@ -96,16 +92,15 @@ fn in_two<R: Threads + Sync, F: Fork + Sync>(
     alloc: Global,
     middle: &Middle<'_>,
     chunk_size: ChunkSize,
-    forks: u32,
-    level: u32,
-    fork: &F,
+    forking: &Forking<'_, F>,
 ) -> Result<(Changed<VertexBlock>, Changed<VertexBlock>), AllocError>
-    requires left { 0 < forks }
-    requires few { forks + level ≤ 7 }
+    requires left { 0 < forking.now.forks }
+    requires few { forking.now.forks + forking.now.level ≤ 7 }
     requires below { Ascend (keys_of middle.now.below.updates) }
     requires above { Ascend (keys_of middle.now.above.updates) }
     ensures { IfOk result (λ p. AreSides middle.now p.0 p.1) }
 {
+    let (forks, level, fork) = (forking.forks, forking.level, forking.fork);
     let (lower, upper) = (&middle.below.tree, &middle.above.tree);
     let (lower_updates, lower_weights) = middle.below.updates.columns();
     let (upper_updates, upper_weights) = middle.above.updates.columns();
@@ -119,16 +114,12 @@ fn in_two<R: Threads + Sync, F: Fork + Sync>(
         {
             fork.enter(level, false);
             let updates = Updates::new(lower_updates, lower_weights);
-            change_forked(
-                rt,
-                alloc,
-                lower,
-                &updates,
-                chunk_size,
-                forks - 1,
-                level + 1,
+            let deeper = Forking {
+                forks: forks - 1,
+                level: level + 1,
                 fork,
-            )
+            };
+            change_forked(rt, alloc, lower, &updates, chunk_size, &deeper)
         },
         || -> Result<Changed<VertexBlock>, AllocError>
             requires { IsSync R.row × IsSync F.row × (0 < forks) × (forks + level ≤ 7)
@@ -138,16 +129,12 @@ fn in_two<R: Threads + Sync, F: Fork + Sync>(
         {
             fork.enter(level, true);
             let updates = Updates::new(upper_updates, upper_weights);
-            change_forked(
-                rt,
-                alloc,
-                upper,
-                &updates,
-                chunk_size,
-                forks - 1,
-                level + 1,
+            let deeper = Forking {
+                forks: forks - 1,
+                level: level + 1,
                 fork,
-            )
+            };
+            change_forked(rt, alloc, upper, &updates, chunk_size, &deeper)
         },
     );
     Ok((below?, above?))
@@ -159,9 +146,7 @@ fn block_after<R: Threads + Sync, F: Fork + Sync>(
     alloc: Global,
     middle: &Middle<'_>,
     chunk_size: ChunkSize,
-    forks: u32,
-    level: u32,
-    fork: &F,
+    forking: &Forking<'_, F>,
 ) -> Result<Option<VertexBlock>, AllocError>
     requires { EdgesAscend 0 middle.now.updates }
     ensures { IfOk result (IsChangedBlock middle.now.updates middle.now.found) }
@@ -169,7 +154,7 @@ fn block_after<R: Threads + Sync, F: Fork + Sync>(
     let found = middle.found.as_ref();
     let updates = BlockUpdates::new(middle.updates.lend(), chunk_size);
     if middle.is_heavy {
-        Ok(updates.change_forked(rt, alloc, found, forks, level, fork)?)
+        Ok(updates.change_forked(rt, alloc, found, forking)?)
     } else {
         Ok(updates.change(alloc, found)?)
     }

@@ -15,7 +15,7 @@ use crate::error::GraphError;
 use crate::neighbours::neighbours;
 use crate::updates::{updates, updates_forked};
 use c_tree::ChunkSize;
-use set_ops::{Fork, MAX_FORKS};
+use set_ops::{Fork, Forking, MAX_FORKS};
 use shared_tree::{Share, Tree};
 use std::alloc::{AllocError, Global};
 use std::fmt::{self, Debug};
@@ -141,11 +141,16 @@ impl Graph {
         if batch.misfits(self.vertices) {
             return Err(GraphError::VertexRange);
         }
-        let (size, most) = (self.chunk_size, forks.min(MAX_FORKS));
+        let (size, forks) = (self.chunk_size, forks.min(MAX_FORKS));
+        let forking = Forking {
+            forks,
+            level: 1,
+            fork,
+        };
         let updates = updates_forked(rt, alloc, batch)?;
-        let outs = updates.change_forked(rt, alloc, &self.outgoing, size, most, fork)?;
+        let outs = updates.change_forked(rt, alloc, &self.outgoing, size, &forking)?;
         let turned = updates.turned_forked(rt, alloc)?;
-        let ins = turned.change_forked(rt, alloc, &self.incoming, size, most, fork)?;
+        let ins = turned.change_forked(rt, alloc, &self.incoming, size, &forking)?;
         Ok(Graph {
             vertices: batch.vertices_after(self.vertices),
             chunk_size: self.chunk_size,

@@ -13,7 +13,7 @@ use crate::forked::change_forked;
 use crate::updates::SortedUpdates;
 use c_tree::ChunkSize;
 use edge_updates::{Updates, sort_forked, sort_turned, turn};
-use set_ops::Fork;
+use set_ops::{Fork, Forking};
 use shared_tree::{Changed, Tree};
 use std::alloc::{AllocError, Global};
 use std::thread::Threads;
@@ -87,29 +87,28 @@ impl SortedUpdates {
         }
     }
 
-    /// As `change`, with halves of the tree on two threads at n levels.
+    /// As `change`, with halves of the tree on two threads as `forking` says.
     pub(crate) fn change_forked<R: Threads + Sync, F: Fork + Sync>(
         &self,
         rt: &R,
         alloc: Global,
         tree: &Tree<VertexBlock>,
         chunk_size: ChunkSize,
-        forks: u32,
-        fork: &F,
+        forking: &Forking<'_, F>,
     ) -> Result<Changed<VertexBlock>, AllocError>
         requires order { Ascend (keys_of (sorted_pairs self.now)) }
-        requires few { forks ≤ 6 }
+        requires few { forking.now.forks + forking.now.level ≤ 7 }
         ensures { IfOk result (λ c. IsChangedTree (sorted_pairs self.now) tree.now.entries c) }
     {
         match self {
             SortedUpdates::Unweighted(updates) => {
                 let lent = Updates::new(updates, &[]);
-                change_forked(rt, alloc, tree, &lent, chunk_size, forks, 1, fork)
+                change_forked(rt, alloc, tree, &lent, chunk_size, forking)
             }
             SortedUpdates::Weighted(pairs) => {
                 let columns = Columns::of(alloc, pairs)?;
                 let lent = columns.lend();
-                change_forked(rt, alloc, tree, &lent, chunk_size, forks, 1, fork)
+                change_forked(rt, alloc, tree, &lent, chunk_size, forking)
             }
         }
     }

@@ -9,6 +9,7 @@ ghost use Rattle.types.specs.Checker.{checker_of};
 ghost use Rattle.types.specs.inside.Plain.{DeclaresNothing, HasTest, IsFor, ReducesOrSetsEntry};
 
 use crate::checker::{Checker, count, declare_loop_variable, label};
+use crate::entry::WrittenEntry;
 use crate::statement::{
     add_vertex, apply, assign, declare_variable, print, reduce, reduce_entry, set_entry,
 };
@@ -190,13 +191,19 @@ fn reduction_or_entry(
             vector,
             index,
             value,
-        } => set_entry(alloc, scope, vector, index, value, first_fault),
+        } => {
+            let written = WrittenEntry { vector, index };
+            set_entry(alloc, scope, written, value, first_fault)
+        }
         Written::ReduceEntry {
             vector,
             index,
             reduction,
             value,
-        } => reduce_entry(alloc, scope, vector, index, *reduction, value, first_fault),
+        } => {
+            let written = WrittenEntry { vector, index };
+            reduce_entry(alloc, scope, written, *reduction, value, first_fault)
+        }
         _ => unreachable!(),
     }
 }

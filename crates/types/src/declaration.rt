@@ -102,6 +102,14 @@ pub(crate) enum FunctionKind {
     Other,
 }
 
+/// The parts of a constant's declaration. `at` is the offset of its first token.
+#[derive(Clone, Copy)]
+struct WrittenConstant<'a> {
+    at: usize,
+    constant: &'a Parameter,
+    initial: &'a Initial,
+}
+
 /// The parts of a function's declaration. `at` is the offset of its first token, `gives` its result.
 #[derive(Clone, Copy)]
 struct WrittenFunction<'a> {
@@ -142,7 +150,14 @@ fn declare_one(
             at,
             constant,
             initial,
-        } => constant_of(alloc, *at, constant, initial, declared, first_fault),
+        } => {
+            let written = WrittenConstant {
+                at: *at,
+                constant,
+                initial,
+            };
+            constant_of(alloc, written, declared, first_fault)
+        }
         Declaration::Function {
             at,
             name,
@@ -182,70 +197,53 @@ fn name_is(
 
 fn constant_of(
     alloc: Global,
-    at: usize,
-    constant: &Parameter,
-    initial: &Initial,
+    written: WrittenConstant<'_>,
     declared: &mut Declared,
     first_fault: &mut Option<Fault>,
 ) -> Result<(), AllocError>
     ensures { ReportsFaults (λ _. declared_of declared.new) first_fault.old first_fault.new result
-        (declare_constant (declared_of declared.old) at (parameter_tree constant.now) (initial_tree initial.now)) }
+        (declare_constant (declared_of declared.old) written.entry.at (parameter_tree written.entry.constant.now) (initial_tree written.entry.initial.now)) }
 {
-    let initializer = read_initial(alloc, &declared.checker, at, initial, first_fault)?;
-    constant_from(
+    let initializer = read_initial(
         alloc,
-        at,
-        constant,
-        initial,
-        initializer,
-        declared,
+        &declared.checker,
+        written.at,
+        written.initial,
         first_fault,
-    )
+    )?;
+    constant_from(alloc, written, initializer, declared, first_fault)
 }
 
 fn constant_from(
     alloc: Global,
-    at: usize,
-    constant: &Parameter,
-    initial: &Initial,
+    written: WrittenConstant<'_>,
     initializer: Initializer,
     declared: &mut Declared,
     first_fault: &mut Option<Fault>,
 ) -> Result<(), AllocError>
     ensures { ReportsFaults (λ _. declared_of declared.new) first_fault.old first_fault.new result
-        (declare_constant_as (declared_of declared.old) at constant.now.name (initial_tree initial.now) constant.now.declared (initializer_tree initializer)) }
+        (declare_constant_as (declared_of declared.old) written.entry.at written.entry.constant.now.name (initial_tree written.entry.initial.now)
+        written.entry.constant.now.declared (initializer_tree initializer)) }
 {
-    let name = &constant.name;
-    match constant.declared {
-        DeclaredType::Int => integer(alloc, at, name, initial, initializer, declared, first_fault),
-        DeclaredType::Bool => condition(
-            alloc,
-            at,
-            name,
-            initial,
-            initializer,
-            declared,
-            first_fault,
-        ),
+    match written.constant.declared {
+        DeclaredType::Int => integer(alloc, written, initializer, declared, first_fault),
+        DeclaredType::Bool => condition(alloc, written, initializer, declared, first_fault),
         DeclaredType::Vertex => {
-            note(first_fault, at, TypeRule::WrongType);
-            name_is(alloc, name, Entity::Error, declared, first_fault)
+            note(first_fault, written.at, TypeRule::WrongType);
+            name_is(
+                alloc,
+                &written.constant.name,
+                Entity::Error,
+                declared,
+                first_fault,
+            )
         }
-        DeclaredType::VertexSet => set(alloc, at, name, initializer, declared, first_fault),
-        DeclaredType::Vector => vector(
-            alloc,
-            at,
-            name,
-            initial,
-            initializer,
-            declared,
-            first_fault,
-        ),
-        DeclaredType::EdgeSet => edges(alloc, at, name, false, initializer, declared, first_fault),
+        DeclaredType::VertexSet => set(alloc, written, initializer, declared, first_fault),
+        DeclaredType::Vector => vector(alloc, written, initializer, declared, first_fault),
+        DeclaredType::EdgeSet => edges(alloc, written, false, initializer, declared, first_fault),
         DeclaredType::WeightedEdgeSet => edges(
             alloc,
-            at,
-            name,
+            written,
             true,
             initializer,
             declared,
@@ -266,21 +264,20 @@ fn note_unless_error(at: usize, initializer: &Initializer, first_fault: &mut Opt
 
 fn integer(
     alloc: Global,
-    at: usize,
-    name: &Name,
-    initial: &Initial,
+    written: WrittenConstant<'_>,
     initializer: Initializer,
     declared: &mut Declared,
     first_fault: &mut Option<Fault>,
 ) -> Result<(), AllocError>
     ensures { ReportsFaults (λ _. declared_of declared.new) first_fault.old first_fault.new result
-        (declare_integer (declared_of declared.old) at name.now (initializer_tree initializer) (initial_tree initial.now)) }
+        (declare_integer (declared_of declared.old) written.entry.at written.entry.constant.now.name (initializer_tree initializer)
+        (initial_tree written.entry.initial.now)) }
 {
-    let value = literal(at, initializer, initial, first_fault);
+    let value = literal(written.at, initializer, written.initial, first_fault);
     let index = declared.checker.names.len();
     name_is(
         alloc,
-        name,
+        &written.constant.name,
         Entity::IntegerConstant(index, value),
         declared,
         first_fault,
@@ -308,21 +305,20 @@ fn literal(
 
 fn condition(
     alloc: Global,
-    at: usize,
-    name: &Name,
-    initial: &Initial,
+    written: WrittenConstant<'_>,
     initializer: Initializer,
     declared: &mut Declared,
     first_fault: &mut Option<Fault>,
 ) -> Result<(), AllocError>
     ensures { ReportsFaults (λ _. declared_of declared.new) first_fault.old first_fault.new result
-        (declare_condition (declared_of declared.old) at name.now (initializer_tree initializer) (initial_tree initial.now)) }
+        (declare_condition (declared_of declared.old) written.entry.at written.entry.constant.now.name (initializer_tree initializer)
+        (initial_tree written.entry.initial.now)) }
 {
-    let value = truth_literal(at, initializer, initial, first_fault);
+    let value = truth_literal(written.at, initializer, written.initial, first_fault);
     let index = declared.checker.names.len();
     name_is(
         alloc,
-        name,
+        &written.constant.name,
         Entity::ConditionConstant(index, value),
         declared,
         first_fault,
@@ -350,23 +346,22 @@ fn truth_literal(
 
 fn set(
     alloc: Global,
-    at: usize,
-    name: &Name,
+    written: WrittenConstant<'_>,
     initializer: Initializer,
     declared: &mut Declared,
     first_fault: &mut Option<Fault>,
 ) -> Result<(), AllocError>
     ensures { ReportsFaults (λ _. declared_of declared.new) first_fault.old first_fault.new result
-        (declare_set (declared_of declared.old) at name.now (initializer_tree initializer)) }
+        (declare_set (declared_of declared.old) written.entry.at written.entry.constant.now.name (initializer_tree initializer)) }
 {
-    want_all(at, initializer, first_fault);
+    want_all(written.at, initializer, first_fault);
     let slot = VarRef {
         index: declared.sets.len(),
         name: declared.checker.names.len(),
     };
     name_is(
         alloc,
-        name,
+        &written.constant.name,
         Entity::ConstantSet(slot),
         declared,
         first_fault,
@@ -386,20 +381,19 @@ fn want_all(at: usize, initializer: Initializer, first_fault: &mut Option<Fault>
 
 fn vector(
     alloc: Global,
-    at: usize,
-    name: &Name,
-    initial: &Initial,
+    written: WrittenConstant<'_>,
     initializer: Initializer,
     declared: &mut Declared,
     first_fault: &mut Option<Fault>,
 ) -> Result<(), AllocError>
     ensures { ReportsFaults (λ _. declared_of declared.new) first_fault.old first_fault.new result
-        (declare_vector (declared_of declared.old) at name.now (initializer_tree initializer) (initial_tree initial.now)) }
+        (declare_vector (declared_of declared.old) written.entry.at written.entry.constant.now.name (initializer_tree initializer)
+        (initial_tree written.entry.initial.now)) }
 {
-    let beginning = beginning_of(at, initializer, initial, first_fault);
+    let beginning = beginning_of(written.at, initializer, written.initial, first_fault);
     let index = declared.checker.names.len();
     let entity = Entity::Vector(declared.vectors.len());
-    name_is(alloc, name, entity, declared, first_fault)?;
+    name_is(alloc, &written.constant.name, entity, declared, first_fault)?;
     declared.vectors.push(Vector {
         name: index,
         beginning,
@@ -424,18 +418,18 @@ fn beginning_of(
 
 fn edges(
     alloc: Global,
-    at: usize,
-    name: &Name,
+    written: WrittenConstant<'_>,
     weights: bool,
     initializer: Initializer,
     declared: &mut Declared,
     first_fault: &mut Option<Fault>,
 ) -> Result<(), AllocError>
     ensures { ReportsFaults (λ _. declared_of declared.new) first_fault.old first_fault.new result
-        (declare_edges weights (declared_of declared.old) at name.now (initializer_tree initializer)) }
+        (declare_edges weights (declared_of declared.old) written.entry.at written.entry.constant.now.name (initializer_tree initializer)) }
 {
-    want_loaded(at, initializer, first_fault);
+    want_loaded(written.at, initializer, first_fault);
     let index = declared.checker.names.len();
+    let name = &written.constant.name;
     let first = only(name, index, declared.edges, first_fault);
     name_is(alloc, name, Entity::Edges(weights), declared, first_fault)?;
     declared.edges = first;

@@ -14,6 +14,7 @@ ghost use Rattle.types.specs.Step.{one_reduction, own_vertex, reduce_entry_step,
 ghost use Rattle.types.specs.inside.Variables.{step_variable_as};
 
 use crate::checker::{Checker, declare};
+use crate::entry::WrittenEntry;
 use crate::initial::{Initializer, read_apply, read_initial};
 use crate::reductions::Reductions;
 use crate::wanted::{integer, integer_of};
@@ -269,17 +270,16 @@ fn may_set_entry(at: usize, inside: Inside, first_fault: &mut Option<Fault>) -> 
 pub(crate) fn set_entry(
     alloc: Global,
     scope: &Scope,
-    name: &Name,
-    index: &Expression,
+    written: WrittenEntry<'_>,
     value: &Expression,
     first_fault: &mut Option<Fault>,
 ) -> Result<FunctionStatement, AllocError>
-    ensures { ReportsFaults step_tree first_fault.old first_fault.new result (set_entry_step scope.now name.now.at name.now index.now value.now) }
+    ensures { ReportsFaults step_tree first_fault.old first_fault.new result (set_entry_step scope.now written.entry.vector.now.at written.entry.vector.now written.entry.index.now value.now) }
 {
-    let at = name.at();
+    let at = written.vector.at();
     let may = may_set_entry(at, scope.inside(), first_fault);
-    let vector = vector(scope, at, name, first_fault);
-    let index = type_index(alloc, scope, at, index, first_fault)?;
+    let vector = vector(scope, at, written.vector, first_fault);
+    let index = type_index(alloc, scope, at, written.index, first_fault)?;
     let own = is_own(at, vertex_of(scope.inside()), index, first_fault);
     let value = integer(alloc, scope, at, value, first_fault)?;
     Ok(setting(alloc, may, own, vector, value))
@@ -354,21 +354,20 @@ fn reduce_once(
 pub(crate) fn reduce_entry(
     alloc: Global,
     checker: &mut Checker,
-    name: &Name,
-    index: &Expression,
+    written: WrittenEntry<'_>,
     by: Reduction,
     value: &Expression,
     first_fault: &mut Option<Fault>,
 ) -> Result<FunctionStatement, AllocError>
     ensures typed { ReportsFaults (λ s. (step_tree s, checker_of checker.new)) first_fault.old first_fault.new result
-        (reduce_entry_step (checker_of checker.old) name.now.at name.now index.now by value.now) }
+        (reduce_entry_step (checker_of checker.old) written.entry.vector.now.at written.entry.vector.now written.entry.index.now by value.now) }
     ensures kept { checker.new.scope ≡ checker.old.scope }
 {
-    let at = name.at();
-    let vector = vector(&checker.scope, at, name, first_fault);
+    let at = written.vector.at();
+    let vector = vector(&checker.scope, at, written.vector, first_fault);
     let inside = checker.scope.inside();
     let may = may_reduce_entry(at, inside, vector, by, &mut checker.writes, first_fault)?;
-    let index = type_index(alloc, &checker.scope, at, index, first_fault)?;
+    let index = type_index(alloc, &checker.scope, at, written.index, first_fault)?;
     let own = is_own(at, vertex_of(inside), index, first_fault);
     let value = integer(alloc, &checker.scope, at, value, first_fault)?;
     Ok(reducing(alloc, may, own, vector, by, value))

@@ -19,6 +19,7 @@
 mod block;
 mod checker;
 mod declaration;
+mod entry;
 mod error;
 mod function;
 mod function_kind;

@@ -16,6 +16,7 @@ ghost use Rattle.types.specs.Statement.{entry_set, has_ends as ends_are_written,
 ghost use Rattle.types.specs.inside.Variables.{variable_as};
 
 use crate::checker::{Checker, declare};
+use crate::entry::WrittenEntry;
 use crate::initial::{
     ApplyEnd, Initializer, NamedApply, are_weights_lacking, edge_function_named, ends_of,
     is_edges_entity, is_error_entity, is_one_wrong, read_apply, read_initial,
@@ -198,16 +199,15 @@ fn reduce_value(
 pub(crate) fn set_entry(
     alloc: Global,
     scope: &Scope,
-    name: &Name,
-    index: &Expression,
+    written: WrittenEntry<'_>,
     value: &Expression,
     first_fault: &mut Option<Fault>,
 ) -> Result<StatementKind, AllocError>
-    ensures { ReportsFaults action_tree first_fault.old first_fault.new result (entry_setting scope.now name.now.at name.now index.now value.now) }
+    ensures { ReportsFaults action_tree first_fault.old first_fault.new result (entry_setting scope.now written.entry.vector.now.at written.entry.vector.now written.entry.index.now value.now) }
 {
-    let at = name.at();
-    let vector = vector(scope, at, name, first_fault);
-    let index = type_expression(alloc, scope, at, index, first_fault)?;
+    let at = written.vector.at();
+    let vector = vector(scope, at, written.vector, first_fault);
+    let index = type_expression(alloc, scope, at, written.index, first_fault)?;
     let index = index_of(at, index, first_fault);
     let value = integer(alloc, scope, at, value, first_fault)?;
     Ok(setting(vector, index, value))
@@ -230,17 +230,16 @@ fn setting(
 pub(crate) fn reduce_entry(
     alloc: Global,
     scope: &Scope,
-    name: &Name,
-    index: &Expression,
+    written: WrittenEntry<'_>,
     by: Reduction,
     value: &Expression,
     first_fault: &mut Option<Fault>,
 ) -> Result<StatementKind, AllocError>
-    ensures { ReportsFaults action_tree first_fault.old first_fault.new result (entry_reduction scope.now name.now.at name.now index.now by value.now) }
+    ensures { ReportsFaults action_tree first_fault.old first_fault.new result (entry_reduction scope.now written.entry.vector.now.at written.entry.vector.now written.entry.index.now by value.now) }
 {
-    let at = name.at();
-    let vector = vector(scope, at, name, first_fault);
-    let index = type_expression(alloc, scope, at, index, first_fault)?;
+    let at = written.vector.at();
+    let vector = vector(scope, at, written.vector, first_fault);
+    let index = type_expression(alloc, scope, at, written.index, first_fault)?;
     let index = index_of(at, index, first_fault);
     let value = integer(alloc, scope, at, value, first_fault)?;
     Ok(reducing(vector, index, by, value))

@@ -10,6 +10,7 @@ ghost use Rattle.types.specs.inside.Plain.{DeclaresNothing, HasTest, IsFor, Redu
 ghost use Rattle.types.specs.Step.{labelled_step, step_typed, steps_inside, steps_typed};
 
 use crate::checker::{Checker, declare_loop_variable, label};
+use crate::entry::WrittenEntry;
 use crate::function::{
     add_vertex, apply, assign, declare_variable, print, reduce, reduce_entry, set_entry, wrong,
 };
@@ -188,22 +189,18 @@ fn reduction_or_entry(
             vector,
             index,
             value,
-        } => set_entry(alloc, &checker.scope, vector, index, value, first_fault),
+        } => {
+            let written = WrittenEntry { vector, index };
+            set_entry(alloc, &checker.scope, written, value, first_fault)
+        }
         Written::ReduceEntry {
             vector,
             index,
             reduction,
             value,
         } => {
-            reduce_entry(
-                alloc,
-                checker,
-                vector,
-                index,
-                *reduction,
-                value,
-                first_fault,
-            )
+            let written = WrittenEntry { vector, index };
+            reduce_entry(alloc, checker, written, *reduction, value, first_fault)
         }
         _ => unreachable!(),
     }

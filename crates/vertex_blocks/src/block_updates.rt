@@ -7,13 +7,13 @@ ghost use Rattle.vertex_blocks.specs.Changes.{IsBlockAfter};
 ghost use Rattle.vertex_blocks.specs.inside.Steps.{IsBuilt, list_after};
 
 use crate::block::VertexBlock;
-use crate::building::{Building, ReadySet, form_at};
+use crate::building::{Building, ReadySet, VertexUpdates, form_at};
 use crate::neighbour_set::NeighbourForm;
 use crate::runs::update_set_forked;
 use c_tree::ChunkSize;
 use edge_updates::Updates;
 use pages::{EntryColumns, MAX_PACKED, run_length};
-use set_ops::Fork;
+use set_ops::{Fork, Forking};
 use shared_tree::ValueChange;
 use std::alloc::{AllocError, Global};
 use std::marker::Model;
@@ -58,8 +58,8 @@ impl<'a> BlockUpdates<'a> {
     }
 
     /// The block after the updates, as [`ValueChange::change`] gives it. Where a vertex whose
-    /// neighbours are a set has more than half of the updates, halves of the set go to two threads at
-    /// so many levels, the first of which is `level`.
+    /// neighbours are a set has more than half of the updates, halves of the set go to two threads as
+    /// `forking` says.
     ///
     /// The only error is out of memory.
     pub fn change_forked<R: Threads + Sync, F: Fork + Sync>(
@@ -67,13 +67,11 @@ impl<'a> BlockUpdates<'a> {
         rt: &R,
         alloc: Global,
         old: Option<&VertexBlock>,
-        forks: u32,
-        level: u32,
-        fork: &F,
+        forking: &Forking<'_, F>,
     ) -> Result<Option<VertexBlock>, AllocError>
         ensures { IfOk result (λ new. IsBlockAfter self.now (option_copied old.entry) new) }
     {
-        let ready = ready_set(rt, alloc, old, &self.updates, forks, level, fork)?;
+        let ready = ready_set(rt, alloc, old, &self.updates, forking)?;
         self.change_with(alloc, old, ready.as_ref())
     }
 
@@ -100,23 +98,21 @@ fn ready_set<R: Threads + Sync, F: Fork + Sync>(
     alloc: Global,
     old: Option<&VertexBlock>,
     updates: &Updates<'_>,
-    forks: u32,
-    level: u32,
-    fork: &F,
+    forking: &Forking<'_, F>,
 ) -> Result<Option<ReadySet>, AllocError>
     requires { EdgesAscend 0 updates.now }
     ensures { IfOk result (λ ready. IfSome ready (λ r. r.set.entries
         ≡ list_after updates.now (option_copied old.entry) r.vertex)) }
 {
     let middle = updates.len() / 2;
-    if forks == 0 || middle == 0 {
+    if forking.forks == 0 || middle == 0 {
         return Ok(None);
     }
     let vertex = updates.update(middle).vertex() % 64;
     let run = updates_at(updates, vertex);
     match form_at(old, vertex) {
         NeighbourForm::Chunked(set) if run.len() > middle => {
-            let set = update_set_forked(rt, alloc, set, &run, forks, level, fork)?;
+            let set = update_set_forked(rt, alloc, set, &run, forking)?;
             Ok(Some(ReadySet { vertex, set }))
         }
         _ => Ok(None),
@@ -160,7 +156,11 @@ fn build(
         let vertex = first.vertex() % 64;
         let (run, others) = rest.split_at(run_length(&rest, vertex));
         building.carry(old, low, vertex)?;
-        building.push_updated(alloc, old, vertex, &run, ready, &mut list)?;
+        let run = VertexUpdates {
+            vertex,
+            updates: run,
+        };
+        building.push_updated(alloc, old, &run, ready, &mut list)?;
         low = vertex + 1;
         rest = others;
     }

@@ -34,6 +34,13 @@ pub(crate) struct ReadySet {
     pub(crate) set: CTree,
 }
 
+/// The updates of one vertex of a block, which goes by its remainder by 64.
+#[derive(Drop)]
+pub(crate) struct VertexUpdates<'a> {
+    pub(crate) vertex: u32,
+    pub(crate) updates: Updates<'a>,
+}
+
 /// A block under construction: the vertices that came so far.
 pub(crate) struct Building {
     page: Page,
@@ -104,21 +111,21 @@ impl Building {
         &mut self,
         alloc: Global,
         old: Option<&VertexBlock>,
-        vertex: u32,
-        updates: &Updates<'_>,
+        run: &VertexUpdates<'_>,
         ready: Option<&ReadySet>,
         list: &mut EntryColumns,
     ) -> Result<(), AllocError>
-        requires vertex { vertex < 64 }
-        requires above_page { Rises 0 vertex self.old.page }
-        requires above_long { Rises 0 vertex self.old.long }
-        requires updates { NeighboursAscend 0 updates.now }
-        requires ready { IfSome (option_copied ready) (λ r. r.vertex ≡ vertex → r.set.entries
-            ≡ updated (neighbours_of vertex (vertices_at (option_copied old))) updates.now) }
-        ensures { IfOk result (λ _. IsPut vertex
-            (updated (neighbours_of vertex (vertices_at (option_copied old.entry))) updates.now)
+        requires vertex { run.now.vertex < 64 }
+        requires above_page { Rises 0 run.now.vertex self.old.page }
+        requires above_long { Rises 0 run.now.vertex self.old.long }
+        requires updates { NeighboursAscend 0 run.now.updates }
+        requires ready { IfSome (option_copied ready) (λ r. r.vertex ≡ run.now.vertex → r.set.entries
+            ≡ updated (neighbours_of run.now.vertex (vertices_at (option_copied old))) run.now.updates) }
+        ensures { IfOk result (λ _. IsPut run.now.vertex
+            (updated (neighbours_of run.now.vertex (vertices_at (option_copied old.entry))) run.now.updates)
             self.old.page self.old.long self.new.page self.new.long) }
     {
+        let (vertex, updates) = (run.vertex, &run.updates);
         match form_at(old, vertex) {
             NeighbourForm::Packed(old_list) => {
                 update_list(&old_list, updates, list)?;

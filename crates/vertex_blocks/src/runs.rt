@@ -11,7 +11,7 @@ ghost use Rattle.vertex_blocks.specs.inside.Runs.{added_in, removed_in};
 use c_tree::{CTree, ChunkSize, Part};
 use edge_updates::Updates;
 use pages::{EntryColumns, Neighbours, merge};
-use set_ops::{Fork, SetError, difference_forked, insert_all, remove_all, union_forked};
+use set_ops::{Fork, Forking, SetError, difference_forked, insert_all, remove_all, union_forked};
 use std::alloc::{AllocError, Global};
 use std::thread::Threads;
 use tail_codec::{Entries, EntryList};
@@ -91,22 +91,23 @@ pub(crate) fn update_set(
     united(remove_all(alloc, &grown, &removed))
 }
 
-/// As `update_set`, with halves of the set on two threads at n levels, the first of which is
-/// `level`.
+/// As `update_set`, with halves of the set on two threads as `forking` says.
 pub(crate) fn update_set_forked<R: Threads + Sync, F: Fork + Sync>(
     rt: &R,
     alloc: Global,
     set: &CTree,
     updates: &Updates<'_>,
-    forks: u32,
-    level: u32,
-    fork: &F,
+    forking: &Forking<'_, F>,
 ) -> Result<CTree, AllocError>
     requires { NeighboursAscend 0 updates.now }
     ensures { IfOk result (λ t. t.entries ≡ updated set.now.entries updates.now) }
 {
     prove!(set.len() <= 1 << 32);
-    let fork = DeeperFork { fork, level };
+    let forks = forking.forks;
+    let fork = DeeperFork {
+        fork: forking.fork,
+        level: forking.level,
+    };
     let (added, removed) = parts(alloc, updates)?;
     let more = make_set(alloc, set.chunk_size(), &added.lent())?;
     let grown = united(union_forked(rt, alloc, set, &more, forks, &fork))?;

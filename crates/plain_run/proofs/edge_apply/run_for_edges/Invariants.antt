@@ -9,5 +9,5 @@ use Rattle.plain_run.proofs.edge_apply.run_for_edges.Given as goal
 abbrev pub invariant-edges : goal.invariant-edges
 invariant-edges l =
     (after_edges (steps_tree l.steps ∷ []) l.sets l.fn.before.items (filter (flagged l.passing) (drop l.edge-index l.edges)) l.after.items
-    ≡ after_edges (steps_tree l.steps ∷ []) l.sets l.fn.before.items (filter (flagged l.passing) l.edges) l.fn.after.items)
+    ≡ after_edges (steps_tree l.steps ∷ []) l.sets l.fn.before.items (filter (flagged l.passing) l.edges) l.fn.before.items)
     × (l.before.items ≡ l.fn.before.items)

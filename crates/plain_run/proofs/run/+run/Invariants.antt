@@ -12,13 +12,13 @@ use Rattle.plain_run.proofs.run.+run.Given as goal
 -- what is left to do from here comes to what was to be done
 abbrev pub invariant-run_all-statements : goal.invariant-run_all-statements
 invariant-run_all-statements l =
-    (after_all (program_tree l.program) (graph_of l.graph) (block_tree (drop l.statement-index l.block)) (state_of l.state)
-    ≡ after_all (program_tree l.program) (graph_of l.graph) (block_tree l.block) (state_of l.fn.state))
+    (after_all (program_tree l.input.program.now) (graph_of l.input.graph.now) (block_tree (drop l.statement-index l.block)) (state_of l.state)
+    ≡ after_all (program_tree l.input.program.now) (graph_of l.input.graph.now) (block_tree l.block) (state_of l.fn.state))
     × (l.state.turns ≤ l.fn.state.turns)
 
 abbrev pub invariant-run_for-turns : goal.invariant-run_for-turns
 invariant-run_for-turns l =
-    Again LoopCounter for_test (for_body (after_all (program_tree l.program) (graph_of l.graph) (block_tree l.body))) next_of l.number
+    Again LoopCounter for_test (for_body (after_all (program_tree l.input.program.now) (graph_of l.input.graph.now) (block_tree l.body))) next_of l.number
     l.fn.counter (state_of l.fn.state) l.counter (state_of l.state)
     × (l.state.turns ≤ l.fn.state.turns)
 
@@ -27,7 +27,7 @@ decreases-run_for-turns l = l.state.turns
 
 abbrev pub invariant-run_while-turns : goal.invariant-run_while-turns
 invariant-run_while-turns l =
-    Again ℕ (while_test l.graph.vertices (condition_tree l.test)) (while_body (after_all (program_tree l.program) (graph_of l.graph) (block_tree l.body))) (λ (n : ℕ). n) l.number
+    Again ℕ (while_test l.input.graph.now.vertices (condition_tree l.test)) (while_body (after_all (program_tree l.input.program.now) (graph_of l.input.graph.now) (block_tree l.body))) (λ (n : ℕ). n) l.number
     0 (state_of l.fn.state) 0 (state_of l.state)
     × (l.state.turns ≤ l.fn.state.turns)
 

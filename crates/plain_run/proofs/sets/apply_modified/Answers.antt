@@ -4,4 +4,4 @@ use Rattle.plain_run.proofs.sets.apply_modified.Goals as goal
 
 pub returns-clause-members : goal.returns-clause-members
 returns-clause-members c =
-    rw (c.new.ensures, c.in_ok-changed.ensures, c.deref-3.ensures.value, c.deref-4.ensures.value, ap (λ (s : StateValue). s.vectors) c.in_ok-after.ensures.state, c.in_ok-after.ensures.vectors, c.deref.ensures.value, c.deref-2.ensures.value) refl
+    rw (c.new.ensures, c.in_ok-changed.ensures, c.deref.ensures.value, c.deref-2.ensures.value, ap (λ (s : StateValue). s.vectors) c.in_ok-after.ensures.state, c.in_ok-after.ensures.vectors) refl

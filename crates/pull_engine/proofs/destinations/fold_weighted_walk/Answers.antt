@@ -8,8 +8,8 @@ use Rattle.pull_engine.proofs.destinations.fold_weighted_walk.Goals as goal
 pub rounds-preserved : goal.rounds-preserved
 rounds-preserved g c =
     let a = c.args in
-    let from = passes_words a.input.from in
-    let d = a.destination in
+    let from = passes_words a.input.columns.from in
+    let d = a.input.destination in
     let filled = c.fill_weighted-count in
     let n = filled.result in
     let left = g.W.NeighbourWalk.coming c.rounds.walk in
@@ -22,9 +22,9 @@ rounds-preserved g c =
     record {
       room = search rules;
       weights = search rules;
-      walked = walk_more a.input.context (column_from from d) (g.W.NeighbourWalk.coming a.walk) left part rest a.scratch.now c.rounds.scratch then
+      walked = walk_more a.input.columns.context (column_from from d) (g.W.NeighbourWalk.coming a.walk) left part rest a.scratch.now c.rounds.scratch then
           (column_in_row from d) (parts_of n left part rest refl filled.ensures.rest)
-          (λ m steps es are has. folded_along a.input.context m steps (es ++ column d lent) (es ++ column_from from d part) then (ap (λ ks. es ++ column d ks) same) (c.in_ok-fold_into_weighted.ensures m steps es are has))
+          (λ m steps es are has. folded_along a.input.columns.context m steps (es ++ column d lent) (es ++ column_from from d part) then (ap (λ ks. es ++ column d ks) same) (c.in_ok-fold_into_weighted.ensures m steps es are has))
           c.rounds.invariant.walked;
     }
 
@@ -32,15 +32,15 @@ pub returns : goal.returns
 returns g c =
     let a = c.args in
     let none = none_left (g.W.NeighbourWalk.coming c.rounds.walk) (omega (arith, c.rounds-test.false, c.len.ensures)) in
-    walk_done a.input.context (column_from (passes_words a.input.from) a.destination) (g.W.NeighbourWalk.coming a.walk) (g.W.NeighbourWalk.coming c.rounds.walk) a.scratch.now c.rounds.scratch none c.rounds.invariant.walked
+    walk_done a.input.columns.context (column_from (passes_words a.input.columns.from) a.input.destination) (g.W.NeighbourWalk.coming a.walk) (g.W.NeighbourWalk.coming c.rounds.walk) a.scratch.now c.rounds.scratch none c.rounds.invariant.walked
 
 pub rounds-init : goal.rounds-init
 rounds-init g c =
     let a = c.args in
     let all = g.W.NeighbourWalk.coming a.walk in
-    let column_of = column_from (passes_words a.input.from) a.destination in
+    let column_of = column_from (passes_words a.input.columns.from) a.input.destination in
     record {
       room = search rules;
       weights = search rules;
-      walked = subst (λ (left : List (ℕ × ℤ)). HasWalked a.input.context column_of all left a.scratch.now a.scratch.now) refl (walk_begun a.input.context column_of all a.scratch.now refl);
+      walked = subst (λ (left : List (ℕ × ℤ)). HasWalked a.input.columns.context column_of all left a.scratch.now a.scratch.now) refl (walk_begun a.input.columns.context column_of all a.scratch.now refl);
     }

@@ -32,4 +32,4 @@ in_two-join-below-requires-send-F g t c κs within =
     let f : IsSync (param 1 g.row.F) = search sendable depth 6 in
     let r : IsSync (param 0 g.row.R) = search sendable depth 6 in
     param_send _ _ (arg_send _ no _ (nine_send _ _ _ _ _ _ _ _ _ _ (shr_send _ _ _ f) (shr_send _ _ _ number_sync) (shr_slice_send _ _ _ update_sync) (shr_slice_send _ _ _ weight_sync)
-    (shr_send _ _ _ r) (shr_send _ _ _ heap_sync) (shr_send _ _ _ tree_sync) (shr_send _ _ _ size_sync) (shr_send _ _ _ number_sync)))
+    (shr_send _ _ _ number_sync) (shr_send _ _ _ r) (shr_send _ _ _ heap_sync) (shr_send _ _ _ tree_sync) (shr_send _ _ _ size_sync)))

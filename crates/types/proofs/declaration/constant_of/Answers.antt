@@ -9,6 +9,6 @@ use Rattle.types.proofs.declaration.constant_of.Goals as goal
 pub returns : goal.returns
 returns c =
     reports_then (λ _. declared_of c.constant_from.new.declared) c.args.first_fault.now c.read_initial.new.first_fault c.constant_from.new.first_fault
-    (initializer_of (checker_of c.args.declared.now.checker) c.args.at (initial_tree c.args.initial.now)) (initializer_tree c.in_ok-initializer.initializer)
-    (declare_constant_as (declared_of c.args.declared.now) c.args.at c.args.constant.now.name (initial_tree c.args.initial.now) c.args.constant.now.declared)
+    (initializer_of (checker_of c.args.declared.now.checker) c.args.written.at (initial_tree c.args.written.initial.now)) (initializer_tree c.in_ok-initializer.initializer)
+    (declare_constant_as (declared_of c.args.declared.now) c.args.written.at c.args.written.constant.now.name (initial_tree c.args.written.initial.now) c.args.written.constant.now.declared)
     c.constant_from.result c.in_ok-initializer.ensures c.constant_from.ensures
