@@ -66,10 +66,11 @@ fn race_known<J: Naming + Send + Sync, T: Threads + Wait + Sync>(
     requires book { opening ≡ J.book }
     requires vertices { J.vertices ≡ script.vertices }
     requires room { J.room ≡ 16777216 }
-    ensures race { IfOk result (IsRace J.vertices J.room script.batches.items (map (λ p. p.now) programs.plans.now) programs.turns) }
-    ensures opened { IfOk result (λ _. MayOpen J.vertices script.chunk_size (length programs.plans.now + 1)) }
-    ensures workers { IfOk result (λ race. MayRun programs.workers race.runs.items) }
-    ensures refused { IfErr result (RefusesRace J.vertices script.chunk_size J.room script.batches.items (length programs.plans.now) programs.workers) }
+    ensures race { IfOk result (IsRace J.vertices J.room script.batches.items (map (λ p. p.now) programs.entry.plans.now) programs.entry.turns) }
+    ensures opened { IfOk result (λ _. MayOpen J.vertices script.chunk_size (length programs.entry.plans.now + 1)) }
+    ensures workers { IfOk result (λ race. MayRun programs.entry.workers race.runs.items) }
+    ensures refused { IfErr result (RefusesRace J.vertices script.chunk_size J.room script.batches.items (length programs.entry.plans.now)
+        programs.entry.workers) }
 {
     let RaceScript {
         vertices,
@@ -98,9 +99,9 @@ fn race_on<J: Naming + Send + Sync, T: Threads + Wait + Sync>(
     programs: PlannedRuns<'_>,
 ) -> Result<(Vec<CommitReply>, Vec<ProgramRuns>), RaceError>
     requires { readers.items ≡ fresh_passes (suc (length programs.plans.now)) }
-    ensures raced { IfOk result (IsRaced J.vertices J.room batches.items (map (λ p. p.now) programs.plans.now) programs.turns) }
-    ensures workers { IfOk result (λ raced. MayRun programs.workers raced.1.items) }
-    ensures refused { IfErr result (RefusesOnGraph (opened J.vertices J.room) batches.items programs.workers) }
+    ensures raced { IfOk result (IsRaced J.vertices J.room batches.items (map (λ p. p.now) programs.entry.plans.now) programs.entry.turns) }
+    ensures workers { IfOk result (λ raced. MayRun programs.entry.workers raced.1.items) }
+    ensures refused { IfErr result (RefusesOnGraph (opened J.vertices J.room) batches.items programs.entry.workers) }
 {
     let PlannedRuns {
         plans,

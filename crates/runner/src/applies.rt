@@ -84,8 +84,8 @@ impl Memory {
     ) -> Result<(), AllocError>
         requires applier { E.is_ready by.old }
         ensures applier { E.is_ready by.new }
-        ensures done { OnOk result ((p : ProgramTree) (g : GraphValue) (t : OperationTree) → g ≡ graph_value applies.graph.now → IsOn g self.old
-            → AreFunctionKernels functions.now p → ApplyEdgesOf applies.ends applies.first applies.second t → OperationReduces p t
+        ensures done { OnOk result ((p : ProgramTree) (g : GraphValue) (t : OperationTree) → g ≡ graph_value applies.entry.graph.now → IsOn g self.old
+            → AreFunctionKernels functions.now p → ApplyEdgesOf applies.entry.ends applies.entry.first applies.entry.second t → OperationReduces p t
             → HasDone instruction.now Flow.Next self.old self.new p g t) }
         ensures turns { OnOk result (self.new.state.state.turns ≡ self.old.state.state.turns) }
         ensures vertices { self.new.state.vertices ≡ self.old.state.vertices }

@@ -112,9 +112,9 @@ fn run_on<R: Threads + Sync, G: Gate + Sync>(
     graph: &Graph,
     gate: &G,
 ) -> Result<Outcome, RunError>
-    ensures outcome { IfOk result (IsOutcomeOn planned.plan.now graph.now planned.turns) }
-    ensures workers { IfOk result (λ _. AreWorkers planned.workers) }
-    ensures bad_workers { (result ≡ Err run.BadWorkers) ↔ (¬ AreWorkers planned.workers) }
+    ensures outcome { IfOk result (IsOutcomeOn planned.entry.plan.now graph.now planned.entry.turns) }
+    ensures workers { IfOk result (λ _. AreWorkers planned.entry.workers) }
+    ensures bad_workers { (result ≡ Err run.BadWorkers) ↔ (¬ AreWorkers planned.entry.workers) }
 {
     let PlannedRun {
         plan,
