@@ -19,7 +19,7 @@ combine_forked-in_two-requires-after_bounds g t c κs within =
     let same = c.in_ok-halves-in-Halved.ensures in
     let cut : AreHalves a b v.left v.key v.weight v.right v.second = rw c.in-Halved.is at c.in_ok-combined.ensures in
     let is : AreHalves a b h.left h.key h.weight h.right h.second = rw (same.0, same.1, same.2, same.3, same.4) cut in
-    ((omega (arith, c.if-forking-forks-eq0.false), c.requires.few), halves_over c.args.task.base a b h.left h.key h.weight h.right h.second is c.requires.first_over c.requires.second_over c.requires.sizes)
+    ((omega (arith, c.if-forking-eq0.false), c.requires.few), halves_over c.args.task.base a b h.left h.key h.weight h.right h.second is c.requires.first_over c.requires.second_over c.requires.sizes)
 
 pub combine_forked-rejoin-requires-clause-ascending : goal.combine_forked-rejoin-requires-clause-ascending
 combine_forked-rejoin-requires-clause-ascending g t c =
