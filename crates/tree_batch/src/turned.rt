@@ -1,6 +1,6 @@
 //! What sorted updates make of a tree, and the same updates seen from the other end of their edges.
 
-ghost use Rattle.std.specs.Prelude.{◌≡◌, ◌≤◌, IfOk};
+ghost use Rattle.std.specs.Prelude.{◌+◌, ◌≡◌, ◌≤◌, IfOk};
 ghost use Rattle.std.specs.Map.{keys_of};
 ghost use Rattle.edge_updates.specs.Updates.{Ascend};
 ghost use Rattle.weighted_updates.specs.WeightedUpdates.{decided_weight};
