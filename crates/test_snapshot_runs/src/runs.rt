@@ -14,7 +14,7 @@ use std::marker::Brand;
 use std::sync::Wait;
 use std::test::Fail;
 use std::thread::{Threads, join};
-use text_runs::{TextRunError, run_text_on_latest};
+use text_runs::{RunBounds, TextRunError, run_text_on_latest};
 use version_list::Which;
 
 // The most turns of a run.
@@ -370,6 +370,14 @@ fn texts<J: Naming, R: Threads + Wait + AllocGlobal + Sync>(
     Ok(run_texts(rt, rt.alloc(), &graph, &mut me))
 }
 
+// A run by so many workers.
+fn by(workers: usize) -> RunBounds {
+    RunBounds {
+        workers,
+        turns: TURNS,
+    }
+}
+
 // Whether a text is run on the version just committed, and the gate is told; another text is refused, and so are 65 workers.
 fn run_texts<J: Naming, W: Wait + Drop, R: Threads + Wait + Sync>(
     rt: &R,
@@ -379,9 +387,9 @@ fn run_texts<J: Naming, W: Wait + Drop, R: Threads + Wait + Sync>(
 ) -> [bool; 3] {
     let committed = commit(rt, alloc, graph, me, 1) == Ok(1);
     let gate = Counting::new();
-    let ran = run_text_on_latest(rt, alloc, SEARCH, me, 2, TURNS, &gate);
-    let broken = run_text_on_latest(rt, alloc, b"func", me, 1, TURNS, &Open);
-    let many = run_text_on_latest(rt, alloc, SEARCH, me, 65, TURNS, &Open);
+    let ran = run_text_on_latest(rt, alloc, SEARCH, me, by(2), &gate);
+    let broken = run_text_on_latest(rt, alloc, b"func", me, by(1), &Open);
+    let many = run_text_on_latest(rt, alloc, SEARCH, me, by(65), &Open);
     let is_run = match ran {
         Ok((number, outcome)) => number == 1 && is_of(1, &outcome) && gate.count() > 0,
         Err(_) => false,

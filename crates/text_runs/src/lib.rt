@@ -15,4 +15,4 @@ pub use error::TextRunError;
 pub use laws::{
     plans_of_checked_programs_are_compiled, plans_show_what_their_texts_mean, texts_mean_one_thing,
 };
-pub use text_run::run_text_on_latest;
+pub use text_run::{RunBounds, run_text_on_latest};

@@ -20,6 +20,13 @@ use snapshot_runs::run_latest;
 use std::alloc::Global;
 use std::thread::Threads;
 
+/// By how many workers a program is run, 1 to 64, and for at most how many turns.
+#[derive(Clone, Copy, Debug, PartialEq, Eq)]
+pub struct RunBounds {
+    pub workers: usize,
+    pub turns: u64,
+}
+
 /// Compiles a text and runs it on the newest version, as [`run_latest`] does: the outcome is what the program that the text is
 /// means, within the turns, on the fold of the batches in the history that the reader then shows.
 ///
@@ -30,19 +37,19 @@ pub fn run_text_on_latest<J: Naming, R: Threads + Sync, G: Gate + Sync>(
     alloc: Global,
     text: &[u8],
     reader: &mut Reader<J>,
-    workers: usize,
-    turns: u64,
+    bounds: RunBounds,
     gate: &G,
 ) -> Result<(u64, Outcome), TextRunError>
     ensures history { IfOk result (λ r. Shows (opened J.vertices J.room) reader.old reader.new) }
     ensures number { IfOk result (λ r. r.0 ≡ length (batches_of reader.new.shown)) }
-    ensures outcome { IfOk result (λ r. IsMeaningOf text.now (fold_of J.vertices reader.new.shown) turns r.1) }
-    ensures workers { IfOk result (λ _. AreWorkers workers) }
-    ensures bad_workers { result ≡ Err (NotRun BadWorkers) → ¬ AreWorkers workers }
+    ensures outcome { IfOk result (λ r. IsMeaningOf text.now (fold_of J.vertices reader.new.shown) bounds.turns r.1) }
+    ensures workers { IfOk result (λ _. AreWorkers bounds.workers) }
+    ensures bad_workers { result ≡ Err (NotRun BadWorkers) → ¬ AreWorkers bounds.workers }
     ensures not_compiled { (reason : why.CompileError) → result ≡ Err (NotCompiled reason) → Compiles text.now (Err reason) }
     ensures planned { (reason : run.LatestRunError) → result ≡ Err (NotRun reason) → HasPlan text.now }
     ensures refused { IfErr result (λ e. LeavesText (opened J.vertices J.room) e reader.old reader.new) }
 {
+    let RunBounds { workers, turns } = bounds;
     let plan = compile(alloc, text)?;
     Ok(run_latest(rt, alloc, &plan, reader, workers, turns, gate)?)
 }
