@@ -12,7 +12,6 @@ use crate::telling::TextWriter;
 use devices::{Drain, Feed};
 use requests::{RequestError, request};
 use scripts::ScriptState;
-use std::alloc::Global;
 use std::fmt::Write;
 use std::sync::Wait;
 use std::thread::Threads;
@@ -21,9 +20,8 @@ use std::thread::Threads;
 ///
 /// It is that of `serve` where the words are a request. Where they are none, or ask for help, it is 2, and 4 where memory runs
 /// out over them; `err` is then told why, and `out` took nothing. With it comes what a script opened, as by `serve`.
-pub fn run<T: Threads + Wait + Sync, F: Files, R: Feed, W: Drain, E: Drain>(
+pub fn run<T: AllocGlobal + Threads + Wait + Sync, F: Files, R: Feed, W: Drain, E: Drain>(
     rt: &T,
-    alloc: Global,
     words: &[&str],
     files: &F,
     input: &mut R,
@@ -36,6 +34,7 @@ pub fn run<T: Threads + Wait + Sync, F: Files, R: Feed, W: Drain, E: Drain>(
         (bytes_written_by (W.bytes_written out.old) (W.failures out.old))
         (bytes_written_by (W.bytes_written out.new) (W.failures out.new)) result.0 }
 {
+    let alloc = rt.alloc();
     match request(alloc, words) {
         Ok(request) => serve(rt, alloc, &request, files, input, out, err),
         Err(error) => (refused(&error, err), None),

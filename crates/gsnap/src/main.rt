@@ -40,24 +40,15 @@ fn words(rt: &(impl Env + AllocGlobal)) -> Result<Vec<String>, RequestError> {
 // Does what the words ask for, with workers and races in threads of `threads`, and answers the exit status and what a script opened.
 fn serve(
     rt: &HostRuntime,
-    threads: &(impl Threads + Wait + Sync),
+    threads: &(impl AllocGlobal + Threads + Wait + Sync),
     words: &[String],
 ) -> (u8, Option<ScriptState>) {
-    let alloc = rt.alloc();
-    let Ok(words) = words.iter().map(|word| word.as_str()).collect(alloc) else {
+    let Ok(words) = words.iter().map(|word| word.as_str()).collect(rt.alloc()) else {
         return (refusal_status(&RequestError::NoMemory), None);
     };
     let words: Vec<&str> = words;
     let mut input = Device::new(rt.stdin());
     let mut out = Device::new(rt.stdout());
     let mut err = Device::new(rt.stderr());
-    run(
-        threads,
-        alloc,
-        &words,
-        &Disk(rt),
-        &mut input,
-        &mut out,
-        &mut err,
-    )
+    run(threads, &words, &Disk(rt), &mut input, &mut out, &mut err)
 }

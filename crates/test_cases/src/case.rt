@@ -58,7 +58,7 @@ impl Files for Folder<'_> {
 
 /// Runs a case, with workers and races in threads of `threads`. The answer tells each difference, by a line, and is empty where
 /// there is none.
-pub fn differences<T: Threads + Wait + Sync>(
+pub fn differences<T: AllocGlobal + Threads + Wait + Sync>(
     rt: &HostRuntime,
     threads: &T,
     index: &CaseName,
@@ -107,7 +107,7 @@ struct CaseOutput {
 }
 
 // Does the command line of a case.
-fn outcome_of<T: Threads + Wait + Sync>(
+fn outcome_of<T: AllocGlobal + Threads + Wait + Sync>(
     threads: &T,
     folder: &Folder<'_>,
     name: &str,
@@ -121,7 +121,7 @@ fn outcome_of<T: Threads + Wait + Sync>(
 }
 
 // Does these words over the files of the folder and this standard input.
-fn outcome_on<T: Threads + Wait + Sync>(
+fn outcome_on<T: AllocGlobal + Threads + Wait + Sync>(
     threads: &T,
     folder: &Folder<'_>,
     words: &[&str],
@@ -132,7 +132,6 @@ fn outcome_on<T: Threads + Wait + Sync>(
     let mut err = Vec::new(alloc);
     let (status, _state) = run(
         threads,
-        alloc,
         words,
         folder,
         &mut Device::new(input),

@@ -48,7 +48,10 @@ fn main(rt: HostRuntime) -> ExitCode {
 }
 
 // Runs the cases below the folder that it is run in, all or those that the words name, and answers how many differ.
-fn run_all(rt: &HostRuntime, threads: &(impl Threads + Wait + Sync)) -> io::Result<usize> {
+fn run_all(
+    rt: &HostRuntime,
+    threads: &(impl AllocGlobal + Threads + Wait + Sync),
+) -> io::Result<usize> {
     let mut agree = 0usize;
     let mut differ = 0usize;
     let names: Vec<String> = env::args(rt)?.skip(1).collect(rt.alloc())?;

@@ -79,13 +79,12 @@ const READS: &[Reads] = &[
 ];
 
 // The files that these words have read.
-fn read_by<T: Threads + Wait + Sync>(rt: &T, alloc: Global, words: &[&str]) -> u64 {
-    let files = NotingFiles(AtomicU64::new(0));
+fn read_by<T: AllocGlobal + Threads + Wait + Sync>(rt: &T, words: &[&str]) -> u64 {
+    let (alloc, files) = (rt.alloc(), NotingFiles(AtomicU64::new(0)));
     let (mut out, mut err) = (Vec::new(alloc), Vec::new(alloc));
     let input: &[u8] = b"";
     let (_status, _state) = run(
         rt,
-        alloc,
         words,
         &files,
         &mut Device::new(input),
@@ -98,7 +97,7 @@ fn read_by<T: Threads + Wait + Sync>(rt: &T, alloc: Global, words: &[&str]) -> u
 #[test]
 fn files_are_read_in_their_order_and_no_others(rt: HostRuntime) -> Result<(), Fail> {
     for (words, files) in READS {
-        let read = read_by(&rt, rt.alloc(), *words);
+        let read = read_by(&rt, *words);
         assert_eq!(rt; read, *files);
     }
     Ok(())
