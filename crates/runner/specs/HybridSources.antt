@@ -21,14 +21,14 @@ pub record HasSources (a : Apply) (set : VertexSubset) : Type 0 where
       → (v : ℕ) → v < a.flat.now.vertices → is_member v set.members ≡ from v
 
 -- whether a direction is the hybrid
-pub is_hybrid : Direction → Bool
+abbrev pub is_hybrid : Direction → Bool
 is_hybrid direction.SparsePush = false
 is_hybrid direction.DensePush = false
 is_hybrid direction.DensePull = false
 is_hybrid direction.Hybrid = true
 
 -- whether an end is a function of the user that lets vertices through
-pub is_filtered : Option EndpointFilter → Bool
+abbrev pub is_filtered : Option EndpointFilter → Bool
 is_filtered None = false
 is_filtered (Some (end.Members set)) = false
 is_filtered (Some (end.Filter filter)) = true
@@ -40,13 +40,13 @@ AreSourcesOf a (Some set) = HasSources a set
 
 -- whether the hybrid goes into the destinations: where all sources pass, and where those in a set and the edges from them
 -- are more than the edges divided by 20, rounded down
-pub hybrid_pulls : List Edge → Option EndpointFilter → Bool
+abbrev pub hybrid_pulls : List Edge → Option EndpointFilter → Bool
 hybrid_pulls edges None = true
 hybrid_pulls edges (Some (end.Members set)) = nat_lt (length edges / 20) (work_from edges set.now.members)
 hybrid_pulls edges (Some (end.Filter filter)) = true
 
 -- whether an apply goes into the destinations
-pub pulls : Direction → List Edge → Option EndpointFilter → Bool
+abbrev pub pulls : Direction → List Edge → Option EndpointFilter → Bool
 pulls direction.SparsePush edges from = false
 pulls direction.DensePush edges from = false
 pulls direction.DensePull edges from = true
