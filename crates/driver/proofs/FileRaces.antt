@@ -1,14 +1,14 @@
 -- Races of files.
-use Rattle.std.proofs.Common.{◌≡◌, ◌∙◌, ap, sym, ℕ, List, Bor, Err, length, map, subst, refl, inl, inr}
+use Rattle.std.proofs.Common.{◌≡◌, ◌∙◌, ◌+◌, ap, sym, ℕ, List, Bor, Err, length, map, subst, refl, inl, inr}
 use Rattle.std.proofs.lemmas.List.{length-map}
 use Rattle.scripts.specs.Script.{Written}
 use Rattle.replies.specs.declared.send_error.SendError.{SendError}
 use Rattle.replies.specs.declared.send_error.SendError.TheVariants.{NoMemory, WriteFailed}
 use Rattle.plans.specs.declared.plan.Plan.{Plan}
-use Rattle.races.specs.Race.{IsRace}
+use Rattle.races.specs.Race.{IsRace, MayRun}
 use Rattle.races.specs.RaceScript.{order_by}
 use Rattle.races.specs.RaceText.{TakesBeginning, Writes}
-use Rattle.races.specs.Refused.{RefusesRace}
+use Rattle.races.specs.Refused.{MayOpen, RefusesRace}
 use Rattle.races.specs.declared.error.RaceError.{RaceError}
 use Rattle.races.specs.declared.outcomes.Race.{Race}
 use Rattle.races.specs.declared.reading.RaceScript.{RaceScript}
@@ -19,16 +19,24 @@ use Rattle.driver.specs.Programs.{tree_of}
 use Rattle.driver.specs.Racing.{EndsWriting, HoldsScript, IsRaceOf, RefusesRaceOf}
 use Rattle.driver.specs.Reading.{HoldPrograms}
 
+-- as many plans are lent as there are programs in the files
+lent_length : (programs seen : List CompiledPlan) (plans lent : List (Bor Plan)) → seen ≡ programs → map (λ p. p.now) plans ≡ map (λ c. c.plan) seen → lent ≡ plans → length lent ≡ length programs
+lent_length programs seen plans lent all are same =
+    ap (λ (ps : List (Bor Plan)). length ps) same ∙ sym (length-map plans (λ p. p.now)) ∙ ap (λ (ps : List Plan). length ps) are ∙ length-map seen (λ c. c.plan) ∙ ap (λ (ps : List CompiledPlan). length ps) all
+
 -- a race of the plans that the files' programs have, which are lent to it, and of the script that a file holds
-pub race_of_files : (holds : List ℕ → List ℕ → Type 0) (file : List ℕ) (names : List (List ℕ)) (turns : ℕ) (programs seen : List CompiledPlan) (plans lent : List (Bor Plan)) (script : RaceScript) (race : Race) → HoldPrograms holds names (map tree_of programs)
+pub race_of_files : (holds : List ℕ → List ℕ → Type 0) (file : List ℕ) (names : List (List ℕ)) (workers turns : ℕ) (programs seen : List CompiledPlan) (plans lent : List (Bor Plan)) (script : RaceScript) (race : Race) → HoldPrograms holds names (map tree_of programs)
     → HoldsScript (holds file) (order_by script) → seen ≡ programs → map (λ p. p.now) plans ≡ map (λ c. c.plan) seen → lent ≡ plans
-    → IsRace script.vertices 16777216 script.batches.items (map (λ p. p.now) lent) turns race → IsRaceOf holds file names turns race
-race_of_files holds file names turns programs seen plans lent script race compiled held all are same raced = record {
+    → IsRace script.vertices 16777216 script.batches.items (map (λ p. p.now) lent) turns race → MayOpen script.vertices script.chunk_size (length lent + 1) → MayRun workers race.runs.items
+    → IsRaceOf holds file names workers turns race
+race_of_files holds file names workers turns programs seen plans lent script race compiled held all are same raced opened run_by = record {
   programs = programs;
   compiled = compiled;
   order = order_by script;
   held = held;
   is_race = subst (λ (ps : List Plan). IsRace script.vertices 16777216 script.batches.items ps turns race) (ap (map (λ (p : Bor Plan). p.now)) same ∙ are ∙ ap (map (λ (c : CompiledPlan). c.plan)) all) raced;
+  opened = subst (λ (n : ℕ). MayOpen script.vertices script.chunk_size (n + 1)) (lent_length programs seen plans lent all are same) opened;
+  run_by = run_by;
 }
 
 -- there is no race of the plans that the files' programs have, which are lent to it, and of the script that a file holds
@@ -41,8 +49,7 @@ refused_race_of_files holds file names workers programs seen plans lent script e
   order = order_by script;
   held = held;
   error = error;
-  refused = subst (λ (n : ℕ). RefusesRace script.vertices script.chunk_size 16777216 script.batches.items n workers error)
-      (ap (λ (ps : List (Bor Plan)). length ps) same ∙ sym (length-map plans (λ p. p.now)) ∙ ap (λ (ps : List Plan). length ps) are ∙ length-map seen (λ c. c.plan) ∙ ap (λ (ps : List CompiledPlan). length ps) all) refused;
+  refused = subst (λ (n : ℕ). RefusesRace script.vertices script.chunk_size 16777216 script.batches.items n workers error) (lent_length programs seen plans lent all are same) refused;
   name = name;
   named = named;
   outcome = is;

@@ -1,12 +1,12 @@
 -- Outcomes of serving a race.
-use Rattle.std.specs.Prelude.{◌≡◌, ℕ, ◌<◌, Bool, List, ◌++◌, ◌⊎◌, Result, Ok, Err, Some, length, map}
+use Rattle.std.specs.Prelude.{◌≡◌, ℕ, ◌<◌, ◌+◌, Bool, List, ◌++◌, ◌⊎◌, Result, Ok, Err, Some, length, map}
 use Rattle.std.specs.Borrow.{Bor}
 use Rattle.std.specs.declared.io.Error.{Error}
 use Rattle.algorithm_meaning.specs.ProgramTree.{ProgramTree}
 use Rattle.scripts.specs.Script.{Input, Written}
 use Rattle.races.specs.RaceScript.{Order, ReadsScript, order_by, order_of}
-use Rattle.races.specs.Race.{IsRace, has_faulted}
-use Rattle.races.specs.Refused.{RefusesRace}
+use Rattle.races.specs.Race.{IsRace, MayRun, has_faulted}
+use Rattle.races.specs.Refused.{MayOpen, RefusesRace}
 use Rattle.races.specs.RaceText.{TakesBeginning, race_text}
 use Rattle.races.specs.declared.error.RaceError.{RaceError}
 use Rattle.races.specs.declared.error.RaceScriptError.{RaceScriptError}
@@ -40,18 +40,20 @@ abbrev pub ReadsFile : (List ℕ → Type 0) → (Error → Type 0) → List ℕ
 ReadsFile holds fails file (Ok script) = HoldsScript holds (order_by script)
 ReadsFile holds fails file (Err e) = FailsRead fails file e ⊎ RefusesScript holds file e
 
--- the files may hold these programs and this script, and this is a race of them
-pub record IsRaceOf (holds : List ℕ → List ℕ → Type 0) (script : List ℕ) (names : List (List ℕ)) (turns : ℕ) (race : Race) : Type 0 where
+-- the files may hold these programs and this script, whose graph may be opened, and this is a race of them, by workers that may run
+pub record IsRaceOf (holds : List ℕ → List ℕ → Type 0) (script : List ℕ) (names : List (List ℕ)) (workers turns : ℕ) (race : Race) : Type 0 where
   pub programs : List CompiledPlan
   pub compiled : HoldPrograms holds names (map tree_of programs)
   pub order : Order
   pub held : HoldsScript (holds script) order
   pub is_race : IsRace order.vertices 16777216 order.batches (map (λ p. p.plan) programs) turns race
+  pub opened : MayOpen order.vertices order.chunk_size (length programs + 1)
+  pub run_by : MayRun workers race.runs.items
 
 -- all of the text of a race was written, with no failure
-pub record TellsRace (holds : List ℕ → List ℕ → Type 0) (script : List ℕ) (names : List (List ℕ)) (turns : ℕ) (before after : Written) (faulted : Bool) : Type 0 where
+pub record TellsRace (holds : List ℕ → List ℕ → Type 0) (script : List ℕ) (names : List (List ℕ)) (workers turns : ℕ) (before after : Written) (faulted : Bool) : Type 0 where
   pub race : Race
-  pub is_race : IsRaceOf holds script names turns race
+  pub is_race : IsRaceOf holds script names workers turns race
   pub bytes_written : after.bytes_written ≡ before.bytes_written ++ race_text race
   pub quiet : after.failures ≡ before.failures
   pub fault : faulted ≡ has_faulted race
@@ -61,9 +63,9 @@ abbrev pub EndsWriting : Written → Written → ServeError → Type 0
 EndsWriting before after e = ((e ≡ NoMemory) × (after.failures ≡ before.failures)) ⊎ ((e ≡ WriteFailed) × (before.failures < after.failures))
 
 -- a beginning of the text of a race was written before memory ran out or the writer failed
-pub record BeginsRace (holds : List ℕ → List ℕ → Type 0) (script : List ℕ) (names : List (List ℕ)) (turns : ℕ) (before after : Written) (e : ServeError) : Type 0 where
+pub record BeginsRace (holds : List ℕ → List ℕ → Type 0) (script : List ℕ) (names : List (List ℕ)) (workers turns : ℕ) (before after : Written) (e : ServeError) : Type 0 where
   pub race : Race
-  pub is_race : IsRaceOf holds script names turns race
+  pub is_race : IsRaceOf holds script names workers turns race
   pub part : TakesBeginning (race_text race) before after
   pub cause : EndsWriting before after e
 
@@ -97,9 +99,9 @@ pub record TellsNoRace (holds : List ℕ → List ℕ → Type 0) (fails : List 
 
 -- what a race of files comes to
 abbrev pub RacesFiles : (List ℕ → List ℕ → Type 0) → (List ℕ → Error → Type 0) → List ℕ → List (List ℕ) → (workers turns : ℕ) → Written → Written → Result Bool ServeError → Type 0
-RacesFiles holds fails script names workers turns before after (Ok faulted) = TellsRace holds script names turns before after faulted
+RacesFiles holds fails script names workers turns before after (Ok faulted) = TellsRace holds script names workers turns before after faulted
 RacesFiles holds fails script names workers turns before after (Err e) =
-    TellsNoRace holds fails script names workers before after e ⊎ BeginsRace holds script names turns before after e
+    TellsNoRace holds fails script names workers before after e ⊎ BeginsRace holds script names workers turns before after e
 
 -- the race of the files was done, with this status at the end; the standard input was not read
 pub record ServesRace (holds : List ℕ → List ℕ → Type 0) (fails : List ℕ → Error → Type 0) (script : List ℕ) (names : List (List ℕ)) (workers turns : ℕ) (old new : Input) (before after : Written) (status : ℕ) : Type 0 where

@@ -1,5 +1,5 @@
 //! Programs in a race, each with the reader by which it takes a version.
-ghost use Rattle.std.specs.Prelude.{◌≡◌, IfErr, IfOk, length, map};
+ghost use Rattle.std.specs.Prelude.{◌≡◌, IfErr, IfOk, Ok, length, map};
 ghost use Rattle.crew.specs.Outcome.{AreWorkers};
 ghost use Rattle.shared_graph.specs.Passes.{Shows};
 ghost use Rattle.version_list.specs.Machine.{opened};
@@ -94,6 +94,7 @@ impl<'a, J: Naming> EarlyRun<'a, J> {
     ) -> Result<ProgramRuns, LatestRunError>
         requires { RanEarly J.vertices turns workers self }
         ensures ran { IfOk result (RanTwice J.vertices J.room self.entry.plan.now turns told.now) }
+        ensures early { IfOk result (λ runs. self.entry.run ≡ Ok runs.early) }
         ensures workers { IfOk result (λ _. AreWorkers workers) }
         ensures refused { IfErr result (RefusesRun workers) }
     {

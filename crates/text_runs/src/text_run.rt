@@ -45,6 +45,7 @@ pub fn run_text_on_latest<J: Naming, R: Threads + Sync, G: Gate + Sync>(
     ensures outcome { IfOk result (λ r. IsMeaningOf text.now (fold_of J.vertices reader.new.shown) bounds.turns r.1) }
     ensures workers { IfOk result (λ _. AreWorkers bounds.workers) }
     ensures bad_workers { result ≡ Err (NotRun BadWorkers) → ¬ AreWorkers bounds.workers }
+    ensures workers_first { (reason : run.LatestRunError) → result ≡ Err (NotRun reason) → (¬ AreWorkers bounds.workers) → reason ≡ BadWorkers }
     ensures not_compiled { (reason : why.CompileError) → result ≡ Err (NotCompiled reason) → Compiles text.now (Err reason) }
     ensures planned { (reason : run.LatestRunError) → result ≡ Err (NotRun reason) → HasPlan text.now }
     ensures refused { IfErr result (λ e. LeavesText (opened J.vertices J.room) e reader.old reader.new) }
