@@ -307,8 +307,12 @@ impl Gate for Pieces {
     }
 }
 
-// In how many pieces two workers do an apply from one vertex of the edges from 0 to 1 and on up to 49.
-fn pieces_from<R: Threads + AllocGlobal + Sync>(rt: &R, source: u32) -> Result<u64, Fail> {
+// In how many pieces two workers do an apply from one vertex of the edges from 0 to 1 and on up to 49, by a schedule.
+fn pieces_from<R: Threads + AllocGlobal + Sync>(
+    rt: &R,
+    source: u32,
+    schedule: &str,
+) -> Result<u64, Fail> {
     let alloc = rt.alloc();
     let mut edges = Vec::new(alloc);
     for destination in 1..50 {
@@ -320,9 +324,7 @@ fn pieces_from<R: Threads + AllocGlobal + Sync>(rt: &R, source: u32) -> Result<u
         const edges : edgeset{{Edge}}(Vertex, Vertex) = load(argv[1]); const x : vector{{Vertex}}(int) = -1; \
         func take(src : Vertex, dst : Vertex) x[dst] max= src; end \
         func main() var some : vertexset{{Vertex}} = new vertexset{{Vertex}}(0); some.addVertex({source}); \
-        #s1# edges.from(some).apply(take); end \
-        schedule: program->configApplyDirection(\"s1\", \"DensePull-SparsePush\")\
-        ->configApplyParallelization(\"s1\", \"static-vertex-parallel\");"
+        #s1# edges.from(some).apply(take); end {schedule}"
     )?;
     let plan = compiler::compile(alloc, text.as_bytes())?;
     let gate = Pieces(AtomicU64::new(0));
@@ -331,10 +333,45 @@ fn pieces_from<R: Threads + AllocGlobal + Sync>(rt: &R, source: u32) -> Result<u
     Ok(gate.0.load(Ordering::SeqCst))
 }
 
+// A hybrid in as many pieces as there are workers.
+const HYBRID: &str = "schedule: program->configApplyDirection(\"s1\", \"DensePull-SparsePush\")\
+    ->configApplyParallelization(\"s1\", \"static-vertex-parallel\");";
+
 // A push is cut by its one source, and a pull by all vertices.
 #[test]
 fn the_hybrid_pushes_from_few_edges_and_pulls_from_many(rt: HostRuntime) -> Result<(), Fail> {
-    assert_eq!(rt; pieces_from(&rt, 1)?, 1);
-    assert_eq!(rt; pieces_from(&rt, 0)?, 2);
+    assert_eq!(rt; pieces_from(&rt, 1, HYBRID)?, 1);
+    assert_eq!(rt; pieces_from(&rt, 0, HYBRID)?, 2);
+    Ok(())
+}
+
+// Schedules that leave something unsaid, and the pieces of an apply from the vertex with all edges: what is not said is a serial
+// sparse push.
+const UNSAID: [(&str, u64); 5] = [
+    ("", 1),
+    (
+        "schedule: program->configApplyDirection(\"s1\", \"DensePull\");",
+        1,
+    ),
+    (
+        "schedule: program->configApplyDirection(\"s1\", \"DensePush\");",
+        1,
+    ),
+    (
+        "schedule: program->configApplyParallelization(\"s1\", \"static-vertex-parallel\");",
+        1,
+    ),
+    (
+        "schedule: program->configApplyParallelization(\"s1\", \"static-vertex-parallel\")\
+        ->configApplyDirection(\"s1\", \"DensePull\");",
+        2,
+    ),
+];
+
+#[test]
+fn what_is_not_scheduled_is_a_serial_sparse_push(rt: HostRuntime) -> Result<(), Fail> {
+    for (schedule, pieces) in UNSAID {
+        assert_eq!(rt; pieces_from(&rt, 0, schedule)?, pieces, "{schedule}");
+    }
     Ok(())
 }

@@ -120,6 +120,19 @@ fn one_worker_claims_what_another_leaves(rt: HostRuntime) -> Result<(), Fail> {
     Ok(())
 }
 
+// Each of two workers claims a piece, since the first is held until the other is entered.
+#[test]
+fn claiming_workers_have_numbers_of_their_own(rt: HostRuntime) -> Result<(), Fail> {
+    let (_, digits) = run(
+        &rt,
+        (2, 2, PieceAssignment::Claimed),
+        1,
+        &mut Vec::new(rt.alloc()),
+    )?;
+    assert!(rt; digits == 12 || digits == 21, "{digits}");
+    Ok(())
+}
+
 #[test]
 fn fixed_pieces_go_round_the_workers(rt: HostRuntime) -> Result<(), Fail> {
     for (workers, digits) in [(1, 1_111_111), (3, 1_231_231), (9, 1_234_567)] {

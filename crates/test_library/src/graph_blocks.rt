@@ -1,5 +1,5 @@
 //! Graphs whose lists of neighbours go over the sizes at which they change their form, stand at the ends of
-//! blocks of 64 vertices, and lie as far apart as lists can.
+//! blocks of 64 vertices, and lie as far apart as lists can; and what is printed of a graph.
 use std::alloc::Global;
 use std::test::Fail;
 use std::thread::Threads;
@@ -193,5 +193,16 @@ fn uneven_batches_are_the_same_at_any_forks(rt: HostRuntime) -> Result<(), Fail>
         assert!(rt; forked.edges().eq(alone.edges()), "at {forks} forks");
     }
     assert_eq!(rt; alone.edge_count(), 115);
+    Ok(())
+}
+
+#[test]
+fn a_graph_is_printed_by_its_counts(rt: HostRuntime) -> Result<(), Fail> {
+    let alloc = rt.alloc();
+    let mut batch = Batch::new(alloc);
+    add_run(&mut batch, 1, 0, 3)?;
+    let graph = Graph::new(7, 64)?.apply(alloc, &batch)?;
+    let text = format!(in alloc; "{graph:?}")?;
+    assert_eq!(rt; text.as_str(), "Graph { vertices: 7, edge_count: 3 }");
     Ok(())
 }

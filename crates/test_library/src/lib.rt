@@ -32,6 +32,8 @@ mod list_sizes;
 #[cfg(test)]
 mod long_holds;
 #[cfg(test)]
+mod noted_runs;
+#[cfg(test)]
 mod random_batches;
 #[cfg(test)]
 mod refused_growths;

@@ -114,9 +114,9 @@ impl Read for WaitingReader<'_> {
     }
 }
 
-// Counts what it takes.
+/// Counts what it takes.
 #[derive(Drop)]
-struct CountingWriter<'a>(&'a AtomicUsize);
+pub(crate) struct CountingWriter<'a>(pub(crate) &'a AtomicUsize);
 
 impl Write for CountingWriter<'_> {
     fn write(&mut self, bytes: &[u8]) -> io::Result<usize> {

@@ -27,8 +27,8 @@ use tree_batch::{Batch, Entry, Graph};
 // The most turns of a run.
 const TURNS: u64 = 9;
 
-// A search from vertex 0 whose edge apply is done in pieces, by several workers where a gate watches.
-const PIECES: &[u8] = b"element Vertex end element Edge end \
+/// A search from vertex 0 whose edge apply is done in pieces, by several workers where a gate watches.
+pub(crate) const PIECES: &[u8] = b"element Vertex end element Edge end \
     const edges : edgeset{Edge}(Vertex, Vertex) = load(argv[1]); const parent : vector{Vertex}(int) = -1; \
     func unseen(v : Vertex) -> output : bool output = parent[v] == -1; end \
     func visit(src : Vertex, dst : Vertex) parent[dst] max= src; end \
@@ -191,11 +191,12 @@ fn runs_on_the_second<J: Naming, R: Threads + Print + AllocGlobal + Sync>(
     asked && told && stays && shown
 }
 
-// Makes three versions of the path, and one that is refused.
-const RACE: &[u8] =
+/// Makes three versions of the path, and one that is refused.
+pub(crate) const RACE: &[u8] =
     b"vertices 4\nadd 0 1 7\ncommit\nadd 1 2 -3\ncommit\ngrow 3\ncommit\ngrow 4\nadd 2 3\ncommit\n";
 
-const REPLIES: [CommitReply; 4] = [
+/// What its commits are answered.
+pub(crate) const REPLIES: [CommitReply; 4] = [
     CommitReply::Version(1),
     CommitReply::Version(2),
     CommitReply::Refused(111),
