@@ -30,12 +30,15 @@ enum Seen {
     Path { pieces: u64 },
 }
 
-// What is seen of a run that shows this, and whose gate was told of so many pieces.
-fn seen_in(outcome: &Outcome, pieces: u64) -> Seen {
+// What is seen of a run, where it ran, that shows this of this version, and whose gate was told of so many pieces.
+fn seen_in(ran: Option<(u64, Outcome)>, pieces: u64) -> Seen {
+    let Some((2, outcome)) = ran else {
+        return Seen::Other;
+    };
     if outcome.end == End::TurnsOver && outcome.turns == 0 && pieces == 0 {
         return Seen::NoTurns;
     }
-    if is_of(2, outcome) {
+    if is_of(2, &outcome) {
         return Seen::Path { pieces };
     }
     Seen::Other
@@ -50,10 +53,8 @@ fn newest<J: Naming, R: Threads + Sync>(
     bounds: RunBounds,
 ) -> Seen {
     let gate = Counting::new();
-    match run_latest(rt, alloc, plan, me, bounds.workers, bounds.turns, &gate) {
-        Ok((2, outcome)) => seen_in(&outcome, gate.count()),
-        _ => Seen::Other,
-    }
+    let ran = run_latest(rt, alloc, plan, me, bounds.workers, bounds.turns, &gate);
+    seen_in(ran.ok(), gate.count())
 }
 
 // What is seen of a run of the plan on a held version.
@@ -74,7 +75,7 @@ fn held<J: Naming, R: Threads + Sync>(
         bounds.turns,
         &gate,
     ) {
-        Ok(outcome) => seen_in(&outcome, gate.count()),
+        Ok(outcome) => seen_in(Some((2, outcome)), gate.count()),
         Err(_) => Seen::Other,
     }
 }
@@ -87,10 +88,8 @@ fn of_text<J: Naming, R: Threads + Sync>(
     bounds: RunBounds,
 ) -> Seen {
     let gate = Counting::new();
-    match run_text_on_latest(rt, alloc, PIECES, me, bounds, &gate) {
-        Ok((2, outcome)) => seen_in(&outcome, gate.count()),
-        _ => Seen::Other,
-    }
+    let ran = run_text_on_latest(rt, alloc, PIECES, me, bounds, &gate);
+    seen_in(ran.ok(), gate.count())
 }
 
 // What is seen of a run each way.
