@@ -1,8 +1,7 @@
 //! Programs by their plans, beside the slow run.
 //!
-//! Whatever its case asks, each program is run on graphs of its own, by its plan as scripts do and by
-//! `plain_run` of `algorithm_meaning`, which goes edge by edge and knows nothing of plans. Both must show
-//! the same.
+//! Each program is run on graphs of its own, by its plan as scripts do and by `plain_run`, which goes edge by edge and knows
+//! nothing of plans. Both must show the same.
 
 use flat_snapshot::Flat;
 use run_comparison::{TestedProgram, shows_the_same};
@@ -47,28 +46,23 @@ const GRAPHS: &[Edges] = &[
 /// The bounds on turns.
 const BOUNDS: &[u64] = &[0, 1, 2, 40];
 
-/// Adds a line for each graph and each bound on which a program's plan shows something else than the slow
-/// run. A text that is no program has nothing to show.
-pub fn add_differences(
-    alloc: Global,
-    told: &mut String,
-    case: &str,
-    text: &[u8],
-) -> io::Result<()> {
-    let Some(program) = TestedProgram::of(alloc, text) else {
-        return Ok(());
-    };
-    for edges in GRAPHS {
-        add_on_graph(alloc, told, case, &program, *edges)?;
+/// A line for each graph and each bound on which the program of this text shows something else by its plan than by the slow run; it
+/// begins with the program's path. A text that is no program has nothing to show.
+pub fn differences(alloc: Global, path: &str, text: &[u8]) -> io::Result<String> {
+    let mut told = String::new(alloc);
+    if let Some(program) = TestedProgram::of(alloc, text) {
+        for edges in GRAPHS {
+            add_on_graph(alloc, &mut told, path, &program, *edges)?;
+        }
     }
-    Ok(())
+    Ok(told)
 }
 
 // Adds a line for each bound.
 fn add_on_graph(
     alloc: Global,
     told: &mut String,
-    case: &str,
+    path: &str,
     program: &TestedProgram,
     (vertices, edges): Edges,
 ) -> io::Result<()> {
@@ -76,7 +70,7 @@ fn add_on_graph(
     for turns in BOUNDS {
         if !shows_the_same(alloc, program, &graph, edges, *turns)? {
             let line = format!(in alloc;
-                "{case}: not what the slow run shows on {vertices} vertices with {turns} turns\n"
+                "{path}: not what the slow run shows on {vertices} vertices with {turns} turns\n"
             )?;
             told.push_str(line.as_str())?;
         }

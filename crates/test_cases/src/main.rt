@@ -1,62 +1,38 @@
-//! Runs the cases in a folder: requests to `gsnap` with the answers that they must get.
+//! Runs the programs of the cases beside the slow run.
 //!
-//! A case stands in a folder of its subject, here `graphs`, as files of one name:
+//! The cases are the files in `data`: a folder for each subject, and in it scripts, programs and command lines with the answers that
+//! they must get. `tests/cases` runs them as processes of the built program and says how their files are named. Here each file
+//! `FOLDER/NAME.program` is run by its plan and by `plain_run`, whatever its case asks for (`beside.rt`).
 //!
-//! - `graphs/NAME.program` alone: what `gsnap check NAME.program` is run on;
-//! - or `graphs/NAME.script`, and `graphs/NAME.program`, or `graphs/NAME.1.program` and so on: what
-//!   `gsnap script NAME.script NAME.program` is run on;
-//! - or `graphs/NAME.args`, the words of a command line, one a line, with `graphs/NAME.input` as
-//!   standard input;
-//! - `graphs/NAME.out` and `graphs/NAME.err`: what standard output and standard error must be told. A file that is not there stands
-//!   for no bytes, but for a program that is checked alone and has no `NAME.err`, which must be answered `ok`. Where an output may
-//!   be one of several, as that of a race, they stand in `graphs/NAME.1.out`, `graphs/NAME.2.out` and so on;
-//! - `graphs/NAME.status`: the exit status, where it is not the one of what standard error must be told (`wanted.rt`).
-//!
-//! A long file may stand in a short form (`repeated.rt`). With words, only the cases of these names are run.
-//!
-//! Each is done by the crate `driver` on the files of the disk, with output in memory. Beside that its programs are run by their
-//! plans and by the slow run (`beside.rt`). The program prints each difference and last
-//! `N agree, M differ`. Its status is 1 where a case differs, and 2 where one cannot be read.
+//! The program prints each difference and last `N programs agree, M differ`. Its status is 1 if a program differs, and 2 if a file
+//! cannot be read.
 #![tactic(auto)]
 
 mod beside;
-mod case;
-mod compare;
 mod listing;
-#[cfg(test)]
-mod reads;
-mod repeated;
-#[cfg(test)]
-mod tests;
-mod wanted;
 
 use std::process::ExitCode;
-use std::sync::Wait;
-use std::thread::Threads;
-use std::{env, io};
+use std::{fs, io};
 
 fn main(rt: HostRuntime) -> ExitCode {
-    match run_all(&rt, &rt) {
+    match compare_all(&rt) {
         Ok(0) => ExitCode::SUCCESS,
         Ok(_) => ExitCode::from(1),
         Err(error) => {
-            // Where this fails too, the exit status alone tells.
+            // If this fails too, the exit status alone tells.
             let _ = eprintln!(rt; "test_cases: {error}");
             ExitCode::from(2)
         }
     }
 }
 
-// Runs the cases below the folder that it is run in, all or those that the words name, and answers how many differ.
-fn run_all(
-    rt: &HostRuntime,
-    threads: &(impl AllocGlobal + Threads + Wait + Sync),
-) -> io::Result<usize> {
+// Compares the programs in the folders of the folder that it is run in, and answers how many differ.
+fn compare_all(rt: &HostRuntime) -> io::Result<usize> {
     let mut agree = 0usize;
     let mut differ = 0usize;
-    let names: Vec<String> = env::args(rt)?.skip(1).collect(rt.alloc())?;
-    for index in listing::cases(rt, &names)? {
-        let differences = case::differences(rt, threads, &index)?;
+    for path in listing::programs(rt)? {
+        let text = fs::read(rt, path.as_str())?;
+        let differences = beside::differences(rt.alloc(), path.as_str(), &text)?;
         print!(rt; "{differences}")?;
         if differences.is_empty() {
             agree = agree.saturating_add(1);
@@ -64,6 +40,6 @@ fn run_all(
             differ = differ.saturating_add(1);
         }
     }
-    println!(rt; "{agree} agree, {differ} differ")?;
+    println!(rt; "{agree} programs agree, {differ} differ")?;
     Ok(differ)
 }
