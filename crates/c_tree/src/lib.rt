@@ -42,8 +42,6 @@ mod lookup;
 mod part;
 mod spelling;
 mod tail;
-#[cfg(test)]
-mod tests;
 mod view;
 
 pub use chunk_size::ChunkSize;

@@ -52,8 +52,6 @@ mod neighbours;
 mod offsets;
 mod packed_list;
 mod page;
-#[cfg(test)]
-mod tests;
 mod updates;
 mod walks;
 mod weight_blocks;

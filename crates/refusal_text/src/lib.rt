@@ -15,8 +15,6 @@ mod lines;
 mod meaning;
 mod place;
 mod statements;
-#[cfg(test)]
-mod tests;
 mod words;
 
 pub use lines::{explanation, fault_explanation};

@@ -38,8 +38,6 @@ mod halves;
 mod interleaving;
 mod lists;
 mod sets;
-#[cfg(test)]
-mod tests;
 mod with_list;
 
 pub use error::SetError;

@@ -39,8 +39,6 @@ mod reading;
 mod rewrite;
 mod shared_bytes;
 mod tail;
-#[cfg(test)]
-mod tests;
 mod weight;
 mod writer;
 

@@ -1,7 +1,7 @@
 //! Unions and differences of sets of several shapes, against maps worked out entry by entry.
-use crate::{Quiet, difference, difference_forked, insert_all, remove_all, union, union_forked};
 use ascending_lists::ascends;
 use c_tree::CTree;
+use set_ops::{Quiet, difference, difference_forked, insert_all, remove_all, union, union_forked};
 use std::alloc::Global;
 use std::test::Fail;
 use tail_codec::{Entries, EntryList, MapOperation, merge_entries};

@@ -1,5 +1,5 @@
 //! How sets are cut into chunks, looked up, cut and put together, and blocks of keys and weights.
-use crate::CTree;
+use c_tree::CTree;
 use std::alloc::Global;
 use std::test::Fail;
 use tail_codec::Tail;

@@ -1,7 +1,7 @@
 //! Lists with weights of each width, read in each way from pages and from arrays of their own.
-use crate::{EntryColumns, MAX_LONG, MAX_PACKED, Neighbours, PackedList, Page, merge};
 use ascending_lists::ascends;
 use edge_updates::{EdgeUpdate, Updates};
+use pages::{EntryColumns, MAX_LONG, MAX_PACKED, Neighbours, PackedList, Page, merge};
 use std::alloc::Global;
 use std::test::Fail;
 

@@ -2,7 +2,7 @@ use Rattle.std.proofs.Common.{ℤ, List, [], ◌∷◌, arith}
 use Rattle.edge_updates.specs.declared.edge_update.EdgeUpdate.{EdgeUpdate}
 use Rattle.edge_updates.specs.Weighted.{weighted}
 use Rattle.pages.specs.Updates.{NeighboursAscend}
-use Rattle.pages.proofs.tests.updated.Goals as goal
+use Rattle.test_store.proofs.page_lists.updated.Goals as goal
 
 one_ascends : (u : EdgeUpdate) (ws : List ℤ) → NeighboursAscend 0 (weighted (u ∷ []) ws)
 one_ascends u [] = (omega arith, tt)

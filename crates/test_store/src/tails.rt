@@ -1,10 +1,10 @@
 //! Bytes of tails, lists that are put together in them, blocks of keys, and entries that are cut and merged.
-use crate::{
-    Entries, EntryList, MapOperation, Tail, TailError, append_entry, cut_entries, merge_entries,
-};
 use ascending_lists::ascends;
 use std::alloc::Global;
 use std::test::Fail;
+use tail_codec::{
+    Entries, EntryList, MapOperation, Tail, TailError, append_entry, cut_entries, merge_entries,
+};
 
 // A base, entries above it, and the bytes that spell them.
 type Spelling = (Option<u32>, &'static [(u32, i64)], &'static [u8]);
