@@ -1,7 +1,6 @@
 //! How sets are cut into chunks, those that were made of a list and those that were united and subtracted.
 use c_tree::CTree;
 use set_ops::{difference, union};
-use std::alloc::Global;
 use std::test::Fail;
 use tail_codec::Tail;
 
@@ -41,7 +40,7 @@ const CUTS: [(u32, &[(u32, i64)], Cut); 6] = [
 fn cuts_lists(rt: HostRuntime) -> Result<(), Fail> {
     for (chunk_size, list, cut) in &CUTS {
         let set = CTree::from_sorted(rt.alloc(), *chunk_size, list)?;
-        assert!(rt; is_cut_so(&set, list, *cut), "a list by {chunk_size}");
+        assert!(rt; is_cut_so(&set, list.len(), *cut), "a list by {chunk_size}");
     }
     Ok(())
 }
@@ -52,33 +51,20 @@ const ALL: Cut = (b"\x02", &[(2, -7, b"\x00")]);
 
 #[test]
 fn cuts_unions_and_differences(rt: HostRuntime) -> Result<(), Fail> {
-    assert!(rt; are_cut_so(rt.alloc())?);
+    let odd = CTree::from_sorted(rt.alloc(), 4, &[(1, 1), (3, 1)])?;
+    let two = CTree::from_sorted(rt.alloc(), 4, &[(2, -7)])?;
+    for (first, second) in [(&odd, &two), (&two, &odd)] {
+        let all = union(rt.alloc(), first, second)?;
+        let rest = difference(rt.alloc(), &all, &two)?;
+        assert!(rt; is_cut_so(&all, 3, ALL) && is_cut_so(&rest, 2, ODD));
+    }
     Ok(())
 }
 
-// Whether the union of two sets, from either side, and its difference with one of them are cut as they are to be.
-fn are_cut_so(alloc: Global) -> Result<bool, Fail> {
-    let odd = CTree::from_sorted(alloc, 4, &[(1, 1), (3, 1)])?;
-    let two = CTree::from_sorted(alloc, 4, &[(2, -7)])?;
-    let all = union(alloc, &odd, &two)?;
-    let turned = union(alloc, &two, &odd)?;
-    let rest = difference(alloc, &all, &two)?;
-    let begun = is_cut_so(&odd, &[(1, 1), (3, 1)], ODD);
-    let united = is_cut_so(&all, &[(1, 1), (2, -7), (3, 1)], ALL);
-    let the_same = is_cut_so(&turned, &[(1, 1), (2, -7), (3, 1)], ALL);
-    Ok(begun && united && the_same && is_cut_so(&rest, &[(1, 1), (3, 1)], ODD))
-}
-
-// Whether the set has this list and this cut.
-fn is_cut_so(set: &CTree, list: &[(u32, i64)], (prefix, chunks): Cut) -> bool {
-    let same = set.prefix().bytes() == prefix && set.iter().eq(list.iter().copied());
-    same && are_heads(set, chunks)
-}
-
-// Whether these are the heads of the set, with their weights and their tails' bytes.
-fn are_heads(set: &CTree, chunks: &[Chunk]) -> bool {
+// Whether the set has so many members and this cut.
+fn is_cut_so(set: &CTree, count: usize, (prefix, chunks): Cut) -> bool {
     let mut heads = set.heads();
-    let mut same = true;
+    let mut same = set.len() == count && set.prefix().bytes() == prefix;
     for chunk in chunks {
         same = same && is_chunk_so(heads.next(), *chunk);
     }
@@ -86,5 +72,8 @@ fn are_heads(set: &CTree, chunks: &[Chunk]) -> bool {
 }
 
 fn is_chunk_so(found: Option<(u32, i64, &Tail)>, (head, weight, bytes): Chunk) -> bool {
-    found.is_some_and(|(key, at, tail)| key == head && at == weight && tail.bytes() == bytes)
+    match found {
+        Some((key, at, tail)) => key == head && at == weight && tail.bytes() == bytes,
+        None => false,
+    }
 }

@@ -11,7 +11,7 @@ use set_ops::{Quiet, SetError, union_forked};
 use std::alloc::{AllocError, Global};
 use std::test::Fail;
 use test_helpers::{ask, tell};
-use tree_batch::{Batch, Entry, Graph};
+use tree_batch::{Batch, Entry};
 use version_list::{Reply, VersionError, Versions, Which};
 
 // Every third number below so many, from the first on, each with a weight.
@@ -71,24 +71,11 @@ fn a_union(rt: HostRuntime) -> Result<(), Fail> {
 }
 
 // A version: its number, its vertices and its edges.
-#[derive(Clone, Copy)]
-struct Version<'a> {
-    number: u64,
-    vertices: u32,
-    edges: &'a [(u32, u32, i64)],
-}
+type Version = (u64, u32, &'static [(u32, u32, i64)]);
 
-const BEFORE: Version<'static> = Version {
-    number: 1,
-    vertices: 4,
-    edges: &[(0, 1, 7), (3, 0, -2)],
-};
+const BEFORE: Version = (1, 4, &[(0, 1, 7), (3, 0, -2)]);
 
-const AFTER: Version<'static> = Version {
-    number: 2,
-    vertices: 70,
-    edges: &[(0, 2, 9), (3, 0, 5), (69, 3, 1)],
-};
+const AFTER: Version = (2, 70, &[(0, 2, 9), (3, 0, 5), (69, 3, 1)]);
 
 // What makes the version before, and what makes the one after of it.
 const ENTRIES: [&[Entry]; 2] = [
@@ -102,22 +89,18 @@ const ENTRIES: [&[Entry]; 2] = [
     ],
 ];
 
-impl Version<'_> {
-    fn is(&self, number: u64, graph: &Graph) -> bool {
-        let edges = graph.edges().eq(self.edges.iter().copied());
-        number == self.number && graph.vertices() == self.vertices && edges
-    }
+const REPLIES: [Reply; 3] = [Reply::Version(1), Reply::Ticket(1, 1), Reply::Version(2)];
 
-    // Whether it is the newest, and the history has these replies.
-    fn is_newest(&self, versions: &Versions, replies: &[Reply]) -> bool {
-        let (number, graph) = versions.newest();
-        self.is(number, graph)
-            && versions
-                .history()
-                .iter()
-                .map(|done| done.reply)
-                .eq(replies.iter().copied())
+// Whether this is the newest version, and the history has the first so many replies.
+fn is_newest(versions: &Versions, (number, vertices, edges): Version, count: usize) -> bool {
+    let (newest, graph) = versions.newest();
+    let mut same = versions.history().len() == count;
+    for (done, reply) in versions.history().iter().zip(&REPLIES) {
+        same = same && done.reply == *reply;
     }
+    same && newest == number
+        && graph.vertices() == vertices
+        && graph.edges().eq(edges.iter().copied())
 }
 
 fn batch_of(alloc: Global, entries: &[Entry]) -> Result<Batch, AllocError> {
@@ -138,8 +121,6 @@ fn held_versions(alloc: Global) -> Result<Versions, VersionError> {
     Ok(versions)
 }
 
-const REPLIES: [Reply; 3] = [Reply::Version(1), Reply::Ticket(1, 1), Reply::Version(2)];
-
 #[test]
 fn a_commit(rt: HostRuntime) -> Result<(), Fail> {
     let alloc = rt.alloc();
@@ -150,12 +131,12 @@ fn a_commit(rt: HostRuntime) -> Result<(), Fail> {
     let is_refused = first == Err(VersionError::NoMemory);
     let told = tell(&rt, is_refused);
     let number = if is_refused {
-        assert!(rt; BEFORE.is_newest(&versions, &REPLIES[..2]));
+        assert!(rt; is_newest(&versions, BEFORE, 2));
         versions.commit(alloc, batch_of(alloc, ENTRIES[1])?)?
     } else {
         first?
     };
-    let made = number == 2 && AFTER.is_newest(&versions, &REPLIES);
+    let made = number == 2 && is_newest(&versions, AFTER, 3);
     drop(versions);
     assert!(rt; asked && told && made);
     Ok(())
@@ -173,7 +154,7 @@ const WRITTEN: &[u8] =
 fn run(alloc: Global, written: &mut Vec<u8>) -> Result<bool, ScriptError> {
     let mut reader = Device::new(SCRIPT);
     let mut writer = Device::new(written);
-    let (result, _state) = script(alloc, &StarvedProgram, &mut reader, &mut writer);
+    let (result, _state) = script(alloc, &StarvedProgram::new(), &mut reader, &mut writer);
     result
 }
 
