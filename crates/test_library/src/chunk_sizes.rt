@@ -1,7 +1,6 @@
 //! Graphs and versions keep the chunk size that they were opened with, whichever call makes them. Each call gives a vertex so
 //! many neighbours that they are sets in chunks, in both directions, and so tells the chunk size of the graph that it was made of.
 use std::alloc::Global;
-use std::test::Fail;
 use std::thread::Threads;
 use test_helpers::stand_in_chunks;
 use tree_batch::{Batch, Entry, Graph, GraphError, Quiet};
@@ -40,48 +39,72 @@ fn applied<R: Threads + AllocGlobal + Sync>(
     graph.apply_forked(rt, rt.alloc(), &batch, forks, &Quiet)
 }
 
-#[test]
-fn graphs_keep_their_chunk_size(rt: HostRuntime) -> Result<(), Fail> {
-    for chunk_size in CHUNK_SIZES {
-        let mut graph = Graph::new(FIRST, chunk_size)?;
-        for (hub, forks) in [(0, 0), (1, 0), (2, 2), (3, 2)] {
-            graph = applied(&rt, &graph, hub, forks)?.clone()?;
-        }
-        assert!(rt; stand_in_chunks(&graph, 4, chunk_size), "{chunk_size}");
+// The graph after each call that makes one of another.
+fn changed<R: Threads + AllocGlobal + Sync>(rt: &R, chunk_size: u32) -> Result<Graph, GraphError> {
+    let mut graph = Graph::new(FIRST, chunk_size)?;
+    for (hub, forks) in [(0, 0), (1, 0), (2, 2), (3, 2)] {
+        graph = applied(rt, &graph, hub, forks)?;
+        graph = graph.clone()?;
     }
-    Ok(())
+    Ok(graph)
 }
 
-// Makes versions in each way, by no forks and by two.
-fn change<R: Threads + AllocGlobal + Sync>(
+fn graphs_keep<R: Threads + AllocGlobal + Sync>(rt: &R, chunk_size: u32) -> bool {
+    match changed(rt, chunk_size) {
+        Ok(graph) => stand_in_chunks(&graph, 4, chunk_size),
+        Err(_) => false,
+    }
+}
+
+#[test]
+fn graphs_keep_their_chunk_size(rt: HostRuntime) {
+    for chunk_size in CHUNK_SIZES {
+        assert!(rt; graphs_keep(&rt, chunk_size), "{chunk_size}");
+    }
+}
+
+// Commits the batch of a vertex, by `commit` where there are no forks.
+fn commit<R: Threads + AllocGlobal + Sync>(
+    rt: &R,
+    versions: &mut Versions,
+    hub: u32,
+    forks: u32,
+) -> Result<u64, VersionError> {
+    let batch = hub_batch(rt.alloc(), hub)?;
+    if forks == 0 {
+        return versions.commit(rt.alloc(), batch);
+    }
+    versions.commit_forked(rt, rt.alloc(), batch, forks)
+}
+
+// The newest version as it is held, after a version by each call and a trim.
+fn hold<R: Threads + AllocGlobal + Sync>(
     rt: &R,
     versions: &mut Versions,
 ) -> Result<Graph, VersionError> {
-    for hub in [0, 1] {
-        versions.commit(rt.alloc(), hub_batch(rt.alloc(), hub)?)?;
-    }
-    for (hub, forks) in [(2, 0), (3, 2)] {
-        versions.commit_forked(rt, rt.alloc(), hub_batch(rt.alloc(), hub)?, forks)?;
+    for (hub, forks) in [(0, 0), (1, 0), (2, 2), (3, 2)] {
+        commit(rt, versions, hub, forks)?;
     }
     versions.trim()?;
-    let held = versions.acquire(Which::Newest)?.1;
-    versions.commit(rt.alloc(), hub_batch(rt.alloc(), 4)?)?;
-    Ok(held)
+    Ok(versions.acquire(Which::Newest)?.1)
+}
+
+// Whether the newest version, and one that is held beside it, keep the chunk size.
+fn versions_keep<R: Threads + AllocGlobal + Sync>(
+    rt: &R,
+    chunk_size: u32,
+) -> Result<bool, VersionError> {
+    let mut versions = Versions::with_room(rt.alloc(), FIRST, chunk_size, 10)?;
+    let held = hold(rt, &mut versions)?;
+    commit(rt, &mut versions, 4, 0)?;
+    let beside = applied(rt, &held, 4, 0)?;
+    let kept = stand_in_chunks(&beside, 5, chunk_size);
+    Ok(kept && stand_in_chunks(versions.newest().1, 5, chunk_size))
 }
 
 #[test]
-fn versions_keep_their_chunk_size(rt: HostRuntime) -> Result<(), Fail> {
+fn versions_keep_their_chunk_size(rt: HostRuntime) {
     for chunk_size in CHUNK_SIZES {
-        for room in [10, 1_000_000] {
-            let mut versions = Versions::with_room(rt.alloc(), FIRST, chunk_size, room)?;
-            let held = change(&rt, &mut versions)?;
-            let beside = applied(&rt, &held, 4, 0)?;
-            let kept = stand_in_chunks(versions.newest().1, 5, chunk_size);
-            assert!(rt;
-                kept && stand_in_chunks(&beside, 5, chunk_size),
-                "{chunk_size}"
-            );
-        }
+        assert!(rt; versions_keep(&rt, chunk_size) == Ok(true), "{chunk_size}");
     }
-    Ok(())
 }

@@ -1,7 +1,6 @@
 //! Graphs after batches whose halves go to two threads.
 use crate::forked_sets::Halves;
 use std::alloc::Global;
-use std::test::Fail;
 use std::thread::Threads;
 use tree_batch::{Batch, Entry, Graph, GraphError, Quiet};
 
@@ -28,15 +27,35 @@ const TIMES: [(bool, u32, u32, u64); 7] = [
     (false, 127, 7, 0x40_20_10_08_04_02),
 ];
 
+// Whether a batch enters each half so often at n forks.
+fn is_told<R: Threads + AllocGlobal + Sync>(
+    rt: &R,
+    graph: &Graph,
+    batch: &Batch,
+    forks: u32,
+    (waits, times): (bool, u64),
+) -> bool {
+    let halves = Halves::new(waits);
+    let after = graph.apply_forked(rt, rt.alloc(), batch, forks, &halves);
+    after.is_ok() && halves.are(times)
+}
+
+fn loops_are_told<R: Threads + AllocGlobal + Sync>(
+    rt: &R,
+    blocks: u32,
+    forks: u32,
+    told: (bool, u64),
+) -> Result<bool, GraphError> {
+    let (graph, batch) = (Graph::new(8_128, 64)?, loops_in(rt.alloc(), blocks)?);
+    Ok(is_told(rt, &graph, &batch, forks, told))
+}
+
 #[test]
-fn tells_of_each_half(rt: HostRuntime) -> Result<(), Fail> {
+fn tells_of_each_half(rt: HostRuntime) {
     for (waits, blocks, forks, times) in TIMES {
-        let batch = loops_in(rt.alloc(), blocks)?;
-        let halves = Halves::new(waits);
-        Graph::new(8_128, 64)?.apply_forked(&rt, rt.alloc(), &batch, forks, &halves)?;
-        assert!(rt; halves.are(times), "at {forks} forks, waiting: {waits}");
+        let told = loops_are_told(&rt, blocks, forks, (waits, times));
+        assert!(rt; told == Ok(true), "at {forks} forks, waiting: {waits}");
     }
-    Ok(())
 }
 
 // Adds edges of a vertex to some that are so far apart, from a first one on, or removes them.
@@ -50,11 +69,11 @@ fn put(
 ) -> Result<(), GraphError> {
     for index in 0..count {
         let destination = index.wrapping_mul(stride).wrapping_add(first);
-        batch.push(if is_there {
-            Entry::Add(source, destination, 1)
-        } else {
-            Entry::Remove(source, destination)
-        })?;
+        let entry = match is_there {
+            true => Entry::Add(source, destination, 1),
+            false => Entry::Remove(source, destination),
+        };
+        batch.push(entry)?;
     }
     Ok(())
 }
@@ -93,27 +112,42 @@ const HUB_TIMES: [(&[u32], u32, u64); 6] = [
     (&HUBS, 3, 0x0c_06_02),
 ];
 
-#[test]
-fn levels_go_on_inside_a_vertex(rt: HostRuntime) -> Result<(), Fail> {
-    let graph = two_hubs(rt.alloc())?;
-    for (hubs, forks, times) in HUB_TIMES {
-        let batch = hub_batch(rt.alloc(), hubs)?;
-        let halves = Halves::new(false);
-        graph.apply_forked(&rt, rt.alloc(), &batch, forks, &halves)?;
-        assert!(rt; halves.are(times), "of {hubs:?} at {forks} forks");
-    }
-    Ok(())
+fn hubs_are_told<R: Threads + AllocGlobal + Sync>(
+    rt: &R,
+    hubs: &[u32],
+    forks: u32,
+    times: u64,
+) -> Result<bool, GraphError> {
+    let (graph, batch) = (two_hubs(rt.alloc())?, hub_batch(rt.alloc(), hubs)?);
+    Ok(is_told(rt, &graph, &batch, forks, (false, times)))
 }
 
-// A batch of some entries in each of five blocks, and of most at one vertex.
+#[test]
+fn levels_go_on_inside_a_vertex(rt: HostRuntime) {
+    for (hubs, forks, times) in HUB_TIMES {
+        let told = hubs_are_told(&rt, hubs, forks, times);
+        assert!(rt; told == Ok(true), "of {hubs:?} at {forks} forks");
+    }
+}
+
+// Entries in each of five blocks, and most at one vertex: whether the edges are there, their source, the first destination, and how
+// many there are.
+const UNEVEN: [(bool, u32, u32, u32); 8] = [
+    (true, 0, 10, 10),
+    (true, 64, 10, 10),
+    (true, 128, 10, 10),
+    (true, 192, 10, 10),
+    (true, 256, 10, 10),
+    (true, 130, 0, 600),
+    (false, 130, 100, 50),
+    (true, 131, 5, 3),
+];
+
 fn uneven_batch(alloc: Global) -> Result<Batch, GraphError> {
     let mut batch = Batch::new(alloc);
-    for block in 0..5u32 {
-        put(&mut batch, true, block * 64, 10, 1, 10)?;
+    for (is_there, source, first, count) in UNEVEN {
+        put(&mut batch, is_there, source, first, 1, count)?;
     }
-    put(&mut batch, true, 130, 0, 1, 600)?;
-    put(&mut batch, false, 130, 100, 1, 50)?;
-    put(&mut batch, true, 131, 5, 1, 3)?;
     Ok(batch)
 }
 
@@ -121,33 +155,40 @@ fn uneven_batch(alloc: Global) -> Result<Batch, GraphError> {
 fn lesser_batch(alloc: Global) -> Result<Batch, GraphError> {
     let mut batch = Batch::new(alloc);
     put(&mut batch, false, 130, 50, 1, 540)?;
-    batch.push(Entry::Add(129, 0, 1))?;
-    batch.push(Entry::Remove(131, 9))?;
-    batch.push(Entry::Add(131, 9, -3))?;
+    for entry in [
+        Entry::Add(129, 0, 1),
+        Entry::Remove(131, 9),
+        Entry::Add(131, 9, -3),
+    ] {
+        batch.push(entry)?;
+    }
     Ok(batch)
 }
 
 // The graph after the first batch, twice, and the second, at n forks.
-fn after_batches<R: Threads + AllocGlobal + Sync>(
-    rt: &R,
-    (first, second): (&Batch, &Batch),
-    forks: u32,
-) -> Result<Graph, GraphError> {
-    let once = Graph::new(700, 1)?.apply_forked(rt, rt.alloc(), first, forks, &Quiet)?;
-    let twice = once.apply_forked(rt, rt.alloc(), first, forks, &Quiet)?;
-    twice.apply_forked(rt, rt.alloc(), second, forks, &Quiet)
+fn after_batches<R: Threads + AllocGlobal + Sync>(rt: &R, forks: u32) -> Result<Graph, GraphError> {
+    let mut graph = Graph::new(700, 1)?;
+    for is_last in [false, false, true] {
+        let batch = if is_last {
+            lesser_batch(rt.alloc())?
+        } else {
+            uneven_batch(rt.alloc())?
+        };
+        graph = graph.apply_forked(rt, rt.alloc(), &batch, forks, &Quiet)?;
+    }
+    Ok(graph)
+}
+
+fn are_applied<R: Threads + AllocGlobal + Sync>(rt: &R, forks: u32) -> bool {
+    match after_batches(rt, forks) {
+        Ok(graph) => graph.edge_count() == 115 && graph.weight(131, 9) == Some(-3),
+        Err(_) => false,
+    }
 }
 
 #[test]
-fn uneven_batches_are_applied_at_any_forks(rt: HostRuntime) -> Result<(), Fail> {
-    let (first, second) = (uneven_batch(rt.alloc())?, lesser_batch(rt.alloc())?);
+fn uneven_batches_are_applied_at_any_forks(rt: HostRuntime) {
     for forks in [0, 1, 3, 6, 7] {
-        let graph = after_batches(&rt, (&first, &second), forks)?;
-        let weight = graph.weight(131, 9);
-        assert!(rt;
-            graph.edge_count() == 115 && weight == Some(-3),
-            "at {forks} forks"
-        );
+        assert!(rt; are_applied(&rt, forks), "at {forks} forks");
     }
-    Ok(())
 }

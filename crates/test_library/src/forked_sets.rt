@@ -1,9 +1,8 @@
 //! Unions and differences whose halves go to two threads.
 use c_tree::CTree;
 use set_ops::{Fork, SetError, difference_forked, union_forked};
-use std::alloc::Global;
+use std::alloc::{AllocError, Global};
 use std::sync::atomic::{AtomicU64, Ordering};
-use std::test::Fail;
 use std::thread::Threads;
 
 // How often a half looks whether the other is there.
@@ -61,27 +60,36 @@ fn comes(other: &AtomicU64) -> bool {
     false
 }
 
-// The set of every second number below 2,000, from the first on, in chunks of 1.
-fn every_second(alloc: Global, first: u32) -> Result<CTree, Fail> {
+// Every second number below 2,000, from the first on, each with a weight.
+fn every_second(alloc: Global, first: u32) -> Result<Vec<(u32, i64)>, AllocError> {
     let mut entries = Vec::new(alloc);
     for index in 0..1_000u32 {
         let key = index.wrapping_mul(2).wrapping_add(first);
         entries.push((key, i64::from(index) - 50))?;
     }
-    Ok(CTree::from_sorted(alloc, 1, &entries)?)
+    Ok(entries)
+}
+
+// The set of every second number, in chunks of 1.
+fn set_of(alloc: Global, first: u32) -> Result<CTree, SetError> {
+    let entries = every_second(alloc, first)?;
+    match CTree::from_sorted(alloc, 1, &entries) {
+        Ok(set) => Ok(set),
+        Err(_) => Err(SetError::NoMemory),
+    }
 }
 
 // Whether the halves of a union of the even and the odd numbers, and those of a difference, are entered so often.
 fn are_entered<R: Threads + AllocGlobal + Sync>(
     rt: &R,
-    (even, odd): (&CTree, &CTree),
     waits: bool,
     forks: u32,
     times: u64,
 ) -> Result<bool, SetError> {
     let (of_union, of_difference) = (Halves::new(waits), Halves::new(waits));
-    union_forked(rt, rt.alloc(), even, odd, forks, &of_union)?;
-    difference_forked(rt, rt.alloc(), even, odd, forks, &of_difference)?;
+    let (even, odd) = (set_of(rt.alloc(), 0)?, set_of(rt.alloc(), 1)?);
+    union_forked(rt, rt.alloc(), &even, &odd, forks, &of_union)?;
+    difference_forked(rt, rt.alloc(), &even, &odd, forks, &of_difference)?;
     Ok(of_union.are(times) && of_difference.are(times))
 }
 
@@ -98,12 +106,9 @@ const TIMES: [(bool, u32, u64); 7] = [
 ];
 
 #[test]
-fn tells_of_each_half_of_each_level(rt: HostRuntime) -> Result<(), Fail> {
-    let even = every_second(rt.alloc(), 0)?;
-    let odd = every_second(rt.alloc(), 1)?;
+fn tells_of_each_half_of_each_level(rt: HostRuntime) {
     for (waits, forks, times) in TIMES {
-        let entered = are_entered(&rt, (&even, &odd), waits, forks, times)?;
-        assert!(rt; entered, "at {forks} forks, waiting: {waits}");
+        let entered = are_entered(&rt, waits, forks, times);
+        assert!(rt; entered == Ok(true), "at {forks} forks, waiting: {waits}");
     }
-    Ok(())
 }

@@ -11,7 +11,6 @@ use std::alloc::{AllocError, Global};
 use std::io;
 use std::io::{Error, ErrorKind, Read, Write};
 use std::sync::atomic::{AtomicU64, Ordering};
-use std::test::Fail;
 
 /// One program, for whose runs there is never memory enough. It notes by how many workers a run was asked for.
 #[derive(Drop)]
@@ -167,26 +166,26 @@ fn devices_are_slow_and_interrupted_and_fail(rt: HostRuntime) {
     }
 }
 
-// A run goes by the workers of its line. Where it lacks memory the script ends, and what is written is a beginning of the replies
-// before it.
+// Lines with a run, and by how many workers that is.
+const RUNS: [(&[u8], u64); 4] = [
+    (b"vertices 4\nrun 1 9 1\nedges\n", 1),
+    (b"vertices 4\nrun 1 9 2\nedges\n", 2),
+    (b"vertices 4\nrun 1 9 63\nedges\n", 63),
+    (b"vertices 4\nrun 1 9 64\nedges\n", 64),
+];
+
+// Whether a run goes by so many workers. It lacks memory, so the script ends, and what is written is a beginning of the replies before
+// the run.
+fn goes_by(alloc: Global, lines: &[u8], workers: u64) -> bool {
+    let program = StarvedProgram::new();
+    let (ended, written) = run(alloc, &program, lines, usize::MAX, usize::MAX);
+    let begun = b"open 4\n".starts_with(written.as_slice());
+    begun && ended == Err(ScriptError::NoMemory) && program.0.load(Ordering::SeqCst) == workers
+}
+
 #[test]
-fn runs_are_by_the_workers_of_their_line(rt: HostRuntime) -> Result<(), Fail> {
-    for workers in [1, 2, 63, 64] {
-        let program = StarvedProgram::new();
-        let text = format!(in rt.alloc(); "vertices 4\nrun 1 9 {workers}\nedges\n")?;
-        let (ended, written) = run(
-            rt.alloc(),
-            &program,
-            text.as_bytes(),
-            usize::MAX,
-            usize::MAX,
-        );
-        assert!(rt; ended == Err(ScriptError::NoMemory));
-        assert!(rt; b"open 4\n".starts_with(written.as_slice()));
-        assert!(rt;
-            program.0.load(Ordering::SeqCst) == workers,
-            "{workers} workers"
-        );
+fn runs_are_by_the_workers_of_their_line(rt: HostRuntime) {
+    for (lines, workers) in RUNS {
+        assert!(rt; goes_by(rt.alloc(), lines, workers), "{workers} workers");
     }
-    Ok(())
 }

@@ -1,7 +1,6 @@
 //! Bytes of tails.
 use std::alloc::Global;
-use std::test::Fail;
-use tail_codec::Tail;
+use tail_codec::{Tail, TailError};
 
 // A base, a list of keys with weights above it, and the bytes that spell it.
 type Spelling = (Option<u32>, &'static [(u32, i64)], &'static [u8]);
@@ -30,18 +29,20 @@ fn is_spelled(
     base: Option<u32>,
     list: &[(u32, i64)],
     bytes: &[u8],
-) -> Result<bool, Fail> {
+) -> Result<bool, TailError> {
     let made = Tail::encode(alloc, base, list)?.bytes() == bytes;
     let read = Tail::from_bytes(alloc, base, bytes)?.share()?;
     Ok(made && read.iter().eq(list.iter().copied()))
 }
 
 #[test]
-fn spells_lists(rt: HostRuntime) -> Result<(), Fail> {
+fn spells_lists(rt: HostRuntime) {
     for (base, list, bytes) in SPELLINGS {
-        assert!(rt; is_spelled(rt.alloc(), base, list, bytes)?, "{list:?}");
+        assert!(rt;
+            is_spelled(rt.alloc(), base, list, bytes) == Ok(true),
+            "{list:?}"
+        );
     }
-    Ok(())
 }
 
 // Weights, and the bytes of an entry with this weight that is one above the key before.
@@ -52,7 +53,7 @@ const ENTRIES: [(i64, &[u8]); 3] = [
 ];
 
 // Whether the first numbers, so many, each with a weight, are spelled by as many turns of these bytes.
-fn are_spelled(alloc: Global, count: u32, weight: i64, entry: &[u8]) -> Result<bool, Fail> {
+fn are_spelled(alloc: Global, count: u32, weight: i64, entry: &[u8]) -> Result<bool, TailError> {
     let (mut list, mut bytes) = (Vec::new(alloc), Vec::new(alloc));
     for key in 0..count {
         list.push((key, weight))?;
@@ -63,16 +64,13 @@ fn are_spelled(alloc: Global, count: u32, weight: i64, entry: &[u8]) -> Result<b
 
 // Up to 127 bytes a tail is one allocation.
 #[test]
-fn long_tails_are_spelled(rt: HostRuntime) -> Result<(), Fail> {
+fn long_tails_are_spelled(rt: HostRuntime) {
     for count in [63, 64, 126, 127, 128, 129, 1_000] {
         for (weight, entry) in ENTRIES {
-            assert!(rt;
-                are_spelled(rt.alloc(), count, weight, entry)?,
-                "{count} entries of {weight}"
-            );
+            let are = are_spelled(rt.alloc(), count, weight, entry);
+            assert!(rt; are == Ok(true), "{count} entries of {weight}");
         }
     }
-    Ok(())
 }
 
 // How many of the strings of n bytes, at most 3, spell a list without a base. That each is what its list is spelled by is proved.

@@ -2,7 +2,6 @@
 use Asked::{Acquire, Commit, Release, Trim};
 use Reply::{Refused, Released, Ticket, Trimmed, Version};
 use std::alloc::Global;
-use std::test::Fail;
 use tree_batch::Batch;
 use version_list::{Reply, Step, VersionError, Versions, Which};
 
@@ -78,41 +77,44 @@ const HISTORIES: [(u64, &[(Asked, Reply)]); 3] = [
     ),
 ];
 
-// The replies to the steps of a history with so much room.
-fn replies_to(
-    alloc: Global,
-    room: u64,
-    asked: &[(Asked, Reply)],
-) -> Result<Vec<Reply>, VersionError> {
+// Whether a history with so much room answers the steps so.
+fn answers(alloc: Global, room: u64, asked: &[(Asked, Reply)]) -> Result<bool, VersionError> {
     let mut steps = Vec::new(alloc);
     for (step, _) in asked {
         steps.push(step.step(alloc))?;
     }
-    Versions::with_room(alloc, 3, 64, room)?.run(alloc, &steps)
-}
-
-#[test]
-fn a_history_has_room_for_its_tickets(rt: HostRuntime) -> Result<(), Fail> {
-    for (room, asked) in HISTORIES {
-        let replies = replies_to(rt.alloc(), room, asked)?;
-        assert!(rt; replies.len() == asked.len());
-        for (found, (_, reply)) in replies.iter().zip(asked) {
-            assert!(rt; found == reply, "{found:?}, not {reply:?}");
-        }
+    let mut versions = Versions::with_room(alloc, 3, 64, room)?;
+    let replies = versions.run(alloc, &steps)?;
+    let mut same = replies.len() == asked.len();
+    for (found, (_, reply)) in replies.iter().zip(asked) {
+        same = same && found == reply;
     }
-    Ok(())
+    Ok(same)
 }
 
-// A trim by its two halves drops the entries and keeps the held version, which no ticket of a script outlives.
 #[test]
-fn a_trim_keeps_what_is_held(rt: HostRuntime) -> Result<(), Fail> {
-    let mut versions = Versions::with_room(rt.alloc(), 3, 64, 3)?;
-    versions.commit(rt.alloc(), Batch::new(rt.alloc()))?;
+fn a_history_has_room_for_its_tickets(rt: HostRuntime) {
+    for (room, asked) in HISTORIES {
+        assert!(rt;
+            answers(rt.alloc(), room, asked) == Ok(true),
+            "a room of {room}"
+        );
+    }
+}
+
+// Whether a trim by its two halves drops two entries, and the version that a ticket holds stays.
+fn trims(alloc: Global) -> Result<bool, VersionError> {
+    let mut versions = Versions::with_room(alloc, 3, 64, 3)?;
+    versions.commit(alloc, Batch::new(alloc))?;
     let ticket = versions.acquire(Which::Newest)?.0;
     let prepared = versions.prepare_trim()?;
-    assert!(rt; versions.finish_trim(prepared) == 2 && versions.history().is_empty());
-    versions.commit(rt.alloc(), Batch::new(rt.alloc()))?;
-    assert!(rt; versions.version(ticket) == Some(1) && versions.graph(ticket).is_some());
-    assert!(rt; versions.newest().0 == 2);
-    Ok(())
+    let dropped = versions.finish_trim(prepared);
+    versions.commit(alloc, Batch::new(alloc))?;
+    let stays = versions.version(ticket) == Some(1) && versions.graph(ticket).is_some();
+    Ok(dropped == 2 && stays && versions.newest().0 == 2 && versions.history().len() == 1)
+}
+
+#[test]
+fn a_trim_keeps_what_is_held(rt: HostRuntime) {
+    assert!(rt; trims(rt.alloc()) == Ok(true));
 }
