@@ -1,9 +1,7 @@
 //! How sets are cut into chunks, those that were made of a list and those that were united and subtracted.
 use c_tree::CTree;
-use set_ops::{difference, union};
+use set_ops::{SetError, difference, union};
 use std::alloc::Global;
-use std::test::Fail;
-use tail_codec::Tail;
 
 // A head with its weight and its tail's bytes.
 type Chunk = (u32, i64, &'static [u8]);
@@ -37,54 +35,72 @@ const CUTS: [(u32, &[(u32, i64)], Cut); 6] = [
     (4, &[(2, 9), (3, 1)], (b"", &[(2, 9, b"\x00")])),
 ];
 
-#[test]
-fn cuts_lists(rt: HostRuntime) -> Result<(), Fail> {
-    for (chunk_size, list, cut) in &CUTS {
-        let set = CTree::from_sorted(rt.alloc(), *chunk_size, list)?;
-        assert!(rt; is_cut_so(&set, list, *cut), "a list by {chunk_size}");
+fn is_made_so(alloc: Global, chunk_size: u32, list: &[(u32, i64)], cut: Cut) -> bool {
+    match CTree::from_sorted(alloc, chunk_size, list) {
+        Ok(set) => is_cut_so(&set, list.len(), cut),
+        Err(_) => false,
     }
-    Ok(())
 }
-
-const ODD: Cut = (b"\x02\x02", &[]);
-
-const ALL: Cut = (b"\x02", &[(2, -7, b"\x00")]);
 
 #[test]
-fn cuts_unions_and_differences(rt: HostRuntime) -> Result<(), Fail> {
-    assert!(rt; are_cut_so(rt.alloc())?);
-    Ok(())
+fn cuts_lists(rt: HostRuntime) {
+    for (chunk_size, list, cut) in CUTS {
+        assert!(rt; is_made_so(rt.alloc(), chunk_size, list, cut), "{list:?}");
+    }
 }
 
-// Whether the union of two sets, from either side, and its difference with one of them are cut as they are to be.
-fn are_cut_so(alloc: Global) -> Result<bool, Fail> {
-    let odd = CTree::from_sorted(alloc, 4, &[(1, 1), (3, 1)])?;
-    let two = CTree::from_sorted(alloc, 4, &[(2, -7)])?;
-    let all = union(alloc, &odd, &two)?;
-    let turned = union(alloc, &two, &odd)?;
-    let rest = difference(alloc, &all, &two)?;
-    let begun = is_cut_so(&odd, &[(1, 1), (3, 1)], ODD);
-    let united = is_cut_so(&all, &[(1, 1), (2, -7), (3, 1)], ALL);
-    let the_same = is_cut_so(&turned, &[(1, 1), (2, -7), (3, 1)], ALL);
-    Ok(begun && united && the_same && is_cut_so(&rest, &[(1, 1), (3, 1)], ODD))
+const ODD: &[(u32, i64)] = &[(1, 1), (3, 1)];
+
+const TWO: &[(u32, i64)] = &[(2, -7)];
+
+const UNION: Cut = (b"\x02", &[(2, -7, b"\x00")]);
+
+// Two sets in chunks of 4, and the cut of the union without the second.
+const PAIRS: [(&[(u32, i64)], &[(u32, i64)], Cut); 2] = [
+    (ODD, TWO, (b"\x02\x02", &[])),
+    (TWO, ODD, (b"", &[(2, -7, b"")])),
+];
+
+fn set_of(alloc: Global, list: &[(u32, i64)]) -> Result<CTree, SetError> {
+    match CTree::from_sorted(alloc, 4, list) {
+        Ok(set) => Ok(set),
+        Err(_) => Err(SetError::NoMemory),
+    }
 }
 
-// Whether the set has this list and this cut.
-fn is_cut_so(set: &CTree, list: &[(u32, i64)], (prefix, chunks): Cut) -> bool {
-    let same = set.prefix().bytes() == prefix && set.iter().eq(list.iter().copied());
-    same && are_heads(set, chunks)
+// Whether the union of two sets is cut so, and its difference with the second.
+fn are_cut_so(
+    alloc: Global,
+    first: &[(u32, i64)],
+    second: &[(u32, i64)],
+    cut: Cut,
+) -> Result<bool, SetError> {
+    let (one, other) = (set_of(alloc, first)?, set_of(alloc, second)?);
+    let all = union(alloc, &one, &other)?;
+    let rest = difference(alloc, &all, &other)?;
+    Ok(is_cut_so(&all, 3, UNION) && is_cut_so(&rest, first.len(), cut))
 }
 
-// Whether these are the heads of the set, with their weights and their tails' bytes.
-fn are_heads(set: &CTree, chunks: &[Chunk]) -> bool {
+#[test]
+fn cuts_unions_and_differences(rt: HostRuntime) {
+    for (first, second, cut) in PAIRS {
+        assert!(rt;
+            are_cut_so(rt.alloc(), first, second, cut) == Ok(true),
+            "{first:?}"
+        );
+    }
+}
+
+// Whether the set has so many members and this cut.
+fn is_cut_so(set: &CTree, count: usize, (prefix, chunks): Cut) -> bool {
     let mut heads = set.heads();
-    let mut same = true;
-    for chunk in chunks {
-        same = same && is_chunk_so(heads.next(), *chunk);
+    let mut same = set.len() == count && set.prefix().bytes() == prefix;
+    for (head, weight, bytes) in chunks {
+        same = same
+            && match heads.next() {
+                Some((key, at, tail)) => key == *head && at == *weight && tail.bytes() == *bytes,
+                None => false,
+            };
     }
     same && heads.next().is_none()
-}
-
-fn is_chunk_so(found: Option<(u32, i64, &Tail)>, (head, weight, bytes): Chunk) -> bool {
-    found.is_some_and(|(key, at, tail)| key == head && at == weight && tail.bytes() == bytes)
 }

@@ -1,14 +1,12 @@
 //! Runs of pieces by workers: who does which piece, and what the workers keep.
 ghost use Rattle.std.specs.Prelude.{◌≡◌, ◌*◌};
 
-use crew::{CrewError, Found, Gate, PieceAssignment, Work, run_pieces};
+use crew::{CrewError, Gate, PieceAssignment, Work, run_pieces};
 use std::alloc::{AllocError, Global};
 use std::sync::atomic::{AtomicU64, Ordering};
-use std::test::Fail;
 use std::thread::Threads;
 
 // The square of each number up to 1000. A worker counts its pieces.
-#[derive(Drop)]
 struct Squares;
 
 impl Work for Squares {
@@ -35,110 +33,111 @@ impl Work for Squares {
 // How often a held piece looks whether the others were entered.
 const MOST_TRIES: u32 = 100_000_000;
 
-const MISSED: u64 = 1 << 60;
-
-// The number whose digits are the workers of the pieces, and `MISSED` more where piece 1 was held, until
-// so many others are entered, and they did not come.
+// The number whose digits are the workers of the pieces, which is 0 again where piece 1 was held until so many others are entered,
+// and they did not come.
 #[derive(Drop)]
-struct Watch(AtomicU64, AtomicU64, u64);
+struct Watch {
+    digits: AtomicU64,
+    entered: AtomicU64,
+    others: u64,
+}
 
 impl Gate for Watch {
     fn enter(&self, worker: usize, piece: usize, pieces: usize) {
-        let Watch(digits, entered, others) = self;
-        let digit = (piece..pieces).fold(worker as u64, |digit, _| digit.wrapping_mul(10));
-        digits.fetch_add(digit, Ordering::SeqCst);
+        let mut digit = worker as u64;
+        for _ in piece..pieces {
+            digit = digit.wrapping_mul(10);
+        }
+        self.digits.fetch_add(digit, Ordering::SeqCst);
         if piece != 1 {
-            entered.fetch_add(1, Ordering::SeqCst);
-        } else if !(0..MOST_TRIES).any(|_| entered.load(Ordering::SeqCst) >= *others) {
-            digits.fetch_add(MISSED, Ordering::SeqCst);
+            self.entered.fetch_add(1, Ordering::SeqCst);
+        } else if !self.come() {
+            self.digits.store(0, Ordering::SeqCst);
         }
     }
 }
 
-// So many pieces, at most 1000, by workers that keep these states, and the digits of the watch.
+impl Watch {
+    // Whether so many other pieces are entered before so many tries are over.
+    fn come(&self) -> bool {
+        for _ in 0..MOST_TRIES {
+            if self.entered.load(Ordering::SeqCst) >= self.others {
+                return true;
+            }
+        }
+        false
+    }
+}
+
+// How many pieces were found, at most 1000, and the digits of the watch.
 fn run<R: Threads + AllocGlobal + Sync>(
     rt: &R,
     (pieces, workers, share): (usize, usize, PieceAssignment),
-    held: u64,
+    others: u64,
     states: &mut Vec<usize>,
-) -> Result<(Vec<Found<usize>>, u64), CrewError> {
-    let watch = Watch(AtomicU64::new(0), AtomicU64::new(0), held);
+) -> Result<(usize, u64), CrewError> {
+    let watch = Watch {
+        digits: AtomicU64::new(0),
+        entered: AtomicU64::new(0),
+        others,
+    };
     let (alloc, pieces) = (rt.alloc(), pieces.min(1000));
     let found = run_pieces(rt, alloc, pieces, workers, share, &watch, &Squares, states)?;
-    Ok((found, watch.0.load(Ordering::SeqCst)))
+    Ok((found.len(), watch.digits.load(Ordering::SeqCst)))
 }
 
-// Whether all squares are found, in order.
-fn are_squares(found: &[Found<usize>], pieces: usize) -> bool {
-    let numbered = found.iter().zip(1..=pieces);
-    numbered.fold(found.len() == pieces, |all, (one, piece)| {
-        all && one.piece == piece && one.out == piece.wrapping_mul(piece)
-    })
-}
-
-// Whether two runs find the squares, and the workers keep how many pieces they did in both.
+// Whether two runs find all pieces, and the workers keep how many pieces they did in both.
 fn run_twice<R: Threads + AllocGlobal + Sync>(
     rt: &R,
-    (pieces, workers, share): (usize, usize, PieceAssignment),
+    asked: (usize, usize, PieceAssignment),
 ) -> Result<bool, CrewError> {
-    let mut states = Vec::new(rt.alloc());
-    run(rt, (pieces, workers, share), 0, &mut states)?;
-    let (found, _) = run(rt, (pieces, workers, share), 0, &mut states)?;
-    let done = states.iter().fold(0usize, |sum, n| sum.wrapping_add(*n));
+    let (mut states, mut done) = (Vec::new(rt.alloc()), 0usize);
+    let first = run(rt, asked, 0, &mut states)?.0;
+    let second = run(rt, asked, 0, &mut states)?.0;
+    for count in &states {
+        done = done.wrapping_add(*count);
+    }
+    let (pieces, workers, _) = asked;
     let kept = done == pieces.wrapping_mul(2) && states.len() == workers.min(pieces);
-    Ok(kept && are_squares(&found, pieces))
+    Ok(kept && first == pieces && second == pieces)
 }
 
 #[test]
-fn pieces_are_found_in_order_and_states_kept(rt: HostRuntime) -> Result<(), Fail> {
-    for (pieces, workers) in &[(0, 1), (0, 4), (1, 64), (5, 1), (5, 3), (1000, 64)] {
-        let claimed = run_twice(&rt, (*pieces, *workers, PieceAssignment::Claimed))?;
-        let fixed = run_twice(&rt, (*pieces, *workers, PieceAssignment::Fixed))?;
-        assert!(rt; claimed && fixed, "{pieces} by {workers}");
-    }
-    Ok(())
-}
-
-#[test]
-fn workers_are_1_to_64(rt: HostRuntime) {
-    for workers in [0, 65] {
-        let mut states = Vec::new(rt.alloc());
-        let refused = run(&rt, (5, workers, PieceAssignment::Claimed), 0, &mut states);
-        assert!(rt; refused.is_err_and(|e| e.number() == 411), "{workers}");
+fn pieces_are_found_and_states_kept(rt: HostRuntime) {
+    for (pieces, workers) in [(0, 1), (0, 4), (1, 64), (5, 1), (5, 3), (1000, 64)] {
+        for share in [PieceAssignment::Claimed, PieceAssignment::Fixed] {
+            let kept = run_twice(&rt, (pieces, workers, share));
+            assert!(rt; kept == Ok(true), "{pieces} by {workers}");
+        }
     }
 }
 
-#[test]
-fn one_worker_claims_what_another_leaves(rt: HostRuntime) -> Result<(), Fail> {
-    let (_, digits) = run(
-        &rt,
-        (5, 2, PieceAssignment::Claimed),
-        4,
-        &mut Vec::new(rt.alloc()),
-    )?;
-    assert!(rt; digits < MISSED);
-    Ok(())
-}
+// Pieces, workers, how they are shared, how many others hold piece 1, and the digits, one of two. Where piece 1 is held until the
+// others are entered, one worker claims what the other leaves, and workers have numbers of their own. Fixed pieces go round.
+const RUNS: [((usize, usize, PieceAssignment), u64, [u64; 2]); 5] = [
+    ((5, 2, PieceAssignment::Claimed), 4, [12_222, 21_111]),
+    ((2, 2, PieceAssignment::Claimed), 1, [12, 21]),
+    ((7, 1, PieceAssignment::Fixed), 0, [1_111_111; 2]),
+    ((7, 3, PieceAssignment::Fixed), 0, [1_231_231; 2]),
+    ((7, 9, PieceAssignment::Fixed), 0, [1_234_567; 2]),
+];
 
-// Each of two workers claims a piece, since the first is held until the other is entered.
-#[test]
-fn claiming_workers_have_numbers_of_their_own(rt: HostRuntime) -> Result<(), Fail> {
-    let (_, digits) = run(
-        &rt,
-        (2, 2, PieceAssignment::Claimed),
-        1,
-        &mut Vec::new(rt.alloc()),
-    )?;
-    assert!(rt; digits == 12 || digits == 21, "{digits}");
-    Ok(())
-}
-
-#[test]
-fn fixed_pieces_go_round_the_workers(rt: HostRuntime) -> Result<(), Fail> {
-    for (workers, digits) in [(1, 1_111_111), (3, 1_231_231), (9, 1_234_567)] {
-        let mut states = Vec::new(rt.alloc());
-        let (_, noted) = run(&rt, (7, workers, PieceAssignment::Fixed), 0, &mut states)?;
-        assert_eq!(rt; noted, digits, "by {workers}");
+// Whether a run notes one of these digits.
+fn is_noted<R: Threads + AllocGlobal + Sync>(
+    rt: &R,
+    asked: (usize, usize, PieceAssignment),
+    others: u64,
+    [one, other]: [u64; 2],
+) -> bool {
+    match run(rt, asked, others, &mut Vec::new(rt.alloc())) {
+        Ok((_, digits)) => digits == one || digits == other,
+        Err(_) => false,
     }
-    Ok(())
+}
+
+#[test]
+fn pieces_fall_to_workers(rt: HostRuntime) {
+    for (asked, others, digits) in RUNS {
+        assert!(rt; is_noted(&rt, asked, others, digits), "{digits:?}");
+    }
 }

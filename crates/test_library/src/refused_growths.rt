@@ -9,9 +9,9 @@ use devices::Device;
 use scripts::{ScriptError, script};
 use set_ops::{Quiet, SetError, union_forked};
 use std::alloc::{AllocError, Global};
-use std::test::Fail;
+use std::thread::Threads;
 use test_helpers::{ask, tell};
-use tree_batch::{Batch, Entry, Graph};
+use tree_batch::{Batch, Entry};
 use version_list::{Reply, VersionError, Versions, Which};
 
 // Every third number below so many, from the first on, each with a weight.
@@ -30,65 +30,69 @@ fn has(set: &CTree, entries: &[(u32, i64)]) -> bool {
     set.iter().eq(entries.iter().copied())
 }
 
-#[test]
-fn a_set_of_a_list(rt: HostRuntime) -> Result<(), Fail> {
-    let alloc = rt.alloc();
-    let entries = every_third(alloc, 0, 200)?;
-    let asked = ask(&rt);
-    let first = CTree::from_sorted(alloc, 4, &entries);
+// Makes a set of a list, again where memory is refused. Returns whether it is that of the list.
+fn makes_a_set<R: Print + AllocGlobal>(rt: &R) -> Result<bool, CTreeError> {
+    let entries = every_third(rt.alloc(), 0, 200)?;
+    let asked = ask(rt);
+    let first = CTree::from_sorted(rt.alloc(), 4, &entries);
     let is_refused = matches!(&first, Err(CTreeError::NoMemory));
-    let told = tell(&rt, is_refused);
+    let told = tell(rt, is_refused);
     let set = if is_refused {
-        CTree::from_sorted(alloc, 4, &entries)?
+        CTree::from_sorted(rt.alloc(), 4, &entries)?
     } else {
         first?
     };
-    let found = set.len() == 67 && has(&set, &entries);
-    assert!(rt; asked && told && found);
-    Ok(())
+    Ok(asked && told && set.len() == 67 && has(&set, &entries))
 }
 
 #[test]
-fn a_union(rt: HostRuntime) -> Result<(), Fail> {
+fn a_set_of_a_list(rt: HostRuntime) {
+    assert!(rt; makes_a_set(&rt) == Ok(true));
+}
+
+// The set of every third number below 200, from the first on.
+fn set_of(alloc: Global, entries: &[(u32, i64)]) -> Result<CTree, SetError> {
+    match CTree::from_sorted(alloc, 4, entries) {
+        Ok(set) => Ok(set),
+        Err(_) => Err(SetError::NoMemory),
+    }
+}
+
+// Whether a set has every third number from two first ones on.
+fn is_union(set: &CTree) -> bool {
+    let keys = (0..200u32).filter(|key| *key % 3 != 2);
+    set.iter().eq(keys.map(|key| (key, i64::from(key) - 50)))
+}
+
+// Unites two sets, again where memory is refused. Returns whether they stay as they are, and the union is theirs.
+fn unites<R: Print + AllocGlobal + Threads + Sync>(rt: &R) -> Result<bool, SetError> {
     let alloc = rt.alloc();
     let (low, high) = (every_third(alloc, 0, 200)?, every_third(alloc, 1, 200)?);
-    let one = CTree::from_sorted(alloc, 4, &low)?;
-    let other = CTree::from_sorted(alloc, 4, &high)?;
-    let asked = ask(&rt);
-    let first = union_forked(&rt, alloc, &one, &other, 2, &Quiet);
+    let (one, other) = (set_of(alloc, &low)?, set_of(alloc, &high)?);
+    let asked = ask(rt);
+    let first = union_forked(rt, alloc, &one, &other, 2, &Quiet);
     let is_refused = matches!(&first, Err(SetError::NoMemory));
-    let told = tell(&rt, is_refused);
+    let told = tell(rt, is_refused);
     let stay = has(&one, &low) && has(&other, &high);
     let both = if is_refused {
-        union_forked(&rt, alloc, &one, &other, 2, &Quiet)?
+        union_forked(rt, alloc, &one, &other, 2, &Quiet)?
     } else {
         first?
     };
-    let keys = (0..200u32).filter(|key| *key % 3 != 2);
-    let found = both.iter().eq(keys.map(|key| (key, i64::from(key) - 50)));
-    assert!(rt; asked && told && stay && found);
-    Ok(())
+    Ok(asked && told && stay && is_union(&both))
+}
+
+#[test]
+fn a_union(rt: HostRuntime) {
+    assert!(rt; unites(&rt) == Ok(true));
 }
 
 // A version: its number, its vertices and its edges.
-#[derive(Clone, Copy)]
-struct Version<'a> {
-    number: u64,
-    vertices: u32,
-    edges: &'a [(u32, u32, i64)],
-}
+type Version = (u64, u32, &'static [(u32, u32, i64)]);
 
-const BEFORE: Version<'static> = Version {
-    number: 1,
-    vertices: 4,
-    edges: &[(0, 1, 7), (3, 0, -2)],
-};
+const BEFORE: Version = (1, 4, &[(0, 1, 7), (3, 0, -2)]);
 
-const AFTER: Version<'static> = Version {
-    number: 2,
-    vertices: 70,
-    edges: &[(0, 2, 9), (3, 0, 5), (69, 3, 1)],
-};
+const AFTER: Version = (2, 70, &[(0, 2, 9), (3, 0, 5), (69, 3, 1)]);
 
 // What makes the version before, and what makes the one after of it.
 const ENTRIES: [&[Entry]; 2] = [
@@ -102,22 +106,18 @@ const ENTRIES: [&[Entry]; 2] = [
     ],
 ];
 
-impl Version<'_> {
-    fn is(&self, number: u64, graph: &Graph) -> bool {
-        let edges = graph.edges().eq(self.edges.iter().copied());
-        number == self.number && graph.vertices() == self.vertices && edges
-    }
+const REPLIES: [Reply; 3] = [Reply::Version(1), Reply::Ticket(1, 1), Reply::Version(2)];
 
-    // Whether it is the newest, and the history has these replies.
-    fn is_newest(&self, versions: &Versions, replies: &[Reply]) -> bool {
-        let (number, graph) = versions.newest();
-        self.is(number, graph)
-            && versions
-                .history()
-                .iter()
-                .map(|done| done.reply)
-                .eq(replies.iter().copied())
+// Whether this is the newest version, and the history has the first so many replies.
+fn is_newest(versions: &Versions, (number, vertices, edges): Version, count: usize) -> bool {
+    let (newest, graph) = versions.newest();
+    let mut same = versions.history().len() == count;
+    for (done, reply) in versions.history().iter().zip(&REPLIES) {
+        same = same && done.reply == *reply;
     }
+    same && newest == number
+        && graph.vertices() == vertices
+        && graph.edges().eq(edges.iter().copied())
 }
 
 fn batch_of(alloc: Global, entries: &[Entry]) -> Result<Batch, AllocError> {
@@ -138,27 +138,28 @@ fn held_versions(alloc: Global) -> Result<Versions, VersionError> {
     Ok(versions)
 }
 
-const REPLIES: [Reply; 3] = [Reply::Version(1), Reply::Ticket(1, 1), Reply::Version(2)];
-
-#[test]
-fn a_commit(rt: HostRuntime) -> Result<(), Fail> {
+// Commits the second batch, again where memory is refused, which changes nothing. Returns whether it makes the version after.
+fn commits<R: Print + AllocGlobal>(rt: &R) -> Result<bool, VersionError> {
     let alloc = rt.alloc();
     let mut versions = held_versions(alloc)?;
     let batch = batch_of(alloc, ENTRIES[1])?;
-    let asked = ask(&rt);
+    let asked = ask(rt);
     let first = versions.commit(alloc, batch);
     let is_refused = first == Err(VersionError::NoMemory);
-    let told = tell(&rt, is_refused);
+    let told = tell(rt, is_refused);
+    let mut stays = true;
     let number = if is_refused {
-        assert!(rt; BEFORE.is_newest(&versions, &REPLIES[..2]));
+        stays = is_newest(&versions, BEFORE, 2);
         versions.commit(alloc, batch_of(alloc, ENTRIES[1])?)?
     } else {
         first?
     };
-    let made = number == 2 && AFTER.is_newest(&versions, &REPLIES);
-    drop(versions);
-    assert!(rt; asked && told && made);
-    Ok(())
+    Ok(asked && told && stays && number == 2 && is_newest(&versions, AFTER, 3))
+}
+
+#[test]
+fn a_commit(rt: HostRuntime) {
+    assert!(rt; commits(&rt) == Ok(true));
 }
 
 const SCRIPT: &[u8] =
@@ -173,25 +174,29 @@ const WRITTEN: &[u8] =
 fn run(alloc: Global, written: &mut Vec<u8>) -> Result<bool, ScriptError> {
     let mut reader = Device::new(SCRIPT);
     let mut writer = Device::new(written);
-    let (result, _state) = script(alloc, &StarvedProgram, &mut reader, &mut writer);
+    let (result, _state) = script(alloc, &StarvedProgram::new(), &mut reader, &mut writer);
     result
 }
 
-#[test]
-fn a_script(rt: HostRuntime) -> Result<(), Fail> {
-    let alloc = rt.alloc();
-    let mut written = Vec::with_capacity(alloc, WRITTEN.len())?;
-    let asked = ask(&rt);
-    let first = run(alloc, &mut written);
-    let is_refused = first == Err(ScriptError::NoMemory);
-    let told = tell(&rt, is_refused);
+// Runs the script, again where memory is refused, before which it has written a beginning of its replies. Returns whether it writes
+// them all.
+fn replies<R: Print + AllocGlobal>(rt: &R) -> Result<bool, AllocError> {
+    let mut written = Vec::with_capacity(rt.alloc(), WRITTEN.len())?;
+    let asked = ask(rt);
+    let mut ended = run(rt.alloc(), &mut written);
+    let is_refused = ended == Err(ScriptError::NoMemory);
+    let told = tell(rt, is_refused);
+    let mut is_begun = true;
     if is_refused {
-        assert!(rt; WRITTEN.starts_with(written.as_slice()));
+        is_begun = WRITTEN.starts_with(written.as_slice());
         written.clear();
-        assert!(rt; run(alloc, &mut written) == Ok(false));
-    } else {
-        assert!(rt; first == Ok(false));
+        ended = run(rt.alloc(), &mut written);
     }
-    assert!(rt; asked && told && written.as_slice() == WRITTEN);
-    Ok(())
+    let is_whole = ended == Ok(false) && written.as_slice() == WRITTEN;
+    Ok(asked && told && is_begun && is_whole)
+}
+
+#[test]
+fn a_script(rt: HostRuntime) {
+    assert!(rt; replies(&rt) == Ok(true));
 }

@@ -1,20 +1,26 @@
-//! Scripts and their replies, over readers and writers that fail or go slowly, and a run that lacks memory.
+//! Scripts over devices that are interrupted and go some bytes at a time, and runs that note by how many workers they go. What devices
+//! of the system show is in `tests/checks/failing_devices`.
 ghost use Rattle.std.specs.Prelude.{[], ◌∷◌};
 ghost use Rattle.test_library.specs.Programs.{empty_program};
 
-use crate::slow_devices::{SlowReader, SmallWriter};
 use algorithm_meaning::Outcome;
 use devices::Device;
 use flat_snapshot::Flat;
 use scripts::{Programs, ScriptError, script};
 use std::alloc::{AllocError, Global};
 use std::io;
-use std::io::{Read, Write};
-use std::sync::atomic::{AtomicUsize, Ordering};
-use std::test::Fail;
+use std::io::{Error, ErrorKind, Read, Write};
+use std::sync::atomic::{AtomicU64, Ordering};
 
-/// One program, for whose runs there is never memory enough.
-pub(crate) struct StarvedProgram;
+/// One program, for whose runs there is never memory enough. It notes by how many workers a run was asked for.
+#[derive(Drop)]
+pub(crate) struct StarvedProgram(AtomicU64);
+
+impl StarvedProgram {
+    pub(crate) fn new() -> StarvedProgram {
+        StarvedProgram(AtomicU64::new(0))
+    }
+}
 
 impl Programs for StarvedProgram {
     ghost trees = { λ _. empty_program ∷ [] };
@@ -31,97 +37,59 @@ impl Programs for StarvedProgram {
         _index: usize,
         _graph: &Flat,
         _turns: u64,
-        _workers: u64,
+        workers: u64,
     ) -> Result<Outcome, AllocError> {
+        self.0.store(workers, Ordering::SeqCst);
         Err(AllocError)
     }
 }
 
-// Runs a script into a writer that has so much room, and gives what it took.
-fn run(alloc: Global, bytes: &[u8], room: usize) -> (Result<bool, ScriptError>, Vec<u8>) {
-    let mut writer = SmallWriter::new(alloc, 3, room);
-    let mut reader = Device::new(SlowReader::failing(bytes, usize::MAX));
-    let mut out = Device::new(&mut writer);
-    let (result, _state) = script(alloc, &StarvedProgram, &mut reader, &mut out);
-    drop(out);
-    (result, writer.bytes)
-}
-
-const FIRST: &[u8] = b"vertices 4\nadd 3 0\nadd 0 1\nadd 0 1\ndel 2 2\ncommit\nedges\n";
-
-const FIRST_REPLIES: &[u8] = b"open 4\nversion 1\nedges 2\n0 1\n3 0\n";
-
-// The replies are exactly those to the lines that ended before the reader failed.
-#[test]
-fn ends_where_the_reader_fails(rt: HostRuntime) {
-    for count in 0..=FIRST.len() {
-        assert!(rt; fails_at(rt.alloc(), count), "at {count}");
-    }
-}
-
-// Whether a script whose reader fails after n bytes ends so.
-fn fails_at(alloc: Global, count: usize) -> bool {
-    let given = &FIRST[..count.min(FIRST.len())];
-    let ended = replies_after(given).min(FIRST_REPLIES.len());
-    let (result, written) = run(alloc, given, usize::MAX);
-    result == Err(ScriptError::ReadFailed) && written.as_slice() == &FIRST_REPLIES[..ended]
-}
-
-#[test]
-fn ends_where_the_writer_fails(rt: HostRuntime) {
-    for room in 0..FIRST_REPLIES.len() {
-        assert!(rt; fills(rt.alloc(), room), "at {room}");
-    }
-}
-
-// Whether a script whose writer has so much room fills it and ends so.
-fn fills(alloc: Global, room: usize) -> bool {
-    let room = room.min(FIRST_REPLIES.len());
-    let (result, written) = run(alloc, FIRST, room);
-    result == Err(ScriptError::WriteFailed) && written.as_slice() == &FIRST_REPLIES[..room]
-}
-
-// How many bytes the replies to the lines that end in a beginning of the first script have.
-fn replies_after(bytes: &[u8]) -> usize {
-    match bytes.iter().filter(|byte| **byte == b'\n').count() {
-        0 => 0,
-        1..=5 => b"open 4\n".len(),
-        6 => b"open 4\nversion 1\n".len(),
-        _ => FIRST_REPLIES.len(),
-    }
-}
-
-// Gives one line at a read, and looks then at how many bytes the writer has.
+// Gives at most n bytes at a time, is interrupted before each read, and fails after the last byte.
 #[derive(Drop)]
-struct WaitingReader<'a> {
-    given: usize,
-    taken: &'a AtomicUsize,
-    missed: &'a AtomicUsize,
+struct SlowReader<'a> {
+    bytes: &'a [u8],
+    most: usize,
+    is_interrupted: bool,
 }
 
-impl Read for WaitingReader<'_> {
+impl Read for SlowReader<'_> {
     fn read(&mut self, buffer: &mut [u8]) -> io::Result<usize> {
-        let so_far = &FIRST[..self.given.min(FIRST.len())];
-        if self.taken.load(Ordering::SeqCst) != replies_after(so_far) {
-            self.missed.store(1, Ordering::SeqCst);
+        self.is_interrupted = !self.is_interrupted;
+        if self.is_interrupted {
+            return Err(Error::from(ErrorKind::Interrupted));
         }
-        let rest = &FIRST[so_far.len()..];
-        let line = rest.iter().position(|byte| *byte == b'\n');
-        let count = line.map_or(0, |end| end + 1).min(buffer.len());
-        buffer[..count].copy_from_slice(&rest[..count]);
-        self.given = so_far.len() + count;
+        if self.bytes.is_empty() {
+            return Err(Error::from(ErrorKind::BrokenPipe));
+        }
+        let count = buffer.len().min(self.bytes.len()).min(self.most);
+        buffer[..count].copy_from_slice(&self.bytes[..count]);
+        self.bytes = &self.bytes[count..];
         Ok(count)
     }
 }
 
-/// Counts what it takes.
+// Takes at most n bytes at a time, is interrupted before each write, and fails where it has no room for one more.
 #[derive(Drop)]
-pub(crate) struct CountingWriter<'a>(pub(crate) &'a AtomicUsize);
+struct SlowWriter<'a> {
+    bytes: &'a mut Vec<u8>,
+    most: usize,
+    room: usize,
+    is_interrupted: bool,
+}
 
-impl Write for CountingWriter<'_> {
+impl Write for SlowWriter<'_> {
     fn write(&mut self, bytes: &[u8]) -> io::Result<usize> {
-        self.0.fetch_add(bytes.len(), Ordering::SeqCst);
-        Ok(bytes.len())
+        self.is_interrupted = !self.is_interrupted;
+        if self.is_interrupted {
+            return Err(Error::from(ErrorKind::Interrupted));
+        }
+        if self.room == 0 {
+            return Err(Error::from(ErrorKind::BrokenPipe));
+        }
+        let count = bytes.len().min(self.most).min(self.room);
+        self.bytes.extend_from_slice(&bytes[..count])?;
+        self.room -= count;
+        Ok(count)
     }
 
     fn flush(&mut self) -> io::Result<()> {
@@ -129,25 +97,95 @@ impl Write for CountingWriter<'_> {
     }
 }
 
-// The replies to what has come are written before more is read.
-#[test]
-fn replies_before_it_reads_on(rt: HostRuntime) {
-    let (taken, missed) = (AtomicUsize::new(0), AtomicUsize::new(0));
-    let mut reader = Device::new(WaitingReader {
-        given: 0,
-        taken: &taken,
-        missed: &missed,
-    });
-    let mut writer = Device::new(CountingWriter(&taken));
-    let (ended, _state) = script(rt.alloc(), &StarvedProgram, &mut reader, &mut writer);
-    let all = taken.load(Ordering::SeqCst) == FIRST_REPLIES.len();
-    assert!(rt; ended == Ok(false) && all && missed.load(Ordering::SeqCst) == 0);
+const LINES: &[u8] = b"vertices 4\nadd 3 0\nadd 0 1\nadd 0 1\ndel 2 2\ncommit\nedges\n";
+
+const REPLIES: &[u8] = b"open 4\nversion 1\nedges 2\n0 1\n3 0\n";
+
+// By how many of the first bytes of the lines a reply may have ended, and how long the replies are then.
+const ENDED: [(usize, usize); 4] = [(0, 0), (11, 7), (50, 17), (56, 33)];
+
+// How many bytes are replied to so many of the first bytes of the lines.
+fn replied(count: usize) -> usize {
+    let mut replied = 0;
+    for (ended, length) in ENDED {
+        if ended <= count {
+            replied = length;
+        }
+    }
+    replied
 }
 
-// A run that lacks memory ends the script: what is written is a beginning of the replies before it.
+// How a script over these bytes ends, and what its writer took.
+type Ended = (Result<bool, ScriptError>, Vec<u8>);
+
+// Runs a script over devices that go so many bytes at a time, into a writer with so much room.
+fn run(alloc: Global, program: &StarvedProgram, given: &[u8], most: usize, room: usize) -> Ended {
+    let mut bytes = Vec::new(alloc);
+    let mut reader = Device::new(SlowReader {
+        bytes: given,
+        most,
+        is_interrupted: false,
+    });
+    let mut writer = Device::new(SlowWriter {
+        bytes: &mut bytes,
+        most,
+        room,
+        is_interrupted: false,
+    });
+    let (result, _state) = script(alloc, program, &mut reader, &mut writer);
+    drop(writer);
+    (result, bytes)
+}
+
+// Whether a script whose reader fails after so many bytes has replied to the lines that had ended, and one whose writer has so much
+// room fills it.
+fn fails_at(alloc: Global, most: usize, count: usize) -> bool {
+    let (program, given) = (StarvedProgram::new(), &LINES[..count.min(LINES.len())]);
+    let (read, replies) = run(alloc, &program, given, most, usize::MAX);
+    let (written, filled) = run(alloc, &program, LINES, most, count);
+    let told = if count < REPLIES.len() {
+        ScriptError::WriteFailed
+    } else {
+        ScriptError::ReadFailed
+    };
+    let wanted = &REPLIES[..replied(count).min(REPLIES.len())];
+    let room = &REPLIES[..count.min(REPLIES.len())];
+    let are_read = read == Err(ScriptError::ReadFailed) && replies.as_slice() == wanted;
+    are_read && written == Err(told) && filled.as_slice() == room
+}
+
 #[test]
-fn ends_where_a_run_lacks_memory(rt: HostRuntime) {
-    let (result, written) = run(rt.alloc(), b"vertices 4\nrun 1 9 1\nedges\n", usize::MAX);
-    assert!(rt; result == Err(ScriptError::NoMemory));
-    assert!(rt; b"open 4\n".starts_with(written.as_slice()));
+fn devices_are_slow_and_interrupted_and_fail(rt: HostRuntime) {
+    for most in [1, 3, usize::MAX] {
+        for count in 0..=LINES.len() {
+            assert!(rt;
+                fails_at(rt.alloc(), most, count),
+                "{count} bytes, by {most}"
+            );
+        }
+    }
+}
+
+// Lines with a run, and by how many workers that is.
+const RUNS: [(&[u8], u64); 4] = [
+    (b"vertices 4\nrun 1 9 1\nedges\n", 1),
+    (b"vertices 4\nrun 1 9 2\nedges\n", 2),
+    (b"vertices 4\nrun 1 9 63\nedges\n", 63),
+    (b"vertices 4\nrun 1 9 64\nedges\n", 64),
+];
+
+// Whether a run goes by so many workers. It lacks memory, so the script ends, and what is written is a beginning of the replies before
+// the run.
+fn goes_by(alloc: Global, lines: &[u8], workers: u64) -> bool {
+    let program = StarvedProgram::new();
+    let (ended, written) = run(alloc, &program, lines, usize::MAX, usize::MAX);
+    let begun = b"open 4\n".starts_with(written.as_slice());
+    begun && ended == Err(ScriptError::NoMemory) && program.0.load(Ordering::SeqCst) == workers
+}
+
+#[test]
+fn runs_are_by_the_workers_of_their_line(rt: HostRuntime) {
+    for (lines, workers) in RUNS {
+        assert!(rt; goes_by(rt.alloc(), lines, workers), "{workers} workers");
+    }
 }

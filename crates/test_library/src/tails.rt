@@ -1,7 +1,6 @@
 //! Bytes of tails.
-use std::alloc::{AllocError, Global};
-use std::test::Fail;
-use tail_codec::Tail;
+use std::alloc::Global;
+use tail_codec::{Tail, TailError};
 
 // A base, a list of keys with weights above it, and the bytes that spell it.
 type Spelling = (Option<u32>, &'static [(u32, i64)], &'static [u8]);
@@ -24,39 +23,66 @@ const SPELLINGS: [Spelling; 7] = [
     (Some(10), &[(11, 7)], b"\x01\x0e"),
 ];
 
-#[test]
-fn spells_lists(rt: HostRuntime) -> Result<(), Fail> {
-    for spelling in &SPELLINGS {
-        assert!(rt; is_spelled(rt.alloc(), *spelling)?, "{spelling:?}");
-    }
-    Ok(())
-}
-
 // Whether the list has these bytes, and the bytes this list.
-fn is_spelled(alloc: Global, (base, list, bytes): Spelling) -> Result<bool, Fail> {
+fn is_spelled(
+    alloc: Global,
+    base: Option<u32>,
+    list: &[(u32, i64)],
+    bytes: &[u8],
+) -> Result<bool, TailError> {
     let made = Tail::encode(alloc, base, list)?.bytes() == bytes;
     let read = Tail::from_bytes(alloc, base, bytes)?.share()?;
     Ok(made && read.iter().eq(list.iter().copied()))
 }
 
-// How many of the strings of n bytes, at most 3, spell a list without a base; or `None` where a list is spelled again
-// otherwise.
-fn spellings_of(alloc: Global, length: usize, strings: u32) -> Result<Option<u32>, Fail> {
-    let (mut count, mut list) = (0u32, Vec::new(alloc));
+#[test]
+fn spells_lists(rt: HostRuntime) {
+    for (base, list, bytes) in SPELLINGS {
+        assert!(rt;
+            is_spelled(rt.alloc(), base, list, bytes) == Ok(true),
+            "{list:?}"
+        );
+    }
+}
+
+// Weights, and the bytes of an entry with this weight that is one above the key before.
+const ENTRIES: [(i64, &[u8]); 3] = [
+    (1, b"\x00"),
+    (-1, b"\x01\x01"),
+    (i64::MAX, b"\x01\xfe\xff\xff\xff\xff\xff\xff\xff\xff\x01"),
+];
+
+// Whether the first numbers, so many, each with a weight, are spelled by as many turns of these bytes.
+fn are_spelled(alloc: Global, count: u32, weight: i64, entry: &[u8]) -> Result<bool, TailError> {
+    let (mut list, mut bytes) = (Vec::new(alloc), Vec::new(alloc));
+    for key in 0..count {
+        list.push((key, weight))?;
+        bytes.extend_from_slice(entry)?;
+    }
+    is_spelled(alloc, None, &list, &bytes)
+}
+
+// Up to 127 bytes a tail is one allocation.
+#[test]
+fn long_tails_are_spelled(rt: HostRuntime) {
+    for count in [63, 64, 126, 127, 128, 129, 1_000] {
+        for (weight, entry) in ENTRIES {
+            let are = are_spelled(rt.alloc(), count, weight, entry);
+            assert!(rt; are == Ok(true), "{count} entries of {weight}");
+        }
+    }
+}
+
+// How many of the strings of n bytes, at most 3, spell a list without a base. That each is what its list is spelled by is proved.
+fn spellings_of(alloc: Global, length: usize, strings: u32) -> u32 {
+    let mut count = 0u32;
     for number in 0..strings {
         let bytes = number.to_le_bytes();
-        let spelling = &bytes[..length.min(3)];
-        let Ok(tail) = Tail::from_bytes(alloc, None, spelling) else {
-            continue;
-        };
-        list.clear();
-        list.extend(tail.iter())?;
-        if Tail::encode(alloc, None, &list)?.bytes() != spelling {
-            return Ok(None);
+        if Tail::from_bytes(alloc, None, &bytes[..length.min(3)]).is_ok() {
+            count = count.wrapping_add(1);
         }
-        count = count.wrapping_add(1);
     }
-    Ok(Some(count))
+    count
 }
 
 // A length, how many strings have it, and how many of these spell a list.
@@ -68,44 +94,9 @@ const SHORT_STRINGS: [(usize, u32, u32); 4] = [
 ];
 
 #[test]
-fn so_many_short_strings_spell_a_list(rt: HostRuntime) -> Result<(), Fail> {
+fn so_many_short_strings_spell_a_list(rt: HostRuntime) {
     for (length, strings, count) in SHORT_STRINGS {
-        let found = spellings_of(rt.alloc(), length, strings)?;
-        assert!(rt; found == Some(count), "of {length} bytes");
+        let found = spellings_of(rt.alloc(), length, strings);
+        assert!(rt; found == count, "of {length} bytes");
     }
-    Ok(())
-}
-
-// The numbers from 0 on, so many, each with a weight.
-fn first_numbers(alloc: Global, count: u32, weight: i64) -> Result<Vec<(u32, i64)>, AllocError> {
-    (0..count).map(|key| (key, weight)).collect(alloc)
-}
-
-// Whether the first numbers with a weight are spelled by as many turns of these bytes.
-fn are_spelled(alloc: Global, count: u32, weight: i64, entry: &[u8]) -> Result<bool, Fail> {
-    let mut bytes = Vec::new(alloc);
-    for _ in 0..count {
-        bytes.extend_from_slice(entry)?;
-    }
-    let list = first_numbers(alloc, count, weight)?;
-    let made = Tail::encode(alloc, None, &list)?;
-    let read = Tail::from_bytes(alloc, None, &bytes)?.share()?;
-    Ok(made.bytes() == bytes.as_slice() && read.iter().eq(list.iter().copied()))
-}
-
-// Up to 127 bytes a tail is one allocation.
-#[test]
-fn long_tails_are_spelled(rt: HostRuntime) -> Result<(), Fail> {
-    for count in [63, 64, 126, 127, 128, 129, 1_000] {
-        let ones = are_spelled(rt.alloc(), count, 1, b"\x00")?;
-        let others = are_spelled(rt.alloc(), count, -1, b"\x01\x01")?;
-        let wide = are_spelled(
-            rt.alloc(),
-            count,
-            i64::MAX,
-            b"\x01\xfe\xff\xff\xff\xff\xff\xff\xff\xff\x01",
-        )?;
-        assert!(rt; ones && others && wide, "of {count} entries");
-    }
-    Ok(())
 }

@@ -1,8 +1,7 @@
-//! Steps of versions whose history has little room, in one run.
+//! Steps of versions whose history has little room, which no script has.
 use Asked::{Acquire, Commit, Release, Trim};
 use Reply::{Refused, Released, Ticket, Trimmed, Version};
 use std::alloc::Global;
-use std::test::Fail;
 use tree_batch::Batch;
 use version_list::{Reply, Step, VersionError, Versions, Which};
 
@@ -26,94 +25,96 @@ impl Asked {
     }
 }
 
-fn replies_to(alloc: Global, room: u64, asked: &[Asked]) -> Result<Vec<Reply>, VersionError> {
-    let mut versions = Versions::with_room(alloc, 3, 64, room)?;
-    let mut steps = Vec::new(alloc);
-    for step in asked {
-        steps.push(step.step(alloc))?;
-    }
-    versions.run(alloc, &steps)
-}
-
 const HOLD: Asked = Acquire(Which::Newest);
 
 const FULL: Reply = Refused(123);
 
-const SHORT: [Asked; 6] = [HOLD, Commit, Commit, HOLD, Release(1), Commit];
+// How many entries a history has room for, and steps with their replies.
+const HISTORIES: [(u64, &[(Asked, Reply)]); 3] = [
+    (
+        3,
+        &[
+            (HOLD, Ticket(1, 0)),
+            (Commit, Version(1)),
+            (Commit, FULL),
+            (HOLD, FULL),
+            (Release(1), Released),
+            (Commit, FULL),
+        ],
+    ),
+    // A full history releases all tickets.
+    (
+        7,
+        &[
+            (HOLD, Ticket(1, 0)),
+            (HOLD, Ticket(2, 0)),
+            (HOLD, Ticket(3, 0)),
+            (HOLD, FULL),
+            (Acquire(Which::At(1)), Refused(121)),
+            (Commit, Version(1)),
+            (Commit, FULL),
+            (Release(1), Released),
+            (Release(2), Released),
+            (Release(3), Released),
+            (Release(1), Refused(122)),
+            (Commit, FULL),
+        ],
+    ),
+    // A trim makes room but for releases.
+    (
+        3,
+        &[
+            (HOLD, Ticket(1, 0)),
+            (Commit, Version(1)),
+            (Commit, FULL),
+            (Trim, Trimmed(2)),
+            (Commit, Version(2)),
+            (Commit, Version(3)),
+            (Commit, FULL),
+            (Release(1), Released),
+            (Release(1), Refused(122)),
+        ],
+    ),
+];
 
-const SHORT_REPLIES: [Reply; 6] = [Ticket(1, 0), Version(1), FULL, FULL, Released, FULL];
-
-#[test]
-fn tickets_hold_room(rt: HostRuntime) -> Result<(), Fail> {
-    let replies = replies_to(rt.alloc(), 3, &SHORT)?;
-    assert!(rt; replies.as_slice() == SHORT_REPLIES.as_slice());
-    Ok(())
+// Whether a history with so much room answers the steps so.
+fn answers(alloc: Global, room: u64, asked: &[(Asked, Reply)]) -> Result<bool, VersionError> {
+    let mut steps = Vec::new(alloc);
+    for (step, _) in asked {
+        steps.push(step.step(alloc))?;
+    }
+    let mut versions = Versions::with_room(alloc, 3, 64, room)?;
+    let replies = versions.run(alloc, &steps)?;
+    let mut same = replies.len() == asked.len();
+    for (found, (_, reply)) in replies.iter().zip(asked) {
+        same = same && found == reply;
+    }
+    Ok(same)
 }
 
-const LONG: [Asked; 12] = [
-    HOLD,
-    HOLD,
-    HOLD,
-    HOLD,
-    Acquire(Which::At(1)),
-    Commit,
-    Commit,
-    Release(1),
-    Release(2),
-    Release(3),
-    Release(1),
-    Commit,
-];
-
-const LONG_REPLIES: [Reply; 12] = [
-    Ticket(1, 0),
-    Ticket(2, 0),
-    Ticket(3, 0),
-    FULL,
-    Refused(121),
-    Version(1),
-    FULL,
-    Released,
-    Released,
-    Released,
-    Refused(122),
-    FULL,
-];
-
 #[test]
-fn a_full_history_releases_all_tickets(rt: HostRuntime) -> Result<(), Fail> {
-    let replies = replies_to(rt.alloc(), 7, &LONG)?;
-    assert!(rt; replies.as_slice() == LONG_REPLIES.as_slice());
-    Ok(())
+fn a_history_has_room_for_its_tickets(rt: HostRuntime) {
+    for (room, asked) in HISTORIES {
+        assert!(rt;
+            answers(rt.alloc(), room, asked) == Ok(true),
+            "a room of {room}"
+        );
+    }
 }
 
-const TRIMMED: [Asked; 9] = [
-    HOLD,
-    Commit,
-    Commit,
-    Trim,
-    Commit,
-    Commit,
-    Commit,
-    Release(1),
-    Release(1),
-];
-
-const TRIMMED_REPLIES: [Reply; 9] = [
-    Ticket(1, 0),
-    Version(1),
-    FULL,
-    Trimmed(2),
-    Version(2),
-    Version(3),
-    FULL,
-    Released,
-    Refused(122),
-];
+// Whether a trim by its two halves drops two entries, and the version that a ticket holds stays.
+fn trims(alloc: Global) -> Result<bool, VersionError> {
+    let mut versions = Versions::with_room(alloc, 3, 64, 3)?;
+    versions.commit(alloc, Batch::new(alloc))?;
+    let ticket = versions.acquire(Which::Newest)?.0;
+    let prepared = versions.prepare_trim()?;
+    let dropped = versions.finish_trim(prepared);
+    versions.commit(alloc, Batch::new(alloc))?;
+    let stays = versions.version(ticket) == Some(1) && versions.graph(ticket).is_some();
+    Ok(dropped == 2 && stays && versions.newest().0 == 2 && versions.history().len() == 1)
+}
 
 #[test]
-fn a_trim_makes_room_but_for_releases(rt: HostRuntime) -> Result<(), Fail> {
-    let replies = replies_to(rt.alloc(), 3, &TRIMMED)?;
-    assert!(rt; replies.as_slice() == TRIMMED_REPLIES.as_slice());
-    Ok(())
+fn a_trim_keeps_what_is_held(rt: HostRuntime) {
+    assert!(rt; trims(rt.alloc()) == Ok(true));
 }
