@@ -245,32 +245,35 @@ fn applies_are_cut_as_their_schedules_say(rt: HostRuntime) -> Result<(), Fail> {
     Ok(())
 }
 
-// Whether the first vector of a run by n workers, whose pieces are held, has these entries.
-fn shows_while_held(
+// In how many applies a piece was held in a run by n workers, or none if one was held too long or the first vector does not
+// have these entries.
+fn held_pieces(
     rt: &(impl Threads + AllocGlobal + Sync),
     graph: &Flat,
     text: &str,
     workers: usize,
     wanted: &[i64],
-) -> Result<bool, Fail> {
+) -> Result<Option<u64>, Fail> {
     // One worker enters piece 2 after piece 1, so nothing is held for it.
     let roll = Roll::new(rt.alloc(), workers > 1)?;
     let outcome = shown(rt, graph, text, workers, &roll)?;
-    let vector = outcome.vectors.as_slice().first();
-    let found = vector.is_some_and(|vector| vector.entries.as_slice() == wanted);
-    Ok(found && roll.is_right())
+    let found = match outcome.vectors.as_slice().first() {
+        Some(vector) => vector.entries.as_slice() == wanted,
+        None => false,
+    };
+    Ok((found && roll.is_right()).then_some(roll.held()))
 }
 
-// Whether a search of a fork finds the same by a direction and a share, while pieces are held.
-fn searches(
+// In how many applies of a search of a fork a piece was held, or none if the search did not find what it should.
+fn held_in_search(
     rt: &(impl Threads + AllocGlobal + Sync),
     fork: &Flat,
     (direction, share): (&str, &str),
     workers: usize,
-) -> Result<bool, Fail> {
+) -> Result<Option<u64>, Fail> {
     let schedule = schedule_of(rt.alloc(), direction, share)?;
     let text = format!(in rt.alloc(); "{SEARCH}{schedule}")?;
-    shows_while_held(rt, fork, text.as_str(), workers, &[0, 0, 0, 2, 3, -1])
+    held_pieces(rt, fork, text.as_str(), workers, &[0, 0, 0, 2, 3, -1])
 }
 
 #[test]
@@ -279,8 +282,8 @@ fn a_search_finds_the_same_while_pieces_are_held(rt: HostRuntime) -> Result<(), 
     for direction in DIRECTIONS {
         for share in SHARES {
             for workers in [1, 2, 7] {
-                let found = searches(&rt, &fork, (direction, share), workers)?;
-                assert!(rt; found, "{direction} and {share} by {workers}");
+                let held = held_in_search(&rt, &fork, (direction, share), workers)?;
+                assert!(rt; held.is_some(), "{direction} and {share} by {workers}");
             }
         }
     }
@@ -298,7 +301,7 @@ fn sixty_four_workers_share_a_thousand_sources(rt: HostRuntime) -> Result<(), Fa
     }
     let schedule = schedule_of(rt.alloc(), DIRECTIONS[0], SHARES[2])?;
     let text = format!(in rt.alloc(); "{HEAD}{ALL}{TAIL}{schedule}")?;
-    let found = shows_while_held(&rt, &ring, text.as_str(), 64, &before)?;
-    assert!(rt; found);
+    let held = held_pieces(&rt, &ring, text.as_str(), 64, &before)?;
+    assert!(rt; held == Some(1));
     Ok(())
 }

@@ -54,6 +54,11 @@ impl Roll {
         self.pieces.load(Ordering::SeqCst)
     }
 
+    /// How many pieces were held.
+    pub(crate) fn held(&self) -> u64 {
+        self.held.load(Ordering::SeqCst)
+    }
+
     /// Whether nothing was wrong.
     pub(crate) fn is_right(&self) -> bool {
         self.wrong.load(Ordering::SeqCst) == 0

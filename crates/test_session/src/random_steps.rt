@@ -1,11 +1,11 @@
 //! Random steps, beside a plain world.
 
 use crate::plain_world::{MOST_VERTICES, PlainWorld};
-use crate::programs::{batch_of, plans, session};
-use algorithm_meaning::Outcome;
+use crate::programs::{commit, plans, session};
+use algorithm_meaning::{NamedSet, NamedVector, Outcome};
 use measuring::{Random, random_weight};
 use plans::Plan;
-use session::{Session, SessionStep};
+use session::{Session, SessionReply, SessionStep};
 use std::alloc::{AllocError, Global};
 use std::sync::Arc;
 use std::test::Fail;
@@ -42,7 +42,7 @@ fn random_step(alloc: Global, random: &mut Random) -> Result<SessionStep, AllocE
                 random_entry(random),
                 random_entry(random),
             ];
-            SessionStep::Commit(batch_of(alloc, &entries)?)
+            return commit(alloc, &entries);
         }
         2 => SessionStep::Acquire(Which::Newest),
         3 => SessionStep::Acquire(Which::At(random.below(8))),
@@ -56,6 +56,16 @@ fn random_step(alloc: Global, random: &mut Random) -> Result<SessionStep, AllocE
     })
 }
 
+// A random list of steps.
+fn random_steps(alloc: Global, seed: u64) -> Result<Vec<SessionStep>, AllocError> {
+    let mut random = Random::new(seed);
+    let mut steps = Vec::new(alloc);
+    for _step in 0..STEPS {
+        steps.push(random_step(alloc, &mut random)?)?;
+    }
+    Ok(steps)
+}
+
 // The plans of the programs, each to be shared.
 fn shared(alloc: Global) -> Result<Vec<Arc<Plan>>, Fail> {
     let mut shared = Vec::new(alloc);
@@ -65,22 +75,29 @@ fn shared(alloc: Global) -> Result<Vec<Arc<Plan>>, Fail> {
     Ok(shared)
 }
 
+fn are_alike_vectors(some: &[NamedVector], others: &[NamedVector]) -> bool {
+    let mut alike = some.len() == others.len();
+    for (one, other) in some.iter().zip(others) {
+        alike = alike && one.entries.as_slice() == other.entries.as_slice();
+    }
+    alike
+}
+
+fn are_alike_sets(some: &[NamedSet], others: &[NamedSet]) -> bool {
+    let mut alike = some.len() == others.len();
+    for (one, other) in some.iter().zip(others) {
+        alike = alike && one.members.as_slice() == other.members.as_slice();
+    }
+    alike
+}
+
 // Whether two outcomes show the same.
 fn is_alike(one: &Outcome, other: &Outcome) -> bool {
-    let vectors = one
-        .vectors
-        .as_slice()
-        .iter()
-        .zip(other.vectors.as_slice())
-        .all(|(one, other)| one.entries.as_slice() == other.entries.as_slice());
-    let sets = one.sets.as_slice().iter().zip(other.sets.as_slice()).all(|(one, other)| one
-        .members
-        .as_slice()
-        == other.members.as_slice());
-    let counts = one.vectors.as_slice().len() == other.vectors.as_slice().len()
-        && one.sets.as_slice().len() == other.sets.as_slice().len();
-    let text = one.text.as_slice() == other.text.as_slice();
-    vectors && sets && counts && text && one.end == other.end && one.turns == other.turns
+    are_alike_vectors(one.vectors.as_slice(), other.vectors.as_slice())
+        && are_alike_sets(one.sets.as_slice(), other.sets.as_slice())
+        && one.text.as_slice() == other.text.as_slice()
+        && one.end == other.end
+        && one.turns == other.turns
 }
 
 // Whether the job of this number shows what it shows when it is run afresh, or is there in neither.
@@ -91,27 +108,25 @@ fn is_job_alike(
     plans: &[Arc<Plan>],
     number: u64,
 ) -> Result<bool, Fail> {
-    let afresh = world.afresh(alloc, plans, number)?;
-    match (session.job(number), afresh) {
+    match (session.job(number), world.afresh(alloc, plans, number)?) {
         (Some(job), Some((_stand, wanted))) => Ok(is_alike(&job.outcome(alloc)?, &wanted)),
         (None, None) => Ok(true),
         _ => Ok(false),
     }
 }
 
-// Whether a session answers a random list of steps as the plain world does, one by one and all at once, and its jobs show
-// the same afterwards.
-fn is_list_alike(alloc: Global, plans: &[Arc<Plan>], seed: u64) -> Result<bool, Fail> {
-    let mut random = Random::new(seed);
-    let mut steps = Vec::new(alloc);
-    for _step in 0..STEPS {
-        steps.push(random_step(alloc, &mut random)?)?;
-    }
+// What the plain world answers to steps, and whether a session that takes them one by one answers alike, and its jobs show the
+// same afterwards.
+fn wanted_replies(
+    alloc: Global,
+    plans: &[Arc<Plan>],
+    steps: &[SessionStep],
+) -> Result<(Vec<SessionReply>, bool), Fail> {
     let mut session = session(alloc)?;
     let mut world = PlainWorld::new(alloc)?;
     let mut replies = Vec::new(alloc);
     let mut alike = true;
-    for step in &steps {
+    for step in steps {
         let reply = session.step(alloc, step.clone()?)?;
         let wanted = world.answer(alloc, plans, step)?;
         alike = alike && reply == wanted;
@@ -120,17 +135,16 @@ fn is_list_alike(alloc: Global, plans: &[Arc<Plan>], seed: u64) -> Result<bool, 
     for number in 0..8u64 {
         alike = alike && is_job_alike(alloc, &session, &world, plans, number)?;
     }
-    Ok(alike && is_run_alike(alloc, &steps, &replies)?)
+    Ok((replies, alike))
 }
 
-fn is_run_alike(
-    alloc: Global,
-    steps: &[SessionStep],
-    wanted: &[session::SessionReply],
-) -> Result<bool, Fail> {
+// Whether a session answers a random list of steps as the plain world does, one by one and all at once.
+fn is_list_alike(alloc: Global, plans: &[Arc<Plan>], seed: u64) -> Result<bool, Fail> {
+    let steps = random_steps(alloc, seed)?;
+    let (wanted, alike) = wanted_replies(alloc, plans, &steps)?;
     let mut session = session(alloc)?;
-    let replies = session.run(alloc, steps)?;
-    Ok(replies.as_slice() == wanted)
+    let replies = session.run(alloc, &steps)?;
+    Ok(alike && replies.as_slice() == wanted.as_slice())
 }
 
 #[test]
