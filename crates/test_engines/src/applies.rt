@@ -5,7 +5,7 @@ use algorithm_meaning::Outcome;
 use crew::PieceAssignment;
 use flat_snapshot::Flat;
 use runner::run;
-use std::alloc::{AllocError, Global};
+use std::alloc::Global;
 use std::test::Fail;
 use std::thread::Threads;
 use tree_batch::{Batch, Entry, Graph};
@@ -34,30 +34,32 @@ const SEARCH: &str = "element Vertex end element Edge end \
     while frontier.getVertexSetSize() != 0 \
     #s1# frontier = edges.from(frontier).to(unseen).applyModified(visit, parent); end end ";
 
-const DIRECTIONS: [&str; 4] = [
-    "SparsePush",
-    "DensePull-SparsePush",
-    "DensePush",
-    "DensePull",
-];
+const SPARSE_PUSH: &str = "schedule: program->configApplyDirection(\"s1\", \"SparsePush\")";
 
-const SHARES: [&str; 4] = [
-    "serial",
-    "static-vertex-parallel",
-    "dynamic-vertex-parallel",
-    "edge-aware-dynamic-vertex-parallel",
-];
+const HYBRID: &str = "schedule: program->configApplyDirection(\"s1\", \"DensePull-SparsePush\")";
 
-// The text of a schedule.
-fn schedule_of(alloc: Global, direction: &str, share: &str) -> Result<String, AllocError> {
-    format!(in alloc;
-        "schedule: program->configApplyDirection(\"s1\", \"{direction}\")\
-        ->configApplyParallelization(\"s1\", \"{share}\");"
-    )
-}
+const DENSE_PUSH: &str = "schedule: program->configApplyDirection(\"s1\", \"DensePush\")";
 
-// A graph of n vertices with these edges.
-fn graph_of(alloc: Global, vertices: u32, edges: &[(u32, u32)]) -> Result<Flat, Fail> {
+const DENSE_PULL: &str = "schedule: program->configApplyDirection(\"s1\", \"DensePull\")";
+
+const DIRECTIONS: [&str; 4] = [SPARSE_PUSH, HYBRID, DENSE_PUSH, DENSE_PULL];
+
+const SERIAL: &str = "->configApplyParallelization(\"s1\", \"serial\");";
+
+const STATIC: &str = "->configApplyParallelization(\"s1\", \"static-vertex-parallel\");";
+
+const DYNAMIC: &str = "->configApplyParallelization(\"s1\", \"dynamic-vertex-parallel\");";
+
+const BY_EDGES: &str =
+    "->configApplyParallelization(\"s1\", \"edge-aware-dynamic-vertex-parallel\");";
+
+const SHARES: [&str; 4] = [SERIAL, STATIC, DYNAMIC, BY_EDGES];
+
+// A program's text in three parts, and its schedule's in two.
+type Text = [&'static str; 5];
+
+/// A graph of n vertices with these edges.
+pub(crate) fn graph_of(alloc: Global, vertices: u32, edges: &[(u32, u32)]) -> Result<Flat, Fail> {
     let mut batch = Batch::new(alloc);
     for (source, destination) in edges {
         batch.push(Entry::Add(*source, *destination, 1))?;
@@ -80,32 +82,42 @@ fn ring_of(alloc: Global, vertices: u32) -> Result<Flat, Fail> {
 fn shown(
     rt: &(impl Threads + AllocGlobal + Sync),
     graph: &Flat,
-    text: &str,
+    [head, sources, tail, direction, share]: Text,
     workers: usize,
     roll: &Roll,
 ) -> Result<Outcome, Fail> {
+    let text = format!(in rt.alloc(); "{head}{sources}{tail}{direction}{share}")?;
     let plan = compiler::compile(rt.alloc(), text.as_bytes())?;
     Ok(run(rt, rt.alloc(), &plan, graph, workers, 100, roll)?)
 }
 
-// How many pieces n workers are told of in the apply from these sources, or none where they are not told of each once.
+// How many pieces n workers are told of in an apply, or none if they are not told of each once.
 fn told_pieces(
     rt: &(impl Threads + AllocGlobal + Sync),
     graph: &Flat,
-    (sources, schedule): (&str, &str),
+    text: Text,
     workers: usize,
     share: PieceAssignment,
 ) -> Result<Option<u64>, Fail> {
     let roll = Roll::new(rt.alloc(), false)?;
-    let text = format!(in rt.alloc(); "{HEAD}{sources}{TAIL}{schedule}")?;
-    drop(shown(rt, graph, text.as_str(), workers, &roll)?);
+    drop(shown(rt, graph, text, workers, &roll)?);
     let pieces = roll.pieces();
     let once = roll.has_each_once(pieces, workers as u64, share);
     Ok(once.then_some(pieces))
 }
 
-// Whether n workers are told once of each piece of an apply from all vertices, of one where it is serial, and of one each where
-// pieces are static; and of none in a push from no vertex.
+// Whether so many pieces are right for an apply from all vertices of a large graph: one where the share is serial, one each where
+// it is static, and else one each or more.
+fn is_enough(told: Option<u64>, share: usize, workers: u64) -> bool {
+    match (share, told) {
+        (0, Some(pieces)) => pieces == 1,
+        (1, Some(pieces)) => pieces == workers,
+        (_, Some(pieces)) => pieces >= workers,
+        (_, None) => false,
+    }
+}
+
+// Whether n workers are told once of each piece of an apply from all vertices, and of none in a push from no vertex.
 fn are_told_once(
     rt: &(impl Threads + AllocGlobal + Sync),
     graph: &Flat,
@@ -116,42 +128,39 @@ fn are_told_once(
         1 => PieceAssignment::Fixed,
         _ => PieceAssignment::Claimed,
     };
-    let schedule = schedule_of(rt.alloc(), DIRECTIONS[direction % 4], SHARES[share % 4])?;
-    let all = (ALL, schedule.as_str());
-    let is_right = match (share, told_pieces(rt, graph, all, workers, assignment)?) {
-        (0, Some(pieces)) => pieces == 1,
-        (1, Some(pieces)) => pieces == workers as u64,
-        (_, Some(pieces)) => pieces >= workers as u64,
-        (_, None) => false,
-    };
-    let none = (NONE, schedule.as_str());
-    let nobody = direction > 1 || told_pieces(rt, graph, none, workers, assignment)? == Some(0);
-    Ok(is_right && nobody)
+    let schedule = [DIRECTIONS[direction % 4], SHARES[share % 4]];
+    let all = [HEAD, ALL, TAIL, schedule[0], schedule[1]];
+    if !is_enough(
+        told_pieces(rt, graph, all, workers, assignment)?,
+        share,
+        workers as u64,
+    ) {
+        return Ok(false);
+    }
+    let none = [HEAD, NONE, TAIL, schedule[0], schedule[1]];
+    Ok(direction > 1 || told_pieces(rt, graph, none, workers, assignment)? == Some(0))
 }
 
 #[test]
 fn workers_are_told_of_each_piece_of_an_apply_once(rt: HostRuntime) -> Result<(), Fail> {
     let graph = ring_of(rt.alloc(), 300)?;
     for workers in [1, 2, 3, 7, 64] {
-        for direction in 0..4 {
-            for share in 0..4 {
-                let told = are_told_once(&rt, &graph, (direction, share), workers)?;
-                assert!(rt;
-                    told,
-                    "direction {direction} and share {share} by {workers}"
-                );
-            }
+        for schedule in 0..16usize {
+            let choices = (schedule / 4, schedule % 4);
+            let told = are_told_once(&rt, &graph, choices, workers)?;
+            assert!(rt; told, "schedule {schedule} by {workers}");
         }
     }
     Ok(())
 }
 
-// An apply: the number of vertices and the edges, its sources, its schedule, the number of workers, and how many pieces there are.
+// An apply: the number of vertices and the edges, its sources, the two parts of its schedule, the number of workers, and how many
+// pieces there are.
 type CutRow = (
     u32,
     &'static [(u32, u32)],
     &'static str,
-    &'static str,
+    [&'static str; 2],
     usize,
     u64,
 );
@@ -187,53 +196,35 @@ const OUT: &[(u32, u32)] = &[(0, 0), (0, 1), (0, 2), (0, 3), (0, 4), (3, 0), (4,
 // The same edges turned round.
 const INTO: &[(u32, u32)] = &[(0, 0), (1, 0), (2, 0), (3, 0), (4, 0), (0, 3), (0, 4)];
 
-const STATIC: &str =
-    "schedule: program->configApplyParallelization(\"s1\", \"static-vertex-parallel\");";
+const UNSAID: [&str; 2] = ["", ""];
 
-const PULL: &str = "schedule: program->configApplyDirection(\"s1\", \"DensePull\");";
-
-const PUSH: &str = "schedule: program->configApplyDirection(\"s1\", \"DensePush\");";
-
-const STATIC_PULL: &str =
-    "schedule: program->configApplyParallelization(\"s1\", \"static-vertex-parallel\")\
-    ->configApplyDirection(\"s1\", \"DensePull\");";
-
-const STATIC_HYBRID: &str =
-    "schedule: program->configApplyDirection(\"s1\", \"DensePull-SparsePush\")\
-    ->configApplyParallelization(\"s1\", \"static-vertex-parallel\");";
-
-const PUSH_BY_EDGES: &str = "schedule: program->configApplyDirection(\"s1\", \"DensePush\")\
-    ->configApplyParallelization(\"s1\", \"edge-aware-dynamic-vertex-parallel\");";
-
-const PULL_BY_EDGES: &str = "schedule: program->configApplyDirection(\"s1\", \"DensePull\")\
-    ->configApplyParallelization(\"s1\", \"edge-aware-dynamic-vertex-parallel\");";
+const STATIC_ALONE: [&str; 2] = ["schedule: program", STATIC];
 
 // What a schedule leaves unsaid is a serial sparse push. A push is cut by its sources, here one; a dense push and a pull by all
 // vertices. The hybrid pushes from few edges and pulls from many.
 const CUTS: [CutRow; 13] = [
-    (21, STAR, VERTEX_0, "", 2, 1),
-    (21, STAR, VERTEX_0, PULL, 2, 1),
-    (21, STAR, ALL, "", 2, 1),
-    (21, STAR, ALL, PUSH, 2, 1),
-    (21, STAR, VERTEX_0, STATIC, 2, 1),
-    (21, STAR, VERTEX_0, STATIC_PULL, 2, 2),
-    (21, STAR, VERTEX_0, STATIC_HYBRID, 2, 2),
-    (21, STAR, VERTEX_1, STATIC_HYBRID, 2, 1),
-    (5, OUT, VERTEX_0, PUSH_BY_EDGES, 1, 3),
-    (5, OUT, VERTEX_0, PUSH_BY_EDGES, 2, 4),
-    (5, OUT, ALL, PUSH_BY_EDGES, 2, 4),
-    (5, INTO, VERTEX_0, PULL_BY_EDGES, 1, 3),
-    (5, INTO, VERTEX_0, PULL_BY_EDGES, 2, 4),
+    (21, STAR, VERTEX_0, UNSAID, 2, 1),
+    (21, STAR, VERTEX_0, [DENSE_PULL, ";"], 2, 1),
+    (21, STAR, ALL, UNSAID, 2, 1),
+    (21, STAR, ALL, [DENSE_PUSH, ";"], 2, 1),
+    (21, STAR, VERTEX_0, STATIC_ALONE, 2, 1),
+    (21, STAR, VERTEX_0, [DENSE_PULL, STATIC], 2, 2),
+    (21, STAR, VERTEX_0, [HYBRID, STATIC], 2, 2),
+    (21, STAR, VERTEX_1, [HYBRID, STATIC], 2, 1),
+    (5, OUT, VERTEX_0, [DENSE_PUSH, BY_EDGES], 1, 3),
+    (5, OUT, VERTEX_0, [DENSE_PUSH, BY_EDGES], 2, 4),
+    (5, OUT, ALL, [DENSE_PUSH, BY_EDGES], 2, 4),
+    (5, INTO, VERTEX_0, [DENSE_PULL, BY_EDGES], 1, 3),
+    (5, INTO, VERTEX_0, [DENSE_PULL, BY_EDGES], 2, 4),
 ];
 
 // Whether a row is in as many pieces as it says.
 fn is_cut_so(rt: &(impl Threads + AllocGlobal + Sync), row: &CutRow) -> Result<bool, Fail> {
-    let (vertices, edges, sources, schedule, workers, pieces) = *row;
+    let (vertices, edges, sources, [direction, share], workers, pieces) = *row;
     let graph = graph_of(rt.alloc(), vertices, edges)?;
-    let roll = Roll::new(rt.alloc(), false)?;
-    let text = format!(in rt.alloc(); "{HEAD}{sources}{TAIL}{schedule}")?;
-    drop(shown(rt, &graph, text.as_str(), workers, &roll)?);
-    Ok(roll.is_right() && roll.pieces() == pieces)
+    let text = [HEAD, sources, TAIL, direction, share];
+    let told = told_pieces(rt, &graph, text, workers, PieceAssignment::Claimed)?;
+    Ok(told == Some(pieces))
 }
 
 #[test]
@@ -250,7 +241,7 @@ fn applies_are_cut_as_their_schedules_say(rt: HostRuntime) -> Result<(), Fail> {
 fn held_pieces(
     rt: &(impl Threads + AllocGlobal + Sync),
     graph: &Flat,
-    text: &str,
+    text: Text,
     workers: usize,
     wanted: &[i64],
 ) -> Result<Option<u64>, Fail> {
@@ -264,27 +255,18 @@ fn held_pieces(
     Ok((found && roll.is_right()).then_some(roll.held()))
 }
 
-// In how many applies of a search of a fork a piece was held, or none if the search did not find what it should.
-fn held_in_search(
-    rt: &(impl Threads + AllocGlobal + Sync),
-    fork: &Flat,
-    (direction, share): (&str, &str),
-    workers: usize,
-) -> Result<Option<u64>, Fail> {
-    let schedule = schedule_of(rt.alloc(), direction, share)?;
-    let text = format!(in rt.alloc(); "{SEARCH}{schedule}")?;
-    held_pieces(rt, fork, text.as_str(), workers, &[0, 0, 0, 2, 3, -1])
-}
+/// A fork of six vertices that comes together, and a vertex that no edge reaches.
+pub(crate) const FORK: &[(u32, u32)] = &[(0, 1), (0, 2), (1, 3), (2, 3), (3, 4)];
 
 #[test]
 fn a_search_finds_the_same_while_pieces_are_held(rt: HostRuntime) -> Result<(), Fail> {
-    let fork = graph_of(rt.alloc(), 6, &[(0, 1), (0, 2), (1, 3), (2, 3), (3, 4)])?;
-    for direction in DIRECTIONS {
-        for share in SHARES {
-            for workers in [1, 2, 7] {
-                let held = held_in_search(&rt, &fork, (direction, share), workers)?;
-                assert!(rt; held.is_some(), "{direction} and {share} by {workers}");
-            }
+    let fork = graph_of(rt.alloc(), 6, FORK)?;
+    for workers in [1, 2, 7] {
+        for schedule in 0..16usize {
+            let (direction, share) = (DIRECTIONS[schedule / 4], SHARES[schedule % 4]);
+            let text = [SEARCH, "", "", direction, share];
+            let held = held_pieces(&rt, &fork, text, workers, &[0, 0, 0, 2, 3, -1])?;
+            assert!(rt; held.is_some(), "schedule {schedule} by {workers}");
         }
     }
     Ok(())
@@ -295,13 +277,11 @@ fn a_search_finds_the_same_while_pieces_are_held(rt: HostRuntime) -> Result<(), 
 fn sixty_four_workers_share_a_thousand_sources(rt: HostRuntime) -> Result<(), Fail> {
     let ring = ring_of(rt.alloc(), 1000)?;
     let mut before = Vec::new(rt.alloc());
-    before.push(999)?;
-    for vertex in 0..999 {
-        before.push(vertex)?;
+    for vertex in 0..1000i64 {
+        before.push((vertex + 999) % 1000)?;
     }
-    let schedule = schedule_of(rt.alloc(), DIRECTIONS[0], SHARES[2])?;
-    let text = format!(in rt.alloc(); "{HEAD}{ALL}{TAIL}{schedule}")?;
-    let held = held_pieces(&rt, &ring, text.as_str(), 64, &before)?;
+    let text = [HEAD, ALL, TAIL, SPARSE_PUSH, DYNAMIC];
+    let held = held_pieces(&rt, &ring, text, 64, &before)?;
     assert!(rt; held == Some(1));
     Ok(())
 }

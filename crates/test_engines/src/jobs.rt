@@ -1,12 +1,11 @@
 //! Runs that go one instruction at a time.
 
+use crate::applies::{FORK, graph_of};
 use algorithm_meaning::{End, Outcome};
-use flat_snapshot::Flat;
 use runner::{Alone, Job, Stand};
 use std::alloc::{AllocError, Global};
 use std::sync::Arc;
 use std::test::Fail;
-use tree_batch::{Batch, Entry, Graph};
 
 const LOOP: &str = "element Vertex end element Edge end \
     func main() var t : int = 0; for i in 0:3 if i % 2 == 0 t += i; else t = -t; end end print t; end";
@@ -52,19 +51,9 @@ const ROWS: [StepRow; 6] = [
     (SEARCH, 21, ENDED, 4, b"", &[0, 0, 0, 2, 3, -1], &[]),
 ];
 
-// A fork that comes together, and a vertex that no edge reaches.
-fn fork(alloc: Global) -> Result<Flat, Fail> {
-    let mut batch = Batch::new(alloc);
-    for (source, destination) in &[(0, 1), (0, 2), (1, 3), (2, 3), (3, 4)] {
-        batch.push(Entry::Add(*source, *destination, 1))?;
-    }
-    let graph = Graph::new(6, 64)?.apply(alloc, &batch)?;
-    Ok(Flat::of(alloc, &graph)?)
-}
-
 // A job of a program on the fork, for at most ten turns.
 fn job_of(alloc: Global, text: &str) -> Result<Job, Fail> {
-    let graph = Arc::new(alloc, fork(alloc)?).map_err(|_| AllocError)?;
+    let graph = Arc::new(alloc, graph_of(alloc, 6, FORK)?).map_err(|_| AllocError)?;
     let plan = compiler::compile(alloc, text.as_bytes())?;
     let plan = Arc::new(alloc, plan).map_err(|_| AllocError)?;
     Ok(Job::new(alloc, plan, graph, 10)?)
