@@ -10,7 +10,7 @@ use tree_batch::Entry;
 use version_list::{Reply, Which};
 
 // Where a search of the fork stands after six steps.
-const ON_THE_FORK: Shown = Shown {
+const ON_THE_FORK: Shown<'static> = Shown {
     entries: &[0, 0, 0, -1, -1, -1],
     members: &[1, 2],
     text: b"",
@@ -19,7 +19,7 @@ const ON_THE_FORK: Shown = Shown {
 };
 
 // Where it stands where the fork has one branch.
-const ON_ONE_BRANCH: Shown = Shown {
+const ON_ONE_BRANCH: Shown<'static> = Shown {
     entries: &[0, 0, -1, -1, -1, -1],
     members: &[1],
     text: b"",
@@ -65,19 +65,36 @@ fn take_in_order(
     Ok(())
 }
 
+// Whether two new searches show what they should after their steps in an order.
+fn stand_alike(
+    alloc: Global,
+    session: &mut Session,
+    jobs: [u64; 2],
+    order: u32,
+) -> Result<bool, SessionError> {
+    take_in_order(alloc, session, jobs, order)?;
+    let first = shows(alloc, session, jobs[0], &ON_THE_FORK)?;
+    let second = shows(alloc, session, jobs[1], &ON_ONE_BRANCH)?;
+    Ok(first && second)
+}
+
+// A session with the two versions.
+fn two_versions(alloc: Global) -> Result<Session, Fail> {
+    let mut session = session(alloc)?;
+    drop(session.run(alloc, &steps_of(alloc, &TWO_VERSIONS)?)?);
+    Ok(session)
+}
+
 // How many orders there are, and in how many both jobs show what they should.
 fn count_orders(alloc: Global) -> Result<(u32, u32), Fail> {
-    let mut session = session(alloc)?;
-    session.run(alloc, &steps_of(alloc, &TWO_VERSIONS)?)?;
+    let mut session = two_versions(alloc)?;
     let (mut tried, mut right, mut next) = (0u32, 0u32, 1u64);
     for order in 0..4096u32 {
         if order.count_ones() == 6 {
             let jobs = [next, next.wrapping_add(1)];
-            take_in_order(alloc, &mut session, jobs, order)?;
-            let first = shows(alloc, &session, jobs[0], &ON_THE_FORK)?;
-            let second = shows(alloc, &session, jobs[1], &ON_ONE_BRANCH)?;
+            let alike = stand_alike(alloc, &mut session, jobs, order)?;
             tried = tried.wrapping_add(1);
-            right = right.wrapping_add(u32::from(first && second));
+            right = right.wrapping_add(u32::from(alike));
             next = next.wrapping_add(2);
         }
     }

@@ -6,7 +6,7 @@ use algorithm_meaning::Outcome;
 use flat_snapshot::Flat;
 use plans::Plan;
 use runner::{Alone, Job, Stand};
-use session::{SessionReply, SessionStep};
+use session::{SessionError, SessionReply, SessionStep};
 use std::alloc::{AllocError, Global};
 use std::sync::Arc;
 use std::test::Fail;
@@ -19,10 +19,10 @@ pub(crate) const MOST_VERTICES: u32 = 12;
 // How many pairs there are.
 const PAIRS: usize = 144;
 
-/// A job: the index of its program, the number of its version, its turns, and how many steps were asked of it.
+// A job: the index of its program, the number of its version, its turns, and how many steps were asked of it.
 #[derive(Clone, Copy)]
-pub(crate) struct PlainJob {
-    pub(crate) program: usize,
+struct PlainJob {
+    program: usize,
     version: usize,
     turns: u64,
     count: u32,
@@ -112,13 +112,13 @@ impl PlainWorld {
         self.tickets.get(index_of(ticket)?).copied().flatten()
     }
 
-    /// The job of this number.
-    pub(crate) fn job(&self, number: u64) -> Option<PlainJob> {
+    // The job of this number.
+    fn job(&self, number: u64) -> Option<PlainJob> {
         self.jobs.get(index_of(number)?).copied()
     }
 
-    /// Answers a commit.
-    pub(crate) fn commit(&mut self, entries: &[Entry]) -> Result<SessionReply, AllocError> {
+    // Answers a commit.
+    fn commit(&mut self, entries: &[Entry]) -> Result<SessionReply, AllocError> {
         let newest = self.newest();
         let before = self.vertices_of(newest);
         let after = vertices_after(before, entries);
@@ -272,8 +272,8 @@ fn run_afresh(
     plan: &Arc<Plan>,
     graph: Flat,
     asked: PlainJob,
-) -> Result<(Stand, Outcome), AllocError> {
-    let graph = Arc::new(alloc, graph).map_err(|_| AllocError)?;
+) -> Result<(Stand, Outcome), SessionError> {
+    let graph = Arc::new(alloc, graph)?;
     let mut job = Job::new(alloc, plan.clone()?, graph, asked.turns)?;
     let mut alone = Alone::new(alloc);
     let mut stand = Stand::Going;

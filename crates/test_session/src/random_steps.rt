@@ -2,10 +2,10 @@
 
 use crate::plain_world::{MOST_VERTICES, PlainWorld};
 use crate::programs::{commit, plans, session};
-use algorithm_meaning::{NamedSet, NamedVector, Outcome};
+use crate::rows::{shown_by, shows};
 use measuring::{Random, random_weight};
 use plans::Plan;
-use session::{Session, SessionReply, SessionStep};
+use session::{Session, SessionError, SessionReply, SessionStep};
 use std::alloc::{AllocError, Global};
 use std::sync::Arc;
 use std::test::Fail;
@@ -66,38 +66,18 @@ fn random_steps(alloc: Global, seed: u64) -> Result<Vec<SessionStep>, AllocError
     Ok(steps)
 }
 
+// A plan, to be shared.
+fn share(alloc: Global, plan: Plan) -> Result<Arc<Plan>, SessionError> {
+    Ok(Arc::new(alloc, plan)?)
+}
+
 // The plans of the programs, each to be shared.
 fn shared(alloc: Global) -> Result<Vec<Arc<Plan>>, Fail> {
     let mut shared = Vec::new(alloc);
     for plan in plans(alloc)? {
-        shared.push(Arc::new(alloc, plan).map_err(|_| AllocError)?)?;
+        shared.push(share(alloc, plan)?)?;
     }
     Ok(shared)
-}
-
-fn are_alike_vectors(some: &[NamedVector], others: &[NamedVector]) -> bool {
-    let mut alike = some.len() == others.len();
-    for (one, other) in some.iter().zip(others) {
-        alike = alike && one.entries.as_slice() == other.entries.as_slice();
-    }
-    alike
-}
-
-fn are_alike_sets(some: &[NamedSet], others: &[NamedSet]) -> bool {
-    let mut alike = some.len() == others.len();
-    for (one, other) in some.iter().zip(others) {
-        alike = alike && one.members.as_slice() == other.members.as_slice();
-    }
-    alike
-}
-
-// Whether two outcomes show the same.
-fn is_alike(one: &Outcome, other: &Outcome) -> bool {
-    are_alike_vectors(one.vectors.as_slice(), other.vectors.as_slice())
-        && are_alike_sets(one.sets.as_slice(), other.sets.as_slice())
-        && one.text.as_slice() == other.text.as_slice()
-        && one.end == other.end
-        && one.turns == other.turns
 }
 
 // Whether the job of this number shows what it shows when it is run afresh, or is there in neither.
@@ -108,43 +88,46 @@ fn is_job_alike(
     plans: &[Arc<Plan>],
     number: u64,
 ) -> Result<bool, Fail> {
-    match (session.job(number), world.afresh(alloc, plans, number)?) {
-        (Some(job), Some((_stand, wanted))) => Ok(is_alike(&job.outcome(alloc)?, &wanted)),
-        (None, None) => Ok(true),
-        _ => Ok(false),
+    match world.afresh(alloc, plans, number)? {
+        Some((_stand, wanted)) => Ok(shows(alloc, session, number, &shown_by(&wanted))?),
+        None => Ok(session.job(number).is_none()),
     }
 }
 
-// What the plain world answers to steps, and whether a session that takes them one by one answers alike, and its jobs show the
-// same afterwards.
-fn wanted_replies(
+// Whether a session answers a step as the plain world does, and as it was answered among all at once.
+fn is_step_alike(
     alloc: Global,
+    session: &mut Session,
+    world: &mut PlainWorld,
     plans: &[Arc<Plan>],
-    steps: &[SessionStep],
-) -> Result<(Vec<SessionReply>, bool), Fail> {
-    let mut session = session(alloc)?;
-    let mut world = PlainWorld::new(alloc)?;
-    let mut replies = Vec::new(alloc);
-    let mut alike = true;
-    for step in steps {
-        let reply = session.step(alloc, step.clone()?)?;
-        let wanted = world.answer(alloc, plans, step)?;
-        alike = alike && reply == wanted;
-        replies.push(wanted)?;
-    }
-    for number in 0..8u64 {
-        alike = alike && is_job_alike(alloc, &session, &world, plans, number)?;
-    }
-    Ok((replies, alike))
+    (step, at_once): (&SessionStep, &SessionReply),
+) -> Result<bool, Fail> {
+    let reply = session.step(alloc, step.clone()?)?;
+    let wanted = world.answer(alloc, plans, step)?;
+    Ok(reply == wanted && *at_once == wanted)
 }
 
-// Whether a session answers a random list of steps as the plain world does, one by one and all at once.
+// What a session answers to steps at once.
+fn replies_at_once(alloc: Global, steps: &[SessionStep]) -> Result<Vec<SessionReply>, Fail> {
+    let mut session = session(alloc)?;
+    Ok(session.run(alloc, steps)?)
+}
+
+// Whether a session answers a random list of steps as the plain world does, one by one and all at once, and its jobs show the
+// same afterwards.
 fn is_list_alike(alloc: Global, plans: &[Arc<Plan>], seed: u64) -> Result<bool, Fail> {
     let steps = random_steps(alloc, seed)?;
-    let (wanted, alike) = wanted_replies(alloc, plans, &steps)?;
+    let replies = replies_at_once(alloc, &steps)?;
+    let mut alike = steps.len() == replies.len();
     let mut session = session(alloc)?;
-    let replies = session.run(alloc, &steps)?;
-    Ok(alike && replies.as_slice() == wanted.as_slice())
+    let mut world = PlainWorld::new(alloc)?;
+    for taken in steps.iter().zip(&replies) {
+        alike = is_step_alike(alloc, &mut session, &mut world, plans, taken)? && alike;
+    }
+    for number in 0..8u64 {
+        alike = is_job_alike(alloc, &session, &world, plans, number)? && alike;
+    }
+    Ok(alike)
 }
 
 #[test]

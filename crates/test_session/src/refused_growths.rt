@@ -48,13 +48,27 @@ const REPLIES: [SessionReply; 10] = [
     GOING,
 ];
 
-const HALFWAY: Shown = Shown {
+const HALFWAY: Shown<'static> = Shown {
     entries: &[0, 0, 0, -1, -1, -1, -1],
     members: &[1, 2],
     text: b"",
     end: End::TurnsOver,
     turns: 1,
 };
+
+// Takes a step, and again where it was answered 900. Returns the reply, and whether it was answered so.
+fn take_twice(
+    alloc: Global,
+    session: &mut Session,
+    step: SessionStep,
+    again: SessionStep,
+) -> Result<(SessionReply, bool), SessionError> {
+    match session.step(alloc, step) {
+        Err(SessionError::NoMemory) => Ok((session.step(alloc, again)?, true)),
+        Ok(reply) => Ok((reply, false)),
+        Err(error) => Err(error),
+    }
+}
 
 // How often steps were answered 900, and how often they were answered as they should be. A step that was answered 900 is
 // taken again.
@@ -65,15 +79,10 @@ fn take(
     again: Vec<SessionStep>,
 ) -> Result<(u32, u32), SessionError> {
     let (mut refused, mut answered) = (0u32, 0u32);
-    for ((step, again), wanted) in steps.into_iter().zip(again).zip(&REPLIES) {
-        let reply = match session.step(alloc, step) {
-            Err(SessionError::NoMemory) => {
-                refused = refused.wrapping_add(1);
-                session.step(alloc, again)?
-            }
-            other => other?,
-        };
-        answered = answered.wrapping_add(u32::from(reply == *wanted));
+    for (index, (step, again)) in steps.into_iter().zip(again).enumerate() {
+        let (reply, was_refused) = take_twice(alloc, session, step, again)?;
+        refused = refused.wrapping_add(u32::from(was_refused));
+        answered = answered.wrapping_add(u32::from(REPLIES.get(index) == Some(&reply)));
     }
     Ok((refused, answered))
 }

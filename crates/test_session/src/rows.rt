@@ -20,10 +20,10 @@ pub(crate) enum Deed {
 
 /// What a job shows: the entries of its vector, the members of its set, its text, its end and its turns.
 #[derive(Clone, Copy)]
-pub(crate) struct Shown {
-    pub(crate) entries: &'static [i64],
-    pub(crate) members: &'static [u32],
-    pub(crate) text: &'static [u8],
+pub(crate) struct Shown<'a> {
+    pub(crate) entries: &'a [i64],
+    pub(crate) members: &'a [u32],
+    pub(crate) text: &'a [u8],
     pub(crate) end: End,
     pub(crate) turns: u64,
 }
@@ -32,25 +32,34 @@ pub(crate) struct Shown {
 #[derive(Clone, Copy)]
 pub(crate) enum Row {
     Takes(Deed, SessionReply),
-    Shows(u64, Shown),
+    Shows(u64, Shown<'static>),
     HasNo(u64),
 }
 
-// Whether an outcome is that.
-fn is_shown(outcome: &Outcome, wanted: &Shown) -> bool {
-    let has_entries = match outcome.vectors.as_slice().first() {
-        Some(vector) => vector.entries.as_slice() == wanted.entries,
-        None => wanted.entries.is_empty(),
-    };
-    let has_members = match outcome.sets.as_slice().first() {
-        Some(set) => set.members.as_slice() == wanted.members,
-        None => wanted.members.is_empty(),
-    };
-    has_entries
-        && has_members
-        && outcome.text.as_slice() == wanted.text
-        && outcome.end == wanted.end
-        && outcome.turns == wanted.turns
+/// What an outcome shows of the first vector and the first set. Each program has one vector, and no more than one set.
+pub(crate) fn shown_by(outcome: &Outcome) -> Shown<'_> {
+    Shown {
+        entries: match outcome.vectors.as_slice().first() {
+            Some(vector) => vector.entries.as_slice(),
+            None => &[],
+        },
+        members: match outcome.sets.as_slice().first() {
+            Some(set) => set.members.as_slice(),
+            None => &[],
+        },
+        text: outcome.text.as_slice(),
+        end: outcome.end,
+        turns: outcome.turns,
+    }
+}
+
+// Whether both are the same.
+fn is_same(one: &Shown<'_>, other: &Shown<'_>) -> bool {
+    one.entries == other.entries
+        && one.members == other.members
+        && one.text == other.text
+        && one.end == other.end
+        && one.turns == other.turns
 }
 
 /// Whether the job of this number shows that.
@@ -58,11 +67,11 @@ pub(crate) fn shows(
     alloc: Global,
     session: &Session,
     number: u64,
-    wanted: &Shown,
+    wanted: &Shown<'_>,
 ) -> Result<bool, AllocError> {
     match session.job(number) {
         None => Ok(false),
-        Some(job) => Ok(is_shown(&job.outcome(alloc)?, wanted)),
+        Some(job) => Ok(is_same(&shown_by(&job.outcome(alloc)?), wanted)),
     }
 }
 

@@ -15,7 +15,7 @@ use version_list::Reply::{Refused, Released, Ticket, Version};
 use version_list::Which::{At, Newest};
 
 // Where a search of the fork stands after seven steps.
-const HALFWAY: Shown = Shown {
+const HALFWAY: Shown<'static> = Shown {
     entries: &[0, 0, 0, -1, -1, -1],
     members: &[1, 2],
     text: b"",
@@ -24,7 +24,7 @@ const HALFWAY: Shown = Shown {
 };
 
 // What a search shows on the fork at its end.
-const ON_SIX: Shown = Shown {
+const ON_SIX: Shown<'static> = Shown {
     entries: &[0, 0, 0, 2, 3, -1],
     members: &[],
     text: b"",
@@ -33,7 +33,7 @@ const ON_SIX: Shown = Shown {
 };
 
 // What it shows where the fork's tail is one edge longer, and there are eight vertices.
-const ON_EIGHT: Shown = Shown {
+const ON_EIGHT: Shown<'static> = Shown {
     entries: &[0, 0, 0, 2, 3, -1, -1, 4],
     members: &[],
     text: b"",
@@ -42,7 +42,7 @@ const ON_EIGHT: Shown = Shown {
 };
 
 // What it shows where vertex 7 leads on to vertex 9, of ten.
-const ON_TEN: Shown = Shown {
+const ON_TEN: Shown<'static> = Shown {
     entries: &[0, 0, 0, 2, 3, -1, -1, 4, -1, 7],
     members: &[],
     text: b"",
@@ -51,7 +51,7 @@ const ON_TEN: Shown = Shown {
 };
 
 // What the faulty program shows before its first step, at its fault, and where there are ten vertices.
-const AT_FIRST: Shown = Shown {
+const AT_FIRST: Shown<'static> = Shown {
     entries: &[-1, -1, -1, -1, -1, -1],
     members: &[],
     text: b"",
@@ -59,7 +59,7 @@ const AT_FIRST: Shown = Shown {
     turns: 0,
 };
 
-const AT_ITS_FAULT: Shown = Shown {
+const AT_ITS_FAULT: Shown<'static> = Shown {
     entries: &[-1, -1, -1, -1, -1, -1],
     members: &[],
     text: b"1\n",
@@ -67,7 +67,7 @@ const AT_ITS_FAULT: Shown = Shown {
     turns: 0,
 };
 
-const WITHOUT_FAULT: Shown = Shown {
+const WITHOUT_FAULT: Shown<'static> = Shown {
     entries: &[-1, -1, -1, -1, -1, -1, -1, -1, -1, 0],
     members: &[],
     text: b"1\n2\n",
@@ -234,7 +234,7 @@ const TABLES: [&[Row]; 9] = [
     REFUSED_VERSIONS,
 ];
 
-// The first row of a table, from 1, that a session does not follow, or 0.
+// The first row of a table, from 1, that a session does not follow, or 0 if it follows all.
 fn first_wrong(alloc: Global, rows: &[Row]) -> Result<u32, Fail> {
     let mut session = session(alloc)?;
     let mut number = 0u32;
@@ -277,8 +277,7 @@ fn sessions_follow_their_tables(rt: HostRuntime) -> Result<(), Fail> {
     for (index, rows) in TABLES.iter().enumerate() {
         let wrong = first_wrong(rt.alloc(), rows)?;
         let at_once = is_right_at_once(rt.alloc(), rows)?;
-        assert!(rt; wrong == 0, "row {wrong} of table {index}");
-        assert!(rt; at_once, "table {index} at once");
+        assert!(rt; wrong == 0 && at_once, "row {wrong} of table {index}");
     }
     Ok(())
 }
