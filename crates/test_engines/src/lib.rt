@@ -1,11 +1,12 @@
-//! Tests of edge applies by the engines, alone and in pieces: small graphs whose answers were worked out by hand.
+//! Tests of edge applies in pieces: what gates are told of, in how many pieces workers do an apply, and pieces that are held.
 //!
-//! Random applies are compared with the slow run by `bench_engines`. Shapes of kernels stand here too, runs of plans
-//! that go one instruction at a time, states that open with groups, and runs by 1 to 64 workers and what their gates are told.
+//! What runs show by each schedule and any workers is compared by `tests/checks/applies_in_pieces`, and random applies are compared
+//! with the slow run by `bench_engines`. Shapes of kernels are tested here too, runs of plans that go one instruction at a time,
+//! and states that open with groups.
 #![tactic(auto)]
 
 #[cfg(test)]
-mod cuts;
+mod applies;
 #[cfg(test)]
 mod gates;
 #[cfg(test)]
@@ -13,8 +14,6 @@ mod jobs;
 #[cfg(test)]
 mod kernel_shapes;
 #[cfg(test)]
-mod rows;
+mod roll;
 #[cfg(test)]
 mod states;
-#[cfg(test)]
-mod worker_runs;

@@ -1,9 +1,7 @@
-//! Tests of sessions: jobs beside commits and growth, whose indices were worked out by hand, two jobs in every order of their
-//! first steps, random steps beside a plain world, and steps that memory may run out for.
+//! Tests of sessions: tables of steps whose replies were worked out by hand, two jobs in every order of their first steps, random
+//! steps beside a plain world, and steps that memory may run out for.
 #![tactic(auto)]
 
-#[cfg(test)]
-mod growth;
 #[cfg(test)]
 mod interleavings;
 #[cfg(test)]
@@ -13,8 +11,8 @@ mod programs;
 #[cfg(test)]
 mod random_steps;
 #[cfg(test)]
-mod refusals;
-#[cfg(test)]
 mod refused_growths;
 #[cfg(test)]
 mod rows;
+#[cfg(test)]
+mod tables;

@@ -6,7 +6,7 @@ use algorithm_meaning::Outcome;
 use flat_snapshot::Flat;
 use plans::Plan;
 use runner::{Alone, Job, Stand};
-use session::{SessionReply, SessionStep};
+use session::{SessionError, SessionReply, SessionStep};
 use std::alloc::{AllocError, Global};
 use std::sync::Arc;
 use std::test::Fail;
@@ -16,12 +16,8 @@ use version_list::{Reply, Which};
 /// The most vertices that a graph grows to.
 pub(crate) const MOST_VERTICES: u32 = 12;
 
-// A version: how many vertices it has, and the weight of each pair that is an edge.
-#[derive(Drop)]
-struct PlainVersion {
-    vertices: u32,
-    table: Vec<Option<i64>>,
-}
+// How many pairs there are.
+const PAIRS: usize = 144;
 
 // A job: the index of its program, the number of its version, its turns, and how many steps were asked of it.
 #[derive(Clone, Copy)]
@@ -32,35 +28,34 @@ struct PlainJob {
     count: u32,
 }
 
-/// All versions, those that tickets hold, and the jobs.
-#[derive(Drop)]
+/// The numbers of vertices of all versions, the weights of the pairs that are edges in each, one version after another, the
+/// versions that tickets hold, and the jobs.
 pub(crate) struct PlainWorld {
-    versions: Vec<PlainVersion>,
+    vertices: Vec<u32>,
+    weights: Vec<Option<i64>>,
     tickets: Vec<Option<usize>>,
     jobs: Vec<PlainJob>,
+}
+
+impl Drop for PlainWorld {
+    fn drop(self) {
+        let PlainWorld {
+            vertices: _,
+            weights: _,
+            tickets: _,
+            jobs: _,
+        } = self;
+    }
 }
 
 const fn refused(number: u16) -> SessionReply {
     SessionReply::Of(Reply::Refused(number))
 }
 
-// Where a table tells of an edge.
-fn cell_of(source: u32, destination: u32) -> usize {
-    source.wrapping_mul(MOST_VERTICES).wrapping_add(destination) as usize
-}
-
-// The graph of a version, which never grew.
-fn graph_of(alloc: Global, version: &PlainVersion) -> Result<Flat, Fail> {
-    let mut batch = Batch::new(alloc);
-    for source in 0..version.vertices {
-        for destination in 0..version.vertices {
-            if let Some(Some(weight)) = version.table.get(cell_of(source, destination)) {
-                batch.push(Entry::Add(source, destination, *weight))?;
-            }
-        }
-    }
-    let graph = Graph::new(version.vertices, 64)?.apply(alloc, &batch)?;
-    Ok(Flat::of(alloc, &graph)?)
+// Where the weights of a version tell of a pair.
+fn pair_of(version: usize, source: u32, destination: u32) -> usize {
+    let pair = source.wrapping_mul(MOST_VERTICES).wrapping_add(destination);
+    version.wrapping_mul(PAIRS).wrapping_add(pair as usize)
 }
 
 // How many vertices there are after entries.
@@ -84,18 +79,6 @@ fn fits(entry: Entry, before: u32, after: u32) -> bool {
     }
 }
 
-// Notes an entry in a table.
-fn note(table: &mut [Option<i64>], entry: Entry) {
-    if let Some((source, destination)) = entry.ends()
-        && let Some(cell) = table.get_mut(cell_of(source, destination))
-    {
-        *cell = match entry {
-            Entry::Add(_, _, weight) => Some(weight),
-            Entry::Remove(..) | Entry::Grow(_) => None,
-        };
-    }
-}
-
 // The index of what has this number, which counts from 1.
 fn index_of(number: u64) -> Option<usize> {
     usize::try_from(number.checked_sub(1)?).ok()
@@ -104,41 +87,24 @@ fn index_of(number: u64) -> Option<usize> {
 impl PlainWorld {
     /// Version 0, with no edge, and no job.
     pub(crate) fn new(alloc: Global) -> Result<PlainWorld, AllocError> {
-        let cells = MOST_VERTICES.wrapping_mul(MOST_VERTICES) as usize;
-        let mut versions = Vec::new(alloc);
-        versions.push(PlainVersion {
-            vertices: VERTICES,
-            table: vec![in alloc; None; cells]?,
-        })?;
         Ok(PlainWorld {
-            versions,
+            vertices: vec![in alloc; VERTICES; 1]?,
+            weights: vec![in alloc; None; PAIRS]?,
             tickets: Vec::new(alloc),
             jobs: Vec::new(alloc),
         })
     }
 
-    /// What a step is answered.
-    pub(crate) fn answer(
-        &mut self,
-        alloc: Global,
-        plans: &[Arc<Plan>],
-        step: &SessionStep,
-    ) -> Result<SessionReply, Fail> {
-        match step {
-            SessionStep::Commit(batch) => self.commit(alloc, batch.entries()),
-            SessionStep::Acquire(which) => self.acquire(*which),
-            SessionStep::Release(ticket) => Ok(self.release(*ticket)),
-            SessionStep::Start {
-                program,
-                ticket,
-                turns,
-            } => self.start(plans.len(), *program, *ticket, *turns),
-            SessionStep::JobStep(number) => self.step_job(alloc, plans, *number),
-        }
+    fn newest(&self) -> usize {
+        self.vertices.len().saturating_sub(1)
     }
 
-    fn newest(&self) -> usize {
-        self.versions.len().saturating_sub(1)
+    fn vertices_of(&self, version: usize) -> u32 {
+        self.vertices.get(version).copied().unwrap_or(0)
+    }
+
+    fn weight(&self, index: usize) -> Option<i64> {
+        self.weights.get(index).copied().flatten()
     }
 
     // The version that a ticket holds.
@@ -146,25 +112,45 @@ impl PlainWorld {
         self.tickets.get(index_of(ticket)?).copied().flatten()
     }
 
-    fn commit(&mut self, alloc: Global, entries: &[Entry]) -> Result<SessionReply, Fail> {
+    // The job of this number.
+    fn job(&self, number: u64) -> Option<PlainJob> {
+        self.jobs.get(index_of(number)?).copied()
+    }
+
+    // Answers a commit.
+    fn commit(&mut self, entries: &[Entry]) -> Result<SessionReply, AllocError> {
         let newest = self.newest();
-        let Some(old) = self.versions.get(newest) else {
-            return Ok(refused(801));
-        };
-        let before = old.vertices;
-        let vertices = vertices_after(before, entries);
-        if !entries.iter().all(|entry| fits(*entry, before, vertices)) {
+        let before = self.vertices_of(newest);
+        let after = vertices_after(before, entries);
+        if !entries.iter().all(|entry| fits(*entry, before, after)) {
             return Ok(refused(111));
         }
-        let mut table = old.table.clone()?;
-        for entry in entries {
-            note(&mut table, *entry);
+        for pair in 0..PAIRS {
+            let weight = self.weight(pair_of(newest, 0, 0).wrapping_add(pair));
+            self.weights.push(weight)?;
         }
-        self.versions.push(PlainVersion { vertices, table })?;
+        self.vertices.push(after)?;
+        for entry in entries {
+            self.note(*entry);
+        }
         Ok(SessionReply::Of(Reply::Version(self.newest() as u64)))
     }
 
-    fn acquire(&mut self, which: Which) -> Result<SessionReply, Fail> {
+    // Notes an entry in the newest version.
+    fn note(&mut self, entry: Entry) {
+        let newest = self.newest();
+        if let Some((source, destination)) = entry.ends()
+            && let Some(cell) = self.weights.get_mut(pair_of(newest, source, destination))
+        {
+            *cell = match entry {
+                Entry::Add(_, _, weight) => Some(weight),
+                Entry::Remove(..) | Entry::Grow(_) => None,
+            };
+        }
+    }
+
+    // Answers a hold.
+    fn acquire(&mut self, which: Which) -> Result<SessionReply, AllocError> {
         let version = match which {
             Which::Newest => self.newest(),
             Which::At(number) => number as usize,
@@ -178,25 +164,24 @@ impl PlainWorld {
         Ok(SessionReply::Of(Reply::Ticket(ticket, version as u64)))
     }
 
+    // Answers a release.
     fn release(&mut self, ticket: u64) -> SessionReply {
-        if self.held(ticket).is_none() {
-            return refused(122);
-        }
-        if let Some(index) = index_of(ticket)
+        if self.held(ticket).is_some()
+            && let Some(index) = index_of(ticket)
             && let Some(held) = self.tickets.get_mut(index)
         {
             *held = None;
+            return SessionReply::Of(Reply::Released);
         }
-        SessionReply::Of(Reply::Released)
+        refused(122)
     }
 
+    // Answers a start of one of so many programs.
     fn start(
         &mut self,
         programs: usize,
-        program: u64,
-        ticket: u64,
-        turns: u64,
-    ) -> Result<SessionReply, Fail> {
+        (program, ticket, turns): (u64, u64, u64),
+    ) -> Result<SessionReply, AllocError> {
         let program = match index_of(program) {
             Some(index) if index < programs => index,
             _ => return Ok(refused(412)),
@@ -213,21 +198,54 @@ impl PlainWorld {
         Ok(SessionReply::Job(self.jobs.len() as u64))
     }
 
-    fn step_job(
-        &mut self,
-        alloc: Global,
-        plans: &[Arc<Plan>],
-        number: u64,
-    ) -> Result<SessionReply, Fail> {
+    // Counts a step of a job.
+    fn count(&mut self, number: u64) {
         if let Some(index) = index_of(number)
             && let Some(job) = self.jobs.get_mut(index)
         {
             job.count = job.count.wrapping_add(1);
         }
-        match self.afresh(alloc, plans, number)? {
-            Some((stand, _outcome)) => Ok(SessionReply::Stands(stand)),
-            None => Ok(refused(413)),
+    }
+
+    /// What a step is answered.
+    pub(crate) fn answer(
+        &mut self,
+        alloc: Global,
+        plans: &[Arc<Plan>],
+        step: &SessionStep,
+    ) -> Result<SessionReply, Fail> {
+        match step {
+            SessionStep::Commit(batch) => Ok(self.commit(batch.entries())?),
+            SessionStep::Acquire(which) => Ok(self.acquire(*which)?),
+            SessionStep::Release(ticket) => Ok(self.release(*ticket)),
+            SessionStep::Start {
+                program,
+                ticket,
+                turns,
+            } => Ok(self.start(plans.len(), (*program, *ticket, *turns))?),
+            SessionStep::JobStep(number) => {
+                self.count(*number);
+                match self.afresh(alloc, plans, *number)? {
+                    Some((stand, _outcome)) => Ok(SessionReply::Stands(stand)),
+                    None => Ok(refused(413)),
+                }
+            }
         }
+    }
+
+    // The graph of a version, which never grew.
+    fn graph_of(&self, alloc: Global, version: usize) -> Result<Flat, Fail> {
+        let vertices = self.vertices_of(version);
+        let mut batch = Batch::new(alloc);
+        for source in 0..vertices {
+            for destination in 0..vertices {
+                if let Some(weight) = self.weight(pair_of(version, source, destination)) {
+                    batch.push(Entry::Add(source, destination, weight))?;
+                }
+            }
+        }
+        let graph = Graph::new(vertices, 64)?.apply(alloc, &batch)?;
+        Ok(Flat::of(alloc, &graph)?)
     }
 
     /// How a job stands and what it shows: its program is run from the beginning, on the graph of its version alone.
@@ -237,25 +255,30 @@ impl PlainWorld {
         plans: &[Arc<Plan>],
         number: u64,
     ) -> Result<Option<(Stand, Outcome)>, Fail> {
-        let Some(index) = index_of(number) else {
+        let Some(asked) = self.job(number) else {
             return Ok(None);
         };
-        let Some(asked) = self.jobs.get(index) else {
+        let Some(plan) = plans.get(asked.program) else {
             return Ok(None);
         };
-        let (Some(plan), Some(version)) = (
-            plans.get(asked.program),
-            self.versions.get(asked.version),
-        ) else {
-            return Ok(None);
-        };
-        let graph = Arc::new(alloc, graph_of(alloc, version)?).map_err(|_| AllocError)?;
-        let mut job = Job::new(alloc, plan.clone()?, graph, asked.turns)?;
-        let mut alone = Alone::new(alloc);
-        let mut stand = Stand::Going;
-        for _step in 0..asked.count {
-            stand = job.step(alloc, &mut alone)?;
-        }
-        Ok(Some((stand, job.outcome(alloc)?)))
+        let graph = self.graph_of(alloc, asked.version)?;
+        Ok(Some(run_afresh(alloc, plan, graph, asked)?))
     }
+}
+
+// How a run of a plan on a graph stands after as many steps as were asked of a job, and what it shows.
+fn run_afresh(
+    alloc: Global,
+    plan: &Arc<Plan>,
+    graph: Flat,
+    asked: PlainJob,
+) -> Result<(Stand, Outcome), SessionError> {
+    let graph = Arc::new(alloc, graph)?;
+    let mut job = Job::new(alloc, plan.clone()?, graph, asked.turns)?;
+    let mut alone = Alone::new(alloc);
+    let mut stand = Stand::Going;
+    for _step in 0..asked.count {
+        stand = job.step(alloc, &mut alone)?;
+    }
+    Ok((stand, job.outcome(alloc)?))
 }

@@ -1,11 +1,11 @@
 //! Random steps, beside a plain world.
 
 use crate::plain_world::{MOST_VERTICES, PlainWorld};
-use crate::programs::{batch_of, plans, session};
-use algorithm_meaning::Outcome;
+use crate::programs::{commit, plans, session};
+use crate::rows::{shown_by, shows};
 use measuring::{Random, random_weight};
 use plans::Plan;
-use session::{Session, SessionStep};
+use session::{Session, SessionError, SessionReply, SessionStep};
 use std::alloc::{AllocError, Global};
 use std::sync::Arc;
 use std::test::Fail;
@@ -42,7 +42,7 @@ fn random_step(alloc: Global, random: &mut Random) -> Result<SessionStep, AllocE
                 random_entry(random),
                 random_entry(random),
             ];
-            SessionStep::Commit(batch_of(alloc, &entries)?)
+            return commit(alloc, &entries);
         }
         2 => SessionStep::Acquire(Which::Newest),
         3 => SessionStep::Acquire(Which::At(random.below(8))),
@@ -56,31 +56,28 @@ fn random_step(alloc: Global, random: &mut Random) -> Result<SessionStep, AllocE
     })
 }
 
+// A random list of steps.
+fn random_steps(alloc: Global, seed: u64) -> Result<Vec<SessionStep>, AllocError> {
+    let mut random = Random::new(seed);
+    let mut steps = Vec::new(alloc);
+    for _step in 0..STEPS {
+        steps.push(random_step(alloc, &mut random)?)?;
+    }
+    Ok(steps)
+}
+
+// A plan, to be shared.
+fn share(alloc: Global, plan: Plan) -> Result<Arc<Plan>, SessionError> {
+    Ok(Arc::new(alloc, plan)?)
+}
+
 // The plans of the programs, each to be shared.
 fn shared(alloc: Global) -> Result<Vec<Arc<Plan>>, Fail> {
     let mut shared = Vec::new(alloc);
     for plan in plans(alloc)? {
-        shared.push(Arc::new(alloc, plan).map_err(|_| AllocError)?)?;
+        shared.push(share(alloc, plan)?)?;
     }
     Ok(shared)
-}
-
-// Whether two outcomes show the same.
-fn is_alike(one: &Outcome, other: &Outcome) -> bool {
-    let vectors = one
-        .vectors
-        .as_slice()
-        .iter()
-        .zip(other.vectors.as_slice())
-        .all(|(one, other)| one.entries.as_slice() == other.entries.as_slice());
-    let sets = one.sets.as_slice().iter().zip(other.sets.as_slice()).all(|(one, other)| one
-        .members
-        .as_slice()
-        == other.members.as_slice());
-    let counts = one.vectors.as_slice().len() == other.vectors.as_slice().len()
-        && one.sets.as_slice().len() == other.sets.as_slice().len();
-    let text = one.text.as_slice() == other.text.as_slice();
-    vectors && sets && counts && text && one.end == other.end && one.turns == other.turns
 }
 
 // Whether the job of this number shows what it shows when it is run afresh, or is there in neither.
@@ -91,46 +88,46 @@ fn is_job_alike(
     plans: &[Arc<Plan>],
     number: u64,
 ) -> Result<bool, Fail> {
-    let afresh = world.afresh(alloc, plans, number)?;
-    match (session.job(number), afresh) {
-        (Some(job), Some((_stand, wanted))) => Ok(is_alike(&job.outcome(alloc)?, &wanted)),
-        (None, None) => Ok(true),
-        _ => Ok(false),
+    match world.afresh(alloc, plans, number)? {
+        Some((_stand, wanted)) => Ok(shows(alloc, session, number, &shown_by(&wanted))?),
+        None => Ok(session.job(number).is_none()),
     }
 }
 
-// Whether a session answers a random list of steps as the plain world does, one by one and all at once, and its jobs show
-// the same afterwards.
+// Whether a session answers a step as the plain world does, and as it was answered among all at once.
+fn is_step_alike(
+    alloc: Global,
+    session: &mut Session,
+    world: &mut PlainWorld,
+    plans: &[Arc<Plan>],
+    (step, at_once): (&SessionStep, &SessionReply),
+) -> Result<bool, Fail> {
+    let reply = session.step(alloc, step.clone()?)?;
+    let wanted = world.answer(alloc, plans, step)?;
+    Ok(reply == wanted && *at_once == wanted)
+}
+
+// What a session answers to steps at once.
+fn replies_at_once(alloc: Global, steps: &[SessionStep]) -> Result<Vec<SessionReply>, Fail> {
+    let mut session = session(alloc)?;
+    Ok(session.run(alloc, steps)?)
+}
+
+// Whether a session answers a random list of steps as the plain world does, one by one and all at once, and its jobs show the
+// same afterwards.
 fn is_list_alike(alloc: Global, plans: &[Arc<Plan>], seed: u64) -> Result<bool, Fail> {
-    let mut random = Random::new(seed);
-    let mut steps = Vec::new(alloc);
-    for _step in 0..STEPS {
-        steps.push(random_step(alloc, &mut random)?)?;
-    }
+    let steps = random_steps(alloc, seed)?;
+    let replies = replies_at_once(alloc, &steps)?;
+    let mut alike = steps.len() == replies.len();
     let mut session = session(alloc)?;
     let mut world = PlainWorld::new(alloc)?;
-    let mut replies = Vec::new(alloc);
-    let mut alike = true;
-    for step in &steps {
-        let reply = session.step(alloc, step.clone()?)?;
-        let wanted = world.answer(alloc, plans, step)?;
-        alike = alike && reply == wanted;
-        replies.push(wanted)?;
+    for taken in steps.iter().zip(&replies) {
+        alike = is_step_alike(alloc, &mut session, &mut world, plans, taken)? && alike;
     }
     for number in 0..8u64 {
-        alike = alike && is_job_alike(alloc, &session, &world, plans, number)?;
+        alike = is_job_alike(alloc, &session, &world, plans, number)? && alike;
     }
-    Ok(alike && is_run_alike(alloc, &steps, &replies)?)
-}
-
-fn is_run_alike(
-    alloc: Global,
-    steps: &[SessionStep],
-    wanted: &[session::SessionReply],
-) -> Result<bool, Fail> {
-    let mut session = session(alloc)?;
-    let replies = session.run(alloc, steps)?;
-    Ok(replies.as_slice() == wanted)
+    Ok(alike)
 }
 
 #[test]

@@ -4,10 +4,12 @@
 //! With ample memory the test sees the answers alone. `bench/refused-growths` runs it again and again, and refuses one after
 //! another of the requests for memory that are made between the lines "asked" and "900" or "whole".
 
-use crate::programs::{GOING, ShownRun, commit, session, shows};
+use crate::programs::session;
+use crate::rows::{Deed, Shown, shows, steps_of};
 use algorithm_meaning::End;
+use runner::Stand;
 use session::{Session, SessionError, SessionReply, SessionStep};
-use std::alloc::{AllocError, Global};
+use std::alloc::Global;
 use std::test::Fail;
 use test_helpers::{ask, tell};
 use tree_batch::Entry;
@@ -24,20 +26,14 @@ const GROWN_FORK: &[Entry] = &[
 ];
 
 // A commit, a hold, a search of what is held, and seven steps of it.
-fn ten_steps(alloc: Global) -> Result<Vec<SessionStep>, AllocError> {
-    let mut steps = Vec::new(alloc);
-    steps.push(commit(alloc, GROWN_FORK)?)?;
-    steps.push(SessionStep::Acquire(Which::Newest))?;
-    steps.push(SessionStep::Start {
-        program: 1,
-        ticket: 1,
-        turns: 10,
-    })?;
-    for _step in 0..7u32 {
-        steps.push(SessionStep::JobStep(1))?;
-    }
-    Ok(steps)
-}
+const TEN_STEPS: [Deed; 4] = [
+    Deed::Commit(GROWN_FORK),
+    Deed::Acquire(Which::Newest),
+    Deed::Start(1, 1, 10),
+    Deed::Steps(&[1], 7),
+];
+
+const GOING: SessionReply = SessionReply::Stands(Stand::Going);
 
 const REPLIES: [SessionReply; 10] = [
     SessionReply::Of(Reply::Version(1)),
@@ -52,12 +48,27 @@ const REPLIES: [SessionReply; 10] = [
     GOING,
 ];
 
-const HALFWAY: ShownRun<'static> = ShownRun {
-    parents: &[0, 0, 0, -1, -1, -1, -1],
-    frontier: &[1, 2],
+const HALFWAY: Shown<'static> = Shown {
+    entries: &[0, 0, 0, -1, -1, -1, -1],
+    members: &[1, 2],
+    text: b"",
     end: End::TurnsOver,
     turns: 1,
 };
+
+// Takes a step, and again where it was answered 900. Returns the reply, and whether it was answered so.
+fn take_twice(
+    alloc: Global,
+    session: &mut Session,
+    step: SessionStep,
+    again: SessionStep,
+) -> Result<(SessionReply, bool), SessionError> {
+    match session.step(alloc, step) {
+        Err(SessionError::NoMemory) => Ok((session.step(alloc, again)?, true)),
+        Ok(reply) => Ok((reply, false)),
+        Err(error) => Err(error),
+    }
+}
 
 // How often steps were answered 900, and how often they were answered as they should be. A step that was answered 900 is
 // taken again.
@@ -68,15 +79,10 @@ fn take(
     again: Vec<SessionStep>,
 ) -> Result<(u32, u32), SessionError> {
     let (mut refused, mut answered) = (0u32, 0u32);
-    for ((step, again), wanted) in steps.into_iter().zip(again).zip(&REPLIES) {
-        let reply = match session.step(alloc, step) {
-            Err(SessionError::NoMemory) => {
-                refused = refused.wrapping_add(1);
-                session.step(alloc, again)?
-            }
-            other => other?,
-        };
-        answered = answered.wrapping_add(u32::from(reply == *wanted));
+    for (index, (step, again)) in steps.into_iter().zip(again).enumerate() {
+        let (reply, was_refused) = take_twice(alloc, session, step, again)?;
+        refused = refused.wrapping_add(u32::from(was_refused));
+        answered = answered.wrapping_add(u32::from(REPLIES.get(index) == Some(&reply)));
     }
     Ok((refused, answered))
 }
@@ -85,11 +91,11 @@ fn take(
 fn ten_steps_of_a_session(rt: HostRuntime) -> Result<(), Fail> {
     let alloc = rt.alloc();
     let mut session = session(alloc)?;
-    let (steps, again) = (ten_steps(alloc)?, ten_steps(alloc)?);
+    let (steps, again) = (steps_of(alloc, &TEN_STEPS)?, steps_of(alloc, &TEN_STEPS)?);
     let asked = ask(&rt);
     let taken = take(alloc, &mut session, steps, again);
     let told = tell(&rt, matches!(taken, Ok((1, _))));
-    let shown = shows(alloc, &session, 1, HALFWAY)?;
+    let shown = shows(alloc, &session, 1, &HALFWAY)?;
     drop(session);
     assert!(rt; asked && told && shown);
     assert!(rt; taken == Ok((0, 10)) || taken == Ok((1, 10)));

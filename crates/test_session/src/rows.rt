@@ -1,196 +1,156 @@
-//! A search beside a commit and a release.
+//! Rows: steps of a session with their replies, and what its jobs show.
 
-use crate::programs::{FORK, GOING, ShownRun, commit, ended, session, shows, stepped};
-use algorithm_meaning::End;
-use session::{Session, SessionReply, SessionStep};
+use crate::programs::commit;
+use algorithm_meaning::{End, Outcome};
+use session::{Session, SessionError, SessionReply, SessionStep};
 use std::alloc::{AllocError, Global};
-use std::test::Fail;
 use tree_batch::Entry;
-use version_list::{Reply, Which};
+use version_list::Which;
 
-// A search that is started on the fork and taken seven steps; then the last edge is removed and the version is let go; then
-// so many steps more.
-fn beside_a_commit(alloc: Global, more: u32) -> Result<Vec<SessionStep>, AllocError> {
-    let mut steps = Vec::new(alloc);
-    steps.push(commit(alloc, FORK)?)?;
-    steps.push(SessionStep::Acquire(Which::Newest))?;
-    steps.push(SessionStep::Start {
-        program: 1,
-        ticket: 1,
-        turns: 10,
-    })?;
-    for _step in 0..7u32 {
-        steps.push(SessionStep::JobStep(1))?;
-    }
-    steps.push(commit(alloc, &[Entry::Remove(3, 4)])?)?;
-    steps.push(SessionStep::Release(1))?;
-    for _step in 0..more {
-        steps.push(SessionStep::JobStep(1))?;
-    }
-    Ok(steps)
+/// A step of a session. A start names a program, a ticket and how many turns the job may take. Jobs take a step each, in this
+/// order, so many times.
+#[derive(Clone, Copy)]
+pub(crate) enum Deed {
+    Commit(&'static [Entry]),
+    Acquire(Which),
+    Release(u64),
+    Start(u64, u64, u64),
+    Steps(&'static [u64], u32),
 }
 
-// What these steps are answered, up to the fourteenth after the release, at which the search ends.
-const REPLIES: [SessionReply; 26] = [
-    SessionReply::Of(Reply::Version(1)),
-    SessionReply::Of(Reply::Ticket(1, 1)),
-    SessionReply::Job(1),
-    GOING,
-    GOING,
-    GOING,
-    GOING,
-    GOING,
-    GOING,
-    GOING,
-    SessionReply::Of(Reply::Version(2)),
-    SessionReply::Of(Reply::Released),
-    GOING,
-    GOING,
-    GOING,
-    GOING,
-    GOING,
-    GOING,
-    GOING,
-    GOING,
-    GOING,
-    GOING,
-    GOING,
-    GOING,
-    GOING,
-    SessionReply::Stands(runner::Stand::Ended(End::Finished)),
-];
+/// What a job shows: the entries of its vector, the members of its set, its text, its end and its turns.
+#[derive(Clone, Copy)]
+pub(crate) struct Shown<'a> {
+    pub(crate) entries: &'a [i64],
+    pub(crate) members: &'a [u32],
+    pub(crate) text: &'a [u8],
+    pub(crate) end: End,
+    pub(crate) turns: u64,
+}
 
-// Where the search stands after seven steps.
-const HALFWAY: ShownRun<'static> = ShownRun {
-    parents: &[0, 0, 0, -1, -1, -1],
-    frontier: &[1, 2],
-    end: End::TurnsOver,
-    turns: 1,
-};
+/// A step and the last reply to it; a job and what it shows; or the number of a job that there is not.
+#[derive(Clone, Copy)]
+pub(crate) enum Row {
+    Takes(Deed, SessionReply),
+    Shows(u64, Shown<'static>),
+    HasNo(u64),
+}
 
-// What it shows at its end, on the version that it was started on.
-const WHOLE: ShownRun<'static> = ShownRun {
-    parents: &[0, 0, 0, 2, 3, -1],
-    frontier: &[],
-    end: End::Finished,
-    turns: 4,
-};
+/// What an outcome shows of the first vector and the first set. Each program has one vector, and no more than one set.
+pub(crate) fn shown_by(outcome: &Outcome) -> Shown<'_> {
+    Shown {
+        entries: match outcome.vectors.as_slice().first() {
+            Some(vector) => vector.entries.as_slice(),
+            None => &[],
+        },
+        members: match outcome.sets.as_slice().first() {
+            Some(set) => set.members.as_slice(),
+            None => &[],
+        },
+        text: outcome.text.as_slice(),
+        end: outcome.end,
+        turns: outcome.turns,
+    }
+}
 
-// The replies to steps that are taken one by one.
-fn taken(
+// Whether both are the same.
+fn is_same(one: &Shown<'_>, other: &Shown<'_>) -> bool {
+    one.entries == other.entries
+        && one.members == other.members
+        && one.text == other.text
+        && one.end == other.end
+        && one.turns == other.turns
+}
+
+/// Whether the job of this number shows that.
+pub(crate) fn shows(
     alloc: Global,
-    session: &mut Session,
-    steps: Vec<SessionStep>,
-) -> Result<Vec<SessionReply>, Fail> {
-    let mut replies = Vec::new(alloc);
-    for step in steps {
-        replies.push(session.step(alloc, step)?)?;
-    }
-    Ok(replies)
-}
-
-#[test]
-fn a_job_keeps_its_version_beside_a_commit(rt: HostRuntime) -> Result<(), Fail> {
-    let alloc = rt.alloc();
-    let mut session = session(alloc)?;
-    let replies = taken(alloc, &mut session, beside_a_commit(alloc, 0)?)?;
-    let halfway = shows(alloc, &session, 1, HALFWAY)?;
-    let twentieth = stepped(alloc, &mut session, 1, 13)?;
-    let last = stepped(alloc, &mut session, 1, 1)?;
-    let whole = shows(alloc, &session, 1, WHOLE)?;
-    let after = stepped(alloc, &mut session, 1, 3)?;
-    let stays = shows(alloc, &session, 1, WHOLE)?;
-    drop(session);
-    assert_eq!(rt; replies.as_slice(), &REPLIES[..12]);
-    assert!(rt; halfway);
-    assert_eq!(rt; twentieth, Some(GOING));
-    assert_eq!(rt; last, Some(ended(End::Finished)));
-    assert!(rt; whole);
-    assert_eq!(rt; after, last);
-    assert!(rt; stays);
-    Ok(())
-}
-
-#[test]
-fn all_steps_at_once_are_answered_alike(rt: HostRuntime) -> Result<(), Fail> {
-    let alloc = rt.alloc();
-    let mut session = session(alloc)?;
-    let replies = session.run(alloc, &beside_a_commit(alloc, 14)?)?;
-    let whole = shows(alloc, &session, 1, WHOLE)?;
-    drop(session);
-    assert_eq!(rt; replies.as_slice(), REPLIES.as_slice());
-    assert!(rt; whole);
-    Ok(())
-}
-
-// A session with a search of the fork that may take so many turns, as job 1, and the faulty program on the fork, as job 2.
-fn two_jobs(alloc: Global, turns: u64) -> Result<Session, Fail> {
-    let mut session = session(alloc)?;
-    let mut steps = Vec::new(alloc);
-    steps.push(commit(alloc, FORK)?)?;
-    steps.push(SessionStep::Acquire(Which::At(1)))?;
-    for program in &[1, 2] {
-        steps.push(SessionStep::Start {
-            program: *program,
-            ticket: 1,
-            turns,
-        })?;
-    }
-    drop(session.run(alloc, &steps)?);
-    Ok(session)
-}
-
-#[test]
-fn a_job_stays_where_its_turns_are_over(rt: HostRuntime) -> Result<(), Fail> {
-    let alloc = rt.alloc();
-    let mut session = two_jobs(alloc, 1)?;
-    let before = stepped(alloc, &mut session, 1, 8)?;
-    let over = stepped(alloc, &mut session, 1, 1)?;
-    let shown = shows(alloc, &session, 1, HALFWAY)?;
-    let after = stepped(alloc, &mut session, 1, 2)?;
-    let stays = shows(alloc, &session, 1, HALFWAY)?;
-    drop(session);
-    assert_eq!(rt; before, Some(GOING));
-    assert_eq!(rt; over, Some(ended(End::TurnsOver)));
-    assert!(rt; shown);
-    assert_eq!(rt; after, over);
-    assert!(rt; stays);
-    Ok(())
-}
-
-// Whether a job has ended by the fault of its second statement, and has printed what stands before it.
-fn is_at_its_fault(alloc: Global, session: &Session, number: u64) -> Result<bool, AllocError> {
+    session: &Session,
+    number: u64,
+    wanted: &Shown<'_>,
+) -> Result<bool, AllocError> {
     match session.job(number) {
         None => Ok(false),
-        Some(job) => {
-            let outcome = job.outcome(alloc)?;
-            Ok(
-                outcome.end == End::Fault(401, 2)
-                    && outcome.turns == 0
-                    && outcome.text.as_slice() == b"1\n".as_slice(),
-            )
+        Some(job) => Ok(is_same(&shown_by(&job.outcome(alloc)?), wanted)),
+    }
+}
+
+/// How many steps a deed is.
+pub(crate) fn count_of(deed: Deed) -> usize {
+    match deed {
+        Deed::Steps(jobs, times) => jobs.len().wrapping_mul(times as usize),
+        _ => 1,
+    }
+}
+
+// The step of a deed at an index.
+fn step_at(alloc: Global, deed: Deed, index: usize) -> Result<SessionStep, AllocError> {
+    match deed {
+        Deed::Commit(entries) => commit(alloc, entries),
+        Deed::Acquire(which) => Ok(SessionStep::Acquire(which)),
+        Deed::Release(ticket) => Ok(SessionStep::Release(ticket)),
+        Deed::Start(program, ticket, turns) => Ok(SessionStep::Start {
+            program,
+            ticket,
+            turns,
+        }),
+        Deed::Steps(jobs, _) => {
+            let job = jobs.get(index % jobs.len().max(1)).copied();
+            Ok(SessionStep::JobStep(job.unwrap_or(0)))
         }
     }
 }
 
-#[test]
-fn a_job_stays_at_its_fault(rt: HostRuntime) -> Result<(), Fail> {
-    let alloc = rt.alloc();
-    let mut session = two_jobs(alloc, 5)?;
-    let before = stepped(alloc, &mut session, 2, 1)?;
-    let fault = stepped(alloc, &mut session, 2, 1)?;
-    let shown = is_at_its_fault(alloc, &session, 2)?;
-    let after = stepped(alloc, &mut session, 2, 2)?;
-    let stays = is_at_its_fault(alloc, &session, 2)?;
-    let other = stepped(alloc, &mut session, 1, 7)?;
-    let halfway = shows(alloc, &session, 1, HALFWAY)?;
-    drop(session);
-    assert_eq!(rt; before, Some(GOING));
-    assert_eq!(rt; fault, Some(ended(End::Fault(401, 2))));
-    assert!(rt; shown);
-    assert_eq!(rt; after, fault);
-    assert!(rt; stays);
-    assert_eq!(rt; other, Some(GOING));
-    assert!(rt; halfway);
+// Adds the steps of a deed.
+fn add_steps(alloc: Global, steps: &mut Vec<SessionStep>, deed: Deed) -> Result<(), AllocError> {
+    for index in 0..count_of(deed) {
+        steps.push(step_at(alloc, deed, index)?)?;
+    }
     Ok(())
+}
+
+/// The steps of deeds.
+pub(crate) fn steps_of(alloc: Global, deeds: &[Deed]) -> Result<Vec<SessionStep>, AllocError> {
+    let mut steps = Vec::new(alloc);
+    for deed in deeds {
+        add_steps(alloc, &mut steps, *deed)?;
+    }
+    Ok(steps)
+}
+
+/// The steps of a table.
+pub(crate) fn steps_of_rows(alloc: Global, rows: &[Row]) -> Result<Vec<SessionStep>, AllocError> {
+    let mut steps = Vec::new(alloc);
+    for row in rows {
+        if let Row::Takes(deed, _) = row {
+            add_steps(alloc, &mut steps, *deed)?;
+        }
+    }
+    Ok(steps)
+}
+
+// Takes the steps of a deed one by one, and gives the last reply.
+fn last_reply(
+    alloc: Global,
+    session: &mut Session,
+    deed: Deed,
+) -> Result<Option<SessionReply>, SessionError> {
+    let mut last = None;
+    for index in 0..count_of(deed) {
+        last = Some(session.step(alloc, step_at(alloc, deed, index)?)?);
+    }
+    Ok(last)
+}
+
+/// Whether a session does what a row says.
+pub(crate) fn is_right(
+    alloc: Global,
+    session: &mut Session,
+    row: &Row,
+) -> Result<bool, SessionError> {
+    match row {
+        Row::Takes(deed, wanted) => Ok(last_reply(alloc, session, *deed)? == Some(*wanted)),
+        Row::Shows(number, wanted) => Ok(shows(alloc, session, *number, wanted)?),
+        Row::HasNo(number) => Ok(session.job(*number).is_none()),
+    }
 }
