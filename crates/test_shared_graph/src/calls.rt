@@ -141,7 +141,8 @@ fn call_by<J: Naming, R: Threads + Wait + Sync>(
     alloc: Global,
     graph: &SharedGraph<J, &R>,
     me: &mut Reader<J>,
-    (kept, call): (&mut Vec<Kept<J>>, Call),
+    kept: &mut Vec<Kept<J>>,
+    call: Call,
 ) -> Result<u64, u16> {
     match batch_for(alloc, call) {
         Ok(batch) => call_on(rt, alloc, graph, me, kept, (call, batch)),
@@ -174,7 +175,8 @@ fn call_asked<J: Naming, R: Threads + Wait + Print + Sync>(
     alloc: Global,
     graph: &SharedGraph<J, &R>,
     seats: &mut Vec<Seat<J>>,
-    (kept, call): (&mut Vec<Kept<J>>, Call),
+    kept: &mut Vec<Kept<J>>,
+    call: Call,
 ) -> Result<u64, u16> {
     let (Ok(batch), before) = (batch_for(alloc, call), seen(seats)) else {
         return Err(0);
@@ -195,7 +197,7 @@ fn call_asked<J: Naming, R: Threads + Wait + Print + Sync>(
         return Err(0);
     }
     match seats.get_mut(0) {
-        Some(me) => call_by(rt, alloc, graph, &mut me.reader, (kept, call)),
+        Some(me) => call_by(rt, alloc, graph, &mut me.reader, kept, call),
         None => Err(0),
     }
 }
@@ -231,10 +233,10 @@ fn make<J: Naming + Send + Sync, R: Threads + Wait + Clock + Print + Sync>(
         Call::Learn | Call::Held(..) | Call::InChunks(_) | Call::Is(..) | Call::Counts(..) => {
             call_alone(alloc, seats, kept, (who, call))
         }
-        Call::Asked(call) => call_asked(rt, alloc, graph, seats, (kept, *call)),
+        Call::Asked(call) => call_asked(rt, alloc, graph, seats, kept, *call),
         Call::All(roles) => act_all(rt, alloc, graph, seats, roles),
         _ => match seats.get_mut(who) {
-            Some(me) => call_by(rt, alloc, graph, &mut me.reader, (kept, call)),
+            Some(me) => call_by(rt, alloc, graph, &mut me.reader, kept, call),
             None => Err(0),
         },
     }

@@ -58,7 +58,7 @@ pub(crate) fn seats<J: Naming>(alloc: Global, readers: Vec<Reader<J>>) -> Vec<Se
 }
 
 /// Has all readers do these roles beside one another, each on a thread of its own; those that have none, the last. The answer is the
-/// sum of theirs, or the last that is refused.
+/// sum of theirs, or the first that is refused.
 pub(crate) fn act_all<J: Naming + Send + Sync, R: Threads + Wait + Clock + Sync>(
     rt: &R,
     alloc: Global,
@@ -83,13 +83,12 @@ pub(crate) fn act_all<J: Naming + Send + Sync, R: Threads + Wait + Clock + Sync>
             seat.answer = act(rt, alloc, graph, &mut seat.reader, seat.role)
         },
     );
-    let mut sum = Ok(0u64);
+    let mut sum = 0u64;
     for seat in seats.iter() {
-        sum = match (sum, seat.answer) {
-            (Ok(sum), Ok(answer)) => Ok(sum.wrapping_add(answer)),
-            (_, Err(error)) => Err(error),
-            (error, _) => error,
-        };
+        match seat.answer {
+            Ok(answer) => sum = sum.wrapping_add(answer),
+            Err(error) => return Err(error),
+        }
     }
-    sum
+    Ok(sum)
 }

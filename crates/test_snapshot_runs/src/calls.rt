@@ -182,7 +182,8 @@ fn call_by<J: Naming, R: Threads + Wait + Print + Sync>(
     alloc: Global,
     graph: &SharedGraph<J, &R>,
     me: &mut Reader<J>,
-    (kept, call): (&mut Vec<Kept<J>>, Call),
+    kept: &mut Vec<Kept<J>>,
+    call: Call,
 ) -> Result<u64, u16> {
     match call {
         Call::Commit(entries) => commit(rt, alloc, graph, me, entries),
@@ -210,7 +211,7 @@ fn make<J: Naming + Send + Sync, R: Threads + Wait + Print + Sync>(
         Call::Learn => learn(readers, who),
         Call::Beside => run_beside(rt, alloc, graph, readers),
         _ => match readers.get_mut(who) {
-            Some(me) => call_by(rt, alloc, graph, me, (kept, call)),
+            Some(me) => call_by(rt, alloc, graph, me, kept, call),
             None => Err(0),
         },
     }
