@@ -1,23 +1,25 @@
 //! Tests of shared graphs on threads: what no contract says of two passes that told each other nothing, of chunk sizes, and of
 //! calls after a refusal; and calls that memory may run out for.
 //!
+//! All tests are tables of calls with their answers (`tables.rt`, `beside.rt` and `refused_growths.rt`), which `calls.rt` makes.
+//!
 //! They stand apart from `test_library`, so that no other test has leave to wait, and both crates are
 //! proved side by side.
 #![tactic(auto)]
 
 #[cfg(test)]
-mod chunk_sizes;
+mod batches;
 #[cfg(test)]
-mod growth;
+mod beside;
 #[cfg(test)]
-mod latest_versions;
+mod calls;
 #[cfg(test)]
-mod many_commits;
-#[cfg(test)]
-mod refused_calls;
+mod kept;
 #[cfg(test)]
 mod refused_growths;
 #[cfg(test)]
-mod rows;
+mod roles;
 #[cfg(test)]
-mod trims;
+mod seats;
+#[cfg(test)]
+mod tables;

@@ -1,14 +1,20 @@
 //! Tests of runs on the versions of a shared graph, on threads: what no contract says of when a version is given;
 //! and compiling, runs and a race that memory may run out for.
+//!
+//! Most tests are tables of calls with their answers (`tables.rt`), which `calls.rt` makes.
 #![tactic(auto)]
 
 #[cfg(test)]
-mod bounds;
+mod beside;
 #[cfg(test)]
-mod growth;
+mod calls;
 #[cfg(test)]
-mod paths;
+mod programs;
+#[cfg(test)]
+mod racing;
 #[cfg(test)]
 mod refused_growths;
 #[cfg(test)]
-mod runs;
+mod running;
+#[cfg(test)]
+mod tables;

@@ -1,5 +1,0 @@
-use Rattle.test_shared_graph.proofs.growth.growth_beside_readers_and_trims.Given as goal
-
--- the graph that was just opened
-abbrev pub ghosts-three_readers : goal.ghosts-three_readers
-ghosts-three_readers a b = record { book = b.opening; vertices = 1; room = 12 }

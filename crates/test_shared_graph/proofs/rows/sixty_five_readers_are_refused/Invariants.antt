@@ -1,5 +1,0 @@
-use Rattle.test_shared_graph.proofs.rows.sixty_five_readers_are_refused.Given as goal
-
--- the graph that is not opened
-abbrev pub ghosts-refused_readers : goal.ghosts-refused_readers
-ghosts-refused_readers a b = record { book = b.opening; vertices = 2; room = 16777216 }

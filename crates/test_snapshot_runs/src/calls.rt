@@ -1,0 +1,288 @@
+//! Calls of the readers of a shared graph: a table of them is made in order, and each must be answered as its row says.
+ghost use Rattle.std.specs.Prelude.{◌≡◌};
+
+use crate::beside::{run_beside, step_to};
+use crate::programs::Program;
+use crate::running::{run_asked, run_on_held, run_program, run_text};
+use shared_graph::{Held, Naming, Opening, Reader, SharedError, SharedGraph, Unreleased};
+use std::alloc::{AllocError, Global};
+use std::marker::Brand;
+use std::sync::Wait;
+use std::thread::Threads;
+use tree_batch::{Batch, Entry};
+use version_list::Which;
+
+/// A call.
+#[derive(Clone, Copy)]
+pub(crate) enum Call {
+    /// Commits these entries.
+    Commit(&'static [Entry]),
+    /// Commits what makes the path of the version of this number, by the one before.
+    Step(u64),
+    /// Learns what the first reader's token tells.
+    Learn,
+    /// Holds a version, beside those that are held.
+    Hold(Which),
+    /// Releases the version that was held last.
+    Release,
+    Trim,
+    /// Runs a program by so many workers on the newest version.
+    Newest(Program, usize),
+    /// Runs its text.
+    Text(Program, usize),
+    /// Runs it on one of the versions that are held, of which the first is 0.
+    Held(usize, Program, usize),
+    /// Runs it on the newest version, and once more where memory runs out for it.
+    Asked(Program, usize),
+    /// Commits again and again, while the next reader runs the search.
+    Beside,
+}
+
+/// The number of a reader, its call, and how that is answered: by the number of a version, how many entries were dropped, or 0;
+/// or by the number of a refusal, or 0 where a run shows something else.
+pub(crate) type Row = (usize, Call, Result<u64, u16>);
+
+/// The calls on a graph that is opened with so many vertices and readers, and those after it is gone.
+#[derive(Clone, Copy)]
+pub(crate) struct Table {
+    pub(crate) vertices: u32,
+    pub(crate) readers: usize,
+    pub(crate) rows: &'static [Row],
+    pub(crate) closed: &'static [Row],
+}
+
+// A version that is held, which is let go without a release.
+struct Kept<J: Naming> {
+    held: Option<Held<J>>,
+}
+
+impl<J: Naming> Drop for Kept<J> {
+    fn drop(self) {
+        let Kept { held } = self;
+        if let Some(held) = held {
+            held.into_snapshot();
+        }
+    }
+}
+
+// The batch of these entries.
+fn batch_of(alloc: Global, entries: &[Entry]) -> Result<Batch, AllocError> {
+    let mut batch = Batch::new(alloc);
+    for entry in entries {
+        if batch.push(*entry).is_err() {
+            return Err(AllocError);
+        }
+    }
+    Ok(batch)
+}
+
+// The answer to a step.
+fn answer(made: Result<u64, SharedError>) -> Result<u64, u16> {
+    match made {
+        Ok(number) => Ok(number),
+        Err(error) => Err(error.number()),
+    }
+}
+
+/// Commits these entries.
+pub(crate) fn commit<J: Naming, R: Threads + Wait + Sync>(
+    rt: &R,
+    alloc: Global,
+    graph: &SharedGraph<J, &R>,
+    me: &mut Reader<J>,
+    entries: &[Entry],
+) -> Result<u64, u16> {
+    match batch_of(alloc, entries) {
+        Ok(batch) => answer(graph.commit(rt, alloc, me, batch)),
+        Err(AllocError) => Err(900),
+    }
+}
+
+fn hold<J: Naming, R: Wait>(
+    rt: &R,
+    alloc: Global,
+    graph: &SharedGraph<J, &R>,
+    me: &mut Reader<J>,
+    (kept, which): (&mut Vec<Kept<J>>, Which),
+) -> Result<u64, u16> {
+    match graph.hold(rt, alloc, me, which) {
+        Ok(held) => {
+            let number = held.snapshot().number;
+            let is_kept = kept.push(Kept { held: Some(held) }).is_ok();
+            if is_kept { Ok(number) } else { Err(900) }
+        }
+        Err(error) => Err(error.number()),
+    }
+}
+
+fn release<J: Naming, R: Wait>(
+    rt: &R,
+    graph: &SharedGraph<J, &R>,
+    me: &mut Reader<J>,
+    kept: &mut Vec<Kept<J>>,
+) -> Result<u64, u16> {
+    let Some(mut last) = kept.pop() else {
+        return Err(0);
+    };
+    let Some(held) = last.held.take() else {
+        return Err(0);
+    };
+    match graph.release(rt, me, held) {
+        Ok(()) => Ok(0),
+        Err(Unreleased { error, held }) => {
+            held.into_snapshot();
+            Err(error.number())
+        }
+    }
+}
+
+// Runs a program on one of the versions that are held.
+fn run_kept<J: Naming, R: Threads + Sync>(
+    rt: &R,
+    alloc: Global,
+    kept: Option<&Kept<J>>,
+    run: (Program, usize),
+) -> Result<u64, u16> {
+    match kept {
+        Some(Kept { held: Some(held) }) => run_on_held(rt, alloc, held, run),
+        _ => Err(0),
+    }
+}
+
+// Has a reader learn what the first reader's token tells.
+fn learn<J: Naming>(readers: &mut Vec<Reader<J>>, who: usize) -> Result<u64, u16> {
+    let Some(first) = readers.first() else {
+        return Err(0);
+    };
+    let token = first.token();
+    if let Some(me) = readers.get_mut(who) {
+        me.learn(&token);
+    }
+    Ok(0)
+}
+
+// Makes a call that needs a reader alone.
+fn run_by<J: Naming, R: Threads + Print + Sync>(
+    rt: &R,
+    alloc: Global,
+    me: &mut Reader<J>,
+    call: Call,
+) -> Result<u64, u16> {
+    match call {
+        Call::Newest(program, workers) => run_program(rt, alloc, me, (program, workers)),
+        Call::Text(program, workers) => run_text(rt, alloc, me, (program, workers)),
+        Call::Asked(program, workers) => run_asked(rt, alloc, me, (program, workers)),
+        _ => Err(0),
+    }
+}
+
+// Makes a call of one reader.
+fn call_by<J: Naming, R: Threads + Wait + Print + Sync>(
+    rt: &R,
+    alloc: Global,
+    graph: &SharedGraph<J, &R>,
+    me: &mut Reader<J>,
+    kept: &mut Vec<Kept<J>>,
+    call: Call,
+) -> Result<u64, u16> {
+    match call {
+        Call::Commit(entries) => commit(rt, alloc, graph, me, entries),
+        Call::Step(number) => commit(rt, alloc, graph, me, step_to(number)),
+        Call::Hold(which) => hold(rt, alloc, graph, me, (kept, which)),
+        Call::Release => release(rt, graph, me, kept),
+        Call::Trim => answer(graph.trim(rt, me)),
+        Call::Held(at, program, workers) => {
+            run_kept(rt, alloc, kept.get(at), (program, workers))
+        }
+        _ => run_by(rt, alloc, me, call),
+    }
+}
+
+// Makes a call.
+fn make<J: Naming + Send + Sync, R: Threads + Wait + Print + Sync>(
+    rt: &R,
+    alloc: Global,
+    graph: &SharedGraph<J, &R>,
+    readers: &mut Vec<Reader<J>>,
+    kept: &mut Vec<Kept<J>>,
+    (who, call): (usize, Call),
+) -> Result<u64, u16> {
+    match call {
+        Call::Learn => learn(readers, who),
+        Call::Beside => run_beside(rt, alloc, graph, readers),
+        _ => match readers.get_mut(who) {
+            Some(me) => call_by(rt, alloc, graph, me, kept, call),
+            None => Err(0),
+        },
+    }
+}
+
+// The place of the first row that is answered otherwise.
+fn first_wrong<J: Naming + Send + Sync, R: Threads + Wait + Print + Sync>(
+    rt: &R,
+    alloc: Global,
+    graph: &SharedGraph<J, &R>,
+    readers: &mut Vec<Reader<J>>,
+    rows: &[Row],
+) -> Option<usize> {
+    let mut kept = Vec::new(alloc);
+    for (at, (who, call, answer)) in rows.iter().enumerate() {
+        if make(rt, alloc, graph, readers, &mut kept, (*who, *call)) != *answer {
+            return Some(at);
+        }
+    }
+    None
+}
+
+// The same of rows whose graph is gone.
+fn first_wrong_closed<J: Naming, R: Threads + Print + Sync>(
+    rt: &R,
+    alloc: Global,
+    readers: &mut Vec<Reader<J>>,
+    rows: &[Row],
+) -> Option<usize> {
+    for (at, (who, call, answer)) in rows.iter().enumerate() {
+        match readers.get_mut(*who) {
+            Some(me) => {
+                if run_by(rt, alloc, me, *call) != *answer {
+                    return Some(at);
+                }
+            }
+            None => return Some(at),
+        }
+    }
+    None
+}
+
+fn opened<J: Naming + Send + Sync, R: Threads + Wait + Print + AllocGlobal + Sync>(
+    rt: &R,
+    opening: Opening,
+    vertices: u32,
+    table: &Table,
+) -> [Option<usize>; 2]
+    requires book { opening ≡ J.book }
+    requires vertices { J.vertices ≡ vertices }
+    requires room { J.room ≡ 16777216 }
+{
+    let alloc = rt.alloc();
+    match SharedGraph::<J, &R>::open(rt, alloc, opening, vertices, 64, table.readers) {
+        Ok((graph, mut readers)) => {
+            let open = first_wrong(rt, alloc, &graph, &mut readers, table.rows);
+            drop(graph);
+            [
+                open,
+                first_wrong_closed(rt, alloc, &mut readers, table.closed),
+            ]
+        }
+        Err(_) => [Some(0); 2],
+    }
+}
+
+/// Whether all rows of a table are answered as they must be; else the places of the first that are not, while the graph is there
+/// and after it is gone.
+pub(crate) fn wrong<R: Threads + Wait + Print + AllocGlobal + Sync>(
+    rt: &R,
+    table: &Table,
+) -> [Option<usize>; 2] {
+    opened::<Brand, R>(rt, Opening::new(), table.vertices, table)
+}

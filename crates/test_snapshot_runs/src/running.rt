@@ -1,0 +1,117 @@
+//! Runs of a program, each answered by the number of its version, by 0 where it does not show what it must, or by the number of
+//! its refusal.
+
+use crate::programs::{Counting, Program};
+use compiler::compile;
+use plans::Plan;
+use shared_graph::{Held, Naming, Reader};
+use snapshot_runs::{run_held, run_latest};
+use std::alloc::Global;
+use std::thread::Threads;
+use test_helpers::{ask, tell};
+use text_runs::{RunBounds, TextRunError, run_text_on_latest};
+
+/// The plan of a text, if it has one.
+pub(crate) fn planned(alloc: Global, text: &[u8]) -> Option<Plan> {
+    compile(alloc, text).ok()
+}
+
+/// A run of a plan on the newest version.
+pub(crate) fn run_newest<J: Naming, R: Threads + Sync>(
+    rt: &R,
+    alloc: Global,
+    plan: &Plan,
+    me: &mut Reader<J>,
+    (program, workers): (Program, usize),
+) -> Result<u64, u16> {
+    let gate = Counting::new();
+    match run_latest(rt, alloc, plan, me, workers, program.turns(), &gate) {
+        Ok((number, outcome)) => program.answer(number, &outcome, (&gate, workers)),
+        Err(error) => Err(error.number()),
+    }
+}
+
+/// A run on the newest version.
+pub(crate) fn run_program<J: Naming, R: Threads + Sync>(
+    rt: &R,
+    alloc: Global,
+    me: &mut Reader<J>,
+    (program, workers): (Program, usize),
+) -> Result<u64, u16> {
+    match planned(alloc, program.text()) {
+        Some(plan) => run_newest(rt, alloc, &plan, me, (program, workers)),
+        None => Err(0),
+    }
+}
+
+/// A run of a text on the newest version.
+pub(crate) fn run_text<J: Naming, R: Threads + Sync>(
+    rt: &R,
+    alloc: Global,
+    me: &mut Reader<J>,
+    (program, workers): (Program, usize),
+) -> Result<u64, u16> {
+    let gate = Counting::new();
+    let bounds = RunBounds {
+        workers,
+        turns: program.turns(),
+    };
+    match run_text_on_latest(rt, alloc, program.text(), me, bounds, &gate) {
+        Ok((number, outcome)) => program.answer(number, &outcome, (&gate, workers)),
+        Err(TextRunError::NotCompiled(error)) => Err(error.number()),
+        Err(TextRunError::NotRun(error)) => Err(error.number()),
+    }
+}
+
+/// A run on a version that is held.
+pub(crate) fn run_on_held<J: Naming, R: Threads + Sync>(
+    rt: &R,
+    alloc: Global,
+    held: &Held<J>,
+    (program, workers): (Program, usize),
+) -> Result<u64, u16> {
+    let Some(plan) = planned(alloc, program.text()) else {
+        return Err(0);
+    };
+    let gate = Counting::new();
+    let number = held.snapshot().number;
+    match run_held(rt, alloc, &plan, held, workers, program.turns(), &gate) {
+        Ok(outcome) => program.answer(number, &outcome, (&gate, workers)),
+        Err(error) => Err(error.number()),
+    }
+}
+
+/// A run on the newest version that memory may run out for, and the same again then. The reader is given the same version
+/// meanwhile.
+pub(crate) fn run_asked<J: Naming, R: Threads + Print + Sync>(
+    rt: &R,
+    alloc: Global,
+    me: &mut Reader<J>,
+    run: (Program, usize),
+) -> Result<u64, u16> {
+    let Some(plan) = planned(alloc, run.0.text()) else {
+        return Err(0);
+    };
+    let asked = ask(rt);
+    let first = run_newest(rt, alloc, &plan, me, run);
+    let told = tell(rt, first == Err(900));
+    let newest = newest(me);
+    let ran = if first == Err(900) {
+        run_newest(rt, alloc, &plan, me, run)
+    } else {
+        first
+    };
+    if asked && told && ran == newest {
+        ran
+    } else {
+        Err(0)
+    }
+}
+
+// The number of the newest version.
+fn newest<J: Naming>(me: &mut Reader<J>) -> Result<u64, u16> {
+    match me.latest() {
+        Ok(snapshot) => Ok(snapshot.number),
+        Err(error) => Err(error.number()),
+    }
+}
