@@ -1,9 +1,8 @@
 """What `gsnap check` answers for texts, and the tokens of a text."""
-import os
 import re
 import subprocess
 
-GSNAP = os.environ["GSNAP"]
+from program import GSNAP, PATIENCE
 
 # A token, if it stands after white bytes and comments; `min=` and `max=` come before names, and longer symbols before shorter ones.
 TOKEN = re.compile(
@@ -38,7 +37,7 @@ class Checker:
     def asked(self, text):
         with open(self.path, "w", encoding="ascii") as it:
             it.write(text)
-        ran = subprocess.run([GSNAP, "check", self.path], capture_output=True, timeout=60, text=True, check=False)
+        ran = subprocess.run([GSNAP, "check", self.path], capture_output=True, timeout=PATIENCE, text=True, check=False)
         if (ran.returncode, ran.stdout, ran.stderr) == (0, "ok\n", ""):
             return None
         refused = re.match(rf"{re.escape(self.path)}: refused ([0-9]+) at ([0-9]+)\n", ran.stderr)

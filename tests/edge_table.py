@@ -1,8 +1,7 @@
 """A plain table of edges beside a graph of `gsnap`: what the program must reply to `edges`, and to a run of `INTO`."""
-import os
 import subprocess
 
-GSNAP = os.environ["GSNAP"]
+from program import GSNAP, PATIENCE
 
 # A program that shows what comes into each vertex: how many edges, and a sum over their sources and weights that tells sets
 # of them apart. It pulls, so it reads the lists of the edges by destination, where `edges` reads those by source.
@@ -76,7 +75,7 @@ class EdgeTable:
 def differs(programs, lines, replies):
     """Returns the first line of the program's replies to some lines that is another than it should be, beside that, or None."""
     text = "".join(f"{line}\n" for line in lines).encode()
-    ran = subprocess.run([GSNAP, "script", "-", *programs], input=text, capture_output=True, timeout=60, check=False)
+    ran = subprocess.run([GSNAP, "script", "-", *programs], input=text, capture_output=True, timeout=PATIENCE, check=False)
     wanted = "".join(f"{reply}\n" for reply in replies).encode()
     if (ran.returncode, ran.stdout, ran.stderr) == (0, wanted, b""):
         return None
