@@ -82,7 +82,7 @@ pub fn run_alone(
 /// # Example
 ///
 /// ```
-/// let outcome = run(rt, alloc, &plan, &graph, 2, 9, &gate)?;
+/// match run(rt, alloc, plan, graph, workers, TURNS, &gate) {
 /// ```
 pub fn run<R: Threads + Sync, G: Gate + Sync>(
     rt: &R,

@@ -101,7 +101,7 @@ impl Session {
     /// # Example
     ///
     /// ```
-    /// let held = session.step(alloc, SessionStep::Acquire(Which::At(0)))?;
+    /// session.step(alloc, SessionStep::JobStep(job))?;
     /// ```
     pub fn step(&mut self, alloc: Global, step: SessionStep) -> Result<SessionReply, SessionError>
         ensures takes { IfOk result (λ reply. (programs : List ScheduledProgram) (w : World)

@@ -143,7 +143,7 @@ impl<J: Naming, R: Wait + Drop> SharedGraph<J, R> {
     /// # Example
     ///
     /// ```
-    /// let small = match graph.hold(rt, alloc, me, Which::Newest) {
+    /// match graph.hold(rt, alloc, me, Which::Newest) {
     /// ```
     pub fn hold<T: Wait>(
         &self,

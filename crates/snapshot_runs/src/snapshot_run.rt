@@ -80,7 +80,7 @@ pub fn run_latest<J: Naming, R: Threads + Sync, G: Gate + Sync>(
 /// # Example
 ///
 /// ```
-/// match run_held(rt, alloc, plan, held, workers, TURNS, &Open) {
+/// match run_held(rt, alloc, &plan, held, workers, program.turns(), &gate) {
 /// ```
 pub fn run_held<J: Naming, R: Threads + Sync, G: Gate + Sync>(
     rt: &R,
