@@ -91,7 +91,7 @@ fn shown(
     Ok(run(rt, rt.alloc(), &plan, graph, workers, 100, roll)?)
 }
 
-// How many pieces n workers are told of in an apply, or none if they are not told of each once.
+// For how many pieces of an apply the gate is called by n workers, or none if it is not called once for each.
 fn told_pieces(
     rt: &(impl Threads + AllocGlobal + Sync),
     graph: &Flat,
@@ -117,7 +117,7 @@ fn is_enough(told: Option<u64>, share: usize, workers: u64) -> bool {
     }
 }
 
-// Whether n workers are told once of each piece of an apply from all vertices, and of none in a push from no vertex.
+// Whether the gate is called once for each piece of an apply from all vertices, and never in a push from no vertex.
 fn are_told_once(
     rt: &(impl Threads + AllocGlobal + Sync),
     graph: &Flat,
@@ -193,7 +193,7 @@ const STAR: &[(u32, u32)] = &[
 // {1, 2}, {3} and {4}.
 const OUT: &[(u32, u32)] = &[(0, 0), (0, 1), (0, 2), (0, 3), (0, 4), (3, 0), (4, 0)];
 
-// The same edges turned round.
+// The transposed edges.
 const INTO: &[(u32, u32)] = &[(0, 0), (1, 0), (2, 0), (3, 0), (4, 0), (0, 3), (0, 4)];
 
 const UNSAID: [&str; 2] = ["", ""];

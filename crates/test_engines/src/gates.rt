@@ -1,4 +1,4 @@
-//! Of what a gate is told, and when: of each piece once, before it begins, by the worker that does it.
+//! When a gate is called: once for each piece, before it begins, by the worker that does it.
 
 use crate::roll::{MOST_PIECES, ONCE, Roll, is_once};
 use crew::{PieceAssignment, Work, run_pieces};
@@ -38,7 +38,7 @@ impl Work for Witness<'_> {
     }
 }
 
-// Whether a gate is told of each of n pieces once, before it is done, by its worker.
+// Whether a gate is called once for each of n pieces, before it is done, by its worker.
 fn is_told(
     rt: &(impl Threads + AllocGlobal + Sync),
     pieces: usize,
