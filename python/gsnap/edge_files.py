@@ -1,0 +1,261 @@
+"""Graphs in files: edge lists, matrices of the Matrix Market, graphs of the DIMACS challenge of shortest paths; gzip or not."""
+from __future__ import annotations
+
+import array
+import operator
+import re
+import zlib
+from collections.abc import Iterator
+from typing import IO
+
+from .edge_lists import MOST_VERTICES, NATURAL, PIECE, REAL, Edges, Form, blocks, shown, texts
+from .errors import Mistake
+
+BANNER = b"%%matrixmarket"
+INTEGER = rb"[+-]?[0-9]+"
+FIELDS = {"pattern": [], "integer": [INTEGER], "real": [REAL], "complex": [REAL, REAL]}
+SYMMETRIES = {
+    "general": list(FIELDS),
+    "symmetric": list(FIELDS),
+    "skew-symmetric": ["integer", "real", "complex"],
+    "hermitian": ["complex"],
+}
+
+
+class Matrix(Edges):
+    """The edges of a matrix in coordinates."""
+
+    comments = b"%"
+
+    def __init__(self, name: str, form: Form, banner: list[bytes]) -> None:
+        super().__init__(name, form)
+        self.first = 1
+        self.last = self.announced = None
+        self.entries = 0
+        words = [it.decode(errors="backslashreplace").lower() for it in banner]
+        if len(words) != 5:
+            self.fail(f"{len(words)} words, where 5 are wanted: %%MatrixMarket matrix coordinate FIELD SYMMETRY", 1)
+        known = (["matrix"], ["coordinate"], FIELDS, SYMMETRIES)
+        for word, it, choice in zip(banner[1:], words[1:], known):
+            if it not in choice:
+                self.fail(f"{shown(word)} stands where {' or '.join(choice)} is wanted", 1)
+        self.field, self.symmetry = words[3:]
+        if self.field not in SYMMETRIES[self.symmetry]:
+            self.fail(f"{shown(banner[4])} does not go with {shown(banner[3])}", 1)
+        if form.weights and self.field not in ("integer", "real"):
+            self.fail(f"{shown(banner[3])} entries are no weights", 1)
+        self.is_both_ways |= self.symmetry != "general"
+
+    def passes(self, words: list[bytes]) -> bool:
+        if not self.line or super().passes(words):
+            return True
+        if self.announced is not None:
+            return False
+        self.take_size(words)
+        return True
+
+    def take_size(self, words: list[bytes]) -> None:
+        """Takes the line with the numbers of rows, columns and entries."""
+        for word in words:
+            if not re.fullmatch(NATURAL, word):
+                self.fail(f"{shown(word)} is no number of rows, columns or entries", self.line + 1)
+        if len(words) != 3:
+            self.fail(f"{shown(b' '.join(words))} is not the numbers of rows, columns and entries", self.line + 1)
+        rows, columns, self.announced = map(int, words)
+        if rows != columns:
+            self.fail(f"{rows} rows and {columns} columns, but a graph is a square matrix", self.line + 1)
+        if rows < 1 or rows > MOST_VERTICES and self.numbers is None:
+            self.fail(f"{rows} rows, but a graph has 1 to {MOST_VERTICES} vertices", self.line + 1)
+        self.last = rows
+
+    def form(self, words: list[bytes]) -> tuple[bytes, ...]:
+        values = FIELDS[self.field]
+        if len(words) != 2 + len(values):
+            wanted = f"where {2 + len(values)} are wanted for an entry that is {self.field}"
+            self.fail(f"{shown(b' '.join(words))} is {len(words)} words, {wanted}", self.line + 1)
+        return (NATURAL, NATURAL, *values)
+
+    def refuse(self, words: list[bytes]) -> None:
+        for word in words[:2]:
+            if not re.fullmatch(NATURAL, word):
+                self.fail(self.no_vertex(word), self.line + 1)
+        for word, value in zip(words[2:], FIELDS[self.field]):
+            if not re.fullmatch(value, word):
+                kind = "integer" if value == INTEGER else "real number"
+                self.fail(f"{shown(word)} is no {kind}", self.line + 1)
+
+    def no_vertex(self, word: bytes) -> str:
+        return f"{shown(word)} is no row or column from 1 to {self.last}"
+
+    def add(self, ends: list[bytes]) -> None:
+        announced = self.announced or 0
+        left = announced - self.entries
+        self.entries += len(ends) // 2
+        vertices = self.in_range(ends)
+        if len(ends) // 2 > left:
+            entry = b" ".join(ends[2 * left : 2 * left + 2])
+            reason = f"{shown(entry)} stands after as many entries as announced, {announced}"
+            self.fail(reason, self.line + 1 + left)
+        if self.symmetry == "skew-symmetric" and any(map(operator.eq, vertices[0::2], vertices[1::2])):
+            at = next(i for i in range(0, len(ends), 2) if vertices[i] == vertices[i + 1])
+            reason = f"{shown(ends[at])} is row and column of an entry that is skew-symmetric"
+            self.fail(reason, self.line + 1 + at // 2)
+        self.ends.extend(vertices if self.numbers is None else self.renamed([it + 1 for it in vertices], self.numbers))
+
+    def finish(self) -> int:
+        if self.announced is None:
+            self.fail("it ends before its numbers of rows, columns and entries", self.line)
+        if self.entries < self.announced:
+            self.fail(f"it ends after {self.entries} entries, but {self.announced} are announced", self.line)
+        if self.numbers is None and self.last is not None:
+            return self.last
+        return super().finish()
+
+    def weight(self, word: bytes, line: int) -> int:
+        weight = super().weight(word, line)
+        if self.symmetry == "skew-symmetric" and weight == -(1 << 63):
+            self.fail(f"{shown(word)} with the other sign is no weight from -2^63 to 2^63 - 1", line)
+        return weight
+
+    def back(self, weight: int) -> int:
+        return -weight if self.symmetry == "skew-symmetric" else weight
+
+
+class Paths(Edges):
+    """The edges of a graph of the DIMACS challenge of shortest paths."""
+
+    comments = b"c"
+    source = 1
+
+    def __init__(self, name: str, form: Form) -> None:
+        super().__init__(name, form)
+        self.weights = array.array("q")
+        self.first = 1
+        self.last = self.announced = None
+
+    def passes(self, words: list[bytes]) -> bool:
+        if not words or words[0] == b"c":
+            return True
+        if self.announced is not None:
+            return False
+        for word in words[2:]:
+            if not re.fullmatch(NATURAL, word):
+                self.fail(f"{shown(word)} is no number of vertices or edges", self.line + 1)
+        vertices, self.announced = map(int, words[2:])
+        if not 1 <= vertices <= MOST_VERTICES:
+            self.fail(f"{vertices} vertices, but a graph has 1 to {MOST_VERTICES}", self.line + 1)
+        self.last = vertices
+        return True
+
+    def form(self, words: list[bytes]) -> tuple[bytes, ...]:
+        if len(words) != 4 or words[0] != b"a":
+            self.fail(f"{shown(b' '.join(words))} is no edge, which is a, two vertices and a weight", self.line + 1)
+        return (rb"a", NATURAL, NATURAL, REAL)
+
+    def no_vertex(self, word: bytes) -> str:
+        return f"{shown(word)} is no vertex from 1 to {self.last}"
+
+    def finish(self) -> int:
+        edges = len(self.ends) // 2
+        if edges != self.announced:
+            self.fail(f"it has {edges} edges, but {self.announced} are announced", self.line)
+        return self.last if self.numbers is None and self.last is not None else super().finish()
+
+
+def is_of_paths(block: bytes) -> bool:
+    """Says whether these first lines are those of a graph of the DIMACS challenge."""
+    for line in block.splitlines():
+        words = line.split()
+        if words and words[0] != b"c":
+            return len(words) == 4 and words[:2] == [b"p", b"sp"]
+    return False
+
+
+def read_edges(name: str, found: Iterator[bytes], form: Form) -> tuple[Edges, int]:
+    """Returns the edges in blocks of whole lines, and the number of vertices. `name` is what messages call the file."""
+    block = next(found, b"")
+    words = block.partition(b"\n")[0].split()
+    edges: Edges
+    if words and words[0].lower() == BANNER:
+        edges = Matrix(name, form, words)
+    elif is_of_paths(block):
+        edges = Paths(name, form)
+    else:
+        edges = Edges(name, form)
+    while block:
+        edges.read(block)
+        block = next(found, b"")
+    return edges, edges.finish()
+
+
+def read_file(path: str, form: Form) -> tuple[Edges, int]:
+    """Returns the edges in a file, or in standard input if the path is `-`, and the number of vertices.
+
+    Raises Mistake if the file cannot be read, or is not in its form; the text names the file, and the line and the word.
+    """
+    is_input = path == "-"
+    name = "standard input" if is_input else path
+    try:
+        with open(0 if is_input else path, "rb", closefd=not is_input) as source:
+            return read_edges(name, blocks(texts(source)), form)
+    except OSError as error:
+        raise Mistake(f"{name}: {error.strerror}") from None
+    except EOFError:
+        raise Mistake(f"{name}: what gzip packed is cut") from None
+    except zlib.error:
+        raise Mistake(f"{name}: what gzip packed is damaged") from None
+
+
+def rows_of(edges: Edges) -> Iterator[tuple[list[int], list[int] | None]]:
+    """Yields some edges at a time: their ends, source and destination by turns, and their weights, or None if they have none.
+
+    If the edges go both ways, the reversed ones are among them. Of two edges with the same ends the later one counts.
+    """
+    for at in range(0, len(edges.ends), PIECE):
+        ends = edges.ends[at : at + PIECE].tolist()
+        if edges.weights is not None:
+            weights = edges.weights[at // 2 : (at + PIECE) // 2].tolist()
+            yield both_ways(edges, ends, weights) if edges.is_both_ways else (ends, weights)
+        else:
+            yield ends + reversed_ends(ends) if edges.is_both_ways else ends, None
+
+
+def reversed_ends(ends: list[int]) -> list[int]:
+    """Returns the ends of the reversed edges; a self-loop has none."""
+    back: list[int] = []
+    for source, destination in zip(ends[0::2], ends[1::2]):
+        if source != destination:
+            back += (destination, source)
+    return back
+
+
+def both_ways(edges: Edges, ends: list[int], weights: list[int]) -> tuple[list[int], list[int]]:
+    """Returns the ends and weights of edges, each but a self-loop with the reversed one after it."""
+    both: list[int] = []
+    weights_of_both: list[int] = []
+    for source, destination, weight in zip(ends[0::2], ends[1::2], weights):
+        both += (source, destination)
+        weights_of_both.append(weight)
+        if source != destination:
+            both += (destination, source)
+            weights_of_both.append(edges.back(weight))
+    return both, weights_of_both
+
+
+def write_script(out: IO[bytes], edges: Edges, count: int) -> None:
+    """Writes the script that opens a graph with `count` vertices and commits the edges as version 1."""
+    out.write(b"vertices %d\n" % count)
+    for ends, weights in rows_of(edges):
+        if weights is None:
+            out.write(b"add %d %d\n" * (len(ends) // 2) % tuple(ends))
+        else:
+            words = [0] * (3 * len(weights))
+            words[0::3], words[1::3], words[2::3] = ends[0::2], ends[1::2], weights
+            out.write(b"add %d %d %d\n" * len(weights) % tuple(words))
+    out.write(b"commit\n")
+
+
+def write_names(out: IO[bytes], edges: Edges) -> None:
+    """Writes a line for each vertex: its number, and its name."""
+    for name, number in (edges.numbers or {}).items():
+        out.write(b"%d %s\n" % (number, name if isinstance(name, bytes) else b"%d" % name))

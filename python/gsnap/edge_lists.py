@@ -1,0 +1,219 @@
+"""The edges in a text of lines: edge lists such as those of SNAP, and what the other kinds of files share with them."""
+from __future__ import annotations
+
+import array
+import fractions
+import functools
+import re
+import zlib
+from collections.abc import Iterable, Iterator, Sequence
+from dataclasses import dataclass
+from typing import IO, NoReturn, Union
+
+from .errors import Mistake
+
+MOST_VERTICES = 16_777_216
+# How many bytes are read at a time.
+PIECE = 1 << 20
+SPACE = rb"[^\S\n]"
+NATURAL = rb"[0-9]{1,18}"
+REAL = rb"[+-]?(?:[0-9]+\.?[0-9]*|\.[0-9]+)(?:[eEdD][+-]?[0-9]+)?"
+
+# A vertex as the file has it: a word, or a row of a matrix.
+Name = Union[bytes, int]
+
+
+@dataclass(frozen=True)
+class Form:
+    """How a file is read.
+
+    With `weights` each edge has one, a whole number after it was multiplied by `scale`. With `names` any words are vertices; else
+    they are numbers from 0, or from 1 if the file is `one_based`. With `both_ways` each edge is there reversed too.
+    """
+
+    weights: bool = False
+    scale: int = 1
+    names: bool = False
+    one_based: bool = False
+    both_ways: bool = False
+
+
+def shown(word: bytes) -> str:
+    """Returns a word of the file as a message shows it."""
+    return repr(word[:60].decode(errors="replace"))
+
+
+def texts(source: IO[bytes]) -> Iterator[bytes]:
+    """Yields the bytes of a stream, unpacked if gzip packed them. Raises EOFError or zlib.error if the packing is not whole."""
+    piece = source.read(PIECE)
+    if not piece.startswith(b"\x1f\x8b"):
+        while piece:
+            yield piece
+            piece = source.read(PIECE)
+        return
+    member = zlib.decompressobj(wbits=31)
+    while piece:
+        if member.eof:
+            member = zlib.decompressobj(wbits=31)
+        yield member.decompress(piece)
+        piece = member.unused_data or source.read(PIECE)
+    if not member.eof:
+        raise EOFError
+
+
+def blocks(pieces: Iterable[bytes]) -> Iterator[bytes]:
+    """Yields the same bytes as many whole lines at a time; the last line is ended too."""
+    begun: list[bytes] = []
+    for piece in pieces:
+        end = piece.rfind(b"\n") + 1
+        if end:
+            yield b"".join(begun) + piece[:end]
+            begun = []
+        begun.append(piece[end:])
+    last = b"".join(begun)
+    if last:
+        yield last + b"\n"
+
+
+@functools.lru_cache
+def lines_of(words: tuple[bytes, ...]) -> re.Pattern[bytes]:
+    """Makes the expression for lines that have a word for each expression."""
+    line = SPACE + rb"*" + (SPACE + rb"+").join(words) + SPACE + rb"*\n"
+    return re.compile(rb"(?:" + line + rb")*")
+
+
+class Edges:
+    """The edges of an edge list, as `read` has found them so far.
+
+    `ends` has the source and the destination of each edge, and `weights` their weights, or is None if the edges have none.
+    `numbers` has the number of each name, in the order in which they came, or is None if the vertices are numbers. Each mistake
+    raises Mistake, which names the file and the line.
+    """
+
+    comments: bytes | tuple[bytes, ...] = (b"#", b"%")
+    # The place of the source on a line; the destination and the weight follow.
+    source = 0
+
+    def __init__(self, name: str, form: Form) -> None:
+        self.name = name
+        self.line = 0
+        self.ends = array.array("I")
+        self.weights = array.array("q") if form.weights else None
+        self.scale = form.scale
+        self.numbers: dict[Name, int] | None = {} if form.names else None
+        self.first = 1 if form.one_based else 0
+        self.last: int | None = MOST_VERTICES - 1 + self.first
+        self.is_both_ways = form.both_ways
+
+    def fail(self, reason: str, line: int) -> NoReturn:
+        """Raises the exception for a mistake."""
+        raise Mistake(f"{self.name}:{line}: {reason}")
+
+    def read(self, block: bytes) -> None:
+        """Reads whole lines: at a time as many as have the same form."""
+        at = 0
+        while at < len(block):
+            end = block.index(b"\n", at) + 1
+            words = block[at:end].split()
+            if self.passes(words):
+                self.line += 1
+                at = end
+                continue
+            found = lines_of(self.form(words)).match(block, at)
+            lines = found.group() if found else b""
+            if not lines:
+                self.refuse(words)
+            self.take(lines.split(), len(words))
+            at += len(lines)
+
+    def take(self, found: list[bytes], width: int) -> None:
+        """Takes the words of lines that have so many words each."""
+        ends = [b""] * (2 * len(found) // width)
+        ends[0::2] = found[self.source :: width]
+        ends[1::2] = found[self.source + 1 :: width]
+        self.add(ends)
+        if self.weights is not None:
+            self.weigh(found[self.source + 2 :: width], self.weights)
+        self.line += len(ends) // 2
+
+    def passes(self, words: list[bytes]) -> bool:
+        """Says whether a line has no edge."""
+        if words and words[0].lower().strip(b"%") == b"matrixmarket":
+            self.fail(f"{shown(words[0])} begins no matrix: '%%MatrixMarket' on the first line does", self.line + 1)
+        return not words or words[0].startswith(self.comments)
+
+    def form(self, words: list[bytes]) -> tuple[bytes, ...]:
+        """Returns an expression for each word of an edge's line, as many as this line has."""
+        if len(words) < 2:
+            self.fail(f"{shown(words[0])} stands alone, where an edge is two vertices, apart by spaces or tabs", self.line + 1)
+        ends = (NATURAL, NATURAL) if self.numbers is None else (rb"[^\s#%]\S*", rb"\S+")
+        if self.weights is None:
+            return ends + (rb"\S+",) * (len(words) - 2)
+        if len(words) < 3:
+            self.fail(f"{shown(b' '.join(words))} has no weight behind the two vertices", self.line + 1)
+        return ends + (REAL,) + (rb"\S+",) * (len(words) - 3)
+
+    def refuse(self, words: list[bytes]) -> None:
+        """Raises the exception for the first mistake on an edge's line that does not have its form."""
+        for word in words[self.source : self.source + 2]:
+            if self.numbers is None and not re.fullmatch(NATURAL, word):
+                self.fail(self.no_vertex(word), self.line + 1)
+        if self.weights is not None and not re.fullmatch(REAL, words[self.source + 2]):
+            self.fail(f"{shown(words[self.source + 2])} is no weight", self.line + 1)
+
+    def no_vertex(self, word: bytes) -> str:
+        """Says of a word that it is no vertex."""
+        return f"{shown(word)} is no vertex from {self.first} to {self.last}; --names FILE takes any words"
+
+    def add(self, ends: list[bytes]) -> None:
+        """Adds edges by the words of their ends."""
+        self.ends.extend(self.in_range(ends) if self.numbers is None else self.renamed(ends, self.numbers))
+
+    def weigh(self, words: list[bytes], weights: array.array[int]) -> None:
+        """Adds the weights that the words are, while their lines are not counted yet."""
+        try:
+            weights.extend([int(word) * self.scale for word in words])
+        except (ValueError, OverflowError):
+            del weights[len(self.ends) // 2 - len(words) :]
+            weights.extend(self.weight(word, self.line + 1 + at) for at, word in enumerate(words))
+
+    def weight(self, word: bytes, line: int) -> int:
+        """Returns the weight that a word is."""
+        number = fractions.Fraction(word.decode().lower().replace("d", "e")) * self.scale
+        if number.denominator != 1:
+            asked = f"times {self.scale} is no whole number" if self.scale > 1 else "is no whole number; --scale N multiplies weights by N"
+            self.fail(f"{shown(word)} {asked}", line)
+        if not -(1 << 63) <= number < 1 << 63:
+            self.fail(f"{shown(word)} is no weight from -2^63 to 2^63 - 1", line)
+        return int(number)
+
+    def back(self, weight: int) -> int:
+        """Returns the weight of the reversed edge."""
+        return weight
+
+    def in_range(self, ends: list[bytes]) -> list[int]:
+        """Returns the vertices that the words are, from 0."""
+        vertices = list(map(int, ends))
+        first, last = self.first, self.last if self.last is not None else -1
+        if min(vertices) < first or max(vertices) > last:
+            at = next(i for i, it in enumerate(vertices) if not first <= it <= last)
+            self.fail(self.no_vertex(ends[at]), self.line + 1 + at // 2)
+        return [it - 1 for it in vertices] if first else vertices
+
+    def renamed(self, ends: Sequence[Name], numbers: dict[Name, int]) -> list[int]:
+        """Returns the numbers of names; a name that is new gets the next one."""
+        for name in ends:
+            if name not in numbers:
+                numbers[name] = len(numbers)
+        if len(numbers) > MOST_VERTICES:
+            at = next(i for i, it in enumerate(ends) if numbers[it] >= MOST_VERTICES)
+            name = ends[at]
+            word = name if isinstance(name, bytes) else b"%d" % name
+            self.fail(f"{shown(word)} is one more than {MOST_VERTICES} vertices", self.line + 1 + at // 2)
+        return [numbers[name] for name in ends]
+
+    def finish(self) -> int:
+        """Returns the number of vertices, when all is read."""
+        if not self.ends:
+            raise Mistake(f"{self.name}: it has no edge")
+        return max(self.ends) + 1 if self.numbers is None else len(self.numbers)
