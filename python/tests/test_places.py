@@ -1,0 +1,73 @@
+"""The table of refusals, and places in programs."""
+from __future__ import annotations
+
+import re
+from pathlib import Path
+
+import pytest
+
+from gsnap import places, refusals
+
+CLONE = Path(__file__).resolve().parents[2]
+REFUSED = CLONE / "examples/refused"
+HEAD = "element Vertex end\nelement Edge end\nconst x : vector{Vertex}(int) = 0;\n"
+
+
+def test_rows() -> None:
+    page = (CLONE / "docs/REFUSALS.md").read_text()
+    numbers = {int(it) for it in re.findall(r"(?m)^\| ([0-9]+) \|", page)}
+    assert len(numbers) > 35 and set(refusals.rows()) == numbers
+    for number, row in refusals.rows().items():
+        assert row.number == number and row.means, number
+        assert bool(row.cure) == (number < 900), number
+    assert refusals.row_of(103) == (103, "the chunk size is no power of two from 1 to 256", "leave it out, or take 64")
+    assert refusals.row_of(401) is None
+
+
+@pytest.mark.parametrize(
+    ("text", "offset", "place", "line", "caret"),
+    [
+        ("ab\ncd", 4, "t:2:2", "2 | cd", "  |  ^"),
+        ("\tab\r\n", 1, "t:1:2", "1 |  ab", "  |  ^"),
+        ("ä ö\n", 3, "t:1:3", "1 | ä ö", "  |   ^"),
+        ("a\n", 2, "t:2:1", "2 | ", "  | ^"),
+        (b"\xff!", 1, "t:1:2", "1 | \ufffd!", "  |  ^"),
+        ("\n" * 9 + "b", 9, "t:10:1", "10 | b", "   | ^"),
+    ],
+)
+def test_shown(text: str | bytes, offset: int, place: str, line: str, caret: str) -> None:
+    lines = places.shown("t", text, offset)
+    assert lines[0].strip() == f"--> {place}" and lines[2:] == [line, caret]
+    assert len({it.index(mark) for it, mark in zip(lines, ("-->", "|", "|", "|"))} - {lines[0].index("-->")}) == 1
+
+
+def test_refusals_of_examples() -> None:
+    told = (REFUSED / "programs.told").read_text()
+    found = re.findall(r"(?m)^refused/(.*): refused ([0-9]+) at ([0-9]+)\n((?: *-->| +\||[0-9]+ \|| = ).*(?:\n(?: |[0-9]+ \|).*)*)", told)
+    assert len(found) > 12
+    for name, number, offset, text in found:
+        said = places.refusal_text(f"refused/{name}", (REFUSED / name).read_bytes(), int(number), int(offset))
+        assert said == text, name
+
+
+def test_cause_is_for_211_alone() -> None:
+    text = HEAD + "func main() {"
+    assert "braces" in places.refusal_text("p", text, 211, len(text) - 1)
+    assert "braces" not in places.refusal_text("p", text, 221, len(text) - 1)
+
+
+def test_statement_of_a_fault() -> None:
+    index = (REFUSED / "faults/index.program").read_bytes()
+    told = (REFUSED / "faults/index.told").read_text()
+    statement = int(re.search(r"statement ([0-9]+)", told)[1])  # type: ignore[index]
+    assert places.statement_text("refused/faults/index.program", index, statement) + "\n" in told
+    assert places.statement_text("p", index, 0) == places.statement_text("p", index, 99) == ""
+
+
+def test_statements_are_numbered_as_in_runs() -> None:
+    text = HEAD + "func main()\n  var a : int = 1;\n  #l# x[0] = 2;\n  if a == 1 x[1] = 3; else x[2] = 4; end\n  print a;\nend\n"
+    wanted = ["var a", "x[0]", "if a", "x[1]", "x[2]", "print"]
+    offsets = list(places.statements(text))
+    assert len(offsets) == len(wanted)
+    for offset, begin in zip(offsets, wanted):
+        assert text[offset:].replace("#l# ", "").startswith(begin), begin
