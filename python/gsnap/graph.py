@@ -13,6 +13,7 @@ from typing import Any, Union
 from . import checks
 from .counts import Counts
 from .edges import Edges
+from .errors import Closed
 from .names import Names
 from .numbers import lines_of, numpy
 from .program import Program
@@ -42,14 +43,15 @@ class Held:
         self.ticket = ticket
         self.version = version
         self.vertices = vertices
-        self.is_open = True
+
+    @property
+    def is_open(self) -> bool:
+        """Whether the ticket is open."""
+        return self.graph.holds_ticket(self.ticket)
 
     def release(self) -> None:
         """Closes the ticket. A second call does nothing."""
-        with self.graph._lock:
-            if self.is_open:
-                self.is_open = False
-                self.graph._release(self)
+        self.graph.release_ticket(self.ticket)
 
     def __enter__(self) -> Held:
         return self
@@ -246,6 +248,16 @@ class Graph:
         with self._lock:
             return [self._held(ticket) for ticket in self._session.tickets]
 
+    def holds_ticket(self, ticket: int) -> bool:
+        """Says whether a ticket is open."""
+        return not self._session.is_closed and ticket in self._session.tickets
+
+    def release_ticket(self, ticket: int) -> None:
+        """Closes a ticket if it is open."""
+        with self._lock:
+            if self.holds_ticket(ticket):
+                self._session.release(ticket)
+
     def edges(self, held: Held | None = None) -> Edges:
         """Lists the edges of the newest version, or of one that is held, ascending by their vertices' numbers."""
         with self._lock:
@@ -373,10 +385,6 @@ class Graph:
         it = self._session.tickets[ticket]
         return Held(self, ticket, it.version, it.vertices)
 
-    def _release(self, held: Held) -> None:
-        if held.ticket in self._session.tickets and not self._session.is_closed:
-            self._session.release(held.ticket)
-
     def _place(self, held: Held | None) -> tuple[int, int, int | None]:
         """Returns the number of a version, how many vertices it has, and its ticket; it is the newest if none is held."""
         if held is None:
@@ -385,6 +393,9 @@ class Graph:
             raise TypeError(f"held is {held!r}, and has to be what graph.held() gave")
         if held.graph is not self:
             raise ValueError("held is a version of another graph")
+        self._session.want_open()
+        if not held.is_open:
+            raise Closed(f"version {held.version} was released, and ticket {held.ticket} is not open any more")
         return held.version, held.vertices, held.ticket
 
     def _names_of(self, vertices: int) -> Sequence[Hashable] | None:
