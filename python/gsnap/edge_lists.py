@@ -28,7 +28,8 @@ class Form:
     """How a file is read.
 
     With `weights` each edge has one, a whole number after it was multiplied by `scale`. With `names` any words are vertices; else
-    they are numbers from 0, or from 1 if the file is `one_based`. With `both_ways` each edge is there reversed too.
+    they are numbers from 0, or from 1 if the file is `one_based`. With `both_ways` each edge is there reversed too. `by_names` and
+    `by_scale` are what a message says for how to ask for `names` and `scale`.
     """
 
     weights: bool = False
@@ -36,6 +37,8 @@ class Form:
     names: bool = False
     one_based: bool = False
     both_ways: bool = False
+    by_names: str = "--names FILE"
+    by_scale: str = "--scale N"
 
 
 def shown(word: bytes) -> str:
@@ -96,6 +99,7 @@ class Edges:
 
     def __init__(self, name: str, form: Form) -> None:
         self.name = name
+        self.options = form
         self.line = 0
         self.ends = array.array("I")
         self.weights = array.array("q") if form.weights else None
@@ -163,7 +167,7 @@ class Edges:
 
     def no_vertex(self, word: bytes) -> str:
         """Says of a word that it is no vertex."""
-        return f"{shown(word)} is no vertex from {self.first} to {self.last}; --names FILE takes any words"
+        return f"{shown(word)} is no vertex from {self.first} to {self.last}; {self.options.by_names} takes any words"
 
     def add(self, ends: list[bytes]) -> None:
         """Adds edges by the words of their ends."""
@@ -181,8 +185,8 @@ class Edges:
         """Returns the weight that a word is."""
         number = fractions.Fraction(word.decode().lower().replace("d", "e")) * self.scale
         if number.denominator != 1:
-            asked = f"times {self.scale} is no whole number" if self.scale > 1 else "is no whole number; --scale N multiplies weights by N"
-            self.fail(f"{shown(word)} {asked}", line)
+            cure = f"is no whole number; {self.options.by_scale} multiplies weights by N"
+            self.fail(f"{shown(word)} {f'times {self.scale} is no whole number' if self.scale > 1 else cure}", line)
         if not -(1 << 63) <= number < 1 << 63:
             self.fail(f"{shown(word)} is no weight from -2^63 to 2^63 - 1", line)
         return int(number)
