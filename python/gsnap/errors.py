@@ -28,8 +28,7 @@ class Refused(GsnapError):
     """
 
     def __init__(self, number: int, line: str, cause: str, cure: str, entry: str | None = None) -> None:
-        because = f"; the cause is {entry}" if entry else ""
-        super().__init__(f"`{line}` was refused by {number}: {cause}{because}; {cure}")
+        super().__init__(f"`{line}` was refused by {number}: {entry or cause}; {cure}")
         self.number = number
         self.line = line
         self.cause = cause

@@ -1,0 +1,116 @@
+"""Graphs in files: scripts that make the versions that are kept again, and the names beside them."""
+from __future__ import annotations
+
+import gzip
+import json
+import os
+import re
+from collections.abc import Iterable, Iterator
+from pathlib import Path
+from typing import IO
+
+from .errors import Mistake
+from .graph import Graph
+from .journal import PIECE, Journal
+from .names import Names
+from .saving import checkpoint
+from .session import Session
+
+# Each line of a script that neither adds an edge nor takes one away.
+COMMAND = re.compile(rb"(?m)^(?!add |del ).+$")
+
+
+def names_path(path: Path) -> Path:
+    """Returns where the names of a graph in a file are."""
+    return path.with_name(path.name + ".names")
+
+
+def spelled(names: Names) -> str:
+    """Returns a line for each name, as JSON. Raises TypeError for a name that is no text, whole number or truth value."""
+    lines = []
+    for name in names.first(len(names)):
+        if not isinstance(name, (str, int)):
+            raise TypeError(f"{name!r} cannot be saved: names in a file are texts, whole numbers or truth values")
+        lines.append(json.dumps(name) + "\n")
+    return "".join(lines)
+
+
+def opened(path: Path, is_packed: bool, mode: str) -> IO[bytes]:
+    """Opens a file, which is packed by gzip or not."""
+    return gzip.open(path, mode) if is_packed else open(path, mode)  # type: ignore[return-value]
+
+
+def replace(path: Path, pieces: Iterable[bytes], is_packed: bool = False) -> None:
+    """Writes a file beside its place and then moves it there, so that there is never half of it."""
+    part = path.with_name(f".{path.name}.{os.getpid()}")
+    try:
+        with opened(part, is_packed, "wb") as out:
+            for piece in pieces:
+                out.write(piece)
+        os.replace(part, path)
+    except BaseException:
+        part.unlink(missing_ok=True)
+        raise
+
+
+def save(session: Session, names: Names | None, given: str | os.PathLike[str]) -> None:
+    """Writes the versions of a session that are kept to a file, and the names, if there are any, to one beside it."""
+    path = Path(given)
+    text = None if names is None else spelled(names)
+    replace(path, checkpoint(session.kept()), path.suffix == ".gz")
+    if text is None:
+        names_path(path).unlink(missing_ok=True)
+    else:
+        replace(names_path(path), [text.encode()])
+
+
+def pieces_of(path: Path) -> Iterator[bytes]:
+    """Yields what a file holds, unpacked if it is packed by gzip."""
+    with open(path, "rb") as file:
+        is_packed = file.read(2) == b"\x1f\x8b"
+    with opened(path, is_packed, "rb") as file:
+        while piece := file.read(PIECE):
+            yield piece
+
+
+def read_script(path: Path) -> tuple[Journal, list[bytes]]:
+    """Returns a script that is in a file, and its lines that neither add an edge nor take one away."""
+    journal = Journal()
+    commands: list[bytes] = []
+    begun = b""
+    for piece in pieces_of(path):
+        text = begun + piece
+        end = text.rfind(b"\n") + 1
+        begun = text[end:]
+        journal.append(text[:end])
+        commands += COMMAND.findall(text, 0, end)
+    if begun:
+        journal.append(begun + b"\n")
+        commands += COMMAND.findall(begun)
+    return journal, commands
+
+
+def read_names(path: Path) -> Names | None:
+    """Returns the names that are beside a file, or None if there are none."""
+    if not names_path(path).exists():
+        return None
+    names = Names()
+    with open(names_path(path), encoding="utf-8") as lines:
+        for at, line in enumerate(lines, 1):
+            try:
+                names.number(json.loads(line))
+            except (ValueError, TypeError):
+                raise Mistake(f"{names_path(path)}:{at}: {line.rstrip()[:60]!r} is no name, as in '\"ann\"'") from None
+    return names
+
+
+def open_graph(given: str | os.PathLike[str]) -> Graph:
+    """Makes the graph again that `Graph.save` wrote to a file, or any other whose script has no runs and lists no edges.
+
+    It has the same versions by the same numbers; those that were held are in `Graph.holds`. Raises OSError if the file cannot be
+    read, and Mistake if a line of it is refused.
+    """
+    path = Path(given)
+    names = read_names(path)
+    journal, commands = read_script(path)
+    return Graph(names=names, session=Session.of_script(journal, commands, os.fspath(path)))
