@@ -67,13 +67,19 @@ class Console(cmd.Cmd):
         self.say(*lines)
 
     def onecmd(self, line: str) -> bool:
-        """Does a line, and says whether it ends the shell. A line that cannot be done says why, and the graph stays."""
+        """Does a line, and says whether it ends the shell. On a terminal Ctrl-C ends the line, and the graph stays."""
         try:
-            return bool(super().onecmd(line))
+            return self.attempt(line)
         except KeyboardInterrupt:
             if not self.is_terminal:
                 raise
             self.fail("", "interrupted; the graph is as it was before this line")
+            return False
+
+    def attempt(self, line: str) -> bool:
+        """Does a line, and says whether it ends the shell. A line that cannot be done says why."""
+        try:
+            return bool(super().onecmd(line))
         except (Ended, OutOfStep, Closed) as error:
             self.fail(str(error))
             self.drop()

@@ -3,6 +3,7 @@ from __future__ import annotations
 
 import gzip
 import re
+from array import array
 from collections.abc import Iterator, Sequence
 from dataclasses import dataclass, field
 from typing import IO
@@ -89,12 +90,17 @@ def spelled(name: bytes | int) -> str:
 
 def add_edges(graph: Graph, edges: Edges, count: int) -> None:
     """Adds the edges that a file has to the pending batch of a graph; vertices that it does not have come with them."""
-    names = None if edges.numbers is None else [spelled(it) for it in edges.numbers]
-    if names is None and count > graph.vertices:
+    ends, weights = array("I"), array("q")
+    for some_ends, some_weights in rows_of(edges):
+        ends.extend(some_ends)
+        weights.extend(some_weights or ())
+    found: Sequence[int | str] = ends
+    if edges.numbers is not None:
+        names = [spelled(it) for it in edges.numbers]
+        found = [names[v] for v in ends]
+    graph.add_edges(found[0::2], found[1::2], weights or None)
+    if edges.numbers is None and count > graph.vertices:
         graph.grow(count)
-    for ends, weights in rows_of(edges):
-        found = ends if names is None else [names[v] for v in ends]
-        graph.add_edges(found[0::2], found[1::2], weights)
 
 
 def load_edges(graph: Graph | None, path: str, words: Sequence[str]) -> tuple[Graph, int]:
@@ -106,7 +112,7 @@ def load_edges(graph: Graph | None, path: str, words: Sequence[str]) -> tuple[Gr
     if form.names and graph is not None and graph.names is None:
         raise ValueError(f"{path} has names, and the graph that is open has numbers")
     edges, count = read_file(path, form)
-    into = graph or Graph(1 if form.names else count, names=form.names)
+    into = Graph(1 if form.names else count, names=form.names) if graph is None else graph
     try:
         add_edges(into, edges, count)
     except BaseException:
@@ -132,12 +138,6 @@ class Adds:
         self.destinations.append(int(destination))
         if self.weights is not None:
             self.weights.append(1 if weight is None else int(weight))
-
-    def lines(self) -> list[str]:
-        """Returns the lines."""
-        weights = self.weights or [1] * len(self.sources)
-        return [f"add {u} {v} {w}" for u, v, w in zip(self.sources, self.destinations, weights)]
-
 
 def script_parts(path: str) -> Iterator[tuple[int, Adds | str]]:
     """Yields the lines of a script in a file, each with its number, from 1; lines `add` come many at a time.

@@ -14,6 +14,9 @@ from .ready import Ready
 from .refusals import row_of
 from .tables import MOST_ROWS, run_lines, table
 
+# The words that begin a line of a script.
+SCRIPT_WORDS = "vertices add del grow commit hold release edges run".split()
+
 
 class Shell(Console):
     """The lines of the shell, a method for each word."""
@@ -165,17 +168,30 @@ class Shell(Console):
 
     def load_script(self, path: str) -> None:
         """Does the lines of a script; a line that fails is named by its place."""
-        for at, part in script_parts(path):
-            before = self.failures
-            if isinstance(part, Adds) and self.graph is not None and self.graph.names is None:
-                self.graph.add_edges(part.sources, part.destinations, part.weights)
-                continue
-            for offset, line in enumerate(part.lines() if isinstance(part, Adds) else [part]):
-                if self.onecmd(line):
+        self.want_none()
+        at = 0
+        try:
+            for at, part in script_parts(path):
+                if isinstance(part, Adds):
+                    self.opened().add_edges(part.sources, part.destinations, part.weights)
+                elif not self.do_script_line(f"{path}:{at}", part):
                     return
-                if self.failures > before:
-                    self.say(f"{path}:{at + offset}: `{line[:60]}` was not done")
-                    before = self.failures
+        except KeyboardInterrupt:
+            if not self.is_terminal:
+                raise
+            raise Wrong(f"interrupted at {path}:{at}; the lines before it are done") from None
+
+    def do_script_line(self, place: str, line: str) -> bool:
+        """Does a line of a script, and says whether those after it can be done."""
+        before = self.failures
+        word = line.partition(" ")[0]
+        if line and word not in SCRIPT_WORDS:
+            self.fail(f"refused 801: {word!r} begins no line of a script")
+        else:
+            self.attempt(line)
+        if self.failures > before:
+            self.say(f"{place}: `{line[:60]}` was not done")
+        return self.graph is not None or word != "vertices"
 
     def do_save(self, words: str) -> None:
         """save FILE: writes a script that makes the newest version and those that are held again, by gzip if it ends in .gz"""

@@ -253,8 +253,14 @@ def test_load_of_a_script(tmp_path: Path) -> None:
     status, said = done(tmp_path, "load it.script", "status")
     assert status == 1
     assert said[0] == "open 4" and "111" in said[1] and said[2] == "it.script:5: `commit` was not done"
+    assert said[3] == "refused 801: 'nothing' begins no line of a script"
     assert said[4:6] == ["it.script:7: `nothing` was not done", "version 1"]
     assert said[8:11] == ["   0   1       1", "   2   3      -1", "   3   3       1"]
+    (tmp_path / "none.script").write_text("vertices 0\n" + "add 0 1\n" * 50 + "commit\n")
+    status, said = done(tmp_path, "load none.script")
+    assert status == 1 and len(said) == 2 and said[1] == "none.script:1: `vertices 0` was not done"
+    status, said = done(tmp_path, "vertices 2", "load it.script", "status")
+    assert status == 1 and said[1] == "a graph is open already; `close` closes it" and said[2].startswith("version 0: 2 vertices")
 
 
 def test_save_and_open(tmp_path: Path) -> None:
