@@ -63,7 +63,9 @@ def talk(shell: Shell) -> None:
 
 def main() -> int:
     """Runs the shell. The status is 1 if input is no terminal and a line could not be done, 130 after Ctrl-C there, else 0."""
-    parser = argparse.ArgumentParser(prog="python3 -m gsnap", description=ABOUT, formatter_class=argparse.RawDescriptionHelpFormatter)
+    parser = argparse.ArgumentParser(
+        prog="python3 -m gsnap", description=ABOUT, formatter_class=argparse.RawDescriptionHelpFormatter
+    )
     parser.add_argument("file", metavar="FILE", nargs="?", help="a file that is loaded first, as by `load FILE`")
     parser.add_argument("--version", action="version", version=f"gsnap {version()}")
     options = parser.parse_args()

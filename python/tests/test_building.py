@@ -31,7 +31,7 @@ print(gsnap.__file__)
 
 def run(folder: Path, *words: str | Path) -> str:
     """Runs a command in a folder that has nothing of the clone, without a network, and returns what it prints."""
-    given = {"PATH": "/usr/bin:/bin", "HOME": str(folder), "PIP_NO_INDEX": "1", "PYTHONDONTWRITEBYTECODE": "1", "PIP_DISABLE_PIP_VERSION_CHECK": "1"}
+    given = {"PATH": "/usr/bin:/bin", "HOME": str(folder), "PIP_NO_INDEX": "1", "PYTHONDONTWRITEBYTECODE": "1"}
     ran = subprocess.run(list(map(str, words)), cwd=folder, env=given, capture_output=True, text=True, check=False)
     assert ran.returncode == 0, ran.stdout + ran.stderr
     return ran.stdout

@@ -2,6 +2,7 @@
 from __future__ import annotations
 
 import gzip
+import io
 import os
 import signal
 import subprocess
@@ -13,6 +14,7 @@ import pytest
 from terminal import PACKAGE, Terminal
 
 from gsnap import console
+from gsnap.shell import Shell
 
 EXAMPLES = PACKAGE.parent / "examples"
 SHELL = (sys.executable, "-m", "gsnap")
@@ -31,13 +33,25 @@ def terminal(tmp_path: Path) -> Iterator[Terminal]:
         yield it
 
 
-def done(tmp_path: Path, *lines: str) -> tuple[int, list[str]]:
-    """Does lines as those of a file, and returns the exit status and what is printed."""
-    given = os.environ | {"PYTHONPATH": str(PACKAGE), "XDG_STATE_HOME": str(tmp_path / "state")}
-    text = "".join(f"{it}\n" for it in lines)
-    ran = subprocess.run(SHELL, input=text, cwd=tmp_path, env=given, capture_output=True, text=True, check=False, timeout=60)
-    assert ran.stderr == "", ran.stderr
-    return ran.returncode, ran.stdout.splitlines()
+def done(folder: Path, *lines: str) -> tuple[int, list[str]]:
+    """Does lines in a folder, as those of a file, and returns how many could not be done, and what is printed."""
+    shell = Shell(False)
+    shell.stdin = io.StringIO("".join(f"{it}\n" for it in lines))
+    shell.stdout = io.StringIO()
+    before = os.getcwd()
+    os.chdir(folder)
+    try:
+        shell.cmdloop()
+    finally:
+        os.chdir(before)
+        shell.drop()
+    return shell.failures, shell.stdout.getvalue().splitlines()
+
+
+def main_does(folder: Path, text: str, *words: str) -> subprocess.CompletedProcess[str]:
+    """Does a text as standard input of the command."""
+    given = os.environ | {"PYTHONPATH": str(PACKAGE), "XDG_STATE_HOME": str(folder / "state")}
+    return subprocess.run([*SHELL, *words], input=text, cwd=folder, env=given, capture_output=True, text=True, check=False, timeout=60)
 
 
 # On a terminal
@@ -249,9 +263,10 @@ def from_edges_words(name: str, words: str, folder: Path) -> list[str]:
 
 
 def test_load_of_a_script(tmp_path: Path) -> None:
-    (tmp_path / "it.script").write_text("vertices 4\nadd 0 1\nadd 1 2 5\nadd 7 7\ncommit\nadd 0 1\nnothing\nadd 2 3 -1\nadd 3 3\ncommit\nedges")
+    lines = ["vertices 4", "add 0 1", "add 1 2 5", "add 7 7", "commit", "add 0 1", "nothing", "add 2 3 -1", "add 3 3", "commit", "edges"]
+    (tmp_path / "it.script").write_text("\n".join(lines))
     status, said = done(tmp_path, "load it.script", "status")
-    assert status == 1
+    assert status == 2
     assert said[0] == "open 4" and "111" in said[1] and said[2] == "it.script:5: `commit` was not done"
     assert said[3] == "refused 801: 'nothing' begins no line of a script"
     assert said[4:6] == ["it.script:7: `nothing` was not done", "version 1"]
@@ -276,8 +291,8 @@ def test_save_and_open(tmp_path: Path) -> None:
 def test_programs_by_number(tmp_path: Path) -> None:
     (tmp_path / "spin.program").write_text(SPIN)
     (tmp_path / "fault.program").write_text(FAULT)
-    lines = ["vertices 2", "program spin.program", "program fault.program", "program", "run 1 5 2", "run 2", "hold", "run 1 3 1 1", "explain 401"]
-    status, said = done(tmp_path, *lines)
+    lines = ["vertices 2", "program spin.program", "program fault.program", "program", "run 1 5 2", "run 2", "hold"]
+    status, said = done(tmp_path, *lines, "run 1 3 1 1", "explain 401")
     assert status == 0, said
     assert said[1:5] == ["program 1: spin.program", "program 2: fault.program"] * 2
     assert said[5] == "version 0: turns-over, 5 turns" and said[9] == "version 0: fault, 0 turns"
@@ -292,8 +307,6 @@ def test_explain(tmp_path: Path) -> None:
 
 
 def test_a_process_that_was_killed(tmp_path: Path, monkeypatch: pytest.MonkeyPatch) -> None:
-    from gsnap.shell import Shell
-
     shell = Shell(False)
     said: list[str] = []
     monkeypatch.setattr(shell, "say", lambda *lines: said.extend(lines))
@@ -326,6 +339,15 @@ def test_a_closed_output(tmp_path: Path) -> None:
 
 def test_a_file_on_the_command_line(tmp_path: Path) -> None:
     (tmp_path / "edges.txt").write_text("0 1\n")
-    given = os.environ | {"PYTHONPATH": str(PACKAGE)}
-    ran = subprocess.run([*SHELL, "edges.txt"], input="status\n", cwd=tmp_path, env=given, capture_output=True, text=True, check=False)
+    ran = main_does(tmp_path, "status\n", "edges.txt")
     assert ran.stdout.splitlines() == ["version 1: 2 vertices; 0 entries are pending; no ticket is open"] * 2
+    assert (ran.returncode, ran.stderr) == (0, "")
+
+
+def test_the_exit_status_and_no_history(tmp_path: Path) -> None:
+    for text, status in (("", 0), ("vertices 2\ncommit", 0), ("vertices 2\nquit\nnothing\n", 0), ("nothing\n", 1)):
+        ran = main_does(tmp_path, text)
+        assert (ran.returncode, ran.stderr) == (status, ""), text
+    assert not (tmp_path / "state").exists()
+    ran = main_does(tmp_path, "", "--version")
+    assert ran.stdout.startswith("gsnap 0.") and ran.returncode == 0
