@@ -13,9 +13,9 @@ import base64
 import gzip
 import hashlib
 import io
+import re
 import sys
 import tarfile
-import tomllib
 import zipfile
 from pathlib import Path
 
@@ -39,8 +39,8 @@ def package_files() -> list[tuple[Path, str, int]]:
 
 def metadata() -> str:
     """Returns the file METADATA of a wheel, which is the file PKG-INFO of a source archive too."""
-    with open(HERE / "pyproject.toml", "rb") as file:
-        project = tomllib.load(file)["project"]
+    text = (HERE / "pyproject.toml").read_text(encoding="utf-8")
+    project = dict(re.findall(r'(?m)^([a-z-]+) = "(.*)"$', text.partition("[project]")[2].partition("\n[")[0]))
     return (
         f"Metadata-Version: 2.1\nName: {project['name']}\nVersion: {data.version()}\n"
         f"Summary: {project['description']}\nRequires-Python: {project['requires-python']}\n"

@@ -77,6 +77,13 @@ def greatest(sources: Any, destinations: Any) -> tuple[int, int]:
     return int(farthest), ends.index(farthest)
 
 
+def are_ones(weights: Any) -> bool:
+    """Says whether all numbers of a column are 1."""
+    if isinstance(weights, list):
+        return weights.count(1) == len(weights)
+    return all(it == 1 for it in weights) if not hasattr(weights, "all") else bool((weights == 1).all())
+
+
 def weight_of(given: Any) -> Any:
     """Returns the weight of an edge's third part: itself, or what a mapping has as `weight`, else 1."""
     return given.get("weight", 1) if isinstance(given, Mapping) else given

@@ -457,7 +457,7 @@ class Graph:
         if weights is not None:
             weights = checks.column(weights, "weight", checks.LEAST_WEIGHT, checks.WEIGHT_BOUND, first)
         ends = self._numbers(sources, "source", True, first), self._numbers(destinations, "destination", True, first)
-        self._send(b"add", *ends, *([] if weights is None else [weights]))
+        self._send(b"add", *ends, *([] if weights is None or checks.are_ones(weights) else [weights]))
 
     def _send(self, word: bytes, *columns: Any) -> None:
         """Sends a line for each row of columns, of which the first two are vertices."""

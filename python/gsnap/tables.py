@@ -4,6 +4,8 @@ from __future__ import annotations
 from collections.abc import Iterable, Sequence
 from typing import Any
 
+from .run import Run
+
 # How many rows a table has at most.
 MOST_ROWS = 20
 
@@ -37,3 +39,20 @@ def table(head: Sequence[str], rows: Iterable[Sequence[Any]], total: int) -> lis
             line.append(row[at].rjust(width) if is_number else row[at].ljust(width))
     more = total - len(entries)
     return ["  ".join(line).rstrip() for line in lines] + ([f"{more} rows more"] if more > 0 else [])
+
+
+def run_lines(run: Run) -> list[str]:
+    """Returns lines that show a run: its version and its end, the numbers that it printed, and a table of the first vertices."""
+    lines = [f"version {run.version}: {run.end}, {run.turns} turns"]
+    if run.printed:
+        printed = " ".join(map(spelled_as_printed, run.printed[:MOST_ROWS]))
+        more = f", and {len(run.printed) - MOST_ROWS} more" if len(run.printed) > MOST_ROWS else ""
+        lines.append(f"printed {printed}{more}")
+    if len(run):
+        lines += table(["vertex", *run], run.rows(MOST_ROWS), run.vertices)
+    return lines
+
+
+def spelled_as_printed(value: int | bool) -> str:
+    """Returns a printed value as a program prints it."""
+    return str(value).lower() if isinstance(value, bool) else str(value)

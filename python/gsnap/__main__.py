@@ -1,0 +1,91 @@
+"""The command `python3 -m gsnap`: the shell."""
+from __future__ import annotations
+
+import argparse
+import os
+import sys
+from pathlib import Path
+
+from .data import version
+from .shell import Shell
+
+# How many lines of history are kept.
+MOST_HISTORY = 1000
+
+ABOUT = """\
+A shell for a graph with versions: edits and questions, line by line. `help` lists the words. On a terminal there are a
+history and completion by the tab key, and Ctrl-C ends a run, not the graph."""
+
+
+def history_path() -> Path:
+    """Returns the path of the file that keeps the history."""
+    state = os.environ.get("XDG_STATE_HOME") or os.path.join(os.path.expanduser("~"), ".local", "state")
+    return Path(state, "gsnap", "history")
+
+
+def read_history() -> None:
+    """Reads the history, if there is one, and sets what parts the words that are completed."""
+    try:
+        import readline
+    except ImportError:
+        return
+    readline.set_completer_delims(" \t\n")
+    readline.set_history_length(MOST_HISTORY)
+    try:
+        readline.read_history_file(history_path())
+    except OSError:
+        pass
+
+
+def write_history() -> None:
+    """Writes the history; a folder that cannot be written keeps none."""
+    try:
+        import readline
+
+        history_path().parent.mkdir(parents=True, exist_ok=True, mode=0o700)
+        readline.write_history_file(history_path())
+    except (ImportError, OSError):
+        pass
+
+
+def talk(shell: Shell) -> None:
+    """Does the lines of a terminal until one ends the shell. Ctrl-C at the prompt drops the line."""
+    read_history()
+    while True:
+        try:
+            shell.cmdloop()
+            break
+        except KeyboardInterrupt:
+            shell.intro = None
+            shell.say("")
+    write_history()
+
+
+def main() -> int:
+    """Runs the shell. The status is 1 if input is no terminal and a line could not be done, 130 after Ctrl-C there, else 0."""
+    parser = argparse.ArgumentParser(
+        prog="python3 -m gsnap", description=ABOUT, formatter_class=argparse.RawDescriptionHelpFormatter
+    )
+    parser.add_argument("file", metavar="FILE", nargs="?", help="a file that is loaded first, as by `load FILE`")
+    parser.add_argument("--version", action="version", version=f"gsnap {version()}")
+    options = parser.parse_args()
+    shell = Shell(sys.stdin.isatty() and sys.stdout.isatty())
+    try:
+        if options.file:
+            shell.onecmd(f"load {options.file}")
+        if shell.is_terminal:
+            talk(shell)
+            return 0
+        shell.cmdloop()
+        return 1 if shell.failures else 0
+    except KeyboardInterrupt:
+        return 130
+    except BrokenPipeError:
+        os.dup2(os.open(os.devnull, os.O_WRONLY), sys.stdout.fileno())
+        return 1
+    finally:
+        shell.drop()
+
+
+if __name__ == "__main__":
+    sys.exit(main())

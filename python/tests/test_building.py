@@ -1,0 +1,103 @@
+"""The package as it is installed: a wheel, a source archive, and pip in a new environment without a network."""
+from __future__ import annotations
+
+import base64
+import hashlib
+import os
+import shutil
+import subprocess
+import sys
+import tarfile
+import zipfile
+from pathlib import Path
+
+import build_backend
+import pytest
+
+from gsnap import data
+
+PACKAGE = Path(__file__).resolve().parents[1]
+CLONE = PACKAGE.parent
+PYTHONS = sorted({os.path.realpath(it) for it in ("/usr/bin/python3", shutil.which("python3")) if it})
+USE = """
+import gsnap, gsnap.data
+with gsnap.Graph(3) as graph:
+    graph.add_edge(0, 2)
+    print(graph.commit(), list(map(int, graph.run(gsnap.distances(0)).distance)))
+print(gsnap.data.program())
+print(gsnap.__file__)
+"""
+
+
+def run(folder: Path, *words: str | Path) -> str:
+    """Runs a command in a folder that has nothing of the clone, without a network, and returns what it prints."""
+    given = {"PATH": "/usr/bin:/bin", "HOME": str(folder), "PIP_NO_INDEX": "1", "PYTHONDONTWRITEBYTECODE": "1"}
+    ran = subprocess.run(list(map(str, words)), cwd=folder, env=given, capture_output=True, text=True, check=False)
+    assert ran.returncode == 0, ran.stdout + ran.stderr
+    return ran.stdout
+
+
+def environment(python: str, folder: Path) -> Path:
+    """Makes a new environment, and returns its Python."""
+    run(folder, python, "-m", "venv", folder / "venv")
+    return folder / "venv/bin/python"
+
+
+@pytest.mark.parametrize("python", PYTHONS)
+def test_pip_installs_it_and_takes_it_back(python: str, tmp_path: Path) -> None:
+    inside = environment(python, tmp_path)
+    run(tmp_path, inside, "-m", "pip", "uninstall", "-y", "setuptools", "wheel")
+    run(tmp_path, inside, "-m", "pip", "install", "--no-build-isolation", PACKAGE)
+    said = run(tmp_path, inside, "-c", USE).splitlines()
+    place = Path(said[2]).parent
+    assert said[0] == "1 [0, -1, 1]"
+    assert said[1] == str(place / "files/gsnap") and tmp_path in place.parents
+    assert (place / "files/gsnap").read_bytes() == (CLONE / "release/gsnap").read_bytes()
+    assert (place / "files/REFUSALS.md").read_bytes() == (CLONE / "docs/REFUSALS.md").read_bytes()
+    assert {it.name for it in place.glob("*.py")} == {it.name for it in (PACKAGE / "gsnap").glob("*.py")} and (place / "py.typed").exists()
+    assert f"Version: {data.version()}" in run(tmp_path, inside, "-m", "pip", "show", "gsnap")
+    run(tmp_path, inside, "-m", "pip", "uninstall", "-y", "gsnap")
+    assert not place.exists()
+
+
+def test_pip_installs_it_where_it_is(tmp_path: Path) -> None:
+    inside = environment(sys.executable, tmp_path)
+    run(tmp_path, inside, "-m", "pip", "install", "--no-build-isolation", "--editable", PACKAGE)
+    said = run(tmp_path, inside, "-c", USE).splitlines()
+    assert said == ["1 [0, -1, 1]", str(CLONE / "release/gsnap"), str(PACKAGE / "gsnap/__init__.py")]
+
+
+def test_wheel(tmp_path: Path) -> None:
+    name = build_backend.build_wheel(str(tmp_path))
+    assert name == f"gsnap-{data.version()}-py3-none-linux_x86_64.whl"
+    (tmp_path / "again").mkdir()
+    build_backend.build_wheel(str(tmp_path / "again"))
+    assert (tmp_path / name).read_bytes() == (tmp_path / "again" / name).read_bytes()
+    with zipfile.ZipFile(tmp_path / name) as archive:
+        names = archive.namelist()
+        assert [it.filename for it in archive.infolist() if it.external_attr >> 16 & 0o111] == ["gsnap/files/gsnap"]
+        record = archive.read(f"gsnap-{data.version()}.dist-info/RECORD").decode().splitlines()
+        assert [line.partition(",")[0] for line in record] == names
+        for line in record[:-1]:
+            place, digest, size = line.split(",")
+            content = archive.read(place)
+            wanted = base64.urlsafe_b64encode(hashlib.sha256(content).digest()).decode().rstrip("=")
+            assert (digest, int(size)) == (f"sha256={wanted}", len(content)), place
+    assert not [it for it in names if "test" in it or "pycache" in it]
+
+
+def test_source_archive_builds_the_same_wheel(tmp_path: Path) -> None:
+    name = build_backend.build_sdist(str(tmp_path))
+    with tarfile.open(tmp_path / name) as archive:
+        archive.extractall(tmp_path)
+    source = tmp_path / name.removesuffix(".tar.gz")
+    assert (source / "PKG-INFO").read_text() == build_backend.metadata()
+    build = "import sys; sys.path.insert(0, '.'); import build_backend; print(build_backend.build_wheel('..'))"
+    subprocess.run([sys.executable, "-B", "-c", build], cwd=source, check=True, capture_output=True)
+    wheel = build_backend.build_wheel(str(source))
+    assert (tmp_path / wheel).read_bytes() == (source / wheel).read_bytes()
+
+
+def test_the_package_has_no_cache_or_copy_in_the_clone() -> None:
+    assert not (PACKAGE / "gsnap/files").exists()
+    assert not list(PACKAGE.glob("*.egg-info")) and not (PACKAGE / "build").exists()

@@ -1,0 +1,353 @@
+"""The shell: on a terminal, as a person uses it, and with its input from a file."""
+from __future__ import annotations
+
+import gzip
+import io
+import os
+import signal
+import subprocess
+import sys
+from collections.abc import Iterator
+from pathlib import Path
+
+import pytest
+from terminal import PACKAGE, Terminal
+
+from gsnap import console
+from gsnap.shell import Shell
+
+EXAMPLES = PACKAGE.parent / "examples"
+SHELL = (sys.executable, "-m", "gsnap")
+HEAD = "element Vertex end\nelement Edge end\nconst edges : edgeset{Edge}(Vertex, Vertex) = load(argv[1]);\n"
+HEAD += "const x : vector{Vertex}(int) = 0;\n"
+SPIN = HEAD + "func main()\n  while true\n    x[0] = 1;\n  end\nend\n"
+FAULT = HEAD + "func main()\n  x[0] = 1;\n  x[9] = 2;\nend\n"
+
+
+@pytest.fixture()
+def terminal(tmp_path: Path) -> Iterator[Terminal]:
+    (tmp_path / "spin.program").write_text(SPIN)
+    (tmp_path / "edges.txt").write_text("0 1\n1 2\n2 0\n3 4\n")
+    with Terminal(tmp_path, *SHELL) as it:
+        it.wait("gsnap> ")
+        yield it
+
+
+def done(folder: Path, *lines: str) -> tuple[int, list[str]]:
+    """Does lines in a folder, as those of a file, and returns how many could not be done, and what is printed."""
+    shell = Shell(False)
+    shell.stdin = io.StringIO("".join(f"{it}\n" for it in lines))
+    shell.stdout = io.StringIO()
+    before = os.getcwd()
+    os.chdir(folder)
+    try:
+        shell.cmdloop()
+    finally:
+        os.chdir(before)
+        shell.drop()
+    return shell.failures, shell.stdout.getvalue().splitlines()
+
+
+def main_does(folder: Path, text: str, *words: str) -> subprocess.CompletedProcess[str]:
+    """Does a text as standard input of the command."""
+    given = os.environ | {"PYTHONPATH": str(PACKAGE), "XDG_STATE_HOME": str(folder / "state")}
+    return subprocess.run([*SHELL, *words], input=text, cwd=folder, env=given, capture_output=True, text=True, check=False, timeout=60)
+
+
+# On a terminal
+
+
+def test_banner_help_and_end(terminal: Terminal) -> None:
+    assert "gsnap 0." in terminal.wait("`help` lists the words, `quit` ends.")
+    terminal.type("help")
+    shown = terminal.wait("  quit ")
+    assert "  commit " in shown and "  bfs START [at T] " in shown
+    terminal.type("help load")
+    terminal.wait("both-ways    each edge is added reversed too")
+    terminal.type("quit")
+    terminal.wait("ended")
+
+
+def test_lines_runs_and_times(terminal: Terminal) -> None:
+    terminal.type("vertices 5", "add 0 1", "add 1 0", "commit")
+    terminal.wait("version 1")
+    terminal.type("components")
+    shown = terminal.wait("printed 4")
+    assert "version 1: finished, " in terminal.wait(" s\n", 2)
+    assert "vertex  label" in shown and "     4      4" in shown
+
+
+def test_ctrl_c_ends_a_run_and_not_the_graph(terminal: Terminal) -> None:
+    terminal.type("load edges.txt", "hold", "add 4 3", "program spin.program")
+    terminal.wait("program 1: spin.program")
+    terminal.type("run 1 18446744073709551615")
+    terminal.press("C-c")
+    terminal.wait("interrupted; the graph is as it was before this line")
+    terminal.type("status")
+    terminal.wait("version 1: 5 vertices; 1 entries are pending; open tickets: 1 (version 1)")
+    terminal.type("commit", "edges")
+    terminal.wait("version 2: 5 edges")
+
+
+def test_ctrl_c_at_the_prompt_drops_the_line_and_ctrl_d_ends(terminal: Terminal) -> None:
+    terminal.type("vertices 3")
+    terminal.wait("open 3")
+    terminal.press("c", "l", "o", "s", "e", "C-c")
+    terminal.type("status")
+    terminal.wait("version 0: 3 vertices")
+    terminal.press("C-d")
+    terminal.wait("ended")
+
+
+def test_completion(terminal: Terminal) -> None:
+    terminal.press(*"load e", "Tab")
+    terminal.wait("load edges.txt")
+    terminal.press("Enter")
+    terminal.wait("version 1: 5 vertices")
+    terminal.press(*"compo", "Tab", "Enter")
+    terminal.wait("printed 3")
+    terminal.type("hold")
+    terminal.press(*"rel", "Tab", "Tab", "Enter")
+    terminal.wait("released 1")
+
+
+def test_history_is_kept(tmp_path: Path) -> None:
+    for last in ("vertices 7", ""):
+        with Terminal(tmp_path, *SHELL) as terminal:
+            terminal.wait("gsnap> ")
+            if last:
+                terminal.type(last, "quit")
+                terminal.wait("ended")
+            else:
+                terminal.press("Up", "Up", "Enter")
+                terminal.wait("open 7")
+    assert (tmp_path / "state/gsnap/history").read_text().splitlines()[:1] == ["vertices 7"]
+
+
+# From a file
+
+
+def test_replies_to_lines(tmp_path: Path) -> None:
+    lines = ["vertices 3", "", "add 0 1", " add  1  2 -5 ", "commit", "hold", "hold at 1", "del 0 1", "grow 4", "commit"]
+    status, said = done(tmp_path, *lines, "edges", "edges 2", "release 2", "status")
+    assert status == 0
+    assert said == [
+        "open 3",
+        "version 1",
+        "ticket 1 version 1",
+        "ticket 2 version 1",
+        "version 2",
+        "version 2: 1 edges",
+        "from  to  weight",
+        "   1   2      -5",
+        "version 1: 2 edges",
+        "from  to  weight",
+        "   0   1       1",
+        "   1   2      -5",
+        "released 2",
+        "version 2: 4 vertices; 0 entries are pending; open tickets: 1 (version 1)",
+    ]
+
+
+@pytest.mark.parametrize(
+    ("line", "why"),
+    [
+        ("add 0", "refused 801: 1 numbers follow 'add'"),
+        ("add 0 x", "refused 801: 'x' is no number"),
+        ("add 0 1 9223372036854775808", "is no weight"),
+        ("del 0 1 2", "refused 801"),
+        ("grow 2", "vertices is 2, and has to be from 3"),
+        ("vertices 4", "a graph is open already"),
+        ("names", "a graph is open already"),
+        ("commit 1", "refused 801"),
+        ("hold at 5", "121"),
+        ("hold 1", "refused 801: '1' stands where 'at' is wanted"),
+        ("release 5", "refused 122: ticket 5 is not open; no ticket is open"),
+        ("edges 5", "refused 122"),
+        ("run 1", "refused 412"),
+        ("run", "it is `run P`"),
+        ("bfs", "it is `bfs START [at T]`"),
+        ("bfs ann", "'ann' is no number"),
+        ("bfs 7", "start is 7"),
+        ("components 1", "it is `components [at T]`"),
+        ("components at 3", "refused 122"),
+        ("explain", "it is `explain N`"),
+        ("explain 5", "'5' is no number of a refusal"),
+        ("load", "it is `load FILE`"),
+        ("load lost.txt", "lost.txt: No such file or directory"),
+        ("load edges.txt scale 0", "a number from 1 on has to follow `scale`"),
+        ("load edges.txt backwards", "'backwards' is none of"),
+        ("load words.txt", "words.txt has names, and the graph that is open has numbers"),
+        ("load faulty.txt", "faulty.txt:2: 'x' is no vertex from 0 to 16777215; `load faulty.txt names` takes any words"),
+        ("program lost.program", "lost.program: No such file or directory"),
+        ("program wrong.program", "-->"),
+        ("save", "it is `save FILE`"),
+        ("save nowhere/x.script", "nowhere"),
+        ("open lost.script", "lost.script: No such file or directory"),
+        ("help nothing", "'nothing' begins no line"),
+        ("nothing", "'nothing' begins no line"),
+    ],
+)
+def test_a_line_that_cannot_be_done(tmp_path: Path, line: str, why: str) -> None:
+    (tmp_path / "edges.txt").write_text("0 1\n")
+    (tmp_path / "words.txt").write_text("ann bob\n")
+    (tmp_path / "faulty.txt").write_text("0 1\nx 1\n")
+    (tmp_path / "wrong.program").write_text(HEAD + "func main() print 1 + true; end\n")
+    status, said = done(tmp_path, "vertices 3", "add 0 1", "commit", "add 1 2", line, "commit", "edges")
+    assert status == 1
+    assert why in "\n".join(said)
+    assert said[:2] == ["open 3", "version 1"] and said[-5:-3] == ["version 2", "version 2: 2 edges"], said
+
+
+def test_nothing_without_a_graph(tmp_path: Path) -> None:
+    for line in ("add 0 1", "del 0 1", "grow 3", "commit", "hold", "release 1", "edges", "components", "status", "save x", "close"):
+        status, said = done(tmp_path, line)
+        assert status == 1 and said[0].startswith("no graph is open"), line
+
+
+def test_tables_have_twenty_rows(tmp_path: Path) -> None:
+    status, said = done(tmp_path, "vertices 30", "components", *(f"add 0 {v}" for v in range(25)), "commit", "edges")
+    assert status == 0
+    assert said[3].split() == ["vertex", "label", *said[3].split()[2:]] and said[4].split()[:2] == ["0", "0"]
+    assert said[23].split()[:2] == ["19", "19"] and said[24] == "10 rows more"
+    assert said[26:28] == ["version 1: 25 edges", "from  to  weight"] and said[-1] == "5 rows more"
+
+
+def test_names(tmp_path: Path) -> None:
+    (tmp_path / "more.txt").write_text("eve zed\n")
+    lines = ["names", "add ann bob", "add bob eve 7", "commit", "load more.txt", "commit", "distances ann", "distances nobody"]
+    status, said = done(tmp_path, *lines, "edges", "del bob eve", "del bob nobody", "commit", "distances ann")
+    text = "\n".join(said)
+    assert status == 1
+    assert said[:3] == ["open, with names", "version 1", "1 edges are pending; `commit` makes the next version"]
+    assert [line.split()[:2] for line in said[6:10]] == [["ann", "0"], ["bob", "1"], ["eve", "2"], ["zed", "3"]]
+    assert "no vertex is named 'nobody'" in text and "bob   eve        7" in text
+    assert [line.split()[:2] for line in said[-4:]] == [["ann", "0"], ["bob", "1"], ["eve", "-1"], ["zed", "-1"]]
+
+
+@pytest.mark.parametrize(
+    ("name", "words", "edges"),
+    [
+        ("edges/snap.txt", "", 5),
+        ("edges/general.mtx", "", 4),
+        ("edges/general.mtx", "both-ways weights", 5),
+        ("edges/skew.mtx", "scale 1000", 4),
+        ("edges/paths.gr", "", 4),
+        ("edges/from_one.list", "one-based", 2),
+        ("edges/friends.list", "", 4),
+        ("edges/capitals.mtx", "names", 4),
+    ],
+)
+def test_load_of_edges(tmp_path: Path, name: str, words: str, edges: int) -> None:
+    for packed in (False, True):
+        path = EXAMPLES / name
+        if packed:
+            path = tmp_path / "packed.gz"
+            path.write_bytes(gzip.compress((EXAMPLES / name).read_bytes()))
+        wanted = subprocess.run(
+            [str(EXAMPLES / "from-edges"), *from_edges_words(name, words, tmp_path), str(path)], capture_output=True, text=True, check=True
+        ).stdout.splitlines()
+        wanted_edges = {tuple(it.split()[1:3]) for it in wanted if it.startswith("add")}
+        status, said = done(tmp_path, f"load {path} {words}", "edges")
+        assert status == 0, said
+        assert said[0].startswith(f"version 1: {wanted[0].split()[1]} vertices"), said
+        assert said[1] == f"version 1: {len(wanted_edges)} edges" and len(said) == 3 + len(wanted_edges)
+
+
+def from_edges_words(name: str, words: str, folder: Path) -> list[str]:
+    """Returns the words with which from-edges reads a file as the shell does."""
+    found = []
+    for word in words.split():
+        found.append(word if word.isdigit() else f"--{word}" if word != "names" else f"--names={folder / 'names'}")
+    return found + ([f"--names={folder / 'names'}"] if name.endswith("friends.list") else [])
+
+
+def test_load_of_a_script(tmp_path: Path) -> None:
+    lines = ["vertices 4", "add 0 1", "add 1 2 5", "add 7 7", "commit", "add 0 1", "nothing", "add 2 3 -1", "add 3 3", "commit", "edges"]
+    (tmp_path / "it.script").write_text("\n".join(lines))
+    status, said = done(tmp_path, "load it.script", "status")
+    assert status == 2
+    assert said[0] == "open 4" and "111" in said[1] and said[2] == "it.script:5: `commit` was not done"
+    assert said[3] == "refused 801: 'nothing' begins no line of a script"
+    assert said[4:6] == ["it.script:7: `nothing` was not done", "version 1"]
+    assert said[8:11] == ["   0   1       1", "   2   3      -1", "   3   3       1"]
+    (tmp_path / "none.script").write_text("vertices 0\n" + "add 0 1\n" * 50 + "commit\n")
+    status, said = done(tmp_path, "load none.script")
+    assert status == 1 and len(said) == 2 and said[1] == "none.script:1: `vertices 0` was not done"
+    status, said = done(tmp_path, "vertices 2", "load it.script", "status")
+    assert status == 1 and said[1] == "a graph is open already; `close` closes it" and said[2].startswith("version 0: 2 vertices")
+
+
+def test_save_and_open(tmp_path: Path) -> None:
+    for name in ("it.script", "it.script.gz"):
+        lines = ["vertices 3", "add 0 1", "commit", "hold", "del 0 1", "add 1 2 9", "commit", "add 0 0", f"save {name}", f"open {name}"]
+        status, said = done(tmp_path, *lines, "edges 1", "edges")
+        assert status == 0, said
+        assert said[4] == "saved version 2; 1 pending entries are not in it"
+        assert said[5] == "version 2: 3 vertices; 0 entries are pending; open tickets: 1 (version 1)"
+        assert said[6:9] == ["version 1: 1 edges", "from  to  weight", "   0   1       1"] and said[-1] == "   1   2       9"
+
+
+def test_programs_by_number(tmp_path: Path) -> None:
+    (tmp_path / "spin.program").write_text(SPIN)
+    (tmp_path / "fault.program").write_text(FAULT)
+    lines = ["vertices 2", "program spin.program", "program fault.program", "program", "run 1 5 2", "run 2", "hold"]
+    status, said = done(tmp_path, *lines, "run 1 3 1 1", "explain 401")
+    assert status == 0, said
+    assert said[1:5] == ["program 1: spin.program", "program 2: fault.program"] * 2
+    assert said[5] == "version 0: turns-over, 5 turns" and said[9] == "version 0: fault, 0 turns"
+    assert "7 |   x[9] = 2;" in said and "  |   ^" in said
+    assert "version 0: turns-over, 3 turns" in said and said[-1].startswith("401: an index")
+
+
+def test_explain(tmp_path: Path) -> None:
+    status, said = done(tmp_path, "explain 103", "explain 900")
+    assert status == 0
+    assert said == ["103: the chunk size is no power of two from 1 to 256", "leave it out, or take 64", "900: memory ran out"]
+
+
+def test_a_process_that_was_killed(tmp_path: Path, monkeypatch: pytest.MonkeyPatch) -> None:
+    shell = Shell(False)
+    said: list[str] = []
+    monkeypatch.setattr(shell, "say", lambda *lines: said.extend(lines))
+    shell.onecmd("vertices 3")
+    assert shell.graph is not None
+    os.kill(shell.graph.pid, signal.SIGKILL)
+    shell.onecmd("commit")
+    assert "signal 9 (SIGKILL)" in said[-1] and shell.graph is None
+    shell.onecmd("vertices 2")
+    shell.onecmd("commit")
+    assert said[-1] == "version 1"
+    shell.drop()
+
+
+def test_help_of_each_word(tmp_path: Path) -> None:
+    words = [it for group in console.GROUPS.values() for it in group.split()]
+    status, said = done(tmp_path, *(f"help {it}" for it in words))
+    assert status == 0 and len(said) >= 2 * len(words)
+    status, listed = done(tmp_path, "help")
+    assert status == 0 and len(listed) == len(words) + len(console.GROUPS)
+    assert max(map(len, listed)) < 150
+
+
+def test_a_closed_output(tmp_path: Path) -> None:
+    given = os.environ | {"PYTHONPATH": str(PACKAGE)}
+    line = f"for i in $(seq 20000); do echo help; done | {sys.executable} -m gsnap | head -1"
+    ran = subprocess.run(["sh", "-c", line], cwd=tmp_path, env=given, capture_output=True, text=True, check=False, timeout=60)
+    assert ran.stdout == "The graph:\n" and ran.stderr == ""
+
+
+def test_a_file_on_the_command_line(tmp_path: Path) -> None:
+    (tmp_path / "edges.txt").write_text("0 1\n")
+    ran = main_does(tmp_path, "status\n", "edges.txt")
+    assert ran.stdout.splitlines() == ["version 1: 2 vertices; 0 entries are pending; no ticket is open"] * 2
+    assert (ran.returncode, ran.stderr) == (0, "")
+
+
+def test_the_exit_status_and_no_history(tmp_path: Path) -> None:
+    for text, status in (("", 0), ("vertices 2\ncommit", 0), ("vertices 2\nquit\nnothing\n", 0), ("nothing\n", 1)):
+        ran = main_does(tmp_path, text)
+        assert (ran.returncode, ran.stderr) == (status, ""), text
+    assert not (tmp_path / "state").exists()
+    ran = main_does(tmp_path, "", "--version")
+    assert ran.stdout.startswith("gsnap 0.") and ran.returncode == 0
