@@ -186,7 +186,7 @@ class Graph:
         with self._lock, self._whole():
             for first, piece in pieces(edges):
                 sources, destinations, _ = checks.edge_parts(piece, first, 1)
-                self._send(b"del", self._numbers(sources, "source", False, first), self._numbers(destinations, "destination", False, first))
+                self._send(b"del", *self._numbers(sources, destinations, False, first))
 
     def add_vertex(self, vertex: Hashable) -> None:
         """Adds a vertex without edges: a name, or all numbers up to this one. One that is there already is no error."""
@@ -445,18 +445,23 @@ class Graph:
             return self._names.known(source), self._names.known(destination)
         return checks.vertex(source, "source"), checks.vertex(destination, "destination")
 
-    def _numbers(self, column: Any, name: str, is_new: bool, first: int) -> Any:
-        """Returns a column of vertices as numbers; new names get theirs, or are refused."""
-        if self._names is not None:
-            number = self._named if is_new else self._names.known
-            return [number(it) for it in (column.tolist() if hasattr(column, "tolist") else column)]
-        return checks.column(column, name, 0, checks.MOST_VERTICES, first)
+    def _numbers(self, sources: Any, destinations: Any, is_new: bool, first: int) -> tuple[Any, Any]:
+        """Returns columns of vertices as numbers; new names get theirs, edge by edge, or are refused."""
+        if self._names is None:
+            return (
+                checks.column(sources, "source", 0, checks.MOST_VERTICES, first),
+                checks.column(destinations, "destination", 0, checks.MOST_VERTICES, first),
+            )
+        number = self._named if is_new else self._names.known
+        names = (it.tolist() if hasattr(it, "tolist") else it for it in (sources, destinations))
+        found = [(number(source), number(destination)) for source, destination in zip(*names)]
+        return [u for u, _ in found], [v for _, v in found]
 
     def _add_columns(self, sources: Any, destinations: Any, weights: Any, first: int) -> None:
         """Sends the edges of columns of equal length; `first` is the place of the first, for what is said of a wrong one."""
         if weights is not None:
             weights = checks.column(weights, "weight", checks.LEAST_WEIGHT, checks.WEIGHT_BOUND, first)
-        ends = self._numbers(sources, "source", True, first), self._numbers(destinations, "destination", True, first)
+        ends = self._numbers(sources, destinations, True, first)
         self._send(b"add", *ends, *([] if weights is None or checks.are_ones(weights) else [weights]))
 
     def _send(self, word: bytes, *columns: Any) -> None:

@@ -24,7 +24,7 @@ BOUND = 10**DIGITS
 def integers(text: bytes) -> Integers:
     """Returns the numbers of a text such as b" 1 -2 3\\n", which has white space between them."""
     if numpy is not None:
-        return numpy.fromstring(text, dtype=numpy.int64, sep=" ")
+        return numpy.fromstring(text, dtype=numpy.int64, sep=" ") if not text.isspace() else numpy.array([], numpy.int64)
     return array("q", [int(word) for word in text.split()])
 
 

@@ -33,6 +33,11 @@ from .replies import (
 MARK = "?"
 REPLY_TO_MARK = b"refused 801\n"
 
+# A line behind that one, which is refused by 122 once a graph is open: no line of a script that was done without a refusal has
+# both replies.
+SECOND_MARK = "release 0"
+REPLY_TO_SECOND_MARK = b"refused 122\n"
+
 # How many bytes are read from the program, and wait to be written to it, at a time.
 BUFFER = 1 << 20
 
@@ -163,24 +168,33 @@ class Wire:
         return reply
 
     def replay(self, lines: Iterable[bytes]) -> list[Reply]:
-        """Sends pieces of a script's text, and returns all replies, which must be of one line each."""
+        """Sends pieces of a script's text, and returns all replies, which must be of one line each.
+
+        If a line is refused by 801 and the next one that has a reply by 122, the replies end there. Whoever did not send as many
+        lines as there are replies then sees that by their number.
+        """
         writer = threading.Thread(target=self._write_all, args=(lines,), daemon=True)
         writer.start()
-        found = []
-        while (line := self._read_line()) != REPLY_TO_MARK:
+        found: list[Reply] = []
+        last = b""
+        end = REPLY_TO_MARK
+        while (last, line := self._read_line()) != (REPLY_TO_MARK, end):
             reply = first_line(line, [])
             if reply is None:
                 self.out_of_step("a line of the script", "a reply", line)
+            if isinstance(reply, Opened):
+                end = REPLY_TO_SECOND_MARK
             found.append(reply)
+            last = line
         writer.join()
-        return found
+        return found[:-1]
 
     def _write_all(self, pieces: Iterable[bytes]) -> None:
         """Writes a script and the mark behind it."""
         try:
             for piece in pieces:
                 self._out.write(piece)
-            self._out.write(MARK.encode() + b"\n")
+            self._out.write(f"{MARK}\n{SECOND_MARK}\n".encode())
             self._out.flush()
         except (OSError, ValueError):
             pass  # the reader sees that the replies end
