@@ -4,7 +4,7 @@ from __future__ import annotations
 import os
 import sys
 import threading
-from collections.abc import Hashable, Iterable, Iterator, Sequence
+from collections.abc import Hashable, Iterable, Iterator, Sequence, Sized
 from contextlib import contextmanager
 from itertools import islice
 from types import TracebackType
@@ -83,7 +83,7 @@ class Graph:
     def __init__(
         self,
         vertices: int = 1,
-        names: bool | Iterable[Hashable] | None = False,
+        names: bool | Iterable[Hashable] | Names | None = False,
         programs: AnyProgram | Iterable[AnyProgram] = (),
         *,
         session: Session | None = None,
@@ -171,7 +171,7 @@ class Graph:
 
         A wrong entry is named by its place, from 0, by TypeError or ValueError, and none of the call's edges is added.
         """
-        columns = [it if hasattr(it, "__len__") else list(it) for it in (sources, destinations, weights) if it is not None]
+        columns: list[Any] = [it if hasattr(it, "__len__") else list(it) for it in (sources, destinations, weights) if it is not None]
         count = len(columns[0])
         if any(len(it) != count for it in columns):
             raise ValueError(f"columns have to be of one length, and are of {' and '.join(str(len(it)) for it in columns)}")
@@ -484,7 +484,7 @@ class Graph:
             raise
 
 
-def names_from(names: bool | Iterable[Hashable] | None) -> Names | None:
+def names_from(names: bool | Iterable[Hashable] | Names | None) -> Names | None:
     """Returns the names that a graph begins with, or None for a graph without names."""
     if names is None or names is False:
         return None
@@ -493,7 +493,7 @@ def names_from(names: bool | Iterable[Hashable] | None) -> Names | None:
 
 def pieces(edges: Iterable[Any]) -> Iterator[tuple[int, list[Any]]]:
     """Yields some edges at a time, with the place of the first of them, and shows on a terminal how many they are."""
-    total = len(edges) if hasattr(edges, "__len__") else None
+    total = len(edges) if isinstance(edges, Sized) else None
     rest, done = iter(edges), 0
     while piece := list(islice(rest, PIECE)):
         yield done, piece

@@ -78,7 +78,8 @@ def spelled_at_once(word: bytes, columns: Sequence[Any]) -> bytes:
         rows[f"high{at}"] = numpy.where(high > 0, short[high], 0)
         rows[f"low{at}"] = numpy.where(high > 0, full[low], short[low])
         rows[f"space{at}"] = b"\n" if at + 1 == len(columns) else b" "
-    return rows.tobytes().translate(None, b"\0")
+    text: bytes = rows.tobytes()
+    return text.translate(None, b"\0")
 
 
 def is_short(column: Any) -> bool:

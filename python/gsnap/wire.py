@@ -9,7 +9,7 @@ import weakref
 from collections.abc import Iterable, Sequence
 from itertools import islice
 from pathlib import Path
-from typing import IO, NoReturn
+from typing import IO, Any, NoReturn
 
 from . import data
 from .errors import Ended, NoProgram, OutOfStep, Refused
@@ -45,7 +45,7 @@ BUFFER = 1 << 20
 MOST_WORDS = 2000
 
 # The reply that each line is due, by the line's first word.
-DUE = {
+DUE: dict[str, tuple[type[Any], str]] = {
     "vertices": (Opened, "open N"),
     "commit": (Committed, "version K"),
     "hold": (Ticketed, "ticket T version K"),
@@ -92,7 +92,7 @@ class Wire:
     """
 
     def __init__(self, programs: Sequence[str | os.PathLike[str]] = (), gsnap: str | Path | None = None) -> None:
-        words = [os.fspath(gsnap or data.program()), "script", "-", *map(os.fspath, programs)]
+        words = [os.fspath(gsnap or data.program()), "script", "-", *(os.fspath(it) for it in programs)]
         self._said = tempfile.TemporaryFile()
         self._process = start(words, self._said)
         assert self._process.stdin and self._process.stdout
@@ -135,7 +135,7 @@ class Wire:
         if isinstance(found, RefusedLine):
             raise refused(found.number, line)
         kind, wanted = DUE[line.partition(" ")[0]]
-        if not isinstance(found, kind):
+        if found is None or not isinstance(found, kind):
             self.out_of_step(line, wanted, first)
         return found
 
