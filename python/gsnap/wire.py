@@ -135,7 +135,8 @@ class Wire:
         if isinstance(found, RefusedLine):
             raise refused(found.number, line)
         kind, wanted = DUE[line.partition(" ")[0]]
-        if found is None or not isinstance(found, kind):
+        is_due = isinstance(found, kind)
+        if found is None or not is_due:
             self.out_of_step(line, wanted, first)
         return found
 
