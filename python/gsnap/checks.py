@@ -84,9 +84,9 @@ def are_ones(weights: Any) -> bool:
     return all(it == 1 for it in weights) if not hasattr(weights, "all") else bool((weights == 1).all())
 
 
-def weight_of(given: Any) -> Any:
-    """Returns the weight of an edge's third part: itself, or what a mapping has as `weight`, else 1."""
-    return given.get("weight", 1) if isinstance(given, Mapping) else given
+def weight_of(given: Any, default: Any) -> Any:
+    """Returns the weight of an edge's third part: itself, or what a mapping has as `weight`."""
+    return given.get("weight", default) if isinstance(given, Mapping) else given
 
 
 def edge_parts(edges: Sequence[Any], first: int, default: Any) -> tuple[list[Any], list[Any], list[Any]]:
@@ -106,5 +106,5 @@ def edge_parts(edges: Sequence[Any], first: int, default: Any) -> tuple[list[Any
             raise ValueError(f"edge {at} is {edge!r}, and not two vertices and a weight")
         sources.append(source)
         destinations.append(destination)
-        weights.append(weight_of(more[0]) if more else default)
+        weights.append(weight_of(more[0], default) if more else default)
     return sources, destinations, weights

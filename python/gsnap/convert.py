@@ -60,11 +60,8 @@ def from_pandas_edgelist(
     The vertices are the values of the columns `source` and `target`, as names, or as numbers if `names` is False. `weight` names
     a column of whole numbers.
     """
-    columns = [frame[source], frame[target]] + ([] if weight is None else [frame[weight]])
-    if names:
-        columns[:2] = [it.tolist() for it in columns[:2]]
-    arrays = [it.to_numpy() if hasattr(it, "to_numpy") else it for it in columns]
-    return from_columns(*arrays, names=names)
+    weights = None if weight is None else frame[weight].to_numpy()
+    return from_columns(frame[source].to_numpy(), frame[target].to_numpy(), weights, names=names)
 
 
 def from_scipy_sparse(matrix: Any, weights: bool = False) -> Graph:

@@ -17,7 +17,7 @@ class Counts(Mapping[int, Any]):
     def __init__(self, graph: Graph, program: AnyProgram, how: Mapping[str, Any]) -> None:
         self._graph = graph
         self._program = program
-        self._how = {**how, "only": ()}
+        self._how: dict[str, Any] = {**how, "only": ()}
         self._numbers: dict[int, Any] = {}
 
     def note(self, version: int, held: Held | None = None) -> None:

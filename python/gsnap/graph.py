@@ -4,7 +4,7 @@ from __future__ import annotations
 import os
 import sys
 import threading
-from collections.abc import Hashable, Iterable, Iterator, Sequence
+from collections.abc import Hashable, Iterable, Iterator, Sequence, Sized
 from contextlib import contextmanager
 from itertools import islice
 from types import TracebackType
@@ -83,7 +83,7 @@ class Graph:
     def __init__(
         self,
         vertices: int = 1,
-        names: bool | Iterable[Hashable] | None = False,
+        names: bool | Iterable[Hashable] | Names | None = False,
         programs: AnyProgram | Iterable[AnyProgram] = (),
         *,
         session: Session | None = None,
@@ -171,7 +171,7 @@ class Graph:
 
         A wrong entry is named by its place, from 0, by TypeError or ValueError, and none of the call's edges is added.
         """
-        columns = [it if hasattr(it, "__len__") else list(it) for it in (sources, destinations, weights) if it is not None]
+        columns: list[Any] = [it if hasattr(it, "__len__") else list(it) for it in (sources, destinations, weights) if it is not None]
         count = len(columns[0])
         if any(len(it) != count for it in columns):
             raise ValueError(f"columns have to be of one length, and are of {' and '.join(str(len(it)) for it in columns)}")
@@ -186,7 +186,7 @@ class Graph:
         with self._lock, self._whole():
             for first, piece in pieces(edges):
                 sources, destinations, _ = checks.edge_parts(piece, first, 1)
-                self._send(b"del", self._numbers(sources, "source", False, first), self._numbers(destinations, "destination", False, first))
+                self._send(b"del", *self._numbers(sources, destinations, False, first))
 
     def add_vertex(self, vertex: Hashable) -> None:
         """Adds a vertex without edges: a name, or all numbers up to this one. One that is there already is no error."""
@@ -445,18 +445,23 @@ class Graph:
             return self._names.known(source), self._names.known(destination)
         return checks.vertex(source, "source"), checks.vertex(destination, "destination")
 
-    def _numbers(self, column: Any, name: str, is_new: bool, first: int) -> Any:
-        """Returns a column of vertices as numbers; new names get theirs, or are refused."""
-        if self._names is not None:
-            number = self._named if is_new else self._names.known
-            return [number(it) for it in (column.tolist() if hasattr(column, "tolist") else column)]
-        return checks.column(column, name, 0, checks.MOST_VERTICES, first)
+    def _numbers(self, sources: Any, destinations: Any, is_new: bool, first: int) -> tuple[Any, Any]:
+        """Returns columns of vertices as numbers; new names get theirs, edge by edge, or are refused."""
+        if self._names is None:
+            return (
+                checks.column(sources, "source", 0, checks.MOST_VERTICES, first),
+                checks.column(destinations, "destination", 0, checks.MOST_VERTICES, first),
+            )
+        number = self._named if is_new else self._names.known
+        names = (it.tolist() if hasattr(it, "tolist") else it for it in (sources, destinations))
+        found = [(number(source), number(destination)) for source, destination in zip(*names)]
+        return [u for u, _ in found], [v for _, v in found]
 
     def _add_columns(self, sources: Any, destinations: Any, weights: Any, first: int) -> None:
         """Sends the edges of columns of equal length; `first` is the place of the first, for what is said of a wrong one."""
         if weights is not None:
             weights = checks.column(weights, "weight", checks.LEAST_WEIGHT, checks.WEIGHT_BOUND, first)
-        ends = self._numbers(sources, "source", True, first), self._numbers(destinations, "destination", True, first)
+        ends = self._numbers(sources, destinations, True, first)
         self._send(b"add", *ends, *([] if weights is None or checks.are_ones(weights) else [weights]))
 
     def _send(self, word: bytes, *columns: Any) -> None:
@@ -479,7 +484,7 @@ class Graph:
             raise
 
 
-def names_from(names: bool | Iterable[Hashable] | None) -> Names | None:
+def names_from(names: bool | Iterable[Hashable] | Names | None) -> Names | None:
     """Returns the names that a graph begins with, or None for a graph without names."""
     if names is None or names is False:
         return None
@@ -488,7 +493,7 @@ def names_from(names: bool | Iterable[Hashable] | None) -> Names | None:
 
 def pieces(edges: Iterable[Any]) -> Iterator[tuple[int, list[Any]]]:
     """Yields some edges at a time, with the place of the first of them, and shows on a terminal how many they are."""
-    total = len(edges) if hasattr(edges, "__len__") else None
+    total = len(edges) if isinstance(edges, Sized) else None
     rest, done = iter(edges), 0
     while piece := list(islice(rest, PIECE)):
         yield done, piece

@@ -24,7 +24,7 @@ BOUND = 10**DIGITS
 def integers(text: bytes) -> Integers:
     """Returns the numbers of a text such as b" 1 -2 3\\n", which has white space between them."""
     if numpy is not None:
-        return numpy.fromstring(text, dtype=numpy.int64, sep=" ")
+        return numpy.fromstring(text, dtype=numpy.int64, sep=" ") if not text.isspace() else numpy.array([], numpy.int64)
     return array("q", [int(word) for word in text.split()])
 
 
@@ -78,7 +78,8 @@ def spelled_at_once(word: bytes, columns: Sequence[Any]) -> bytes:
         rows[f"high{at}"] = numpy.where(high > 0, short[high], 0)
         rows[f"low{at}"] = numpy.where(high > 0, full[low], short[low])
         rows[f"space{at}"] = b"\n" if at + 1 == len(columns) else b" "
-    return rows.tobytes().translate(None, b"\0")
+    text: bytes = rows.tobytes()
+    return text.translate(None, b"\0")
 
 
 def is_short(column: Any) -> bool:

@@ -87,7 +87,8 @@ class Program:
             raise GsnapError(f"gsnap check ended with status {found.returncode}: {said.strip()}")
         number = int(refusal["number"])
         offset = int(refusal["offset"]) if refusal["offset"] else None
-        raise ProgramRefused(refusal_text(self.name, self.text, number, offset), number, offset)
+        shown = f"{self.name}: refused {number}" if offset is None else refusal_text(self.name, self.text, number, offset)
+        raise ProgramRefused(shown, number, offset)
 
     def __eq__(self, other: object) -> bool:
         return isinstance(other, Program) and self.text == other.text

@@ -5,7 +5,6 @@ import html
 from collections.abc import Hashable, Iterator, Mapping, Sequence
 from typing import Any
 
-from .numbers import numpy
 from .replies import RunReply
 
 # How many rows of a table a notebook shows.
@@ -111,6 +110,7 @@ class Run(Mapping[str, Any]):
 
     def to_pandas(self) -> Any:
         """Returns a pandas.DataFrame: a row for each vertex, a column of numbers for each vector and of bool for each set."""
+        import numpy
         import pandas
 
         frame = pandas.DataFrame(index=pandas.Index(self.index(), name="vertex"))

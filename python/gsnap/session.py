@@ -5,6 +5,7 @@ next call starts one that has all programs, and does the journal again. So an in
 """
 from __future__ import annotations
 
+import functools
 from collections.abc import Callable, Iterable, Iterator
 from dataclasses import dataclass
 from typing import TypeVar
@@ -240,7 +241,7 @@ class Session:
         """Returns the versions that are kept, ascending: those that a ticket holds, and the newest."""
         by_version: dict[int, Kept] = {}
         for ticket, it in self.tickets.items():
-            kept = by_version.setdefault(it.version, Kept(it.version, it.vertices, [], lambda t=ticket: self.edges(t)))
+            kept = by_version.setdefault(it.version, Kept(it.version, it.vertices, [], functools.partial(self.edges, ticket)))
             kept.tickets.append(ticket)
         by_version.setdefault(self.version, Kept(self.version, self.vertices, [], self.edges))
         return [by_version[version] for version in sorted(by_version)]

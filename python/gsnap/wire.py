@@ -9,7 +9,7 @@ import weakref
 from collections.abc import Iterable, Sequence
 from itertools import islice
 from pathlib import Path
-from typing import IO, NoReturn
+from typing import IO, Any, NoReturn
 
 from . import data
 from .errors import Ended, NoProgram, OutOfStep, Refused
@@ -33,6 +33,11 @@ from .replies import (
 MARK = "?"
 REPLY_TO_MARK = b"refused 801\n"
 
+# A line behind that one, which is refused by 122 once a graph is open: no line of a script that was done without a refusal has
+# both replies.
+SECOND_MARK = "release 0"
+REPLY_TO_SECOND_MARK = b"refused 122\n"
+
 # How many bytes are read from the program, and wait to be written to it, at a time.
 BUFFER = 1 << 20
 
@@ -40,7 +45,7 @@ BUFFER = 1 << 20
 MOST_WORDS = 2000
 
 # The reply that each line is due, by the line's first word.
-DUE = {
+DUE: dict[str, tuple[type[Any], str]] = {
     "vertices": (Opened, "open N"),
     "commit": (Committed, "version K"),
     "hold": (Ticketed, "ticket T version K"),
@@ -87,7 +92,7 @@ class Wire:
     """
 
     def __init__(self, programs: Sequence[str | os.PathLike[str]] = (), gsnap: str | Path | None = None) -> None:
-        words = [os.fspath(gsnap or data.program()), "script", "-", *map(os.fspath, programs)]
+        words = [os.fspath(gsnap or data.program()), "script", "-", *(os.fspath(it) for it in programs)]
         self._said = tempfile.TemporaryFile()
         self._process = start(words, self._said)
         assert self._process.stdin and self._process.stdout
@@ -130,7 +135,8 @@ class Wire:
         if isinstance(found, RefusedLine):
             raise refused(found.number, line)
         kind, wanted = DUE[line.partition(" ")[0]]
-        if not isinstance(found, kind):
+        is_due = isinstance(found, kind)
+        if found is None or not is_due:
             self.out_of_step(line, wanted, first)
         return found
 
@@ -163,24 +169,33 @@ class Wire:
         return reply
 
     def replay(self, lines: Iterable[bytes]) -> list[Reply]:
-        """Sends pieces of a script's text, and returns all replies, which must be of one line each."""
+        """Sends pieces of a script's text, and returns all replies, which must be of one line each.
+
+        If a line is refused by 801 and the next one that has a reply by 122, the replies end there. Whoever did not send as many
+        lines as there are replies then sees that by their number.
+        """
         writer = threading.Thread(target=self._write_all, args=(lines,), daemon=True)
         writer.start()
-        found = []
-        while (line := self._read_line()) != REPLY_TO_MARK:
+        found: list[Reply] = []
+        last = b""
+        end = REPLY_TO_MARK
+        while (last, line := self._read_line()) != (REPLY_TO_MARK, end):
             reply = first_line(line, [])
             if reply is None:
                 self.out_of_step("a line of the script", "a reply", line)
+            if isinstance(reply, Opened):
+                end = REPLY_TO_SECOND_MARK
             found.append(reply)
+            last = line
         writer.join()
-        return found
+        return found[:-1]
 
     def _write_all(self, pieces: Iterable[bytes]) -> None:
         """Writes a script and the mark behind it."""
         try:
             for piece in pieces:
                 self._out.write(piece)
-            self._out.write(MARK.encode() + b"\n")
+            self._out.write(f"{MARK}\n{SECOND_MARK}\n".encode())
             self._out.flush()
         except (OSError, ValueError):
             pass  # the reader sees that the replies end

@@ -63,8 +63,9 @@ def edit(chance, graph, model, names, both_ways):
     """Adds an edge or takes one away, in both."""
     u, v = chance.choice(names), chance.choice(names)
     weight = chance.choice([1, 1, 2, 5, 100])
-    for a, b in {(u, v), (v, u)} if both_ways else {(u, v)}:
-        if chance.random() < 0.65:
+    is_added = chance.random() < 0.65
+    for a, b in dict.fromkeys([(u, v), (v, u)] if both_ways else [(u, v)]):
+        if is_added:
             graph.add_edge(a, b, weight)
             model.add_edge(a, b, weight=weight)
         elif a in model and b in model:
