@@ -92,7 +92,7 @@ def build_sdist(sdist_directory: str, config_settings: object = None) -> str:
     files += [((HERE / name).read_bytes(), name, 0o644) for name in OWN]
     files.append((metadata().encode(), "PKG-INFO", 0o644))
     with open(Path(sdist_directory, f"{stem}.tar.gz"), "wb") as file, gzip.GzipFile("", "wb", fileobj=file, mtime=0) as packed:
-        with tarfile.open(fileobj=packed, mode="w", format=tarfile.PAX_FORMAT) as archive:
+        with tarfile.TarFile(fileobj=packed, mode="w", format=tarfile.PAX_FORMAT) as archive:
             for content, place, mode in sorted(files, key=lambda it: it[1]):
                 member = tarfile.TarInfo(f"{stem}/{place}")
                 member.size, member.mode = len(content), mode

@@ -13,7 +13,7 @@ from .errors import Mistake
 
 BANNER = b"%%matrixmarket"
 INTEGER = rb"[+-]?[0-9]+"
-FIELDS = {"pattern": [], "integer": [INTEGER], "real": [REAL], "complex": [REAL, REAL]}
+FIELDS: dict[str, list[bytes]] = {"pattern": [], "integer": [INTEGER], "real": [REAL], "complex": [REAL, REAL]}
 SYMMETRIES = {
     "general": list(FIELDS),
     "symmetric": list(FIELDS),
@@ -30,12 +30,13 @@ class Matrix(Edges):
     def __init__(self, name: str, form: Form, banner: list[bytes]) -> None:
         super().__init__(name, form)
         self.first = 1
-        self.last = self.announced = None
+        self.last = None
+        self.announced: int | None = None
         self.entries = 0
         words = [it.decode(errors="backslashreplace").lower() for it in banner]
         if len(words) != 5:
             self.fail(f"{len(words)} words, where 5 are wanted: %%MatrixMarket matrix coordinate FIELD SYMMETRY", 1)
-        known = (["matrix"], ["coordinate"], FIELDS, SYMMETRIES)
+        known = (["matrix"], ["coordinate"], list(FIELDS), list(SYMMETRIES))
         for word, it, choice in zip(banner[1:], words[1:], known):
             if it not in choice:
                 self.fail(f"{shown(word)} stands where {' or '.join(choice)} is wanted", 1)
@@ -131,7 +132,8 @@ class Paths(Edges):
         super().__init__(name, form)
         self.weights = array.array("q")
         self.first = 1
-        self.last = self.announced = None
+        self.last = None
+        self.announced: int | None = None
 
     def passes(self, words: list[bytes]) -> bool:
         if not words or words[0] == b"c":

@@ -45,15 +45,17 @@ class Shell(Console):
             return
         if len(given) not in (2, 3):
             raise Wrong("it is `add U V [W]`")
-        graph.add_edge(*given[:2], *self.numbers_of("add", ["0", "0", *given[2:]])[2:])
+        weight = self.numbers_of("add", ["0", "0", *given[2:]])[2:]
+        graph.add_edge(given[0], given[1], *weight)
 
     def do_del(self, words: str) -> None:
         """del U V: adds the removal of an edge to the pending batch"""
         graph, given = self.opened(), words.split()
         if graph.names is not None and len(given) != 2:
             raise Wrong("it is `del U V`")
-        source, destination = self.numbers_of("del", given) if graph.names is None else given
-        graph.remove_edge(source, destination)
+        if graph.names is None:
+            self.numbers_of("del", given)
+        graph.remove_edge(self.vertex_of(given[0]), self.vertex_of(given[1]))
 
     def do_grow(self, words: str) -> None:
         """grow N: makes N vertices of them with the next version"""

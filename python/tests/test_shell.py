@@ -105,7 +105,7 @@ def test_completion(terminal: Terminal) -> None:
     terminal.press("Enter")
     terminal.wait("version 1: 5 vertices")
     terminal.press(*"compo", "Tab", "Enter")
-    terminal.wait("printed 3")
+    terminal.wait("printed 2")
     terminal.type("hold")
     terminal.press(*"rel", "Tab", "Tab", "Enter")
     terminal.wait("released 1")
