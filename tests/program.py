@@ -1,5 +1,6 @@
 """The program that the checks in checks/ and long/ run."""
 import os
+import sys
 
 ROOT = os.path.dirname(os.path.dirname(os.path.realpath(__file__)))
 
@@ -8,3 +9,13 @@ GSNAP = os.path.realpath(os.environ.get("GSNAP") or f"{ROOT}/gsnap")
 
 # After so many seconds a run has hung. Under load the longest takes a minute or two.
 PATIENCE = 600
+
+
+def end_without(what):
+    """Ends a check that cannot do its work, as one failure. `what` says what is missing."""
+    print(f"{what}\n0 passed, 1 failed")
+    sys.exit(1)
+
+
+if not os.access(GSNAP, os.X_OK):
+    end_without(f"there is no program {GSNAP}")
