@@ -214,7 +214,7 @@ class Edges:
             name = ends[at]
             word = name if isinstance(name, bytes) else b"%d" % name
             self.fail(f"{shown(word)} is one more than {MOST_VERTICES} vertices", self.line + 1 + at // 2)
-        return [numbers[name] for name in ends]
+        return list(map(numbers.__getitem__, ends))
 
     def finish(self) -> int:
         """Returns the number of vertices, when all is read."""
