@@ -64,7 +64,10 @@ def test_named_program_that_is_not_there(monkeypatch: pytest.MonkeyPatch, tmp_pa
         assert repr(name) in str(said.value)
 
 
-def test_package_without_its_program(monkeypatch: pytest.MonkeyPatch) -> None:
-    monkeypatch.setattr(data, "files", dict)
-    with pytest.raises(NoProgram, match="has no program gsnap"):
-        data.own_program()
+def test_package_without_its_program(monkeypatch: pytest.MonkeyPatch, tmp_path: Path) -> None:
+    cannot_run = tmp_path / "gsnap"
+    cannot_run.write_text("")
+    for found in ({}, {"gsnap": cannot_run}):
+        monkeypatch.setattr(data, "files", lambda found=found: found)
+        with pytest.raises(NoProgram, match="has no program gsnap"):
+            data.own_program()
