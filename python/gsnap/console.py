@@ -85,8 +85,6 @@ class Console(cmd.Cmd):
             self.drop()
         except KeyError as error:
             self.fail(str(error.args[0]))
-        except BrokenPipeError:
-            raise
         except OSError as error:
             self.fail(f"{error.filename}: {error.strerror}" if error.filename else str(error))
         except (Wrong, GsnapError, ValueError, TypeError) as error:

@@ -217,11 +217,10 @@ def test_names(tmp_path: Path) -> None:
     (tmp_path / "more.txt").write_text("eve zed\n")
     lines = ["names", "add ann bob", "add bob eve 7", "commit", "load more.txt", "commit", "distances ann", "distances nobody"]
     status, said = done(tmp_path, *lines, "edges", "del bob eve", "del bob nobody", "commit", "distances ann")
-    text = "\n".join(said)
     assert status == 2
     assert said[:3] == ["open, with names", "version 1", "1 edges are pending; `commit` makes the next version"]
     assert [line.split()[:2] for line in said[6:10]] == [["ann", "0"], ["bob", "1"], ["eve", "2"], ["zed", "3"]]
-    assert "no vertex is named 'nobody'" in text and ["bob", "eve", "7"] in [line.split() for line in said]
+    assert "no vertex is named 'nobody'" in said and ["bob", "eve", "7"] in [line.split() for line in said]
     assert [line.split()[:2] for line in said[-4:]] == [["ann", "0"], ["bob", "1"], ["eve", "-1"], ["zed", "-1"]]
 
 
@@ -288,6 +287,16 @@ def test_programs_by_number(tmp_path: Path) -> None:
     assert said[5] == "version 0: turns-over, 5 turns" and said[9] == "version 0: fault, 0 turns"
     assert "7 |   x[9] = 2;" in said and "  |   ^" in said
     assert "version 0: turns-over, 3 turns" in said and said[-1].startswith("401: an index")
+
+
+def test_runs_on_a_held_version(tmp_path: Path) -> None:
+    (tmp_path / "spin.program").write_text(SPIN)
+    lines = ["vertices 2", "program spin.program", "hold", "add 0 1", "commit", "run 1 3 1 1", "run 1 3", "distances 0 at 1", "distances 0"]
+    failures, said = done(tmp_path, *lines)
+    assert failures == 0
+    heads = [line for line in said if ": " in line and "turns" in line]
+    assert [it.partition(":")[0] for it in heads] == ["version 0", "version 1", "version 0", "version 1"]
+    assert [line.split()[1] for line in said if line.startswith("     1")] == ["0", "0", "-1", "1"]
 
 
 def test_explain(tmp_path: Path) -> None:
