@@ -28,10 +28,10 @@ SOURCES = (
 def files() -> dict[str, Path]:
     """Returns the path of each file of the package, by the file's name."""
     if COPIES.is_dir():
-        found = sorted(COPIES.iterdir())
+        found = list(COPIES.iterdir())
     else:
-        found = [path for pattern in SOURCES for path in sorted(CLONE.glob(pattern))]
-    return {path.name: path for path in found}
+        found = [path for pattern in SOURCES for path in CLONE.glob(pattern)]
+    return {path.name: path for path in sorted(found, key=lambda it: it.name)}
 
 
 def text_of(name: str) -> str:

@@ -83,7 +83,7 @@ def test_wheel(tmp_path: Path) -> None:
             content = archive.read(place)
             wanted = base64.urlsafe_b64encode(hashlib.sha256(content).digest()).decode().rstrip("=")
             assert (digest, int(size)) == (f"sha256={wanted}", len(content)), place
-    assert not [it for it in names if "test" in it or "pycache" in it]
+    assert not [it for it in names if "tests/" in it or "test_" in it or "pycache" in it]
 
 
 def test_source_archive_builds_the_same_wheel(tmp_path: Path) -> None:
