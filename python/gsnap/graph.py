@@ -94,7 +94,11 @@ class Graph:
         self._counts: list[Counts] = []
         least = checks.whole(vertices, "vertices", 1, checks.MOST_VERTICES + 1)
         self._session = session or Session(max(least, len(self._names or ())))
-        self.prepare(programs)
+        try:
+            self.prepare(programs)
+        except BaseException:
+            self._session.close()
+            raise
 
     # What it has
 
@@ -235,6 +239,11 @@ class Graph:
         """Holds the newest version, or the one of that number, which is held already.
 
         `with graph.held() as held:` releases it at the end. Raises Refused by 121 if the version is not kept.
+
+        >>> with Graph(2) as graph, graph.held() as held:
+        ...     graph.add_edge(0, 1)
+        ...     graph.commit(), held.version, len(graph.edges(held)), len(graph.edges())
+        (1, 0, 0, 1)
         """
         with self._lock:
             if version is not None:
@@ -288,7 +297,13 @@ class Graph:
         answer has; a line of another is passed over unread.
 
         Raises TypeError or ValueError for another argument, ProgramRefused for a text that does not compile, KeyError if `only`
-        names what the program does not show, and Refused by 122 if the version was released.
+        names what the program does not show, and Closed if the version was released.
+
+        >>> from gsnap import distances, from_edges
+        >>> with from_edges([(0, 1), (1, 2)]) as graph:
+        ...     run = graph.run(distances(0))
+        ...     run.version, run.end, list(map(int, run.distance))
+        (1, 'finished', [0, 1, 2])
         """
         wanted = None if only is None else frozenset([only] if isinstance(only, str) else only)
         workers = checks.whole(workers, "workers", 1, 65)
@@ -307,6 +322,13 @@ class Graph:
 
         A batch is a sequence of edits: `("add", u, v)`, `("add", u, v, weight)` or `("remove", u, v)`. `how` are the arguments of
         `run`. If an edit is wrong, ValueError or TypeError is raised, and nothing of its batch is pending.
+
+        >>> from gsnap import components
+        >>> with Graph(3) as graph:
+        ...     for run in graph.watch([[("add", 0, 1), ("add", 1, 0)], [("add", 1, 2), ("add", 2, 1)]], components()):
+        ...         print(run.version, run.printed)
+        1 [2]
+        2 [1]
         """
         for batch in batches:
             with self._lock:
@@ -322,6 +344,13 @@ class Graph:
 
         It begins with the versions that are kept, and grows by each later commit, until its `close`. `how` are the arguments of
         `run`; vectors and sets are not read.
+
+        >>> from gsnap import components
+        >>> with Graph(3) as graph:
+        ...     counts = graph.counts(components())
+        ...     graph.add_edges_from([(0, 1), (1, 0)])
+        ...     graph.commit(), dict(counts)
+        (1, {0: 3, 1: 2})
         """
         with self._lock:
             counts = Counts(self, program, how)

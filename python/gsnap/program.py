@@ -57,7 +57,12 @@ class Program:
     >>> Program("element Vertex end\\nelement Edge end\\nfunc main() print 1 + true; end\\n")
     Traceback (most recent call last):
         ...
-    gsnap.errors.ProgramRefused: refused 223 at ...
+    gsnap.errors.ProgramRefused:  --> program:3:13
+      |
+    3 | func main() print 1 + true; end
+      |             ^
+     = 223: a type or a kind of thing is wrong there
+     = `docs/LANGUAGE.md` lists what each place takes
     """
 
     def __init__(self, text_or_path: str | os.PathLike[str], constants: Mapping[str, int] | None = None) -> None:

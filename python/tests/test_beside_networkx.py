@@ -4,6 +4,7 @@ import random
 import pytest
 
 import gsnap
+from gsnap import session
 
 networkx = pytest.importorskip("networkx")
 
@@ -88,9 +89,10 @@ def is_equal(found, model):
 
 
 @pytest.mark.parametrize("block", range(10))
-def test_random_edits(block):
+def test_random_edits(block, monkeypatch):
     for seed in range(block, STREAMS, 10):
         chance = random.Random(seed)
+        monkeypatch.setattr(session, "MOST_JOURNAL", chance.choice([1 << 28, 100]))  # a journal is made anew, or never
         program, check, both_ways = KINDS[chance.randrange(len(KINDS))]
         names = chance.sample(range(1000), 3) + ["ann", "bob", ("a", "pair"), 2.5, frozenset([1])][: chance.randint(0, 5)]
         start = names[0]

@@ -1,5 +1,6 @@
 """What becomes of a graph whose process, reader, thread or interpreter ends."""
 import os
+import pty
 import signal
 import subprocess
 import sys
@@ -230,3 +231,48 @@ def test_a_wire_alone():
     with pytest.raises(gsnap.Refused):
         wire.ask("commit")
     assert wire.close() == 0
+
+
+def test_a_process_that_ends_while_it_is_written_to(tmp_path):
+    program = fake(tmp_path, 'read line; echo "open 1000"; read line; echo "refused 801"; read line; echo "refused 122"; exit 4')
+
+    def load():
+        graph = gsnap.Graph(1000)
+        with pytest.raises(gsnap.Ended, match="status 4"):
+            graph.add_edges_from([(0, 1)] * 1_000_000)
+            graph.commit()
+        with pytest.raises(gsnap.Closed):
+            graph.commit()
+
+    with_program(program, load)
+
+
+def test_a_graph_that_does_not_begin_leaves_no_process():
+    before = children()
+    with pytest.raises(gsnap.ProgramRefused):
+        gsnap.Graph(2, programs="element Vertex end\nelement Edge end\nfunc main() print x; end\n")
+    with pytest.raises(TypeError):
+        gsnap.from_edges([(0, None)])
+    assert children() == before
+
+
+def children():
+    """Returns the processes of this one."""
+    with open(f"/proc/self/task/{threading.get_native_id()}/children", encoding="ascii") as file:
+        return set(file.read().split())
+
+
+@pytest.mark.parametrize("given, wanted", [("[(0, 1)] * 600_000", "] 600,000 of 600,000 edges"), ("((0, 1) for _ in range(600_000))", "\r600,000 edges")])
+def test_a_terminal_shows_how_far_a_load_is(given, wanted):
+    code = f"import gsnap\nwith gsnap.Graph(2) as graph:\n    graph.add_edges_from({given})"
+    master, slave = pty.openpty()
+    subprocess.run([sys.executable, "-c", code], stderr=slave, check=True, env={**os.environ, "PYTHONPATH": str(ROOT / "python")})
+    os.close(slave)
+    said = b""
+    try:
+        while piece := os.read(master, 1 << 16):
+            said += piece
+    except OSError:
+        pass  # a terminal that nobody has open any more
+    os.close(master)
+    assert wanted in said.decode()
