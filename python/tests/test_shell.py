@@ -222,6 +222,9 @@ def test_names(tmp_path: Path) -> None:
     assert [line.split()[:2] for line in said[6:10]] == [["ann", "0"], ["bob", "1"], ["eve", "2"], ["zed", "3"]]
     assert "no vertex is named 'nobody'" in said and ["bob", "eve", "7"] in [line.split() for line in said]
     assert [line.split()[:2] for line in said[-4:]] == [["ann", "0"], ["bob", "1"], ["eve", "-1"], ["zed", "-1"]]
+    (tmp_path / "numbers.txt").write_text("7 5\n")
+    failures, said = done(tmp_path, "names", "load numbers.txt", "commit", "distances 7")
+    assert failures == 0 and [line.split()[:2] for line in said[-2:]] == [["7", "0"], ["5", "1"]]
 
 
 @pytest.mark.parametrize(
@@ -252,14 +255,15 @@ def test_load_of_edges(tmp_path: Path, name: str, words: str, vertices: int, edg
 
 
 def test_load_of_a_script(tmp_path: Path) -> None:
-    lines = ["vertices 4", "add 0 1", "add 1 2 5", "add 7 7", "commit", "add 0 1", "nothing", "add 2 3 -1", "add 3 3", "commit", "edges"]
+    lines = ["vertices 4", "add 0 1", "add 1 2 5", "add 7 7", "commit", "add 0 1", "nothing"]
+    lines += ["add 0 2", "add 2 3 -1", "add 3 3", "commit", "edges"]
     (tmp_path / "it.script").write_text("\n".join(lines))
     status, said = done(tmp_path, "load it.script", "status")
     assert status == 2
     assert said[0] == "open 4" and "111" in said[1] and said[2] == "it.script:5: `commit` was not done"
     assert said[3] == "refused 801: 'nothing' begins no line of a script"
     assert said[4:6] == ["it.script:7: `nothing` was not done", "version 1"]
-    assert said[8:11] == ["   0   1       1", "   2   3      -1", "   3   3       1"]
+    assert said[8:12] == ["   0   1       1", "   0   2       1", "   2   3      -1", "   3   3       1"]
     (tmp_path / "none.script").write_text("vertices 0\n" + "add 0 1\n" * 50 + "commit\n")
     status, said = done(tmp_path, "load none.script")
     assert status == 1 and len(said) == 2 and said[1] == "none.script:1: `vertices 0` was not done"
