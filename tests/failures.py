@@ -6,7 +6,7 @@ import tempfile
 from concurrent.futures import ThreadPoolExecutor
 from typing import NamedTuple
 
-from program import GSNAP, PATIENCE, ROOT, end_without
+from program import PATIENCE, ROOT, binary, end_without
 
 SOURCE = f"{ROOT}/tests/failures.c"
 COMPILE = ["gcc", "-O2", "-Wall", "-Wextra", "-Werror", "-shared", "-fPIC", SOURCE, "-ldl"]
@@ -66,7 +66,7 @@ class Failures:
     def look(self):
         """Looks that the library is preloaded: a program that does not take it would pass each check."""
         if self.run([], given=b"vertices 1\n").calls is None:
-            end_without(f"{GSNAP} does not load the library of failures.c, or does not end by _exit")
+            end_without(f"{binary()} does not load the library of failures.c, or does not end by _exit")
 
     def run(self, words, given=b"", folder=None, limit=None, **failing):
         """Runs gsnap with these words, on these bytes of standard input. `failing` has variables of failures.c, in small letters;
@@ -76,7 +76,7 @@ class Failures:
         env = {**os.environ, "LD_PRELOAD": self.library, "REPORT": report, **chosen}
         how = {"cwd": folder, "env": env, "preexec_fn": limit, "timeout": PATIENCE}
         try:
-            ran = subprocess.run([GSNAP, *words], input=given, capture_output=True, check=False, **how)
+            ran = subprocess.run([binary(), *words], input=given, capture_output=True, check=False, **how)
         except subprocess.TimeoutExpired:
             return Ran(None, b"", b"it did not end", None, [])
         return Ran(ran.returncode, ran.stdout, ran.stderr, *report_of(report))

@@ -143,7 +143,7 @@ class Maker:
         return tuple(found)
 
     def choice(self, scope, write, depth):
-        body = lambda: self.function_body(scope, write, depth - 1, self.chance.randrange(1, 3))
+        body = lambda: self.function_body(scope, write, depth - 1, self.chance.randrange(3))
         test = self.bool_of(scope, 2)
         return If(test, body(), body() if self.is_so(0.4) else None)
 
@@ -165,8 +165,8 @@ class Maker:
 
     def edge_function(self):
         """Declares an edge function, which reduces each vector that it writes in one way."""
-        ends = (self.name("u"), self.name("v"))
-        parameters = (*ends, self.name("w")) if self.has_weights and self.is_so(0.6) else ends
+        ends = self.parameters("u", "v")
+        parameters = (*ends, *self.parameters("w")) if self.has_weights and self.is_so(0.6) else ends
         ways = {vector: self.chance.choice(REDUCTIONS) for vector in self.constants.vectors}
         written = self.chance.sample(self.constants.vectors, min(len(self.constants.vectors), self.chance.choice((1, 1, 2))))
         scope = Scope(self.constants, ints=parameters, at=ends)
@@ -179,7 +179,7 @@ class Maker:
         self.function("edge", parameters, None, body if written_in(body) else (*body, write()))
 
     def vertex_function(self):
-        own = self.name("v")
+        own, = self.parameters("v")
         scope = Scope(self.constants, ints=(own,), at=(own,))
 
         def write():
@@ -188,10 +188,14 @@ class Maker:
         self.function("vertex", (own,), None, self.function_body(scope, write, 1, self.chance.randrange(1, 4)))
 
     def filter(self):
-        own, result = self.name("v"), self.name("r")
+        (own,), (result,) = self.parameters("v"), self.parameters("r")
         scope = Scope(self.constants, ints=(own,), bools=(result,), at=(own,))
         write = lambda: Assign(None, result, self.bool_of(scope, 2))
         self.function("filter", (own,), result, self.function_body(scope, write, 1, self.chance.randrange(1, 3)))
+
+    def parameters(self, *names):
+        """Returns names of parameters, which other functions may have too."""
+        return names if self.is_so(0.7) else tuple(map(self.name, names))
 
     def function(self, kind, parameters, result, body):
         it = Function(kind, self.name("f"), parameters, result, body)
@@ -283,7 +287,7 @@ class Maker:
 
     def loop(self, scope, depth):
         """Returns a loop, which may be endless: turns are bounded."""
-        count = self.chance.randrange(1, 4)
+        count = self.chance.randrange(4)
         if self.is_so(0.5):
             test = self.bool_of(scope, 2)
             if scope.own["set"] and self.is_so(0.5):
@@ -298,7 +302,7 @@ class Maker:
         return For(name, first, end, body)
 
     def main_choice(self, scope, depth):
-        block = lambda: self.block(scope, depth - 1, self.chance.randrange(1, 3))
+        block = lambda: self.block(scope, depth - 1, self.chance.randrange(3))
         return If(self.bool_of(scope, 2), block(), block() if self.is_so(0.5) else None)
 
     def vector_value(self):
