@@ -4,6 +4,7 @@ from __future__ import annotations
 import gzip
 import io
 import os
+import re
 import signal
 import subprocess
 import sys
@@ -13,7 +14,7 @@ from pathlib import Path
 import pytest
 from terminal import PACKAGE, Terminal
 
-from gsnap import console
+from gsnap.console import GROUPS
 from gsnap.shell import Shell
 
 EXAMPLES = PACKAGE.parent / "examples"
@@ -325,12 +326,23 @@ def test_a_process_that_was_killed(tmp_path: Path, monkeypatch: pytest.MonkeyPat
 
 
 def test_help_of_each_word(tmp_path: Path) -> None:
-    words = [it for group in console.GROUPS.values() for it in group.split()]
+    words = [it for group in GROUPS.values() for it in group.split()]
     status, said = done(tmp_path, *(f"help {it}" for it in words))
     assert status == 0 and len(said) >= 2 * len(words)
     status, listed = done(tmp_path, "help")
-    assert status == 0 and len(listed) == len(words) + len(console.GROUPS)
+    assert status == 0 and len(listed) == len(words) + len(GROUPS)
     assert max(map(len, listed)) < 150
+
+
+def test_page() -> None:
+    page = (PACKAGE.parent / "docs/SHELL.md").read_text()
+    session = re.search(r"```text\n(gsnap> .*?)```", page, re.DOTALL)
+    assert session is not None
+    parts = session[1].split("gsnap> ")[1:]
+    failures, said = done(PACKAGE.parent, *(it.partition("\n")[0] for it in parts))
+    assert failures == 1 and "\n".join(said) + "\n" == "".join(it.partition("\n")[2] for it in parts)
+    for word in GROUPS["The graph"].split() + GROUPS["Files"].split() + GROUPS["Others"].split() + ["program", "run"]:
+        assert re.search(rf"`{word}\b", page), word
 
 
 def test_a_closed_output(tmp_path: Path) -> None:
