@@ -6,12 +6,13 @@ import re
 from array import array
 from collections.abc import Iterator, Sequence
 from dataclasses import dataclass, field
-from typing import IO
+from typing import IO, Any
 
 from .edge_files import read_file, rows_of
 from .edge_lists import Edges, Form
 from .errors import Mistake
 from .graph import Graph
+from .numbers import Integers, integers_of
 
 # How many bytes are read to see what a file holds.
 LOOK = 1 << 16
@@ -94,11 +95,11 @@ def add_edges(graph: Graph, edges: Edges, count: int) -> None:
     for some_ends, some_weights in rows_of(edges):
         ends.extend(some_ends)
         weights.extend(some_weights or ())
-    found: Sequence[int | str] = ends
+    columns: list[Any] = [integers_of(ends[0::2]), integers_of(ends[1::2])]
     if edges.numbers is not None:
         names = [spelled(it) for it in edges.numbers]
-        found = [names[v] for v in ends]
-    graph.add_edges(found[0::2], found[1::2], weights or None)
+        columns = [[names[v] for v in ends[at::2]] for at in (0, 1)]
+    graph.add_edges(columns[0], columns[1], integers_of(weights) if weights else None)
     if edges.numbers is None and count > graph.vertices:
         graph.grow(count)
 
@@ -138,6 +139,11 @@ class Adds:
         self.destinations.append(int(destination))
         if self.weights is not None:
             self.weights.append(1 if weight is None else int(weight))
+
+    def columns(self) -> tuple[Integers, Integers, Integers | None]:
+        """Returns the sources, destinations and weights as arrays."""
+        weights = None if self.weights is None else integers_of(self.weights)
+        return integers_of(self.sources), integers_of(self.destinations), weights
 
 def script_parts(path: str) -> Iterator[tuple[int, Adds | str]]:
     """Yields the lines of a script in a file, each with its number, from 1; lines `add` come many at a time.

@@ -175,7 +175,7 @@ class Shell(Console):
         try:
             for at, part in script_parts(path):
                 if isinstance(part, Adds):
-                    self.opened().add_edges(part.sources, part.destinations, part.weights)
+                    self.opened().add_edges(*part.columns())
                 elif not self.do_script_line(f"{path}:{at}", part):
                     return
         except KeyboardInterrupt:
