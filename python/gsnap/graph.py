@@ -151,7 +151,7 @@ class Graph:
 
         Raises TypeError or ValueError for an argument that is no vertex, and KeyError for a name that is not there.
         """
-        with self._lock:
+        with self._lock, self._whole():
             u, v = self._known_ends(source, destination)
             line = f"del {u} {v}"
             self._session.edit(line.encode() + b"\n", 1, max(u, v), 0, line)
@@ -209,7 +209,7 @@ class Graph:
         """
         if self._names is not None:
             raise ValueError("a graph with names grows by its names: add_vertex adds one")
-        with self._lock:
+        with self._lock, self._whole():
             least = self._session.vertices
             self._session.grow(checks.whole(vertices, "vertices", least, checks.MOST_VERTICES + 1))
 
