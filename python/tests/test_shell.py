@@ -275,6 +275,28 @@ def test_load_of_a_script(tmp_path: Path) -> None:
     assert status == 1 and said[1] == "a graph is open already; `close` closes it" and said[2].startswith("version 0: 2 vertices")
 
 
+def test_ctrl_c_ends_a_script(tmp_path: Path, monkeypatch: pytest.MonkeyPatch) -> None:
+    def parts(path: str) -> Iterator[tuple[int, str]]:
+        yield from ((1, "vertices 3"), (2, "commit"))
+        raise KeyboardInterrupt
+
+    (tmp_path / "it.script").write_text("vertices 3\n")
+    monkeypatch.chdir(tmp_path)
+    monkeypatch.setattr("gsnap.shell.script_parts", parts)
+    for is_terminal in (True, False):
+        shell = Shell(is_terminal)
+        shell.stdout = io.StringIO()
+        if is_terminal:
+            shell.onecmd("load it.script")
+            shell.onecmd("status")
+        else:
+            with pytest.raises(KeyboardInterrupt):
+                shell.onecmd("load it.script")
+        said = shell.stdout.getvalue()
+        assert ("interrupted at it.script:2; the lines before it are done\nversion 1: 3 vertices" in said) == is_terminal
+        shell.drop()
+
+
 def test_save_and_open(tmp_path: Path) -> None:
     for name in ("it.script", "it.script.gz"):
         lines = ["vertices 3", "add 0 1", "commit", "hold", "del 0 1", "add 1 2 9", "commit", "add 0 0", f"save {name}", f"open {name}"]
