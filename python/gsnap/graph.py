@@ -482,7 +482,10 @@ class Graph:
                 checks.column(destinations, "destination", 0, checks.MOST_VERTICES, first),
             )
         number = self._named if is_new else self._names.known
-        names = (it.tolist() if hasattr(it, "tolist") else it for it in (sources, destinations))
+        names = [it.tolist() if hasattr(it, "tolist") else it for it in (sources, destinations)]
+        known = [self._names.all_known(it) for it in names]
+        if known[0] is not None and known[1] is not None:
+            return known[0], known[1]
         found = [(number(source), number(destination)) for source, destination in zip(*names)]
         return [u for u, _ in found], [v for _, v in found]
 

@@ -104,6 +104,11 @@ def add_edges(graph: Graph, edges: Edges, count: int) -> None:
         graph.grow(count)
 
 
+def opened_for(edges: Edges, count: int) -> Graph:
+    """Opens a graph that has the vertices of a file, by name or by number."""
+    return Graph(count) if edges.numbers is None else Graph(names=[spelled(it) for it in edges.numbers])
+
+
 def load_edges(graph: Graph | None, path: str, words: Sequence[str]) -> tuple[Graph, int]:
     """Adds the edges in a file to the pending batch of a graph, or of a new one; returns the graph, and how many edges there are.
 
@@ -113,7 +118,7 @@ def load_edges(graph: Graph | None, path: str, words: Sequence[str]) -> tuple[Gr
     if form.names and graph is not None and graph.names is None:
         raise ValueError(f"{path} has names, and the graph that is open has numbers")
     edges, count = read_file(path, form)
-    into = Graph(1 if form.names else count, names=form.names) if graph is None else graph
+    into = opened_for(edges, count) if graph is None else graph
     try:
         add_edges(into, edges, count)
     except BaseException:

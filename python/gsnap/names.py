@@ -39,6 +39,13 @@ class Names:
         except KeyError:
             raise KeyError(f"no vertex is named {name!r}") from None
 
+    def all_known(self, names: Iterable[Hashable]) -> list[int] | None:
+        """Returns the numbers of names, or None if one of them is not there."""
+        try:
+            return list(map(self._numbers.__getitem__, names))
+        except (KeyError, TypeError):
+            return None
+
     def name(self, number: int) -> Hashable:
         """Returns the name of a vertex, or its number if it has none."""
         return self._names[number] if 0 <= number < len(self._names) else number
