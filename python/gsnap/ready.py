@@ -79,9 +79,9 @@ def widest_paths(start: Hashable) -> Ready:
 
 
 def levels() -> Ready:
-    """Distances from the nearest of several starts, to which the vertex with the greatest number has edges; else -2.
+    """Distances from several starts: `level` is that from the nearest of them, or -2 if there is no path.
 
-    Prints how many vertices are on each level.
+    The vertex with the greatest number has edges to the starts; its own level is -1. Prints how many vertices are on each level.
     """
     return Ready("levels")
 

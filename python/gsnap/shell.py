@@ -58,7 +58,7 @@ class Shell(Console):
         graph.remove_edge(self.vertex_of(given[0]), self.vertex_of(given[1]))
 
     def do_grow(self, words: str) -> None:
-        """grow N: makes N vertices of them with the next version"""
+        """grow N: gives the next version the vertices 0 to N - 1"""
         self.opened().grow(self.numbers_of("grow", words.split())[0])
 
     def do_commit(self, words: str) -> None:

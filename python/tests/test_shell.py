@@ -15,7 +15,7 @@ from pathlib import Path
 import pytest
 from terminal import PACKAGE, Terminal
 
-from gsnap.console import GROUPS
+from gsnap.console import GROUPS, READY
 from gsnap.shell import Shell
 
 EXAMPLES = PACKAGE.parent / "examples"
@@ -356,7 +356,8 @@ def test_help_of_each_word(tmp_path: Path) -> None:
     assert status == 0 and len(said) >= 2 * len(words)
     status, listed = done(tmp_path, "help")
     assert status == 0 and len(listed) == len(words) + len(GROUPS)
-    assert max(map(len, listed)) < 150
+    assert max(map(len, listed)) < 145
+    assert all(":" in (make.__doc__ or "").partition("\n")[0] for make in READY.values())
 
 
 def test_page() -> None:
