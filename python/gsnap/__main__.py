@@ -3,8 +3,10 @@ from __future__ import annotations
 
 import argparse
 import os
+import signal
 import sys
 from pathlib import Path
+from typing import NoReturn
 
 from .data import version
 from .shell import Shell
@@ -51,14 +53,21 @@ def write_history() -> None:
 def talk(shell: Shell) -> None:
     """Does the lines of a terminal until one ends the shell. Ctrl-C at the prompt drops the line."""
     read_history()
-    while True:
-        try:
-            shell.cmdloop()
-            break
-        except KeyboardInterrupt:
-            shell.intro = None
-            shell.say("")
-    write_history()
+    try:
+        while True:
+            try:
+                shell.cmdloop()
+                return
+            except KeyboardInterrupt:
+                shell.intro = None
+                shell.say("")
+    finally:
+        write_history()
+
+
+def end(number: int, _frame: object) -> NoReturn:
+    """Ends the shell in order if its terminal is closed or it is asked to end."""
+    sys.exit(128 + number)
 
 
 def main() -> int:
@@ -69,6 +78,8 @@ def main() -> int:
     parser.add_argument("file", metavar="FILE", nargs="?", help="a file that is loaded first, as by `load FILE`")
     parser.add_argument("--version", action="version", version=f"gsnap {version()}")
     options = parser.parse_args()
+    for number in (signal.SIGHUP, signal.SIGTERM):
+        signal.signal(number, end)
     shell = Shell(sys.stdin.isatty() and sys.stdout.isatty())
     try:
         if options.file:

@@ -128,6 +128,21 @@ def test_history_is_kept(tmp_path: Path) -> None:
     assert (tmp_path / "state/gsnap/history").read_text().splitlines()[:1] == ["vertices 7"]
 
 
+def test_a_closed_window_leaves_nothing(tmp_path: Path) -> None:
+    room = tmp_path / "room"
+    room.mkdir()
+    with Terminal(tmp_path, *SHELL, settings={"TMPDIR": str(room)}) as terminal:
+        terminal.wait("gsnap> ")
+        terminal.type("vertices 2", "components")
+        terminal.wait("     1      1")
+        assert list(room.glob("gsnap-programs-*"))
+    until = time.monotonic() + 20
+    while list(room.iterdir()) or not (tmp_path / "state/gsnap/history").exists():
+        assert time.monotonic() < until, list(room.iterdir())
+        time.sleep(0.05)
+    assert (tmp_path / "state/gsnap/history").read_text() == "vertices 2\ncomponents\n"
+
+
 # From a file
 
 
