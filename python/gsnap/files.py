@@ -19,6 +19,10 @@ from .session import Session
 # Each line of a script that neither adds an edge nor takes one away.
 COMMAND = re.compile(rb"(?m)^(?!add |del ).+$")
 
+# The beginning of each line that joins the pending batch.
+EDIT = re.compile(rb"(?m)^(?:add|del|grow) ")
+COMMIT = re.compile(rb"(?m)^commit$")
+
 
 def names_path(path: Path) -> Path:
     """Returns where the names of a graph in a file are."""
@@ -73,21 +77,27 @@ def pieces_of(path: Path) -> Iterator[bytes]:
             yield piece
 
 
-def read_script(path: Path) -> tuple[Journal, list[bytes]]:
-    """Returns a script that is in a file, and its lines that neither add an edge nor take one away."""
+def whole_lines(pieces: Iterable[bytes]) -> Iterator[bytes]:
+    """Yields a text as many whole lines at a time; the last one is ended too."""
+    begun = b""
+    for piece in pieces:
+        lines, ended, begun = (begun + piece).rpartition(b"\n")
+        yield lines + ended
+    if begun:
+        yield begun + b"\n"
+
+
+def read_script(path: Path) -> tuple[Journal, list[bytes], int]:
+    """Returns a script that is in a file, its lines that neither add an edge nor take one away, and how many edits are last."""
     journal = Journal()
     commands: list[bytes] = []
-    begun = b""
-    for piece in pieces_of(path):
-        text = begun + piece
-        end = text.rfind(b"\n") + 1
-        begun = text[end:]
-        journal.append(text[:end])
-        commands += COMMAND.findall(text, 0, end)
-    if begun:
-        journal.append(begun + b"\n")
-        commands += COMMAND.findall(begun)
-    return journal, commands
+    pending = 0
+    for lines in whole_lines(pieces_of(path)):
+        journal.append(lines)
+        commands += COMMAND.findall(lines)
+        commits = [it.end() for it in COMMIT.finditer(lines)]
+        pending = len(EDIT.findall(lines, commits[-1])) if commits else pending + len(EDIT.findall(lines))
+    return journal, commands, pending
 
 
 def read_names(path: Path) -> Names | None:
@@ -112,5 +122,5 @@ def open_graph(given: str | os.PathLike[str]) -> Graph:
     """
     path = Path(given)
     names = read_names(path)
-    journal, commands = read_script(path)
-    return Graph(names=names, session=Session.of_script(journal, commands, os.fspath(path)))
+    journal, commands, pending = read_script(path)
+    return Graph(names=names, session=Session.of_script(journal, commands, pending, os.fspath(path)))

@@ -22,10 +22,21 @@ BOUND = 10**DIGITS
 
 
 def integers(text: bytes) -> Integers:
-    """Returns the numbers of a text such as b" 1 -2 3\\n", which has white space between them."""
-    if numpy is not None:
-        return numpy.fromstring(text, dtype=numpy.int64, sep=" ") if not text.isspace() else numpy.array([], numpy.int64)
-    return array("q", [int(word) for word in text.split()])
+    """Returns the numbers of a text such as b" 1 -2 3\\n", in which a space stands before each, or raises ValueError."""
+    return numbers_in(text, text.count(b" "))
+
+
+def numbers_in(text: bytes, count: int) -> Integers:
+    """Returns the numbers of a text, which has white space between them, or raises ValueError if they are not so many."""
+    if numpy is None:
+        found = array("q", [int(word) for word in text.split()])
+    elif text.isspace():
+        found = numpy.array([], numpy.int64)
+    else:
+        found = numpy.fromstring(text, dtype=numpy.int64, sep=" ")
+    if len(found) != count:
+        raise ValueError(f"{text[:60]!r} has not {count} numbers")
+    return found
 
 
 def integers_of(numbers: Sequence[int]) -> Integers:
@@ -36,12 +47,17 @@ def integers_of(numbers: Sequence[int]) -> Integers:
 
 
 def columns_of(lines: list[bytes]) -> tuple[Integers, Integers, Integers]:
-    """Returns the sources, the destinations and the weights of the lines `U V` and `U V W`; a weight is 1 if none is given."""
+    """Returns the sources, the destinations and the weights of the lines `U V` and `U V W`; a weight is 1 if none is given.
+
+    Raises ValueError for other lines.
+    """
     text = b"".join(lines)
     if text.count(b" ") == len(lines):
-        ends = integers(text)
+        ends = numbers_in(text, 2 * len(lines))
         return ends[0::2], ends[1::2], integers_of([1] * len(lines)) if numpy is None else numpy.ones(len(lines), numpy.int64)
     words = [line.split() for line in lines]
+    if not all(2 <= len(it) <= 3 for it in words):
+        raise ValueError("an edge has two vertices, and may have a weight")
     weights = [int(it[2]) if len(it) > 2 else 1 for it in words]
     return integers_of([int(it[0]) for it in words]), integers_of([int(it[1]) for it in words]), integers_of(weights)
 

@@ -7,7 +7,7 @@ from __future__ import annotations
 
 import functools
 from collections.abc import Callable, Iterable, Iterator
-from dataclasses import dataclass
+from dataclasses import dataclass, replace
 from typing import TypeVar
 
 from .errors import Closed, Ended, Mistake, OutOfStep, Refused
@@ -19,6 +19,9 @@ from .saving import Kept, checkpoint
 from .wire import Wire, refused
 
 Answer = TypeVar("Answer")
+
+# How many programs a process has at most beside those of the last call.
+MOST_PROGRAMS = 1024
 
 # With what a line of a saved graph begins.
 SAVED = (b"vertices", b"add", b"del", b"grow", b"commit", b"hold", b"release")
@@ -81,8 +84,10 @@ class Session:
             self._live()
 
     @classmethod
-    def of_script(cls, journal: Journal, commands: list[bytes], name: str) -> Session:
+    def of_script(cls, journal: Journal, commands: list[bytes], pending: int, name: str) -> Session:
         """Does a script, whose lines that neither add nor take away an edge are `commands`, and goes on from there.
+
+        So many edits stand behind its last commit as `pending` says.
 
         Raises Mistake if a line is refused, or if one runs a program or lists edges.
         """
@@ -96,6 +101,7 @@ class Session:
             for line in commands:
                 session._take(line.decode(), replies, name)
             session._take_end(replies, name)
+            session.batch.entries = pending
         except BaseException:
             wire.kill()
             raise
@@ -151,12 +157,18 @@ class Session:
             self._journal.close()
 
     def prepare(self, programs: Iterable[Program]) -> None:
-        """Sees to it that programs can be run. If one of them is new, the next call starts another process."""
+        """Sees to it that programs can be run. If one of them is new, the next call starts another process.
+
+        That one has the last 1,024 programs that were new, and all of the call's.
+        """
         self.want_open()
-        for it in programs:
-            if it not in self._programs:
-                self._programs[it] = len(self._programs) + 1
-                self._drop()
+        given = list(dict.fromkeys(programs))
+        new = [it for it in given if it not in self._programs]
+        if new:
+            before = [it for it in self._programs if it not in given]
+            kept = [*before[-MOST_PROGRAMS:], *given]
+            self._drop()
+            self._programs = {it: number for number, it in enumerate(kept, 1)}
 
     def want_open(self) -> None:
         """Raises Closed if the graph is closed."""
@@ -175,7 +187,9 @@ class Session:
         self.batch.entries += 1
 
     def mark(self) -> tuple[int, Batch]:
-        """Returns how far the pending batch is, for `undo`."""
+        """Returns how far the pending batch is, for `undo`. This is when a great journal is made anew."""
+        if not self.batch.entries:
+            self._compact()
         return self._journal.length, Batch(**vars(self.batch))
 
     def undo(self, mark: tuple[int, Batch]) -> None:
@@ -201,7 +215,6 @@ class Session:
         self.version += 1
         self.vertices = after
         self.batch = Batch()
-        self._compact()
         return self.version
 
     def hold(self, version: int | None = None) -> int:
@@ -218,7 +231,7 @@ class Session:
 
     def release(self, ticket: int) -> None:
         """Closes a ticket."""
-        number = self._ticket(ticket).number
+        number = self._ticket(ticket, f"release {ticket}")
         line = f"release {number}"
         reply = self._ask(line)
         self._want(reply == Released(number), line, f"released {number}", reply)
@@ -227,15 +240,25 @@ class Session:
 
     def edges(self, ticket: int | None = None) -> tuple[Integers, Integers, Integers]:
         """Returns the sources, destinations and weights of the newest version, or of the one that a ticket holds."""
-        line = "edges" if ticket is None else f"edges {self._ticket(ticket).number}"
-        return columns_of(self._interruptible(lambda wire: wire.list_edges(line)))
+        line = "edges" if ticket is None else f"edges {self._ticket(ticket, f'edges {ticket}')}"
+        lines = self._interruptible(lambda wire: wire.list_edges(line))
+        try:
+            return columns_of(lines)
+        except (ValueError, IndexError):
+            self.close()
+            raise OutOfStep(line, "edges", "lines that are none") from None
 
     def run(self, program: Program, turns: int, workers: int, ticket: int | None, only: frozenset[str] | None) -> RunReply:
         """Runs a program on the newest version, or on the one that a ticket holds."""
         self.prepare([program])
-        place = "" if ticket is None else f" {self._ticket(ticket).number}"
-        line = f"run {self._programs[program]} {turns} {workers}{place}"
-        return self._interruptible(lambda wire: wire.run(line, integers, only))
+        line = f"run {self._programs[program]} {turns} {workers}"
+        if ticket is not None:
+            line += f" {self._ticket(ticket, f'{line} {ticket}')}"
+        reply = self._interruptible(lambda wire: wire.run(line, integers, only))
+        vertices = self.vertices if ticket is None else self.tickets[ticket].vertices
+        for name, entries in reply.vectors.items():
+            self._want(len(entries) == vertices, line, f"{vertices} entries of {name}", f"{len(entries)} entries")
+        return reply
 
     def kept(self) -> list[Kept]:
         """Returns the versions that are kept, ascending: those that a ticket holds, and the newest."""
@@ -252,12 +275,12 @@ class Session:
             return self.vertices
         return next(it.vertices for it in self.tickets.values() if it.version == version)
 
-    def _ticket(self, ticket: int) -> Ticket:
-        """Returns an open ticket, or raises Refused by 122."""
+    def _ticket(self, ticket: int, line: str) -> int:
+        """Returns the number that an open ticket has in the process, or raises Refused by 122 of the line that names it."""
         self.want_open()
         if ticket not in self.tickets:
-            raise refused(122, f"release {ticket}")
-        return self.tickets[ticket]
+            raise refused(122, line)
+        return self.tickets[ticket].number
 
     def _append(self, lines: bytes) -> None:
         """Sends lines that are due no reply."""
@@ -317,18 +340,14 @@ class Session:
 
     def _compact(self) -> None:
         """Makes a great journal anew, by the versions that are kept, if it is much longer than it need be."""
-        if self._journal.length <= self._least_journal:
+        if self._is_closed or self._journal.length <= self._least_journal:
             return
         journal = Journal()
         kept = self.kept()
         for lines in checkpoint(kept):
             journal.append(lines)
+        held = [ticket for it in kept for ticket in it.tickets]
+        tickets = {ticket: replace(self.tickets[ticket], number=number) for number, ticket in enumerate(held, 1)}
         self._drop()
-        self._journal.close()
-        self._journal = journal
+        self._journal, self.tickets, self._opened = journal, tickets, len(held)
         self._least_journal = max(MOST_JOURNAL, 4 * journal.length)
-        self._opened = 0
-        for it in kept:
-            for ticket in it.tickets:
-                self._opened += 1
-                self.tickets[ticket].number = self._opened

@@ -131,7 +131,7 @@ class Wire:
         """Sends a line that is due a reply of one line, and returns it, or raises Refused."""
         self._ask(line)
         first = self._read_line()
-        found = first_line(first, [])
+        found = self._first_reply(line, first, [])
         if isinstance(found, RefusedLine):
             raise refused(found.number, line)
         kind, wanted = DUE[line.partition(" ")[0]]
@@ -164,8 +164,7 @@ class Wire:
         if not isinstance(reply, RunReply):
             self.out_of_step(line, "end ..", first)
         while (more := self._read_line()) != REPLY_TO_MARK:
-            if not take_vector(reply, more, read, only):
-                self.out_of_step(line, "vector or set", more)
+            self._take_vector(reply, line, more, read, only)
         return reply
 
     def replay(self, lines: Iterable[bytes]) -> list[Reply]:
@@ -212,7 +211,16 @@ class Wire:
         try:
             return first_line(first, printed)
         except (ValueError, IndexError):
-            self.out_of_step(line, "end ..", first)
+            self.out_of_step(line, DUE[line.partition(" ")[0]][1], first)
+
+    def _take_vector(self, reply: RunReply, line: str, more: bytes, read: ReadNumbers, only: frozenset[str] | None) -> None:
+        """Adds a line to the reply of a run."""
+        try:
+            is_taken = take_vector(reply, more, read, only)
+        except ValueError:
+            is_taken = False
+        if not is_taken:
+            self.out_of_step(line, "vector or set", more)
 
     def _read_mark(self, line: str) -> None:
         found = self._read_line()

@@ -299,6 +299,15 @@ def test_a_script_that_is_none(tmp_path, text, words):
         gsnap.open(path)
 
 
+def test_edits_behind_the_last_commit_of_a_script(tmp_path):
+    path = tmp_path / "graph.script"
+    path.write_text("vertices 3\nadd 0 1\nadd 0 1\ncommit\nadd 1 2\nhold\ndel 0 1\ngrow 5")
+    with gsnap.open(path) as graph:
+        assert (graph.version, graph.pending, graph.vertices) == (1, 3, 3)
+        assert graph.commit() == 2
+        assert (graph.vertices, list_of(graph.edges())) == (5, [(1, 2, 1)])
+
+
 def test_a_file_that_is_packed_without_saying_so(tmp_path):
     path = tmp_path / "graph.script"
     path.write_bytes(gzip.compress(b"vertices 3\nadd 0 1\ncommit\nhold\n\nadd 1 2\ncommit"))

@@ -10,6 +10,7 @@ import time
 import pytest
 
 import gsnap
+from gsnap import session
 from conftest import ROOT
 from gsnap.wire import Wire
 from test_graph import ENDLESS
@@ -120,6 +121,62 @@ def test_a_reply_that_does_not_fit(tmp_path, reply, call):
             graph.commit()
 
     with_program(program, ask)
+
+
+@pytest.mark.parametrize("vector", ["", " 1", " 1 2 3", " 1 x", " 1 2 x"])
+def test_a_vector_of_another_length(tmp_path, vector):
+    begin = 'read line; echo "open 1"; read line; echo "refused 801"; read line; echo "refused 122";'
+    run = f'read line; echo "end finished turns 0"; echo "vector x:{vector}"; echo "refused 801"; cat >/dev/null'
+    program = fake(tmp_path, f'[ "$1" != check ] || exit 0; {begin} {run}')
+
+    def ask():
+        graph = gsnap.Graph(2)
+        with pytest.raises(gsnap.OutOfStep):
+            graph.run("element Vertex end\nelement Edge end\nfunc main() end\n")
+        with pytest.raises(gsnap.Closed):
+            graph.commit()
+
+    with_program(program, ask)
+
+
+@pytest.mark.parametrize("edges", ["0 1 x", "0", "0 x", "0 1 2 3 4 x"])
+def test_edges_that_are_none(tmp_path, edges):
+    begin = 'read line; echo "open 1"; read line; echo "refused 801"; read line; echo "refused 122";'
+    program = fake(tmp_path, f'{begin} read line; echo "edges 2"; echo "0 1"; echo "{edges}"; cat >/dev/null')
+
+    def ask():
+        graph = gsnap.Graph(2)
+        with pytest.raises(gsnap.OutOfStep):
+            graph.edges()
+        with pytest.raises(gsnap.Closed):
+            graph.commit()
+
+    with_program(program, ask)
+
+
+@pytest.mark.parametrize("reply", ["version x", "ticket 1 version", "", "refused x"])
+def test_a_reply_without_its_number(tmp_path, reply):
+    program = fake(tmp_path, f'read line; echo "open 1"; read line; echo "refused 801"; read line; echo "refused 122"; read line; echo "{reply}"; cat >/dev/null')
+
+    def ask():
+        with pytest.raises(gsnap.OutOfStep):
+            gsnap.Graph().commit()
+
+    with_program(program, ask)
+
+
+def test_many_programs():
+    with gsnap.from_edges([(v, v + 1) for v in range(40)]) as graph:
+        session.MOST_PROGRAMS, before = 5, session.MOST_PROGRAMS
+        try:
+            for v in list(range(12)) * 2:
+                assert int(graph.run(gsnap.distances(v)).distance[40]) == 40 - v
+            graph.prepare(gsnap.distances(v) for v in range(20))
+            pid = graph.pid
+            assert [int(graph.run(gsnap.distances(v)).distance[40]) for v in range(20)] == [40 - v for v in range(20)]
+            assert graph.pid == pid
+        finally:
+            session.MOST_PROGRAMS = before
 
 
 def test_a_full_pipe():
