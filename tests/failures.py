@@ -13,8 +13,8 @@ COMPILE = ["gcc", "-O2", "-Wall", "-Wextra", "-Werror", "-shared", "-fPIC", SOUR
 
 
 class Calls(NamedTuple):
-    """The last line of a run's report: who made the first refused request for memory, from where starts of threads ask for
-    memory, the counts of calls, and the live bytes at the end and at their peak."""
+    """The last line of a run's report: who made the first refused request for memory, the place in the program from which starts
+    of threads ask for memory, the counts of calls, and the live bytes at the end and at their peak."""
 
     refused: str
     place: int
