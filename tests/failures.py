@@ -13,8 +13,8 @@ COMPILE = ["gcc", "-O2", "-Wall", "-Wextra", "-Werror", "-shared", "-fPIC", SOUR
 
 
 class Calls(NamedTuple):
-    """The last line of a run's report: who made the first refused request for memory, from where starts of threads ask for
-    memory, the counts of calls, and the live bytes at the end and at their peak."""
+    """The last line of a run's report: who made the first refused request for memory, the place in the program from which starts
+    of threads ask for memory, the counts of calls, and the live bytes at the end and at their peak."""
 
     refused: str
     place: int
@@ -68,15 +68,14 @@ class Failures:
         if self.run([], given=b"vertices 1\n").calls is None:
             end_without(f"{binary()} does not load the library of failures.c, or does not end by _exit")
 
-    def run(self, words, given=b"", folder=None, limit=None, **failing):
-        """Runs gsnap with these words, on these bytes of standard input. `failing` has variables of failures.c, in small letters;
-        `limit` is called in the new process before gsnap begins."""
+    def run(self, words, given=b"", folder=None, **failing):
+        """Runs gsnap with these words, on these bytes of standard input. `failing` has variables of failures.c, in small letters."""
         report = f"{self.room}/{os.getpid()}-{next(self.numbers)}"
         chosen = {name.upper(): str(value) for name, value in failing.items()}
         env = {**os.environ, "LD_PRELOAD": self.library, "REPORT": report, **chosen}
-        how = {"cwd": folder, "env": env, "preexec_fn": limit, "timeout": PATIENCE}
+        how = {"cwd": folder, "env": env, "timeout": PATIENCE} | ({"input": given} if given else {"stdin": subprocess.DEVNULL})
         try:
-            ran = subprocess.run([binary(), *words], input=given, capture_output=True, check=False, **how)
+            ran = subprocess.run([binary(), *words], capture_output=True, check=False, **how)
         except subprocess.TimeoutExpired:
             return Ran(None, b"", b"it did not end", None, [])
         return Ran(ran.returncode, ran.stdout, ran.stderr, *report_of(report))

@@ -102,7 +102,7 @@ class Maker:
         )
 
     def entry(self, scope, depth):
-        """Returns a read of a vector where the scope may read it."""
+        """Returns a read of a vector at an index that the scope may read."""
         return Entry(self.chance.choice(scope.vectors), self.index(scope, depth))
 
     def index(self, scope, depth):

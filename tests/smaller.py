@@ -65,7 +65,8 @@ def is_block(it):
 
 def smaller_trees(it):
     """Yields trees that are smaller than a tree in one place: a block without a statement, with the statements of a block in its
-    place, a choice without its `else`, an operand in place of an operator, a small number in place of another one."""
+    place, a choice without its `else`, an apply without an end, an operand in place of an operator, a small number in place of another
+    one."""
     if is_block(it):
         for place, part in enumerate(it):
             yield it[:place] + it[place + 1:]
@@ -85,6 +86,9 @@ def smaller_trees(it):
         yield it.right
     if hasattr(it, "operand") or hasattr(it, "inner"):
         yield it[0]
+    for end in ("source", "destination"):
+        if getattr(it, end, None) is not None:
+            yield it._replace(**{end: None})
     if isinstance(it, Number) and it.value > 1:
         yield Number(1)
     for field in it._fields:
