@@ -17,11 +17,7 @@ use std::thread::Threads;
 fn main(rt: HostRuntime) -> ExitCode {
     let (status, state) = match words(&rt) {
         Ok(words) => serve(&rt, &rt, &words),
-        Err(error) => {
-            // Where this fails too, the exit status alone tells.
-            let _ = eprint!(rt; "{error}");
-            (refusal_status(&error), None)
-        }
+        Err(error) => refuse(&rt, &error),
     };
     // The graph goes with the process: to let go of its nodes one by one takes time, and nobody needs them freed.
     forget(state);
@@ -37,6 +33,12 @@ fn words(rt: &(impl Env + AllocGlobal)) -> Result<Vec<String>, RequestError> {
     }
 }
 
+// Reports on standard error why nothing was done, and answers the exit status. If the report fails too, the status alone says it.
+fn refuse(rt: &HostRuntime, error: &RequestError) -> (u8, Option<ScriptState>) {
+    let _ = eprint!(rt; "{error}");
+    (refusal_status(error), None)
+}
+
 // Does what the words ask for, with workers and races in threads of `threads`, and answers the exit status and what a script opened.
 fn serve(
     rt: &HostRuntime,
@@ -44,7 +46,7 @@ fn serve(
     words: &[String],
 ) -> (u8, Option<ScriptState>) {
     let Ok(words) = words.iter().map(|word| word.as_str()).collect(rt.alloc()) else {
-        return (refusal_status(&RequestError::NoMemory), None);
+        return refuse(rt, &RequestError::NoMemory);
     };
     let words: Vec<&str> = words;
     let mut input = Device::new(rt.stdin());
