@@ -1,6 +1,5 @@
 -- Blocks of 64 vertices, and words with a bit for each vertex of one.
-use Rattle.std.specs.Prelude.{ℕ, ◌*◌, ◌-◌, ◌==◌, ℤ, Bool, List}
-use Rattle.std.specs.Int.{bit_at}
+use Rattle.std.specs.Prelude.{ℕ, ◌*◌, ℤ, List}
 use Rattle.apply_options.specs.declared.reduction.Reduction.{Reduction}
 use Rattle.vectors.specs.Lanes.{lane_entry}
 use Rattle.vectors.specs.declared.changes.EntryChange.{EntryChange}

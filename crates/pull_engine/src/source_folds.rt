@@ -211,7 +211,14 @@ impl<N: SourceNumbers> SourceFold for AllSources<N> {
         block: &mut SourceBlock,
     ) -> i64 {
         let walk = SetWalk::new(sources);
-        fold_walk(self.reduction, &self.numbers, old, walk, from, &mut block.sources)
+        fold_walk(
+            self.reduction,
+            &self.numbers,
+            old,
+            walk,
+            from,
+            &mut block.sources,
+        )
     }
 }
 

@@ -1,9 +1,8 @@
-use Rattle.std.proofs.Common.{rules, ◌≡◌, ℕ, ◌+◌, ◌*◌, ◌/◌, ◌%◌, ◌^◌, ◌<◌, ◌++◌, sym, ap, ◌∙◌, subst, arith, FitsSigned, to_z, of_z, w64}
+use Rattle.std.proofs.Common.{rules, ◌+◌, ◌*◌, ◌%◌, ◌++◌, sym, ap, ◌∙◌, arith, FitsSigned, to_z, of_z, w64}
 use Rattle.std.proofs.lemmas.Int.{to_z-of_z}
 use Rattle.std.proofs.lemmas.List.{append-nil}
 use lib.Count.{count_trailing_zeros}
 use Rattle.pages.specs.Vertices.{neighbours_of}
-use Rattle.flat_snapshot.specs.Neighbours.{sources_of}
 use Rattle.vectors.specs.Lanes.{lane_entry}
 use Rattle.edge_apply.specs.Words.{passes_words}
 use Rattle.pull_engine.specs.Ranges.{pulled}

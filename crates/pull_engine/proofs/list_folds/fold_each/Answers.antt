@@ -1,4 +1,4 @@
-use Rattle.std.proofs.Common.{rules, ◌≡◌, ◌<◌, ◌≤◌, ℕ, ℤ, List, length, get_or, cond, FitsSigned, to_z, of_z, w64, ap, sym, ◌∙◌, arith}
+use Rattle.std.proofs.Common.{rules, ◌<◌, ◌≤◌, ℤ, length, cond, FitsSigned, to_z, w64, ap, sym, ◌∙◌, arith}
 use Rattle.std.specs.List.{filter}
 use Rattle.std.specs.Map.{keys_of}
 use Rattle.std.proofs.lemmas.Int.{to_z-of_z}

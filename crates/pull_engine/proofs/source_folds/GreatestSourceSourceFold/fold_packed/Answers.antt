@@ -1,4 +1,4 @@
-use Rattle.std.proofs.Common.{rules, FitsSigned, w64, ℕ, ℤ, pos, ap, sym, ◌∙◌}
+use Rattle.std.proofs.Common.{rules, FitsSigned, w64, ℤ, pos, ap, sym, ◌∙◌}
 use Rattle.std.specs.List.{filter}
 use Rattle.std.specs.Map.{keys_of}
 use Rattle.std.proofs.lemmas.Int.{to_z-of_z}
