@@ -63,6 +63,19 @@ impl Adjacency {
         Ok(Adjacency { blocks: slots })
     }
 
+    /// The block with a number, if one of its vertices has neighbours.
+    #[inline]
+    pub(crate) fn block_at(&self, number: u32) -> Option<&VertexBlock>
+        ensures { (u : ℕ) → u / 64 ≡ number
+            → neighbours_of (u % 64) (vertices_at (option_copied result)) ≡ neighbours_of u self.now }
+    {
+        let index = number as usize;
+        if index >= self.blocks.len() {
+            return None;
+        }
+        self.blocks[index].as_ref()
+    }
+
     /// The block of a vertex, if one of its vertices has neighbours.
     #[inline]
     fn block(&self, vertex: u32) -> Option<&VertexBlock>
@@ -70,11 +83,8 @@ impl Adjacency {
             → neighbours_of (u % 64) (vertices_at (option_copied result)) ≡ neighbours_of u self.now }
         ensures few { length (neighbours_of vertex self.now) ≤ 16777216 }
     {
-        let index = (vertex / 64) as usize;
-        if index >= self.blocks.len() {
-            return None;
-        }
-        self.blocks[index].as_ref()
+        let _ = &self.blocks;
+        self.block_at(vertex / 64)
     }
 
     /// The neighbours of a vertex.

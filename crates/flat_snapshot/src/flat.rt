@@ -1,6 +1,9 @@
 //! Flat snapshots of graphs.
 
-ghost use Rattle.std.specs.Prelude.{◌≡◌, ◌^◌, ◌≤◌, length, IfOk};
+ghost use Rattle.std.specs.Prelude.{◌≡◌, ℕ, ◌/◌, ◌%◌, ◌^◌, ◌≤◌, length, IfOk};
+ghost use Rattle.std.specs.Option.{option_copied};
+ghost use Rattle.pages.specs.Vertices.{neighbours_of};
+ghost use Rattle.vertex_blocks.specs.Blocks.{vertices_at};
 ghost use Rattle.tree_batch.specs.Digraph.{IsDigraph};
 ghost use Rattle.tree_batch.specs.Neighbours.{destinations_of, sources_of};
 ghost use Rattle.flat_snapshot.specs.FlatEdges.{AreDegreesOf};
@@ -10,7 +13,7 @@ use crate::degrees::Degrees;
 use std::alloc::{AllocError, Global};
 use std::marker::Model;
 use tree_batch::Graph;
-use vertex_blocks::{NeighbourIter, NeighbourSet};
+use vertex_blocks::{NeighbourIter, NeighbourSet, VertexBlock};
 
 /// A graph's neighbours in arrays of blocks, which it shares with the graph and which never change.
 /// Threads may share it.
@@ -104,6 +107,25 @@ impl Flat {
         ensures { result ≡ sources_of destination self.now.edges }
     {
         self.incoming.neighbours(destination)
+    }
+
+    /// The block of the 64 vertices with a number, vertex v in block v / 64, with the destinations of the edges from each,
+    /// or `None` where there is no such edge. It takes constant time and no memory.
+    #[inline]
+    pub fn out_block(&self, number: u32) -> Option<&VertexBlock>
+        ensures { (u : ℕ) → u / 64 ≡ number
+            → neighbours_of (u % 64) (vertices_at (option_copied result)) ≡ destinations_of u self.now.edges }
+    {
+        self.outgoing.block_at(number)
+    }
+
+    /// The block with a number, with the sources of the edges to each of its vertices, as [`Flat::out_block`].
+    #[inline]
+    pub fn in_block(&self, number: u32) -> Option<&VertexBlock>
+        ensures { (v : ℕ) → v / 64 ≡ number
+            → neighbours_of (v % 64) (vertices_at (option_copied result)) ≡ sources_of v self.now.edges }
+    {
+        self.incoming.block_at(number)
     }
 
     /// How many edges there are from a vertex. It takes constant time and no memory.

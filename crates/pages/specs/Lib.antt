@@ -1,4 +1,5 @@
 pub mod Vertices
+pub mod Widths
 pub mod Updates
 pub mod Keys
 pub mod inside

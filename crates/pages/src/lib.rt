@@ -62,7 +62,7 @@ pub use columns::EntryColumns;
 pub use index::{rank, rank_below};
 pub use iter::PageIter;
 pub use laws::{blocks_ascend, changes_decide, pages_are_their_lists};
-pub use neighbours::Neighbours;
+pub use neighbours::{ByWidth, Neighbours};
 pub use packed_list::{MAX_LONG, PackedList};
 pub use page::{MAX_PACKED, Page};
 pub use updates::{merge, run_length};

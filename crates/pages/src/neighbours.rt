@@ -6,6 +6,7 @@ ghost use Rattle.ascending_lists.specs.Ascending.{AscendsFrom};
 ghost use Rattle.ascending_lists.specs.Sets.{has};
 ghost use Rattle.ascending_lists.specs.Maps.{lookup};
 ghost use Rattle.ascending_lists.specs.MapOperations.{entries_below, entries_above};
+ghost use Rattle.pages.specs.Widths.{in_any_width};
 ghost use Rattle.pages.specs.declared.weights.WeightWidth.{WeightWidth};
 ghost use Rattle.pages.specs.inside.Weights.{column_of};
 ghost use Rattle.pages.specs.inside.Packed.{entries_of, IsWeightedView};
@@ -28,6 +29,15 @@ pub struct Neighbours<'a> {
     packed: PackedOffsets<'a>,
     /// How many bytes each weight takes.
     weights: WeightWidth,
+}
+
+/// A list by how many bytes each offset takes, so that a loop over it may be made for each width.
+#[derive(Drop)]
+pub enum ByWidth<'a> {
+    One(Neighbours<'a>),
+    Two(Neighbours<'a>),
+    Three(Neighbours<'a>),
+    Four(Neighbours<'a>),
 }
 
 impl<'a> Model for Neighbours<'a> {
@@ -147,6 +157,21 @@ impl<'a> Neighbours<'a> {
             }
         }
         false
+    }
+
+    /// The same list by its width. Who goes over it by index in each arm has a loop for each width, in which the width
+    /// is a literal. It takes constant time.
+    #[inline(always)]
+    pub fn by_width(self) -> ByWidth<'a>
+        ensures { in_any_width result ≡ self.entry }
+    {
+        let (packed, weights) = (self.packed, self.weights);
+        match packed.width {
+            1 => ByWidth::One(Neighbours::new(packed.of_width(1, 0xff), weights)),
+            2 => ByWidth::Two(Neighbours::new(packed.of_width(2, 0xffff), weights)),
+            3 => ByWidth::Three(Neighbours::new(packed.of_width(3, 0xff_ffff), weights)),
+            _ => ByWidth::Four(Neighbours::new(packed.of_width(4, 0xffff_ffff), weights)),
+        }
     }
 
     /// A walk over the neighbours, upward.

@@ -1,6 +1,7 @@
 //! Pages of the neighbours of 64 vertices: what stands in one, look-ups, and building one up.
 
-ghost use Rattle.std.specs.Prelude.{◌≡◌, ◌+◌, ◌<◌, ◌≤◌, ◌↔◌, ◌∷◌, ◌++◌, [], length, slice_range, IfOk, OnOk, OnErr, IsTrue};
+ghost use Rattle.std.specs.Prelude.{◌≡◌, ℕ, ◌+◌, ◌<◌, ◌≤◌, ◌↔◌, ◌∷◌, ◌++◌, [], length, slice_range, IfOk, OnOk, OnErr, IsTrue};
+ghost use Rattle.std.specs.Int.{bit_at};
 ghost use Rattle.ascending_lists.specs.Ascending.{AscendsFrom};
 ghost use Rattle.ascending_lists.specs.Maps.{Rises};
 ghost use Rattle.edge_updates.specs.Weighted.{weighted};
@@ -65,6 +66,14 @@ impl Page {
         ensures { IsTrue result ↔ (self.now ≡ []) }
     {
         self.len() == 0
+    }
+
+    /// A bit for each vertex: one whose bit is not set has no neighbour. It takes constant time.
+    #[inline]
+    pub fn present(&self) -> u64
+        ensures { (u : ℕ) → u < 64 → bit_at result u ≡ 0 → neighbours_of u self.now ≡ [] }
+    {
+        self.present
     }
 
     /// The neighbours of a vertex, none where it is not present. It takes constant time.

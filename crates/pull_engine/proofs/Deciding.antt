@@ -121,7 +121,7 @@ none_of_round p o all first second count kept filled keeps none =
     sym (round_parts p o all first second count kept filled keeps ∙ ap (λ (k : ℕ). last_or (last_or o (take k second)) (filter p (drop count all))) none)
 
 -- one round of a walk over all sources
-reduced_with-append : (r : Reduction) (number : ℕ → ℤ) (n : ℤ) (xs ys : List ℕ) → reduced_with r number n (xs ++ ys) ≡ reduced_with r number (reduced_with r number n xs) ys
+pub reduced_with-append : (r : Reduction) (number : ℕ → ℤ) (n : ℤ) (xs ys : List ℕ) → reduced_with r number n (xs ++ ys) ≡ reduced_with r number (reduced_with r number n xs) ys
 reduced_with-append r number n [] ys = refl
 reduced_with-append r number n (x ∷ xs) ys = reduced_with-append r number (reduced r n (number x)) xs ys
 

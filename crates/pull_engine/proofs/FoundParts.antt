@@ -1,5 +1,5 @@
 -- Pieces that are found, and put together in their order.
-use Rattle.std.proofs.Common.{◌≡◌, ℕ, zero, suc, ◌+◌, ◌<◌, ◌≤◌, List, [], ◌∷◌, ◌++◌, length, get_or, Contains, refl, sym, ap, ◌∙◌, arith}
+use Rattle.std.proofs.Common.{◌≡◌, ℕ, zero, suc, ◌+◌, ◌<◌, List, [], ◌∷◌, ◌++◌, length, get_or, Contains, sym, ap, ◌∙◌, arith}
 use Rattle.std.proofs.lemmas.Grind.{flat_map-append}
 use Rattle.std.proofs.lemmas.List.{append-nil, get_or_default}
 use Rattle.std.proofs.lemmas.List.Sorted.{Contains-permutation, IsPermutation-sym}
@@ -8,7 +8,7 @@ use Rattle.std.specs.List.Sorted.{IsPermutation}
 use Rattle.crew.specs.declared.piece_results.Found.{Found}
 use Rattle.edge_fold.specs.declared.gathered.Gathered.{Gathered}
 use Rattle.vectors.specs.declared.changes.EntryChange.{EntryChange}
-use Rattle.crew.specs.Pieces.{AreAnswers, pieces_of}
+use Rattle.crew.specs.Pieces.{AreAnswers}
 use Rattle.pull_engine.specs.Ranges.{all_listed}
 use Rattle.vertex_sets.proofs.Ascending.{range_end, range_has}
 

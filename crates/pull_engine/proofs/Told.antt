@@ -1,8 +1,8 @@
 -- The changes of destinations that come one after the other.
-use Rattle.std.proofs.Common.{◌≡◌, ℕ, zero, suc, ◌+◌, ◌-◌, ◌<◌, ◌≤◌, ◌==◌, ℤ, Bool, true, false, cond, List, [], ◌∷◌, ◌++◌, length, drop, get_or, slice_index_or, refl, sym, ap, ◌∙◌, append_assoc, arith}
-use Rattle.std.proofs.lemmas.List.{append-nil, drop-drop, drop_all, drop_more, get_or-drop}
+use Rattle.std.proofs.Common.{◌≡◌, ℕ, zero, suc, ◌+◌, ◌-◌, ◌<◌, ◌≤◌, ℤ, Bool, true, false, cond, List, [], ◌∷◌, ◌++◌, length, drop, get_or, refl, sym, ap, ◌∙◌, append_assoc, arith}
+use Rattle.std.proofs.lemmas.List.{append-nil, drop_all, drop_more}
 use Rattle.edge_lists.specs.Edge.{Edge}
-use Rattle.std.specs.List.{filter, flat_map, range_with_len}
+use Rattle.std.specs.List.{filter, range_with_len}
 use Rattle.apply_options.specs.declared.reduction.Reduction.{Reduction}
 use Rattle.kernels.specs.Arithmetic.{int_equal}
 use Rattle.vectors.specs.declared.changes.EntryChange.{EntryChange}
@@ -11,8 +11,6 @@ use Rattle.edge_fold.specs.Changed.{change_at, changed_from}
 use Rattle.edge_fold.specs.EntryNumbers.{reduced_over}
 use Rattle.edge_fold.proofs.ChangedRows.{changed_from-append, equal_itself}
 use Rattle.edge_fold.proofs.Findings.{changed_agree}
-use Rattle.crew.specs.Partition.{AreEnds, end_of}
-use Rattle.edge_apply.proofs.Listed.{last_end}
 use Rattle.pull_engine.specs.Columns.{passing}
 use Rattle.pull_engine.specs.Ranges.{changes_at, pulled, pulled_to}
 

@@ -1,8 +1,10 @@
 pub mod Columns
 pub mod Destinations
 pub mod EarlySources
+pub mod Words
 pub mod Ranges
 pub mod Pulls
+pub mod Blocks
 pub mod Pieces
 pub mod EntryTests
 pub mod inside

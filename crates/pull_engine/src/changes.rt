@@ -28,8 +28,8 @@ use vertex_sets::{Form, VertexSet};
 /// in the words of a push. The vectors stay as they are, and so does the
 /// graph. The scratch serves any apply after this one, whatever became of it.
 ///
-/// It takes time in proportion to the vertices and to the edges to them, or, where the destinations are members of a set,
-/// to these and the edges to them. Where one source decides, as the greatest one for a `max=` of the source, no edges are
+/// It takes time in proportion to the vertices and to the edges to them. By a function of a known shape to the members of a
+/// set it takes a word for each 64 vertices in place of a test of each. Where one source decides, as the greatest one for a `max=` of the source, no edges are
 /// read after the first of them, but in sets in chunks for the greatest. A filter of sources is run for each vertex, and
 /// sources that are members of a list or of flags are put into bits first.
 ///

@@ -11,7 +11,7 @@ ghost use Rattle.pull_engine.specs.EarlySources.{CountsOnce, first_of, last_of, 
 ghost use Rattle.kernels.specs.declared.columns.TheConstants.{PAIRS};
 
 use edge_apply::{keep_members, passes};
-use vertex_blocks::{NeighbourForm, NeighbourSet, NeighbourWalk, Neighbours, SetWalk};
+use vertex_blocks::{NeighbourWalk, Neighbours, SetWalk};
 
 /// Which source alone decides: of those that pass, the last one where a number is reduced with the greatest source, the
 /// first one where it is reduced with the least, and any one, as the first, where all give the same number and no sum is
@@ -25,36 +25,9 @@ pub fn one_source_decides()
         → reduced_with r (λ _. number) old sources ≡ reduced_once r (λ _. number) old (first_of sources) }
 {}
 
-/// The first source whose bit is set. Sources that are packed are read one by one, so what stands after it is not.
-#[inline]
-pub(crate) fn first_passing(sources: NeighbourSet<'_>, from: Option<&[u64]>) -> Option<u32>
-    ensures { result ≡ first_of (filter (passes_words from.entry) (keys_of sources.entry)) }
-{
-    match sources.into_form() {
-        NeighbourForm::Packed(list) => first_packed(list, from),
-        NeighbourForm::Chunked(set) => first_chunked(SetWalk::new(set), from),
-    }
-}
-
-/// The last source whose bit is set. Sources that are packed are read downward, so what stands before it is not.
-#[inline]
-pub(crate) fn last_passing(
-    sources: NeighbourSet<'_>,
-    from: Option<&[u64]>,
-    block: &mut [u32],
-) -> Option<u32>
-    requires { length block.old ≡ PAIRS }
-    ensures room { length block.new ≡ PAIRS }
-    ensures last { result ≡ last_of (filter (passes_words from.entry) (keys_of sources.entry)) }
-{
-    match sources.into_form() {
-        NeighbourForm::Packed(list) => last_packed(list, from),
-        NeighbourForm::Chunked(set) => last_chunked(SetWalk::new(set), from, block),
-    }
-}
-
-#[inline]
-fn first_packed(sources: Neighbours<'_>, from: Option<&[u64]>) -> Option<u32>
+/// The first source of a packed list whose bit is set. Sources are read one by one, so what stands after it is not.
+#[inline(always)]
+pub(crate) fn first_packed(sources: Neighbours<'_>, from: Option<&[u64]>) -> Option<u32>
     ensures { result ≡ first_of (filter (passes_words from.entry) (keys_of sources.entry)) }
 {
     let mut index = 0usize;
@@ -68,8 +41,9 @@ fn first_packed(sources: Neighbours<'_>, from: Option<&[u64]>) -> Option<u32>
     None
 }
 
-#[inline]
-fn last_packed(sources: Neighbours<'_>, from: Option<&[u64]>) -> Option<u32>
+/// The last source of a packed list whose bit is set. Sources are read downward, so what stands before it is not.
+#[inline(always)]
+pub(crate) fn last_packed(sources: Neighbours<'_>, from: Option<&[u64]>) -> Option<u32>
     ensures { result ≡ last_of (filter (passes_words from.entry) (keys_of sources.entry)) }
 {
     let mut end = sources.len();
@@ -83,7 +57,8 @@ fn last_packed(sources: Neighbours<'_>, from: Option<&[u64]>) -> Option<u32>
     None
 }
 
-fn first_chunked(mut sources: SetWalk<'_>, from: Option<&[u64]>) -> Option<u32>
+/// The first source of a set in chunks whose bit is set.
+pub(crate) fn first_chunked(mut sources: SetWalk<'_>, from: Option<&[u64]>) -> Option<u32>
     ensures { result ≡ first_of (filter (passes_words from.entry) (keys_of sources.entry)) }
 {
     'up: while let Some((source, _)) = sources.next() {
@@ -94,8 +69,12 @@ fn first_chunked(mut sources: SetWalk<'_>, from: Option<&[u64]>) -> Option<u32>
     None
 }
 
-/// A set in chunks is walked upward, whole.
-fn last_chunked(mut sources: SetWalk<'_>, from: Option<&[u64]>, block: &mut [u32]) -> Option<u32>
+/// The last source of a set in chunks whose bit is set. The set is walked upward, whole.
+pub(crate) fn last_chunked(
+    mut sources: SetWalk<'_>,
+    from: Option<&[u64]>,
+    block: &mut [u32],
+) -> Option<u32>
     requires { length block.old ≡ PAIRS }
     ensures room { length block.new ≡ PAIRS }
     ensures last { result ≡ last_of (filter (passes_words from.entry) (keys_of sources.entry)) }

@@ -5,17 +5,19 @@
 //! (`after_edges`): the same as a push. Nothing is written: the functions read the vectors that are lent.
 //!
 //! A destination is tested once, and before its sources are read. Sources are tested in bits: those of a set that is
-//! kept so, or bits that are made once for an apply. A filter is run over blocks of vertices, once for each vertex; one
-//! that compares entries with a constant is tested as destinations come, where the function has one of the shapes below.
-//! Sources are read in blocks, and what passes goes to `edge_fold`, where each destination has one writer.
-//! Where a function reads the weights of edges, a second block has those of the sources; that is asked once for a destination,
-//! and by other functions no weight is read.
+//! kept so, or bits that are made once for an apply. A filter is run over blocks of vertices, once for each vertex.
+//! By functions of any shape, sources are read in blocks, and what passes goes to `edge_fold`, where each destination has one
+//! writer. Where a function reads the weights of edges, a second block has those of the sources; that is asked once for a
+//! destination, and by other functions no weight is read.
 //!
 //! One function that gives a vector by its sources, or by an entry of theirs with the weight, in one of the shapes of
-//! `kernels`, needs no scratch: a pull of a range of destinations is one loop that is made for the function, and only the
-//! loop for weights reads any. The entry of a destination is reduced with the numbers of its sources, and where that is
-//! another number, a change is added to an ascending list. Where one source decides ([`one_source_decides`]), the walk over
-//! the sources ends there: downward for the greatest source, upward for the least, and at the first for a number that all
+//! `kernels`, needs no scratch. A pull of a range of destinations goes over blocks of 64 vertices (`ranges.rt`), each with a
+//! word in which the bits of the destinations are set (`destination_words.rt`): all bits, a word of a set, or 64 comparisons
+//! of entries with a number (`entry_tests.rt`). The block is found once, and of the destinations only those with sources are
+//! gone over, bit by bit, in one loop that is made for the function (`blocks.rt`). The entry of a destination is reduced with
+//! the numbers of its sources, packed ones by index in a loop for each width (`list_folds.rt`), and where that is another
+//! number, a change is added to an ascending list. Where one source decides ([`one_source_decides`]), the walk over the
+//! sources ends there: downward for the greatest source, upward for the least, and at the first for a number that all
 //! sources give. So breadth-first search reads of each vertex that it has not reached only the sources up to the first in
 //! the frontier, as the bottom-up step of direction-optimizing breadth-first search (Beamer, Asanović, Patterson, SC 2012).
 //!
@@ -28,12 +30,17 @@
 //! Push and pull are those of Ligra's edge map (Shun, Blelloch, PPoPP 2013).
 #![tactic(auto)]
 
+mod block_lists;
+mod block_ranges;
+mod blocks;
 mod changes;
 mod chosen_sources;
 mod crew_apply;
+mod destination_words;
 mod destinations;
 mod early_sources;
 mod entry_tests;
+mod list_folds;
 mod listed;
 mod pieces;
 mod ranges;

@@ -1,17 +1,20 @@
 //! Pulls of a range of destinations, where one function gives each of them by its sources and the weights of their edges.
-ghost use Rattle.std.specs.Prelude.{◌≡◌, ℕ, ◌≤◌, ◌++◌, Bool, IfOk, IfSome, OnOk};
+ghost use Rattle.std.specs.Prelude.{◌≡◌, ℕ, ◌≤◌, ◌++◌, Bool, IfOk, OnOk};
 ghost use Rattle.std.specs.List.{filter};
+ghost use Rattle.kernels.specs.EdgeApply.{is_member};
 ghost use Rattle.kernels.specs.State.{StateValue};
 ghost use Rattle.kernels.specs.Registers.{HasSizes};
 ghost use Rattle.edge_apply.specs.Words.{passes_words};
 ghost use Rattle.edge_fold.specs.Changed.{change_at};
 ghost use Rattle.edge_fold.specs.Ends.{IsEndTest};
 ghost use Rattle.vectors.specs.Lanes.{lane_entry};
-ghost use Rattle.pull_engine.specs.EntryTests.{IsTestOf};
-ghost use Rattle.pull_engine.specs.Pulls.{IsRangePulled, IsWholeTo};
+ghost use Rattle.pull_engine.specs.Pulls.{IsRangeEnd, IsRangePulled};
 ghost use Rattle.pull_engine.specs.Ranges.{changes_at, pulled};
 
-use crate::entry_tests::{EntryTest, entry_test};
+use crate::block_ranges::{blocks_below, range_word};
+use crate::blocks::{BlockPull, pull_block};
+use crate::destination_words::{AllVertices, DestinationWords, GivenWords};
+use crate::entry_tests::entry_test;
 use crate::source_block::SourceBlock;
 use crate::source_folds::SourceFold;
 use edge_apply::number_between;
@@ -20,7 +23,7 @@ use flat_snapshot::Flat;
 use kernels::{EndpointFilter, PAIRS};
 use std::alloc::{AllocError, Global};
 use vectors::{EntryChange, Lane};
-use vertex_sets::VertexSet;
+use vertex_sets::{Form, VertexSet};
 
 /// What a pull of a range goes over: the destinations from `low` up to `high` that `to` lets through, from the sources
 /// whose bits are set. Words or an end that are not given let all through.
@@ -34,26 +37,15 @@ pub(crate) struct PullRange<'a> {
     pub(crate) high: u32,
 }
 
-impl<'a> PullRange<'a> {
-    /// The set whose members alone are destinations, where the range is the whole graph.
-    fn destination_set(self) -> Option<&'a VertexSet>
-        ensures { IfSome result (λ s. IsWholeTo self.entry s) }
-    {
-        let Some(EndpointFilter::Members(set)) = self.to else {
-            return None;
-        };
-        if self.low > 0 {
-            return None;
-        }
-        if self.high != self.flat.vertices() {
-            return None;
-        }
-        Some(set)
+impl PullRange<'_> {
+    /// Whether the range is the whole graph.
+    fn is_whole(self) -> bool {
+        self.low == 0 && self.high == self.flat.vertices()
     }
 }
 
-/// What a pull of a range changes in a vector, ascending. Where the destinations of the whole graph are members of a set,
-/// it goes over these, and else over the vertices of the range. The only error is out of memory.
+/// What a pull of a range changes in a vector, ascending. It goes over blocks of 64 vertices, each with a word for those
+/// that are destinations. The only error is out of memory.
 pub(crate) fn pull_range<F: SourceFold>(
     alloc: Global,
     range: PullRange<'_>,
@@ -64,54 +56,82 @@ pub(crate) fn pull_range<F: SourceFold>(
     requires { range.low ≤ range.high }
     ensures { IfOk result (λ cs. IsRangePulled range.entry vector (F.reduction fold.now) (F.number fold.now) cs.items) }
 {
-    if let Some(set) = range.destination_set() {
-        return pull_members(alloc, range, set, vector, fold);
-    }
-    match entry_test(range) {
-        Some(test) => pull_tested(alloc, range, vector, fold, test),
-        None => pull_vertices(alloc, range, vector, fold, scratch),
+    match range.to {
+        None => pull_words(alloc, range, vector, &AllVertices, fold),
+        Some(EndpointFilter::Members(set)) => {
+            pull_members(alloc, range, set, vector, fold, scratch)
+        }
+        Some(EndpointFilter::Filter(_)) => pull_filtered(alloc, range, vector, fold, scratch),
     }
 }
 
-/// The same over those vertices of the range whose entries pass a test.
-fn pull_tested<F: SourceFold>(
+/// The same to the vertices that a filter lets through.
+fn pull_filtered<F: SourceFold>(
     alloc: Global,
     range: PullRange<'_>,
     vector: usize,
     fold: &F,
-    test: EntryTest<'_>,
+    scratch: &mut Scratch,
 ) -> Result<Vec<EntryChange>, AllocError>
-    requires order { range.low ≤ range.high }
-    requires test { IsTestOf range test }
+    requires { range.low ≤ range.high }
     ensures { IfOk result (λ cs. IsRangePulled range.entry vector (F.reduction fold.now) (F.number fold.now) cs.items) }
 {
-    let old = range.context.vectors.lane(vector);
-    let mut block = SourceBlock::new();
-    let mut changes = Vec::new(alloc);
-    'vertices: for vertex in range.low..range.high {
-        if test.passes(vertex) {
-            pull_one(range, fold, old, vertex, &mut block, &mut changes)?;
-        }
+    match entry_test(range) {
+        Some(test) => pull_words(alloc, range, vector, &test, fold),
+        None => pull_vertices(alloc, range, vector, fold, scratch),
     }
-    Ok(changes)
 }
 
-/// The same over the members of a set.
+/// The same to the members of a set. One that is not kept as bits is put into bits for a whole graph.
 fn pull_members<F: SourceFold>(
     alloc: Global,
     range: PullRange<'_>,
     set: &VertexSet,
     vector: usize,
     fold: &F,
+    scratch: &mut Scratch,
 ) -> Result<Vec<EntryChange>, AllocError>
-    requires { IsWholeTo range set }
+    requires order { range.low ≤ range.high }
+    requires end { IsRangeEnd range (λ v. is_member v set.now.members) }
     ensures { IfOk result (λ cs. IsRangePulled range.entry vector (F.reduction fold.now) (F.number fold.now) cs.items) }
 {
-    let old = range.context.vectors.lane(vector);
-    let mut block = SourceBlock::new();
+    if let Some(words) = set.words() {
+        return pull_words(alloc, range, vector, &GivenWords { words }, fold);
+    }
+    if !range.is_whole() {
+        return pull_vertices(alloc, range, vector, fold, scratch);
+    }
+    let bits = set.to_form(alloc, Form::Bits)?;
+    let Some(words) = bits.words() else {
+        unreachable!();
+    };
+    pull_words(alloc, range, vector, &GivenWords { words }, fold)
+}
+
+/// The same to the vertices that words let through.
+fn pull_words<F: SourceFold, W: DestinationWords>(
+    alloc: Global,
+    range: PullRange<'_>,
+    vector: usize,
+    to: &W,
+    fold: &F,
+) -> Result<Vec<EntryChange>, AllocError>
+    requires order { range.low ≤ range.high }
+    requires end { IsRangeEnd range (W.lets to.now) }
+    ensures { IfOk result (λ cs. IsRangePulled range.entry vector (F.reduction fold.now) (F.number fold.now) cs.items) }
+{
+    let pull = BlockPull {
+        flat: range.flat,
+        old: range.context.vectors.lane(vector),
+        from: range.from,
+    };
+    let mut room = SourceBlock::new();
     let mut changes = Vec::new(alloc);
-    'members: for member in set.iter() {
-        pull_one(range, fold, old, member, &mut block, &mut changes)?;
+    let first = range.low / 64;
+    let stop = blocks_below(range.high);
+    'rounds: for block in first..stop {
+        let word = range_word(block, range.low, range.high) & to.word(block);
+        pull_block(pull, block, word, fold, &mut room, &mut changes)?;
     }
     Ok(changes)
 }

@@ -5,17 +5,18 @@ ghost use Rattle.apply_options.specs.declared.reduction.Reduction.TheVariants.{M
 ghost use Rattle.edge_apply.specs.Words.{passes_words};
 ghost use Rattle.edge_fold.specs.EntryNumbers.{entry_with, reduced_over};
 ghost use Rattle.pull_engine.specs.Columns.{passing};
-ghost use Rattle.pull_engine.specs.EarlySources.{CountsOnce};
+ghost use Rattle.pull_engine.specs.EarlySources.{CountsOnce, reduced_once};
 ghost use Rattle.kernels.specs.declared.columns.TheConstants.{PAIRS};
 
 use crate::chosen_sources::fold_chosen;
-use crate::early_sources::{first_passing, last_passing};
+use crate::early_sources::{first_chunked, first_packed, last_chunked, last_packed};
+use crate::list_folds::fold_list;
 use crate::source_block::SourceBlock;
 use algorithm_meaning::reduce;
 use apply_options::Reduction;
 use edge_apply::{keep_members, keep_members_weighted};
 use edge_fold::{EntryWith, SourceNumbers, reduce_columns, reduce_sources};
-use vertex_blocks::{NeighbourForm, NeighbourSet, NeighbourWalk, Neighbours, SetWalk};
+use vertex_blocks::{CTree, NeighbourForm, NeighbourSet, NeighbourWalk, Neighbours, SetWalk};
 
 /// An entry, reduced with the numbers of sources, by the sources and the weights of their edges.
 pub(crate) trait SourceFold {
@@ -23,7 +24,27 @@ pub(crate) trait SourceFold {
 
     ghost number: { Self → ℕ → ℤ → ℤ };
 
-    /// The entry reduced with the numbers of those sources whose bits are set. The block is lent.
+    /// The entry reduced with the numbers of those sources of a packed list whose bits are set. The block is lent.
+    fn fold_packed(
+        &self,
+        old: i64,
+        sources: Neighbours<'_>,
+        from: Option<&[u64]>,
+        block: &mut SourceBlock,
+    ) -> i64
+        ensures { result ≡ reduced_over (reduction self.now) (number self.now) old (passing (passes_words from.entry) sources.entry) };
+
+    /// The same of a set in chunks.
+    fn fold_chunked(
+        &self,
+        old: i64,
+        sources: &CTree,
+        from: Option<&[u64]>,
+        block: &mut SourceBlock,
+    ) -> i64
+        ensures { result ≡ reduced_over (reduction self.now) (number self.now) old (passing (passes_words from.entry) sources.now.entries) };
+
+    /// The same of sources in either form.
     fn fold(
         &self,
         old: i64,
@@ -31,7 +52,13 @@ pub(crate) trait SourceFold {
         from: Option<&[u64]>,
         block: &mut SourceBlock,
     ) -> i64
-        ensures { result ≡ reduced_over (reduction self.now) (number self.now) old (passing (passes_words from.entry) sources.entry) };
+        ensures { result ≡ reduced_over (reduction self.now) (number self.now) old (passing (passes_words from.entry) sources.entry) }
+    {
+        match sources.into_form() {
+            NeighbourForm::Packed(list) => self.fold_packed(old, list, from, block),
+            NeighbourForm::Chunked(set) => self.fold_chunked(old, set, from, block),
+        }
+    }
 }
 
 /// The greatest source: the walk goes downward, and ends at the first that passes.
@@ -50,7 +77,7 @@ pub(crate) struct OneForAny {
     ghost once: { CountsOnce reduction },
 }
 
-/// A number of each source, whatever the weight: the walk goes over all, in blocks.
+/// A number of each source, whatever the weight: the walk goes over all, by index where they are packed, and else in blocks.
 #[derive(Drop)]
 pub(crate) struct AllSources<N> {
     pub(crate) reduction: Reduction,
@@ -70,21 +97,30 @@ impl SourceFold for GreatestSource {
 
     ghost number = { λ _ s _. pos s };
 
-    #[inline]
-    fn fold(
+    #[inline(always)]
+    fn fold_packed(
         &self,
         old: i64,
-        sources: NeighbourSet<'_>,
+        sources: Neighbours<'_>,
+        from: Option<&[u64]>,
+        _block: &mut SourceBlock,
+    ) -> i64 {
+        let _ = sources.len();
+        let source = last_packed(sources, from);
+        reduce_source(Reduction::Max, old, source)
+    }
+
+    #[inline]
+    fn fold_chunked(
+        &self,
+        old: i64,
+        sources: &CTree,
         from: Option<&[u64]>,
         block: &mut SourceBlock,
     ) -> i64 {
-        if sources.len() == 0 {
-            return old;
-        }
-        match last_passing(sources, from, &mut block.sources) {
-            Some(source) => reduce(Reduction::Max, old, i64::from(source)),
-            None => old,
-        }
+        let _ = sources.len();
+        let source = last_chunked(SetWalk::new(sources), from, &mut block.sources);
+        reduce_source(Reduction::Max, old, source)
     }
 }
 
@@ -93,21 +129,30 @@ impl SourceFold for LeastSource {
 
     ghost number = { λ _ s _. pos s };
 
-    #[inline]
-    fn fold(
+    #[inline(always)]
+    fn fold_packed(
         &self,
         old: i64,
-        sources: NeighbourSet<'_>,
+        sources: Neighbours<'_>,
         from: Option<&[u64]>,
         _block: &mut SourceBlock,
     ) -> i64 {
-        if sources.len() == 0 {
-            return old;
-        }
-        match first_passing(sources, from) {
-            Some(source) => reduce(Reduction::Min, old, i64::from(source)),
-            None => old,
-        }
+        let _ = sources.len();
+        let source = first_packed(sources, from);
+        reduce_source(Reduction::Min, old, source)
+    }
+
+    #[inline]
+    fn fold_chunked(
+        &self,
+        old: i64,
+        sources: &CTree,
+        from: Option<&[u64]>,
+        _block: &mut SourceBlock,
+    ) -> i64 {
+        let _ = sources.len();
+        let source = first_chunked(SetWalk::new(sources), from);
+        reduce_source(Reduction::Min, old, source)
     }
 }
 
@@ -116,18 +161,28 @@ impl SourceFold for OneForAny {
 
     ghost number = { λ f _ _. f.number };
 
-    #[inline]
-    fn fold(
+    #[inline(always)]
+    fn fold_packed(
         &self,
         old: i64,
-        sources: NeighbourSet<'_>,
+        sources: Neighbours<'_>,
         from: Option<&[u64]>,
         _block: &mut SourceBlock,
     ) -> i64 {
-        match first_passing(sources, from) {
-            Some(_) => reduce(self.reduction, old, self.number),
-            None => old,
-        }
+        let source = first_packed(sources, from);
+        reduce_number(self.reduction, self.number, old, source)
+    }
+
+    #[inline]
+    fn fold_chunked(
+        &self,
+        old: i64,
+        sources: &CTree,
+        from: Option<&[u64]>,
+        _block: &mut SourceBlock,
+    ) -> i64 {
+        let source = first_chunked(SetWalk::new(sources), from);
+        reduce_number(self.reduction, self.number, old, source)
     }
 }
 
@@ -136,36 +191,34 @@ impl<N: SourceNumbers> SourceFold for AllSources<N> {
 
     ghost number = { λ f s _. N.number f.numbers s };
 
-    #[inline]
-    fn fold(
+    #[inline(always)]
+    fn fold_packed(
         &self,
         old: i64,
-        sources: NeighbourSet<'_>,
+        sources: Neighbours<'_>,
+        from: Option<&[u64]>,
+        _block: &mut SourceBlock,
+    ) -> i64 {
+        fold_list(self.reduction, &self.numbers, old, sources, from)
+    }
+
+    #[inline]
+    fn fold_chunked(
+        &self,
+        old: i64,
+        sources: &CTree,
         from: Option<&[u64]>,
         block: &mut SourceBlock,
     ) -> i64 {
-        match sources.into_form() {
-            NeighbourForm::Packed(list) => {
-                fold_walk(
-                    self.reduction,
-                    &self.numbers,
-                    old,
-                    list.ascending(),
-                    from,
-                    &mut block.sources,
-                )
-            }
-            NeighbourForm::Chunked(set) => {
-                fold_walk(
-                    self.reduction,
-                    &self.numbers,
-                    old,
-                    SetWalk::new(set),
-                    from,
-                    &mut block.sources,
-                )
-            }
-        }
+        let walk = SetWalk::new(sources);
+        fold_walk(
+            self.reduction,
+            &self.numbers,
+            old,
+            walk,
+            from,
+            &mut block.sources,
+        )
     }
 }
 
@@ -174,23 +227,49 @@ impl SourceFold for WeightedSources<'_> {
 
     ghost number = { λ f. entry_with f.numbers };
 
-    #[inline]
-    fn fold(
+    #[inline(always)]
+    fn fold_packed(
         &self,
         old: i64,
-        sources: NeighbourSet<'_>,
+        sources: Neighbours<'_>,
         from: Option<&[u64]>,
         block: &mut SourceBlock,
     ) -> i64 {
-        match sources.into_form() {
-            NeighbourForm::Packed(list) => {
-                fold_weighted_list(self.reduction, self.numbers, old, list, from, block)
-            }
-            NeighbourForm::Chunked(set) => {
-                let walk = SetWalk::new(set);
-                fold_weighted_walk(self.reduction, self.numbers, old, walk, from, block)
-            }
-        }
+        fold_weighted_list(self.reduction, self.numbers, old, sources, from, block)
+    }
+
+    #[inline]
+    fn fold_chunked(
+        &self,
+        old: i64,
+        sources: &CTree,
+        from: Option<&[u64]>,
+        block: &mut SourceBlock,
+    ) -> i64 {
+        let walk = SetWalk::new(sources);
+        fold_weighted_walk(self.reduction, self.numbers, old, walk, from, block)
+    }
+}
+
+/// An entry reduced with a source, where there is one.
+#[inline(always)]
+fn reduce_source(reduction: Reduction, old: i64, source: Option<u32>) -> i64
+    ensures { result ≡ reduced_once reduction (λ s. pos s) old source }
+{
+    match source {
+        Some(source) => reduce(reduction, old, i64::from(source)),
+        None => old,
+    }
+}
+
+/// An entry reduced with a number, where there is a source.
+#[inline(always)]
+fn reduce_number(reduction: Reduction, number: i64, old: i64, source: Option<u32>) -> i64
+    ensures { result ≡ reduced_once reduction (λ _. number) old source }
+{
+    match source {
+        Some(_) => reduce(reduction, old, number),
+        None => old,
     }
 }
 

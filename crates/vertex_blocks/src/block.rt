@@ -1,6 +1,7 @@
 //! Blocks of 64 vertices with their neighbours, each with a weight.
 
-ghost use Rattle.std.specs.Prelude.{◌≡◌, ◌<◌, ◌^◌, ◌++◌, length, IfOk};
+ghost use Rattle.std.specs.Prelude.{◌≡◌, ℕ, ◌<◌, ◌^◌, ◌++◌, length, IfOk};
+ghost use Rattle.std.specs.Int.{bit_at};
 ghost use Rattle.pages.specs.Vertices.{neighbours_of, IsPage};
 ghost use Rattle.vertex_blocks.specs.Blocks.{IsBlock, edge_total};
 ghost use Rattle.vertex_blocks.specs.Forms.{listed};
@@ -89,6 +90,17 @@ impl VertexBlock {
     {
         let parts = &*self.parts;
         (&parts.page, &parts.long)
+    }
+
+    /// The page, and a bit for each vertex, set for those that have a list of their own: any other vertex has the list
+    /// that stands in the page. It takes constant time and no memory.
+    #[inline]
+    pub fn packed(&self) -> (&Page, u64)
+        ensures { (u : ℕ) → u < 64 → bit_at result.1 u ≡ 0
+            → neighbours_of u result.0.now ≡ neighbours_of u self.now }
+    {
+        let (page, long) = self.parts();
+        (page, long.present())
     }
 
     /// The neighbours of a vertex, in the form in which they stand.

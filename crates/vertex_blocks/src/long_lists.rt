@@ -1,6 +1,7 @@
 //! The vertices of a block that have more neighbours than fit into its page.
 
-ghost use Rattle.std.specs.Prelude.{◌≡◌, ◌^◌, ◌<◌, ◌≤◌, ◌∷◌, ◌++◌, [], length, slice_range, IfOk, OnOk, MatchOption};
+ghost use Rattle.std.specs.Prelude.{◌≡◌, ℕ, ◌^◌, ◌<◌, ◌≤◌, ◌∷◌, ◌++◌, [], length, slice_range, IfOk, OnOk, MatchOption};
+ghost use Rattle.std.specs.Int.{bit_at};
 ghost use Rattle.ascending_lists.specs.Maps.{Rises};
 ghost use Rattle.pages.specs.Vertices.{neighbours_of, count_below};
 ghost use Rattle.vertex_blocks.specs.Blocks.{IsBlock, edge_total};
@@ -62,6 +63,14 @@ impl LongLists {
     /// How many vertices there are.
     pub(crate) fn len(&self) -> usize {
         self.entries.len()
+    }
+
+    /// A bit for each vertex: one whose bit is not set has no list.
+    #[inline]
+    pub(crate) fn present(&self) -> u64
+        ensures { (u : ℕ) → u < 64 → bit_at result u ≡ 0 → neighbours_of u self.now ≡ [] }
+    {
+        self.present
     }
 
     /// The list of a vertex, if it has one.

@@ -1,4 +1,4 @@
-use Rattle.std.proofs.Common.{ℕ, true, Option, refl, sym, subst, arith, ap, ◌∙◌}
+use Rattle.std.proofs.Common.{ℕ, true, Option, refl, sym, subst, arith, ap}
 use Rattle.std.proofs.lemmas.Result.{IfOk-weaker}
 use Rattle.kernels.specs.EdgeApply.{is_member}
 use Rattle.kernels.specs.declared.endpoint_filter.EndpointFilter.{EndpointFilter}

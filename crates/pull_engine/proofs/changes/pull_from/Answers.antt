@@ -1,4 +1,4 @@
-use Rattle.std.proofs.Common.{◌≡◌, ◌-◌, ℕ, List, IfSome, Option, subst, arith}
+use Rattle.std.proofs.Common.{◌≡◌, ◌-◌, ℕ, IfSome, Option, subst, arith}
 use Rattle.std.proofs.lemmas.Result.{IfOk-weaker}
 use Rattle.edge_apply.specs.Words.{passes_words}
 use Rattle.edge_fold.specs.Between.{edges_between}

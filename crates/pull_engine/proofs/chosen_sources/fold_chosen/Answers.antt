@@ -1,4 +1,4 @@
-use Rattle.std.proofs.Common.{rules, ◌≡◌, ◌-◌, ◌≤◌, length, map, take, drop, FitsSigned, to_z, of_z, w64, ◌∙◌, arith}
+use Rattle.std.proofs.Common.{rules, ◌-◌, ◌≤◌, length, map, take, drop, FitsSigned, to_z, of_z, w64, ◌∙◌, arith}
 use Rattle.std.proofs.lemmas.Int.{to_z-of_z}
 use Rattle.edge_apply.specs.Words.{is_set}
 use Rattle.edge_fold.specs.EntryNumbers.{entry_with}

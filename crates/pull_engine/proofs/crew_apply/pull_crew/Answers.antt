@@ -1,6 +1,6 @@
 use denote.Param.Send.{sendable}
 use Rattle.std.proofs.Crossing.{crosses}
-use Rattle.std.proofs.Common.{ℤ, List, length, sym, subst}
+use Rattle.std.proofs.Common.{length, sym, subst}
 use Rattle.crew.specs.Pieces.{AreFound}
 use Rattle.crew.proofs.FoundPieces.{found_answers, found_once}
 use Rattle.pull_engine.proofs.Crossing.{work_sync}

@@ -1,4 +1,4 @@
-use Rattle.std.proofs.Common.{◌≡◌, ℕ, ◌++◌, List, length, take}
+use Rattle.std.proofs.Common.{◌≡◌, ◌++◌, List, length, take}
 use Rattle.edge_lists.specs.Edge.{Edge}
 use Rattle.kernels.specs.declared.columns.TheConstants.{PAIRS}
 use Rattle.kernels.specs.StepTree.{StepsTree}

@@ -1,4 +1,4 @@
-use Rattle.std.proofs.Common.{rules, ◌≡◌, ◌≤◌, ℕ, ℤ, ◌++◌, List, [], ◌∷◌, length, ap, refl, subst, take, arith}
+use Rattle.std.proofs.Common.{rules, ℕ, ℤ, ◌++◌, List, ap, refl, subst, take, arith}
 use Rattle.edge_fold.specs.Contributions.{column, entries_of}
 use Rattle.edge_fold.proofs.Walks.{HasWalked, folded_along, parts_of, walk_begun, walk_done, walk_more}
 use Rattle.edge_apply.specs.Words.{passes_words}

@@ -1,4 +1,4 @@
-use Rattle.std.proofs.Common.{◌<◌, ℕ, Contains, drop}
+use Rattle.std.proofs.Common.{Contains, drop}
 use Rattle.crew.specs.Pieces.{pieces_of}
 use Rattle.pull_engine.proofs.pieces.find_piece.Given as goal
 

@@ -1,4 +1,4 @@
-use Rattle.std.proofs.Common.{◌-◌, ℕ, true, List, [], length, slice_range, refl, ap, ◌∙◌, subst, arith, sym}
+use Rattle.std.proofs.Common.{◌-◌, ℕ, true, List, length, slice_range, refl, ap, ◌∙◌, subst, arith}
 use Rattle.std.specs.List.{filter}
 use Rattle.edge_lists.specs.Edge.{Edge}
 use Rattle.edge_fold.specs.Gathered.{AreGatheredFor}

@@ -1,4 +1,4 @@
-use Rattle.std.proofs.Common.{◌≡◌, ℕ, List, length, sym, ap, ◌∙◌, subst}
+use Rattle.std.proofs.Common.{ℕ, length, sym, ap, ◌∙◌, subst}
 use Rattle.std.specs.List.{flat_map, range_with_len}
 use Rattle.std.specs.List.Sorted.{IsPermutation}
 use Rattle.std.proofs.lemmas.List.FromFn.{length-range_with_len}
@@ -9,8 +9,6 @@ use Rattle.kernels.specs.Value.{entry}
 use Rattle.edge_fold.specs.Between.{edges_between}
 use Rattle.edge_fold.specs.Contributions.{all_given}
 use Rattle.pull_engine.specs.Ranges.{entry_after}
-use Rattle.edge_fold.specs.declared.apply_context.ApplyContext.{ApplyContext}
-use Rattle.edge_fold.specs.Folded.{IsContextOf}
 use Rattle.pull_engine.proofs.Merging.{gathers_pieces, pulled_parts}
 use Rattle.pull_engine.proofs.Shaped.{shape_gives_only, whole_changes}
 use Rattle.edge_apply.proofs.Told.{told_in_piece, told_in_pieces}

@@ -1,0 +1,45 @@
+use Rattle.std.proofs.Common.{rules, ◌<◌, ◌≤◌, ℤ, length, cond, FitsSigned, to_z, w64, ap, sym, ◌∙◌, arith}
+use Rattle.std.specs.List.{filter}
+use Rattle.std.specs.Map.{keys_of}
+use Rattle.std.proofs.lemmas.Int.{to_z-of_z}
+use Rattle.std.proofs.lemmas.Map.Entries.{length-keys_of}
+use Rattle.kernels.specs.Arithmetic.{reduced}
+use Rattle.edge_apply.specs.Words.{passes_words}
+use Rattle.edge_fold.specs.ReducedContributions.{reduced_with}
+use Rattle.pull_engine.proofs.EntryFolds.{over_passing}
+use Rattle.pull_engine.proofs.ListFolds.{all_folded, one_folded}
+use Rattle.pull_engine.proofs.list_folds.fold_each.Goals as goal
+
+pub sources-preserved : goal.sources-preserved
+sources-preserved g c =
+    let p = passes_words c.args.from in
+    let r = c.args.reduction in
+    let number = g.N.SourceNumbers.number c.args.numbers.now in
+    let xs = keys_of c.args.sources.now in
+    let i = c.sources.index in
+    let before = to_z w64 c.sources.number-bits in
+    let came = c.number_if-number.result in
+    let next = c.reduce-next.result in
+    let own = c.of.result in
+    let fits : FitsSigned w64 came = search rules in
+    let next_fits : FitsSigned w64 next = search rules in
+    let own_fits : FitsSigned w64 own = search rules in
+    let long = length-keys_of c.args.sources.now in
+    let inside : i < length xs = omega (arith, long, c.len-index-end.ensures.count, c.sources-test.true) in
+    to_z-of_z w64 came fits ∙ c.number_if-number.ensures
+    ∙ ap (λ (n : ℤ). cond c.passes.result n before)
+    (to_z-of_z w64 next next_fits ∙ c.reduce-next.ensures ∙ ap (λ (n : ℤ). reduced r before n) (to_z-of_z w64 own own_fits ∙ c.of.ensures ∙ ap number c.neighbour-source.ensures))
+    ∙ one_folded r number p _ before xs i c.passes.result inside (sym (c.passes.ensures ∙ ap p c.neighbour-source.ensures)) c.sources.invariant
+
+pub returns : goal.returns
+returns g c =
+    let p = passes_words c.args.from in
+    let r = c.args.reduction in
+    let number = g.N.SourceNumbers.number c.args.numbers.now in
+    let xs = keys_of c.args.sources.now in
+    let fits : FitsSigned w64 c.args.old = search rules in
+    let long = length-keys_of c.args.sources.now in
+    let all : length xs ≤ c.sources.index = omega (arith, long, c.len-index-end.ensures.count, c.sources-test.false) in
+    c.sources.invariant ∙ all_folded r number p _ xs c.sources.index all
+    ∙ ap (λ (n : ℤ). reduced_with r number n (filter p xs)) (to_z-of_z w64 c.args.old fits)
+    ∙ sym (over_passing r number c.args.old p c.args.sources.now)

@@ -1,0 +1,49 @@
+//! Pulls to the vertices of a block of 64, those whose bits are set in a word.
+ghost use Rattle.std.specs.Prelude.{◌≡◌, ◌^◌, ◌<◌, ◌++◌, OnOk};
+ghost use Rattle.pull_engine.specs.Blocks.{block_changes};
+
+use crate::block_lists::BlockLists;
+use crate::source_block::SourceBlock;
+use crate::source_folds::SourceFold;
+use edge_fold::push_change;
+use flat_snapshot::Flat;
+use std::alloc::AllocError;
+use vectors::{EntryChange, Lane};
+
+/// What the blocks of a pull have in common: the graph, the entries before it, and the words of the sources that pass.
+#[derive(Clone, Copy)]
+pub(crate) struct BlockPull<'a> {
+    pub(crate) flat: &'a Flat,
+    pub(crate) old: Lane<'a>,
+    pub(crate) from: Option<&'a [u64]>,
+}
+
+/// Adds what a pull changes at those vertices of a block whose bits are set in a word, ascending. The block is found once,
+/// and only vertices that have sources are gone over. The only error is out of memory.
+pub(crate) fn pull_block<F: SourceFold>(
+    pull: BlockPull<'_>,
+    block: u32,
+    word: u64,
+    fold: &F,
+    room: &mut SourceBlock,
+    changes: &mut Vec<EntryChange>,
+) -> Result<(), AllocError>
+    requires { block < 2 ^ 26 }
+    ensures { OnOk result (changes.new.items ≡ changes.old.items
+        ++ block_changes pull.entry (F.reduction fold.now) (F.number fold.now) block word) }
+{
+    let Some(found) = pull.flat.in_block(block) else {
+        return Ok(());
+    };
+    let lists = BlockLists::of(found);
+    let mut left = word & lists.present();
+    'vertices: while left != 0 {
+        let vertex = left.trailing_zeros();
+        left &= left - 1;
+        let destination = block * 64 + vertex;
+        let before = pull.old.get(destination as usize);
+        let number = lists.fold(vertex, before, fold, pull.from, room);
+        push_change(destination, before, number, changes)?;
+    }
+    Ok(())
+}
