@@ -21,7 +21,7 @@ class Mistake(GsnapError, ValueError):
 
 
 class Refused(GsnapError):
-    """A line of the graph's script was refused. The graph goes on, and has the version that it had.
+    """A line of the graph's script was refused. The graph can still be used, and has the version that it had.
 
     `number` is the refusal's number, `line` the line, `cause` and `cure` what the table of refusals says of the number, and
     `entry` the entry of the batch because of which a `commit` was refused, or None.

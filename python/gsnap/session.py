@@ -85,7 +85,7 @@ class Session:
 
     @classmethod
     def of_script(cls, journal: Journal, commands: list[bytes], pending: int, name: str) -> Session:
-        """Does a script, whose lines that neither add nor take away an edge are `commands`, and goes on from there.
+        """Does a script, whose lines that neither add nor take away an edge are `commands`, and continues from there.
 
         So many edits stand behind its last commit as `pending` says.
 

@@ -29,7 +29,7 @@ from .replies import (
     take_vector,
 )
 
-# A line that is no command. It is refused by 801 and changes nothing, so that the reply to what stands before it has ended there.
+# A line that is no command. It is refused by 801 and changes nothing, so that the reply to the line before it has ended there.
 MARK = "?"
 REPLY_TO_MARK = b"refused 801\n"
 
