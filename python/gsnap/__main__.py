@@ -11,6 +11,9 @@ from typing import NoReturn
 from .data import version
 from .shell import Shell
 
+# A closed terminal, and a request to end.
+ENDINGS = (signal.SIGHUP, signal.SIGTERM)
+
 # How many lines of history are kept.
 MOST_HISTORY = 1000
 
@@ -54,6 +57,15 @@ def talk(shell: Shell) -> None:
     """Does the lines of a terminal until one ends the shell. Ctrl-C at the prompt drops the line."""
     read_history()
     try:
+        talk_on(shell)
+    finally:
+        write_history()
+
+
+def talk_on(shell: Shell) -> None:
+    """Does the lines, and then takes no signal: a terminal that is closed ends the input too, before or after its signal, and the
+    second of both must not cut off what the first began."""
+    try:
         while True:
             try:
                 shell.cmdloop()
@@ -62,11 +74,17 @@ def talk(shell: Shell) -> None:
                 shell.intro = None
                 shell.say("")
     finally:
-        write_history()
+        ignore_endings()
+
+
+def ignore_endings() -> None:
+    for number in ENDINGS:
+        signal.signal(number, signal.SIG_IGN)
 
 
 def end(number: int, _frame: object) -> NoReturn:
     """Ends the shell in order if its terminal is closed or it is asked to end."""
+    ignore_endings()
     sys.exit(128 + number)
 
 
@@ -78,7 +96,7 @@ def main() -> int:
     parser.add_argument("file", metavar="FILE", nargs="?", help="a file that is loaded first, as by `load FILE`")
     parser.add_argument("--version", action="version", version=f"gsnap {version()}")
     options = parser.parse_args()
-    for number in (signal.SIGHUP, signal.SIGTERM):
+    for number in ENDINGS:
         signal.signal(number, end)
     shell = Shell(sys.stdin.isatty() and sys.stdout.isatty())
     try:

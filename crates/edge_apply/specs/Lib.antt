@@ -4,4 +4,6 @@ pub mod Contexts
 pub mod Applied
 pub mod Pieces
 pub mod Merged
+pub mod GatheredNumbers
+pub mod ChangedSets
 pub mod inside

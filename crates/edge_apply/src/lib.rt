@@ -25,6 +25,6 @@ pub use members::{keep_members, passes};
 pub use merging::{is_worth_workers, merge_by_ranges};
 pub use modified::apply_modified;
 pub use parts::take_part;
-pub use passing::passing_set;
+pub use passing::{passing_between, passing_set};
 pub use vertices::{all_vertices, number_between};
 pub use weighted_members::keep_members_weighted;

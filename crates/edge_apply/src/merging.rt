@@ -1,5 +1,5 @@
 //! Merges by ranges of vertices, which workers do side by side.
-ghost use Rattle.std.specs.Prelude.{◌≡◌, ℕ, List, length, IfOk};
+ghost use Rattle.std.specs.Prelude.{◌≡◌, ◌-◌, ◌^◌, ℕ, List, length, IfOk, min, nat_le};
 ghost use Rattle.std.specs.List.{flat_map};
 ghost use Rattle.edge_lists.specs.Edge.{Edge};
 ghost use Rattle.kernels.specs.StepTree.{StepsTree};
@@ -10,6 +10,7 @@ ghost use Rattle.crew.specs.Pieces.{pieces_of};
 ghost use Rattle.edge_fold.specs.Changed.{AreApart};
 ghost use Rattle.edge_fold.specs.Folded.{AreKernels};
 ghost use Rattle.edge_apply.specs.Applied.{AreChangesOn};
+ghost use Rattle.edge_apply.specs.GatheredNumbers.{numbers_for, numbers_found};
 ghost use Rattle.edge_apply.specs.Merged.{IsMerged};
 ghost use Rattle.edge_apply.specs.Pieces.{EachAscending, EachGathered};
 
@@ -100,7 +101,9 @@ const MANY_NUMBERS: usize = 16_384;
 
 /// Whether pieces have gathered so many numbers, 16,384 or more, that to put them together is worth several workers. No
 /// result depends on it.
-pub fn is_worth_workers(found: &[Found<Gathered>]) -> bool {
+pub fn is_worth_workers(found: &[Found<Gathered>]) -> bool
+    ensures { result ≡ nat_le 16384 (numbers_found found.now) }
+{
     let mut numbers = 0usize;
     'found: for one in found {
         numbers = numbers.saturating_add(count_numbers(&one.out.vectors));
@@ -108,8 +111,10 @@ pub fn is_worth_workers(found: &[Found<Gathered>]) -> bool {
     MANY_NUMBERS <= numbers
 }
 
-/// How many numbers there are for all vectors.
-fn count_numbers(vectors: &[GatheredIn]) -> usize {
+/// How many numbers there are for all vectors, or `usize::MAX` if they are more.
+fn count_numbers(vectors: &[GatheredIn]) -> usize
+    ensures { result ≡ min (numbers_for vectors.now) (2 ^ 64 - 1) }
+{
     let mut numbers = 0usize;
     'vectors: for of_vector in vectors {
         numbers = numbers.saturating_add(of_vector.numbers.len());

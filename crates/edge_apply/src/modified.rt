@@ -2,6 +2,7 @@
 ghost use Rattle.std.specs.Prelude.{◌≡◌, ℕ, ℤ, List, length, IfOk};
 ghost use Rattle.kernels.specs.EdgeApply.{modified};
 ghost use Rattle.kernels.specs.Value.{entry};
+ghost use Rattle.edge_apply.specs.ChangedSets.{form_of};
 ghost use Rattle.edge_fold.specs.Changed.{changed, changes_of};
 ghost use Rattle.vertex_sets.specs.VertexSet.{IsAscendingBelow};
 
@@ -10,8 +11,8 @@ use std::alloc::{AllocError, Global};
 use vectors::{Changes, EntryChange};
 use vertex_sets::{Form, VertexSet};
 
-/// The vertices of a graph of n at which an apply has changed a vector: a list where they are few, and else in the
-/// form that the schedule has for dense sets. It takes time in proportion to the changes, and that of a dense form.
+/// The vertices of a graph of n at which an apply has changed a vector: a list if they are fewer than one in 16, and else in
+/// the form that the schedule has for dense sets. It takes time in proportion to the changes, and that of a dense form.
 ///
 /// The only error is out of memory.
 pub fn apply_modified(
@@ -25,6 +26,7 @@ pub fn apply_modified(
     ensures members { IfOk result (λ s. (before after : List (List ℤ))
         → changes_of vector changes.now.vectors.items ≡ changed vertices (entry before vector) (entry after vector)
         → s.members ≡ modified vertices vector before after) }
+    ensures form { IfOk result (λ s. s.form ≡ form_of (length s.members) vertices dense) }
 {
     let members = changed_vertices(alloc, changes_in(changes, vector), vertices)?;
     let form = form_for(members.len(), vertices, dense);
@@ -68,7 +70,9 @@ fn changed_vertices(
 }
 
 /// A list for fewer than one in 16 vertices.
-fn form_for(count: usize, vertices: u32, dense: DenseVertexSet) -> Form {
+fn form_for(count: usize, vertices: u32, dense: DenseVertexSet) -> Form
+    ensures { result ≡ form_of count vertices dense }
+{
     if count < vertices as usize / 16 {
         return Form::List;
     }

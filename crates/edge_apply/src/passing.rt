@@ -30,33 +30,36 @@ pub fn passing_set(
             return Ok(set);
         }
     }
-    tested_set(alloc, context, end, scratch)
+    passing_between(alloc, context, end, 0, context.vertices, scratch)
 }
 
-/// The same of any end, a block of vertices at a time.
-fn tested_set(
+/// The vertices from one on up to another that an end lets through, as bits: the set has as many vertices as are below the
+/// second. Each is tested once, a block at a time. The only error is out of memory.
+pub fn passing_between(
     alloc: Global,
     context: ApplyContext<'_>,
     end: EndpointFilter<'_>,
+    first: u32,
+    stop: u32,
     scratch: &mut Scratch,
 ) -> Result<VertexSet, AllocError>
+    requires { first ≤ stop }
     ensures form { IfOk result (λ s. s.form ≡ Form.Bits) }
     ensures members { IfOk result (λ s. (m : StateValue) (test : ℕ → Bool) → context.entry.vectors.now.vectors ≡ m.vectors
         → HasSizes context.entry.sizes.now m → IsTest end.entry m test
-        → (v : ℕ) → v < context.entry.vertices → is_member v s.members ≡ test v) }
+        → (v : ℕ) → first ≤ v → v < stop → is_member v s.members ≡ test v) }
 {
-    let vertices = context.vertices;
-    let mut set = VertexSet::empty(alloc, vertices, Form::Bits)?;
+    let mut set = VertexSet::empty(alloc, stop, Form::Bits)?;
     let mut part = Vec::new(alloc);
     let mut kept = Vec::new(alloc);
-    let mut next = 0u32;
-    'parts: while next < vertices {
-        let stop = next + (vertices - next).min(PAIRS as u32);
-        number_between(next, stop, &mut part)?;
+    let mut next = first;
+    'parts: while next < stop {
+        let end_of_part = next + (stop - next).min(PAIRS as u32);
+        number_between(next, end_of_part, &mut part)?;
         kept.clear();
         scratch.keep_passing(context, end, &part, &mut kept)?;
         insert_all(&kept, &mut set)?;
-        next = stop;
+        next = end_of_part;
     }
     Ok(set)
 }

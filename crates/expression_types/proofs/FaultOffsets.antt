@@ -19,12 +19,12 @@ use Rattle.expression_types.specs.declared.scope.Entity.{Entity}
 use Rattle.expression_types.specs.declared.scope.Entity.TheVariants as entity
 use Rattle.expression_types.specs.declared.scope.Inside.{Inside}
 use Rattle.expression_types.specs.declared.scope.Inside.TheVariants as inside
-use Rattle.expression_types.specs.Expression.{as_size, as_vector, comparison_value, conjunction_value, conjuncts, disjuncts, factors, index_as, index_lacks_value, index_value, name_value, no_vertex, primary_value, size_of, size_value, sum_value, summands, term_value, unary_value, used, used_as, value_of, vector_at, vector_index}
+use Rattle.expression_types.specs.Expression.{as_size, as_vector, comparison_value, conjunction_value, conjuncts, disjuncts, entry_of, factors, index_as, index_lacks_value, index_value, name_value, no_vertex, primary_value, size_of, size_value, sum_value, summands, term_value, unary_value, used, used_as, value_of, vector_at, vector_index}
 use Rattle.expression_types.specs.Names.{found}
 use Rattle.expression_types.specs.WithFaults.{WithFaults, fault_at, sure}
-use Rattle.expression_types.specs.Operators.{IntegersTree, Integers, MixedIntegers, ErrorIntegers, ConditionsTree, Conditions, MixedConditions, ErrorConditions, condition_index, entry_value, first_condition, first_integer, function_entry, given, grouped_conditions, grouped_integers, integer_index, main_entry, related_value, signed_value}
+use Rattle.expression_types.specs.Operators.{IntegersTree, Integers, MixedIntegers, ErrorIntegers, ConditionsTree, Conditions, MixedConditions, ErrorConditions, condition_index, entry_value, first_condition, first_integer, function_entry, given, grouped_conditions, grouped_integers, integer_index, main_entry, related_value, signed_value, unless_faulty}
 use Rattle.expression_types.specs.ScopeTree.{ScopeTree, declared, declared_over}
-use Rattle.expression_types.specs.ValueTree.{ValueTree, Integer, Condition, Vertex, Set, ErrorValue, condition_reads_entry, named_set, named_value, named_vector, reads_entry}
+use Rattle.expression_types.specs.ValueTree.{ValueTree, Integer, Condition, Vertex, Set, ErrorValue, condition_reads_entry, is_error, named_set, named_value, named_vector, reads_entry}
 
 -- P holds of the offset of each fault
 abbrev pub FaultsStand : {A : Type 0} → (ℕ → Type 0) → WithFaults A → Type 0
@@ -124,6 +124,16 @@ entry_stands P inside.Main at (Some vector) v here = main_entry_stands P at vect
 entry_stands P inside.EdgeFunction at (Some vector) v here = function_entry_stands P at vector v here
 entry_stands P inside.VertexFunction at (Some vector) v here = function_entry_stands P at vector v here
 entry_stands P inside.Filter at (Some vector) v here = function_entry_stands P at vector v here
+
+unless_faulty_stands : {A : Type 0} (P : ℕ → Type 0) (faulty : Bool) (m : WithFaults A) → FaultsStand P m → FaultsStand P (unless_faulty faulty m)
+unless_faulty_stands P true m stand = tt
+unless_faulty_stands P false m stand = stand
+
+entry_of_stands : (P : ℕ → Type 0) (where_it_is : Inside) (at : ℕ) (e : Entity) (v : ValueTree) → P at → FaultsStand P (entry_of where_it_is at e v)
+entry_of_stands P where_it_is at e v here =
+    let vector = unless_faulty (is_error v) (as_vector at e) in
+    both_stand P vector.faults _ (unless_faulty_stands P (is_error v) (as_vector at e) (as_vector_stands P at e here))
+    (entry_stands P where_it_is at vector.value v here)
 
 pub index_stands : (P : ℕ → Type 0) (scope : ScopeTree) (index : ExpressionTree) (value : WithFaults ValueTree) → FaultsStand P value → FaultsStand P (index_as scope index value)
 index_stands P scope index value stand = if_stand P (index_lacks_value scope.inside scope index) (sure no_vertex) value tt stand
@@ -230,10 +240,10 @@ mutual
   primary_stands P scope at (tree.Truth b) here all = tt
   primary_stands P scope at (tree.Variable name) here all = name_stands P scope at name here all.0
   primary_stands P scope at (tree.Entry name index) here all =
-      let vector = vector_index scope at name in
+      let e = used scope name in
       let v = index_value scope at index in
-      both_stand P vector.faults _ (vector_stands P scope at name here all.0)
+      both_stand P e.faults _ (used_stands P scope name all.0)
       (both_stand P v.faults _ (index_stands P scope index (value_of scope at index) (value_stands P scope at index here (before P (expression_terminals index) _ _ all.1.1)))
-      (entry_stands P scope.inside at vector.value v.value here))
+      (entry_of_stands P scope.inside at e.value v.value here))
   primary_stands P scope at (tree.Size name) here all = size_stands P scope at name here all.0
   primary_stands P scope at (tree.Parentheses inside) here all = value_stands P scope at inside here (before P (expression_terminals inside) _ _ all.1)

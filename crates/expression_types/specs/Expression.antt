@@ -1,6 +1,6 @@
 -- The typed tree of an expression and its faults, one equation for each rule of the grammar. All faults but those of names stand at the
 -- first token of the statement or declaration around the expression.
-use Rattle.std.specs.Prelude.{ℕ, Bool, true, false, ◌&&◌, if◌then◌else◌, is_some, not, Option, Some, None}
+use Rattle.std.specs.Prelude.{ℕ, Bool, false, if◌then◌else◌, is_some, not, Option, Some, None}
 use Rattle.syntax.specs.declared.operators.Addition.{Addition}
 use Rattle.syntax.specs.declared.operators.Multiplication.{Multiplication}
 use Rattle.syntax.specs.Terminals.{Identifier}
@@ -18,8 +18,8 @@ use Rattle.expression_types.specs.BareNames.{bare_name}
 use Rattle.expression_types.specs.Names.{found}
 use Rattle.expression_types.specs.WithFaults.{WithFaults, sure, fault_at, ◌>>=◌}
 use Rattle.expression_types.specs.ScopeTree.{ScopeTree}
-use Rattle.expression_types.specs.ValueTree.{ValueTree, Integer, Condition, ErrorValue, named_value, named_vector, named_set}
-use Rattle.expression_types.specs.Operators.{added, multiplied, given, IntegersTree, ConditionsTree, first_integer, first_condition, beside_integer, beside_condition, grouped_integers, grouped_conditions, related_value, signed_value, entry_value}
+use Rattle.expression_types.specs.ValueTree.{ValueTree, Integer, Condition, ErrorValue, is_error, named_value, named_vector, named_set}
+use Rattle.expression_types.specs.Operators.{added, multiplied, given, unless_faulty, IntegersTree, ConditionsTree, first_integer, first_condition, beside_integer, beside_condition, grouped_integers, grouped_conditions, related_value, signed_value, entry_value}
 
 -- what a used name is: it has to be visible
 abbrev pub used_as : Identifier → Option Entity → WithFaults Entity
@@ -44,6 +44,10 @@ as_vector at e = vector_at at (named_vector e)
 
 abbrev pub vector_index : ScopeTree → ℕ → Identifier → WithFaults (Option ℕ)
 vector_index scope at name = used scope name >>= as_vector at
+
+-- The entry of what a name is at an index. If the index is faulty, it is no fault that the name is no vector.
+abbrev pub entry_of : Inside → ℕ → Entity → ValueTree → WithFaults ValueTree
+entry_of inside at e index = unless_faulty (is_error index) (as_vector at e) >>= λ vector. entry_value inside at vector index
 
 -- how many members a vertex set has
 abbrev pub size_of : ℕ → Option VarRef → WithFaults ValueTree
@@ -140,7 +144,7 @@ abbrev mutual
   primary_value scope at (Truth b) = sure (Condition (condition.Literal b))
   primary_value scope at (Variable name) = name_value scope at name
   primary_value scope at (Entry name index) =
-      vector_index scope at name >>= λ vector. index_as scope index (value_of scope at index) >>= λ v. entry_value scope.inside at vector v
+      used scope name >>= λ e. index_as scope index (value_of scope at index) >>= λ v. entry_of scope.inside at e v
   primary_value scope at (Size name) = size_value scope at name
   primary_value scope at (Parentheses inside) = value_of scope at inside
 

@@ -1,5 +1,5 @@
 -- Typing of operators, and of entries of vectors.
-use Rattle.std.specs.Prelude.{ℕ, Bool, true, false, if◌then◌else◌, Option, Some, None}
+use Rattle.std.specs.Prelude.{ℕ, Bool, true, false, if◌then◌else◌, [], Option, Some, None}
 use Rattle.syntax.specs.declared.operators.Addition.{Addition}
 use Rattle.syntax.specs.declared.operators.Addition.TheVariants as addition
 use Rattle.syntax.specs.declared.operators.Multiplication.{Multiplication}
@@ -39,10 +39,9 @@ abbrev pub given : ℕ → TypeRule → Option ValueTree → WithFaults ValueTre
 given at rule None = fault_at at rule ErrorValue
 given at rule (Some v) = sure v
 
--- an expression with a faulty part causes no further fault
-abbrev pub unless_error : Bool → WithFaults ValueTree → WithFaults ValueTree
-unless_error true m = sure ErrorValue
-unless_error false m = m
+-- a value with its faults, or without them if another part of the expression is faulty
+abbrev pub unless_faulty : {A : Type 0} → Bool → WithFaults A → WithFaults A
+unless_faulty faulty m = record { faults = if faulty then [] else m.faults; value = m.value }
 
 -- What operators of one level take so far: all are of the type that they want; one is not; or one has a faulty part.
 pub data IntegersTree : Type 0 where

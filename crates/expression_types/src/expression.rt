@@ -155,19 +155,19 @@ fn primary(
         Primary::Truth(b) => Ok(Value::Condition(BoolExpression::Literal(*b))),
         Primary::Variable(name) => Ok(variable(scope, at, name, first_fault)),
         Primary::Entry(name, index) => {
-            let vector = vector(scope, at, name, first_fault);
+            let entity = entity(scope, name, first_fault);
             if is_name_without_value(scope, index) {
                 return entry(
                     alloc,
                     scope.inside(),
                     at,
-                    vector,
+                    entity,
                     other_index(),
                     first_fault,
                 );
             }
             let index = type_expression(alloc, scope, at, index, first_fault)?;
-            entry(alloc, scope.inside(), at, vector, index, first_fault)
+            entry(alloc, scope.inside(), at, entity, index, first_fault)
         }
         Primary::Size(name) => Ok(size(scope, at, name, first_fault)),
         Primary::Parentheses(inside) => type_expression(alloc, scope, at, inside, first_fault),
@@ -258,7 +258,7 @@ pub fn vector(
 }
 
 /// The index of the vector that an entity is.
-fn vector_of(entity: Entity, at: usize, first_fault: &mut Option<Fault>) -> Option<usize>
+pub(crate) fn vector_of(entity: Entity, at: usize, first_fault: &mut Option<Fault>) -> Option<usize>
     ensures { outcome first_fault.old (as_vector at entity) ≡ (result, first_fault.new) }
 {
     if entity == Entity::Error {

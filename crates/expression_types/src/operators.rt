@@ -2,14 +2,16 @@
 ghost use Rattle.std.specs.Prelude.{◌≡◌, Some, false, IfOk, IsTrue};
 ghost use Rattle.std.specs.Option.{option_map};
 ghost use Rattle.expression_types.specs.WithFaults.{ReportsFaults, outcome};
+ghost use Rattle.expression_types.specs.Expression.{as_vector, entry_of};
 ghost use Rattle.expression_types.specs.Operators.{added, compared_value, entry_value, equated_value};
 ghost use Rattle.expression_types.specs.Operators.{function_entry, given, main_entry, multiplied, related_value};
 ghost use Rattle.expression_types.specs.Faults.{earlier};
 ghost use Rattle.expression_types.specs.inside.Signs.{all_minus, all_not, signs_value};
 ghost use Rattle.expression_types.specs.ValueTree.{ErrorValue, is_condition, is_error, value_tree};
 
+use crate::expression::vector_of;
 use crate::fault::{Fault, TypeRule, note};
-use crate::scope::Inside;
+use crate::scope::{Entity, Inside};
 use crate::value::{Value, reads_entry};
 use std::alloc::{AllocError, Global};
 use syntax::{Addition, Multiplication, Prefix, Relation};
@@ -205,23 +207,24 @@ fn are_all_not(signs: &[Prefix]) -> bool
     true
 }
 
-/// The entry of a vector at an index. The fault is noted where that is no index.
+/// The entry of what a name is at an index. The fault is noted if that is no vector or no index, but not if the
+/// index is faulty.
 pub(crate) fn entry(
     alloc: Global,
     inside: Inside,
     at: usize,
-    vector: Option<usize>,
+    entity: Entity,
     index: Value,
     first_fault: &mut Option<Fault>,
 ) -> Result<Value, AllocError>
-    ensures { ReportsFaults value_tree first_fault.old first_fault.new result (entry_value inside at vector (value_tree index)) }
+    ensures { ReportsFaults value_tree first_fault.old first_fault.new result (entry_of inside at entity (value_tree index)) }
 {
-    let Some(vector) = vector else {
-        return Ok(Value::Error);
-    };
     if index.is_error() {
         return Ok(Value::Error);
     }
+    let Some(vector) = vector_of(entity, at, first_fault) else {
+        return Ok(Value::Error);
+    };
     match inside {
         Inside::Main => entry_in_main(alloc, at, vector, index, first_fault),
         Inside::EdgeFunction | Inside::VertexFunction | Inside::Filter => {

@@ -48,6 +48,7 @@ impl WeightWidth {
         ensures allows { (i : ℕ) → Allows result (get_or weights.now i (pos 1)) }
         ensures ones { (result ≡ WeightWidth.Ones)
             ↔ ((i : ℕ) → get_or weights.now i (pos 1) ≡ pos 1) }
+        ensures least { (w : WeightWidth) → ((i : ℕ) → Allows w (get_or weights.now i (pos 1))) → weight_size result ≤ weight_size w }
     {
         let (mut least, mut greatest) = (1, 1);
         for weight in weights {
@@ -63,6 +64,7 @@ impl WeightWidth {
         requires greatest { pos 1 ≤ℤ greatest }
         ensures allows { (v : ℤ) → least ≤ℤ v → v ≤ℤ greatest → Allows result v }
         ensures ones { (result ≡ WeightWidth.Ones) ↔ ((least ≡ pos 1) × (greatest ≡ pos 1)) }
+        ensures least { (w : WeightWidth) → Allows w (pos 1) → Allows w least → Allows w greatest → weight_size result ≤ weight_size w }
     {
         if least == 1 && greatest == 1 {
             return WeightWidth::Ones;

@@ -9,11 +9,12 @@ ghost use Rattle.pages.specs.inside.Packed.{elements_in, span_of};
 
 use crate::weights::WeightWidth;
 
-/// How many bytes each offset takes where the greatest is `span`.
+/// The least number of bytes for each offset of a list if the greatest is `span`: 1 to 4.
 #[inline]
 pub fn width_of(span: u32) -> usize
     ensures width { (0 < result) × (result ≤ 4) }
     ensures wide { span < 2 ^ (8 * result) }
+    ensures least { 1 < result → 2 ^ (8 * (result - 1)) ≤ span }
 {
     match span {
         0..=0xff => 1,

@@ -6,3 +6,9 @@ pub mod Sites
 pub mod Counted
 pub mod Splits
 pub mod Whole
+pub mod Places
+pub mod FittingGroups
+pub mod Around
+pub mod AroundInstructions
+pub mod Counting
+pub mod LoopLaw

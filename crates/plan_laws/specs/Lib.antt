@@ -1,2 +1,3 @@
 pub mod Neighbours
 pub mod OneInstruction
+pub mod LoopCounters

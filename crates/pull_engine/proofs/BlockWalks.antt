@@ -13,12 +13,17 @@ use Rattle.vertex_sets.proofs.BitMembers.{bits_lowest, bits_none}
 use Rattle.flat_snapshot.specs.Neighbours.{sources_of}
 use Rattle.edge_fold.specs.Changed.{change_at, changed_from}
 use Rattle.edge_fold.specs.EntryNumbers.{reduced_over}
-use Rattle.edge_fold.proofs.ChangedRows.{nothing_changed}
+use Rattle.edge_fold.proofs.ChangedRows.{equal_itself, nothing_changed}
+use Rattle.kernels.specs.Arithmetic.{int_equal}
 use Rattle.pull_engine.specs.Columns.{passing}
 use Rattle.pull_engine.specs.Ranges.{changes_at, pulled, pulled_to}
 use Rattle.pull_engine.specs.Words.{in_word}
-use Rattle.pull_engine.proofs.Told.{no_change}
 use Rattle.pull_engine.proofs.WordBits.{bit_of_block, set_in_first, clear_in_one, set_test, clear_test}
+
+no_change : (old new : ℕ → ℤ) (v : ℕ) → new v ≡ old v → change_at old new v ≡ []
+no_change old new v same =
+    let change : EntryChange = record { vertex = v; number = new v } in
+    ap (λ (b : Bool). cond b [] (change ∷ [])) (ap (λ (y : ℤ). int_equal (old v) y) same ∙ equal_itself (old v))
 
 first_bit : (old new end : ℕ → ℤ) (a b : ℕ) (us : List ℕ) (cs : List EntryChange) → b < 2 → (b ≡ 1 → end a ≡ new a) → (b ≡ 0 → end a ≡ old a) → changes_at old new us ≡ cs
     → changes_at old new (cond (b == 1) (a ∷ us) us) ≡ change_at old end a ++ cs

@@ -70,7 +70,7 @@ destination_within n v (e ∷ es) within some = elim (found_first v e es (e.1 ==
   | inr later ↦ destination_within n v es (λ ends w has. within ends _ (has_later (ends_eq (ends_of e) ends) e.2 w (weight_in ends es) has)) later
 ]
 
-filtered_destinations : (g : Digraph) (to : ℕ → Bool) → IsDigraph g → (v : ℕ) → 0 < length (sources_of v g.edges) → is_member v (filter to (range_with_len 0 g.vertices)) ≡ to v
+pub filtered_destinations : (g : Digraph) (to : ℕ → Bool) → IsDigraph g → (v : ℕ) → 0 < length (sources_of v g.edges) → is_member v (filter to (range_with_len 0 g.vertices)) ≡ to v
 filtered_destinations g to is v some =
     let within : v < g.vertices = destination_within g.vertices v g.edges is.within some in
     member_filtered to v (range_with_len 0 g.vertices) ∙ ap (λ (b : Bool). b && to v) (member_of_range v g.vertices within)

@@ -6,5 +6,6 @@ pub mod Ranges
 pub mod Pulls
 pub mod Blocks
 pub mod Pieces
+pub mod PieceRanges
 pub mod EntryTests
-pub mod inside
+pub mod Lets

@@ -1,6 +1,6 @@
 -- Answers of the pieces of a pull.
 use Rattle.std.specs.Prelude.{◌≡◌, ℕ, ◌-◌, Bool, Option, Some, None, List}
-use Rattle.std.specs.List.{All, filter}
+use Rattle.std.specs.List.{All, filter, range_with_len}
 use Rattle.apply_options.specs.declared.reduction.Reduction.{Reduction}
 use Rattle.edge_lists.specs.Edge.{Edge}
 use Rattle.kernels.specs.StepTree.{StepsTree}
@@ -20,7 +20,7 @@ use Rattle.pull_engine.specs.Ranges.{AreChangesFrom, all_listed, shape_reduction
 
 -- the edges of an apply into the vertices of a piece, where these tests are those of its ends
 abbrev pub edges_into_piece : PullWork → (from to : ℕ → Bool) → (piece : ℕ) → List Edge
-edges_into_piece w from to k = columns from w.apply.flat.now.edges (filter to (piece_of w.cuts w.vertices.items k))
+edges_into_piece w from to k = columns from w.apply.flat.now.edges (filter to (piece_of w.cuts (range_with_len 0 w.apply.flat.now.vertices) k))
 
 -- a piece of an apply by any functions answers what its edges give
 abbrev pub GathersPiece : PullWork → (piece : ℕ) → Gathered → Type 0

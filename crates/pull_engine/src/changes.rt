@@ -10,8 +10,9 @@ ghost use Rattle.edge_fold.specs.declared.apply_context.FoldStart.TheVariants.{O
 ghost use Rattle.edge_fold.specs.Folded.{IsContextOf};
 ghost use Rattle.edge_apply.specs.Applied.{AreChangesOf, AreChangesOn};
 ghost use Rattle.edge_apply.specs.Words.{passes_words};
+ghost use Rattle.flat_snapshot.specs.Digraph.{IsDigraph};
 
-use crate::destinations::{ColumnInput, fold_to};
+use crate::destinations::fold_range;
 use crate::ranges::PullRange;
 use crate::shapes::{apply_shape, pull_shape, shape_target};
 use edge_apply::{Apply, passing_set};
@@ -52,7 +53,7 @@ pub fn pull(alloc: Global, apply: &Apply<'_>, scratch: &mut Scratch) -> Result<C
     }
 }
 
-/// The same from the members of a set.
+/// What an apply from the members of a set changes.
 fn pull_members(
     alloc: Global,
     flat: &Flat,
@@ -77,7 +78,7 @@ fn pull_members(
     pull_from(alloc, flat, context, Some(words), to, scratch)
 }
 
-/// The same from the sources whose bits are set, or from all.
+/// What an apply from the sources whose bits are set changes, or from all.
 fn pull_from(
     alloc: Global,
     flat: &Flat,
@@ -92,9 +93,6 @@ fn pull_from(
         → AreChangesOn flat.now.vertices (edges_between (passes_words from.entry) test flat.now.edges) m steps c.vectors.items) }
 {
     let shape = apply_shape(context.first, context.second);
-    let Some(target) = shape_target(shape) else {
-        return pull_folded(alloc, flat, context, from, to, scratch);
-    };
     let range = PullRange {
         flat,
         context,
@@ -103,32 +101,29 @@ fn pull_from(
         low: 0,
         high: flat.vertices(),
     };
+    let Some(target) = shape_target(shape) else {
+        return pull_folded(alloc, range, scratch);
+    };
     let changes = pull_shape(alloc, shape, range, scratch)?;
     changes_in(alloc, target.vector, changes)
 }
 
-/// The same by functions of any shape.
+/// What an apply of functions of any shape changes, in a range that is the whole graph.
 fn pull_folded(
     alloc: Global,
-    flat: &Flat,
-    context: ApplyContext<'_>,
-    from: Option<&[u64]>,
-    to: Option<EndpointFilter<'_>>,
+    range: PullRange<'_>,
     scratch: &mut Scratch,
 ) -> Result<Changes, AllocError>
+    requires low { range.low ≡ 0 }
+    requires high { range.high ≡ range.flat.now.vertices }
+    requires graph { IsDigraph range.flat.now }
     ensures once { IfOk result (λ c. AreApart c.vectors.items) }
-    ensures changes { IfOk result (λ c. (m : StateValue) (steps : List StepsTree) (test : ℕ → Bool) → IsContextOf context.entry m steps
-        → context.entry.vertices ≡ flat.now.vertices → context.entry.start ≡ OldEntry → IsEndTest to.entry m test
-        → AreChangesOn flat.now.vertices (edges_between (passes_words from.entry) test flat.now.edges) m steps c.vectors.items) }
+    ensures changes { IfOk result (λ c. (m : StateValue) (steps : List StepsTree) (test : ℕ → Bool) → IsContextOf range.entry.context m steps
+        → range.entry.context.vertices ≡ range.entry.flat.now.vertices → range.entry.context.start ≡ OldEntry → IsEndTest range.entry.to m test
+        → AreChangesOn range.entry.flat.now.vertices (edges_between (passes_words range.entry.from) test range.entry.flat.now.edges) m steps c.vectors.items) }
 {
-    scratch.begin();
-    let input = ColumnInput {
-        flat,
-        context,
-        from,
-    };
-    fold_to(alloc, input, to, scratch)?;
-    let changes = scratch.changes(alloc, context, None)?;
+    fold_range(alloc, range, scratch)?;
+    let changes = scratch.changes(alloc, range.context, None)?;
     Ok(changes)
 }
 

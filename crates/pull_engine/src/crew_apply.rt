@@ -15,7 +15,7 @@ use vectors::Changes;
 
 /// What an apply of edge functions changes, as [`crate::pull`] tells it, done in pieces by n workers, 1 to 64, of whom
 /// the caller is worker 1: however the pieces fall to them, the changes are the same. The pieces are those of
-/// [`PullWork`]: static ones are fixed to their workers, and others are claimed. `gate` is told of each piece before it is
+/// [`PullWork`]: static ones are fixed to their workers, and others are claimed. `gate` is called for each piece before it is
 /// done.
 ///
 /// A worker takes its scratch from `states`, and after the apply the scratches of all workers are there, for the next one.

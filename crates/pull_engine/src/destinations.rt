@@ -1,27 +1,30 @@
 //! Going over the destinations of an apply.
-ghost use Rattle.std.specs.Prelude.{◌≡◌, ℕ, ◌++◌, Bool, true, false, List, [], length, OnOk};
-ghost use Rattle.std.specs.List.{filter};
+ghost use Rattle.std.specs.Prelude.{◌≡◌, ℕ, ◌-◌, ◌*◌, ◌^◌, ◌<◌, ◌≤◌, ◌++◌, Bool, true, false, List, length, OnOk};
+ghost use Rattle.std.specs.List.{filter, range_with_len};
 ghost use Rattle.edge_lists.specs.Edge.{Edge};
 ghost use Rattle.kernels.specs.declared.columns.TheConstants.{PAIRS};
 ghost use Rattle.kernels.specs.StepTree.{StepsTree};
-ghost use Rattle.kernels.specs.EdgeApply.{is_member};
 ghost use Rattle.kernels.specs.State.{StateValue};
-ghost use Rattle.edge_fold.specs.Between.{edges_between};
-ghost use Rattle.edge_fold.specs.Ends.{IsEndTest, IsTest};
+ghost use Rattle.edge_fold.specs.Ends.{IsEndTest};
 ghost use Rattle.edge_fold.specs.Folded.{IsContextOf, HasFolded};
 ghost use Rattle.edge_fold.specs.Contributions.{column};
 ghost use Rattle.flat_snapshot.specs.Neighbours.{sources_of};
 ghost use Rattle.vertex_blocks.specs.Forms.{listed};
 ghost use Rattle.pull_engine.specs.Columns.{columns, passing};
+ghost use Rattle.pull_engine.specs.Lets.{IsInBits, lets};
+ghost use Rattle.pull_engine.specs.Words.{in_word};
 ghost use Rattle.edge_apply.specs.Words.{passes_words};
 
-use edge_apply::{keep_members, keep_members_weighted, take_part};
+use crate::block_lists::BlockLists;
+use crate::block_ranges::{blocks_below, range_word};
+use crate::destination_words::DestinationWords;
+use crate::ranges::PullRange;
+use crate::source_block::SourceBlock;
+use edge_apply::{keep_members, keep_members_weighted};
 use edge_fold::{ApplyContext, Scratch};
 use flat_snapshot::Flat;
-use kernels::{EndpointFilter, PAIRS};
 use std::alloc::{AllocError, Global};
 use vertex_blocks::{NeighbourForm, NeighbourWalk, SetWalk};
-use vertex_sets::VertexSet;
 
 /// What columns are folded of: the functions, and the edges from the sources whose bits are set. Words that are not given
 /// let all sources through.
@@ -39,167 +42,88 @@ struct DestinationInput<'a> {
     destination: u32,
 }
 
-/// Folds the edges to the destinations that an end lets through; one that is not given lets all through.
-pub(crate) fn fold_to(
+/// Folds the edges to those vertices of a range that pass, in place of what was folded before. It goes over blocks of 64
+/// vertices, each with a word for those that are destinations. The only error is out of memory.
+pub(crate) fn fold_range(
     alloc: Global,
-    input: ColumnInput<'_>,
-    to: Option<EndpointFilter<'_>>,
+    range: PullRange<'_>,
     scratch: &mut Scratch,
 ) -> Result<(), AllocError>
-    ensures { OnOk result ((m : StateValue) (steps : List StepsTree) (test : ℕ → Bool) → IsContextOf input.entry.context m steps → IsEndTest to.entry m test
-        → HasFolded input.entry.context m steps [] scratch.old
-        → HasFolded input.entry.context m steps (edges_between (passes_words input.entry.from) test input.entry.flat.now.edges) scratch.new) }
+    requires { range.low ≤ range.high }
+    ensures { OnOk result ((m : StateValue) (steps : List StepsTree) (test : ℕ → Bool) → IsContextOf range.entry.context m steps → IsEndTest range.entry.to m test
+        → HasFolded range.entry.context m steps
+        (columns (passes_words range.entry.from) range.entry.flat.now.edges (filter test (range_with_len range.entry.low (range.entry.high - range.entry.low)))) scratch.new) }
 {
-    let mut block = [0u32; PAIRS];
-    let mut weights = [0i64; PAIRS];
-    let Some(end) = to else {
-        fold_all(alloc, input, &mut block, &mut weights, scratch)?;
-        return Ok(());
+    let to = range.destinations(alloc, scratch)?;
+    scratch.begin();
+    fold_words(alloc, range, &to, scratch)
+}
+
+/// Folds the edges to the vertices of a range that words let through.
+fn fold_words(
+    alloc: Global,
+    range: PullRange<'_>,
+    to: &DestinationWords<'_>,
+    scratch: &mut Scratch,
+) -> Result<(), AllocError>
+    requires order { range.low ≤ range.high }
+    requires bits { IsInBits to.now }
+    ensures { OnOk result ((m : StateValue) (steps : List StepsTree) (edges : List Edge) → IsContextOf range.entry.context m steps
+        → HasFolded range.entry.context m steps edges scratch.old
+        → HasFolded range.entry.context m steps (edges ++ columns (passes_words range.entry.from) range.entry.flat.now.edges
+        (filter (lets to.now) (range_with_len range.entry.low (range.entry.high - range.entry.low)))) scratch.new) }
+{
+    let input = ColumnInput {
+        flat: range.flat,
+        context: range.context,
+        from: range.from,
     };
-    match end {
-        EndpointFilter::Members(set) => {
-            fold_members(alloc, input, set, &mut block, &mut weights, scratch)?;
-            Ok(())
-        }
-        EndpointFilter::Filter(_) => {
-            fold_passing(alloc, input, end, &mut block, &mut weights, scratch)?;
-            Ok(())
-        }
-    }
-}
-
-/// The same to all destinations.
-fn fold_all(
-    alloc: Global,
-    input: ColumnInput<'_>,
-    block: &mut [u32],
-    weights: &mut [i64],
-    scratch: &mut Scratch,
-) -> Result<(), AllocError>
-    requires block { length block.old ≡ PAIRS }
-    requires weights { length weights.old ≡ PAIRS }
-    ensures { OnOk result ((m : StateValue) (steps : List StepsTree) (to : ℕ → Bool) → IsContextOf input.entry.context m steps → ((v : ℕ) → to v ≡ true)
-        → HasFolded input.entry.context m steps [] scratch.old
-        → HasFolded input.entry.context m steps (edges_between (passes_words input.entry.from) to input.entry.flat.now.edges) scratch.new) }
-{
-    'destinations: for (destination, _) in input.flat.destinations() {
-        fold_column(alloc, input, destination, block, weights, scratch)?;
+    let mut room = SourceBlock::new();
+    let first = range.low / 64;
+    let stop = blocks_below(range.high);
+    'rounds: for block in first..stop {
+        let word = range_word(block, range.low, range.high) & to.word(block);
+        fold_block(alloc, input, block, word, &mut room, scratch)?;
     }
     Ok(())
 }
 
-/// The same to the members of a set.
-fn fold_members(
+/// Folds the edges to those vertices of a block whose bits are set in a word. Only vertices that have sources are gone over.
+fn fold_block(
     alloc: Global,
     input: ColumnInput<'_>,
-    set: &VertexSet,
-    block: &mut [u32],
-    weights: &mut [i64],
+    block: u32,
+    word: u64,
+    room: &mut SourceBlock,
     scratch: &mut Scratch,
 ) -> Result<(), AllocError>
-    requires block { length block.old ≡ PAIRS }
-    requires weights { length weights.old ≡ PAIRS }
-    ensures { OnOk result ((m : StateValue) (steps : List StepsTree) (to : ℕ → Bool) → IsContextOf input.entry.context m steps
-        → ((v : ℕ) → to v ≡ is_member v set.now.members)
-        → HasFolded input.entry.context m steps [] scratch.old
-        → HasFolded input.entry.context m steps (edges_between (passes_words input.entry.from) to input.entry.flat.now.edges) scratch.new) }
-{
-    'destinations: for destination in set.iter() {
-        fold_column(alloc, input, destination, block, weights, scratch)?;
-    }
-    Ok(())
-}
-
-/// The same to the destinations that an end lets through. Each vertex with an edge to it is tested once.
-fn fold_passing(
-    alloc: Global,
-    input: ColumnInput<'_>,
-    to: EndpointFilter<'_>,
-    block: &mut [u32],
-    weights: &mut [i64],
-    scratch: &mut Scratch,
-) -> Result<(), AllocError>
-    requires block { length block.old ≡ PAIRS }
-    requires weights { length weights.old ≡ PAIRS }
-    ensures { OnOk result ((m : StateValue) (steps : List StepsTree) (test : ℕ → Bool) → IsContextOf input.entry.context m steps → IsTest to.entry m test
-        → HasFolded input.entry.context m steps [] scratch.old
-        → HasFolded input.entry.context m steps (edges_between (passes_words input.entry.from) test input.entry.flat.now.edges) scratch.new) }
-{
-    let mut destinations = input.flat.destinations();
-    let mut part = Vec::new(alloc);
-    let mut kept = Vec::new(alloc);
-    'parts: loop {
-        take_part(&mut destinations, &mut part)?;
-        if part.is_empty() {
-            return Ok(());
-        }
-        kept.clear();
-        scratch.keep_passing(input.context, to, &part, &mut kept)?;
-        fold_columns(alloc, input, &kept, block, weights, scratch)?;
-    }
-}
-
-/// Folds the edges to those of some vertices that an end lets through.
-pub(crate) fn fold_part(
-    alloc: Global,
-    input: ColumnInput<'_>,
-    to: Option<EndpointFilter<'_>>,
-    part: &[u32],
-    scratch: &mut Scratch,
-) -> Result<(), AllocError>
-    ensures { OnOk result ((m : StateValue) (steps : List StepsTree) (test : ℕ → Bool) → IsContextOf input.entry.context m steps → IsEndTest to.entry m test
-        → HasFolded input.entry.context m steps [] scratch.old
-        → HasFolded input.entry.context m steps (columns (passes_words input.entry.from) input.entry.flat.now.edges (filter test part.now)) scratch.new) }
-{
-    let mut block = [0u32; PAIRS];
-    let mut weights = [0i64; PAIRS];
-    match to {
-        None => {
-            fold_columns(alloc, input, part, &mut block, &mut weights, scratch)?;
-            Ok(())
-        }
-        Some(end) => {
-            let mut kept = Vec::new(alloc);
-            scratch.keep_passing(input.context, end, part, &mut kept)?;
-            fold_columns(alloc, input, &kept, &mut block, &mut weights, scratch)?;
-            Ok(())
-        }
-    }
-}
-
-/// The same to these destinations.
-fn fold_columns(
-    alloc: Global,
-    input: ColumnInput<'_>,
-    destinations: &[u32],
-    block: &mut [u32],
-    weights: &mut [i64],
-    scratch: &mut Scratch,
-) -> Result<(), AllocError>
-    requires block { length block.old ≡ PAIRS }
-    requires weights { length weights.old ≡ PAIRS }
+    requires { block < 2 ^ 26 }
     ensures { OnOk result ((m : StateValue) (steps : List StepsTree) (edges : List Edge) → IsContextOf input.entry.context m steps
         → HasFolded input.entry.context m steps edges scratch.old
-        → HasFolded input.entry.context m steps (edges ++ columns (passes_words input.entry.from) input.entry.flat.now.edges destinations.now) scratch.new) }
+        → HasFolded input.entry.context m steps (edges ++ columns (passes_words input.entry.from) input.entry.flat.now.edges
+        (filter (in_word (64 * block) word) (range_with_len (64 * block) 64))) scratch.new) }
 {
-    'destinations: for destination in destinations {
-        fold_column(alloc, input, *destination, block, weights, scratch)?;
+    let Some(found) = input.flat.in_block(block) else {
+        return Ok(());
+    };
+    let mut left = word & BlockLists::of(found).present();
+    'vertices: while left != 0 {
+        let destination = block * 64 + left.trailing_zeros();
+        left &= left - 1;
+        fold_column(alloc, input, destination, room, scratch)?;
     }
     Ok(())
 }
 
-/// The same to a destination. Whether weights count is asked once for all its sources.
+/// Folds the edges to a destination. Whether weights count is asked once for all its sources.
 #[inline]
 fn fold_column(
     alloc: Global,
     input: ColumnInput<'_>,
     destination: u32,
-    block: &mut [u32],
-    weights: &mut [i64],
+    room: &mut SourceBlock,
     scratch: &mut Scratch,
 ) -> Result<(), AllocError>
-    requires block { length block.old ≡ PAIRS }
-    requires weights { length weights.old ≡ PAIRS }
     ensures { OnOk result ((m : StateValue) (steps : List StepsTree) (edges : List Edge) → IsContextOf input.entry.context m steps
         → HasFolded input.entry.context m steps edges scratch.old
         → HasFolded input.entry.context m steps (edges ++ column destination
@@ -211,12 +135,20 @@ fn fold_column(
             columns: input,
             destination,
         };
+        let (block, weights) = (&mut room.sources, &mut room.weights);
         return fold_weighted_sources(alloc, one, sources, block, weights, scratch);
     }
-    fold_sources(alloc, input, sources, destination, block, scratch)
+    fold_sources(
+        alloc,
+        input,
+        sources,
+        destination,
+        &mut room.sources,
+        scratch,
+    )
 }
 
-/// The same from these sources, where no function reads weights: none is looked at.
+/// Folds the edges from these sources to a destination if no function reads weights: none is looked at.
 #[inline]
 fn fold_sources(
     alloc: Global,
@@ -242,7 +174,7 @@ fn fold_sources(
     }
 }
 
-/// The same from the sources of a walk.
+/// Folds the edges from the sources of a walk to a destination.
 #[inline]
 fn fold_walk<W: NeighbourWalk + Drop>(
     alloc: Global,
@@ -266,7 +198,7 @@ fn fold_walk<W: NeighbourWalk + Drop>(
     Ok(())
 }
 
-/// The same from these sources with the weights of their edges, where a function reads weights.
+/// Folds the edges from these sources to a destination, with their weights, if a function reads weights.
 fn fold_weighted_sources(
     alloc: Global,
     input: DestinationInput<'_>,
@@ -295,7 +227,7 @@ fn fold_weighted_sources(
     }
 }
 
-/// The same from the sources of a walk.
+/// Folds the edges from the sources of a walk to a destination, with their weights.
 #[inline]
 fn fold_weighted_walk<W: NeighbourWalk + Drop>(
     alloc: Global,

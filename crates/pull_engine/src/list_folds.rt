@@ -28,7 +28,7 @@ pub(crate) fn fold_list<N: SourceNumbers>(
     }
 }
 
-/// The same by a loop for each width.
+/// Folds the sources of a packed list by a loop for each width.
 #[inline(always)]
 fn fold_by_width<N: SourceNumbers>(
     reduction: Reduction,
@@ -47,7 +47,7 @@ fn fold_by_width<N: SourceNumbers>(
     }
 }
 
-/// The same source by source. Each is reduced with, and the number is taken where the source passes, so that no branch
+/// Folds the sources of a packed list one by one. Each is reduced with, and the number is taken if the source passes: no branch
 /// depends on a bit.
 #[inline(always)]
 fn fold_each<N: SourceNumbers>(

@@ -1,5 +1,7 @@
 //! Cuts of an apply by pull into pieces, and its sources as bits.
-ghost use Rattle.std.specs.Prelude.{◌≡◌, ℕ, ◌<◌, Bool, length, map, IfOk, IfSome};
+ghost use Rattle.std.specs.Prelude.{◌≡◌, ℕ, ◌<◌, Bool, [], length, map, IfOk, IfSome, OnOk};
+ghost use Rattle.std.specs.List.{range_with_len};
+ghost use Rattle.kernels.specs.EdgeApply.{is_member};
 ghost use Rattle.kernels.specs.State.{StateValue};
 ghost use Rattle.apply_options.specs.declared.apply_schedule.Parallelization.TheVariants.{EdgeAwareDynamicVertex};
 ghost use Rattle.kernels.specs.Registers.{HasSizes};
@@ -20,53 +22,67 @@ use kernels::EndpointFilter;
 use std::alloc::{AllocError, Global};
 use vertex_sets::{Form, VertexSet};
 
-/// Where a schedule cuts vertices for n workers. The only error is out of memory.
+/// Where a schedule cuts the vertices of a graph for n workers. The only error is out of memory.
 pub(crate) fn cut_vertices(
     alloc: Global,
     parallelization: Parallelization,
     workers: usize,
     flat: &Flat,
-    vertices: &[u32],
 ) -> Result<Partition, AllocError>
     requires { AreWorkers workers }
-    ensures ends { IfOk result (λ c. c ≡ boundaries parallelization workers (length vertices.now)
-        (map (λ v. length (sources_of v flat.now.edges)) vertices.now)) }
-    ensures whole { IfOk result (λ c. AreEnds 0 (length vertices.now) c) }
+    ensures ends { IfOk result (λ c. c ≡ boundaries parallelization workers flat.now.vertices
+        (map (λ v. length (sources_of v flat.now.edges)) (range_with_len 0 flat.now.vertices))) }
+    ensures whole { IfOk result (λ c. AreEnds 0 flat.now.vertices c) }
 {
-    let count = vertices.len();
-    // A graph has fewer vertices.
-    if count > u32::MAX as usize {
-        return Err(AllocError);
-    }
-    let degrees = degrees_for(alloc, parallelization, flat, vertices)?;
+    let degrees = degrees_for(alloc, parallelization, flat)?;
+    let count = flat.vertices() as usize;
     Partition::of(alloc, parallelization, workers, count, &degrees)
 }
 
-/// How many edges there are to each vertex, where a schedule asks for it, and else none.
+/// How many edges there are to each vertex, if a schedule asks for it, and else none.
 fn degrees_for(
     alloc: Global,
     parallelization: Parallelization,
     flat: &Flat,
-    vertices: &[u32],
 ) -> Result<Vec<u32>, AllocError>
-    ensures { IfOk result (λ ds. parallelization ≡ EdgeAwareDynamicVertex → ds.items ≡ map (λ v. length (sources_of v flat.now.edges)) vertices.now) }
+    ensures { IfOk result (λ ds. parallelization ≡ EdgeAwareDynamicVertex
+        → ds.items ≡ map (λ v. length (sources_of v flat.now.edges)) (range_with_len 0 flat.now.vertices)) }
 {
+    let mut degrees = Vec::new(alloc);
     if parallelization == Parallelization::EdgeAwareDynamicVertex {
-        let degrees = degrees_of(alloc, flat, vertices)?;
-        return Ok(degrees);
-    }
-    Ok(Vec::new(alloc))
-}
-
-/// The same of any schedule.
-fn degrees_of(alloc: Global, flat: &Flat, vertices: &[u32]) -> Result<Vec<u32>, AllocError>
-    ensures { IfOk result (λ ds. ds.items ≡ map (λ v. length (sources_of v flat.now.edges)) vertices.now) }
-{
-    let mut degrees = Vec::with_capacity(alloc, vertices.len())?;
-    'vertices: for vertex in vertices {
-        degrees.push(flat.in_degree(*vertex))?;
+        list_degrees(flat, &mut degrees)?;
     }
     Ok(degrees)
+}
+
+/// Adds the number of edges to each vertex to a list that is empty.
+fn list_degrees(flat: &Flat, degrees: &mut Vec<u32>) -> Result<(), AllocError>
+    requires { degrees.old.items ≡ [] }
+    ensures { OnOk result (degrees.new.items ≡ map (λ v. length (sources_of v flat.now.edges)) (range_with_len 0 flat.now.vertices)) }
+{
+    degrees.reserve(flat.vertices() as usize)?;
+    'vertices: for vertex in 0..flat.vertices() {
+        degrees.push(flat.in_degree(vertex))?;
+    }
+    Ok(())
+}
+
+/// The destinations of an apply in bits, if they are a set that is kept in another form. The only error is out of memory.
+pub(crate) fn member_bits(
+    alloc: Global,
+    to: Option<EndpointFilter<'_>>,
+) -> Result<Option<VertexSet>, AllocError>
+    ensures { IfOk result (λ b. IfSome b (λ s. (m : StateValue) (test : ℕ → Bool) → IsEndTest to.entry m test
+        → (v : ℕ) → test v ≡ is_member v s.members)) }
+{
+    let Some(EndpointFilter::Members(set)) = to else {
+        return Ok(None);
+    };
+    if set.words().is_some() {
+        return Ok(None);
+    }
+    let bits = set.to_form(alloc, Form::Bits)?;
+    Ok(Some(bits))
 }
 
 /// The sources that pass, as bits, where not all do. The only error is out of memory.

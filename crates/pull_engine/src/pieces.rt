@@ -1,23 +1,28 @@
 //! Pieces of an apply by pull, and their merge.
-ghost use Rattle.std.specs.Prelude.{◌≡◌, ℕ, ◌<◌, ◌≤◌, ◌++◌, List, [], length, Contains, IfNone, IfOk, IfSome, OnOk, Some};
+ghost use Rattle.std.specs.Prelude.{◌≡◌, ℕ, ◌-◌, ◌<◌, ◌≤◌, ◌++◌, Bool, List, [], length, Contains, IfNone, IfOk, IfSome, OnOk, Some};
 ghost use Rattle.std.specs.List.{flat_map, range_with_len};
 ghost use Rattle.std.specs.List.Sorted.{IsPermutation};
+ghost use Rattle.crew.specs.Partition.{end_of};
 ghost use Rattle.crew.specs.Pieces.{AreAnswers, pieces_of};
+ghost use Rattle.kernels.specs.State.{StateValue};
+ghost use Rattle.edge_fold.specs.Ends.{IsEndTest};
 ghost use Rattle.edge_fold.specs.Changed.{AreApart};
 ghost use Rattle.edge_apply.specs.Applied.{AreChangesOf};
 ghost use Rattle.vectors.specs.declared.changes.EntryChange.{EntryChange as Change};
 ghost use Rattle.pull_engine.specs.Pieces.{Answers, AreFor, GathersPiece, IsPiecePulled};
+ghost use Rattle.pull_engine.specs.PieceRanges.{IsRangeOfPiece};
 ghost use Rattle.pull_engine.specs.Ranges.{all_listed, shape_vector as vector_of};
 
 use crate::changes::changes_in;
-use crate::destinations::{ColumnInput, fold_part};
+use crate::destinations::fold_range;
 use crate::listed::words_of;
 use crate::ranges::PullRange;
 use crate::shapes::{ShapeTarget, pull_shape, shape_target};
 use crate::work::PullWork;
 use crew::{Found, Work};
-use edge_apply::{join_all, part_between};
+use edge_apply::join_all;
 use edge_fold::{ApplyContext, FoldStart, Gathered, GatheredIn, Scratch};
+use kernels::EndpointFilter;
 use std::alloc::{AllocError, Global};
 use vectors::{Changes, EntryChange};
 
@@ -54,7 +59,7 @@ impl PullWork<'_> {
         }
     }
 
-    /// The same of what the pieces give.
+    /// What the whole apply changes, from what its pieces give by functions of no known shape.
     fn merge_gathered(
         &self,
         alloc: Global,
@@ -73,6 +78,47 @@ impl PullWork<'_> {
         Ok(changes)
     }
 
+    /// The first vertex of a piece, and the one behind its last.
+    fn vertices_of(&self, piece: usize) -> (u32, u32)
+        requires some { 0 < piece }
+        requires inside { piece ≤ length self.now.cuts }
+        ensures low { result.0 ≡ end_of self.now.cuts (piece - 1) }
+        ensures high { result.1 ≡ end_of self.now.cuts piece }
+        ensures order { result.0 ≤ result.1 }
+        ensures within { result.1 ≤ self.now.apply.flat.now.vertices }
+    {
+        self.apply.flat.vertices();
+        let indices = self.cuts.piece(piece);
+        (indices.start as u32, indices.end as u32)
+    }
+
+    /// The destinations of the apply, a set in bits.
+    fn destinations(&self) -> Option<EndpointFilter<'_>>
+        ensures { (m : StateValue) (test : ℕ → Bool) → IsEndTest self.now.apply.to m test → IsEndTest result m test }
+    {
+        match &self.members {
+            Some(set) => Some(EndpointFilter::Members(set)),
+            None => self.apply.to,
+        }
+    }
+
+    /// The range of a piece.
+    fn range(&self, start: FoldStart, piece: usize) -> PullRange<'_>
+        requires some { 0 < piece }
+        requires inside { piece ≤ length self.now.cuts }
+        ensures { IsRangeOfPiece self.now start piece result }
+    {
+        let (low, high) = self.vertices_of(piece);
+        PullRange {
+            flat: self.apply.flat,
+            context: self.apply.context(start),
+            from: words_of(&self.bits),
+            to: self.destinations(),
+            low,
+            high,
+        }
+    }
+
     /// What the edges into the vertices of a piece give.
     fn gather_piece(
         &self,
@@ -84,18 +130,9 @@ impl PullWork<'_> {
         requires inside { piece ≤ length self.now.cuts }
         ensures { IfOk result (GathersPiece self.now piece) }
     {
-        let context = self.apply.context(FoldStart::Unit);
-        let indices = self.cuts.piece(piece);
-        let part = part_between(&self.vertices, indices.start, indices.end);
-        let words = words_of(&self.bits);
-        let input = ColumnInput {
-            flat: self.apply.flat,
-            context,
-            from: words,
-        };
-        scratch.begin();
-        fold_part(alloc, input, self.apply.to, part, scratch)?;
-        let gathered = scratch.gathered(alloc, context, None)?;
+        let range = self.range(FoldStart::Unit, piece);
+        fold_range(alloc, range, scratch)?;
+        let gathered = scratch.gathered(alloc, range.context, None)?;
         Ok(gathered)
     }
 
@@ -110,17 +147,7 @@ impl PullWork<'_> {
         requires inside { piece ≤ length self.now.cuts }
         ensures { IfOk result (λ cs. IfSome (vector_of self.now.shape) (λ vector. IsPiecePulled vector self.now piece cs.items)) }
     {
-        let context = self.apply.context(FoldStart::OldEntry);
-        let indices = self.cuts.piece(piece);
-        let from = words_of(&self.bits);
-        let range = PullRange {
-            flat: self.apply.flat,
-            context,
-            from,
-            to: self.apply.to,
-            low: indices.start as u32,
-            high: indices.end as u32,
-        };
+        let range = self.range(FoldStart::OldEntry, piece);
         pull_shape(alloc, self.shape, range, scratch)
     }
 }

@@ -34,7 +34,7 @@ pub(crate) trait SourceFold {
     ) -> i64
         ensures { result ≡ reduced_over (reduction self.now) (number self.now) old (passing (passes_words from.entry) sources.entry) };
 
-    /// The same of a set in chunks.
+    /// The entry reduced with the numbers of those sources of a set in chunks whose bits are set.
     fn fold_chunked(
         &self,
         old: i64,
@@ -44,7 +44,7 @@ pub(crate) trait SourceFold {
     ) -> i64
         ensures { result ≡ reduced_over (reduction self.now) (number self.now) old (passing (passes_words from.entry) sources.now.entries) };
 
-    /// The same of sources in either form.
+    /// The entry reduced with the numbers of those sources whose bits are set, in either form.
     fn fold(
         &self,
         old: i64,
@@ -69,7 +69,7 @@ pub(crate) struct GreatestSource;
 #[derive(Drop)]
 pub(crate) struct LeastSource;
 
-/// The same number of each source, for the least or the greatest: the walk ends at the first source that passes.
+/// One number of all sources, for the least or the greatest: the walk ends at the first source that passes.
 #[derive(Drop)]
 pub(crate) struct OneForAny {
     pub(crate) reduction: Reduction,
@@ -296,7 +296,7 @@ fn fold_walk<N: SourceNumbers, W: NeighbourWalk + Drop>(
     number
 }
 
-/// The same of a packed list, with the weights of the sources' edges. Where sources are tested, only the weights of those
+/// Folds the sources of a packed list with the weights of their edges. If sources are tested, only the weights of those
 /// are read that pass.
 #[inline]
 fn fold_weighted_list(
@@ -318,7 +318,7 @@ fn fold_weighted_list(
     }
 }
 
-/// The same of a walk.
+/// Folds the sources of a walk with the weights of their edges.
 #[inline]
 fn fold_weighted_walk<W: NeighbourWalk + Drop>(
     reduction: Reduction,

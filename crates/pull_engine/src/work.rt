@@ -2,6 +2,7 @@
 ghost use Rattle.std.specs.Prelude.{◌≡◌, ℕ, ◌<◌, Bool, Err, length, map, IfOk, IfSome};
 ghost use Rattle.std.specs.List.{range_with_len};
 ghost use Rattle.std.proofs.Props.{props};
+ghost use Rattle.kernels.specs.EdgeApply.{is_member};
 ghost use Rattle.kernels.specs.State.{StateValue};
 ghost use Rattle.kernels.specs.Registers.{HasSizes};
 ghost use Rattle.crew.specs.declared.error.CrewError.TheVariants.{BadWorkers, NoMemory};
@@ -13,13 +14,13 @@ ghost use Rattle.edge_apply.specs.inside.Propositions.{AreEnds-prop};
 ghost use Rattle.flat_snapshot.specs.Neighbours.{sources_of};
 ghost use Rattle.vertex_sets.specs.declared.form.Form.TheVariants as Form;
 ghost use Rattle.pull_engine.specs.Destinations.{passes_set};
-ghost use Rattle.pull_engine.specs.inside.Propositions.{HasShape-prop};
+ghost use Rattle.kernels.specs.inside.Propositions.{HasShape-prop};
 ghost use Rattle.pull_engine.specs.Ranges.{IsShapeOfApply};
 
-use crate::listed::{cut_vertices, source_bits};
+use crate::listed::{cut_vertices, member_bits, source_bits};
 use crate::shapes::apply_shape;
 use crew::{CrewError, Partition, is_crew};
-use edge_apply::{Apply, all_vertices};
+use edge_apply::Apply;
 use edge_fold::{FoldStart, Scratch};
 use kernels::Shape;
 use std::alloc::Global;
@@ -30,14 +31,15 @@ use vertex_sets::VertexSet;
 pub struct PullWork<'a> {
     pub(crate) apply: Apply<'a>,
     pub(crate) bits: Option<VertexSet>,
-    pub(crate) vertices: Vec<u32>,
+    pub(crate) members: Option<VertexSet>,
     pub(crate) cuts: Partition,
     pub(crate) shape: Shape,
-    ghost whole: { AreEnds 0 (length vertices.items) cuts } by { AreEnds-prop 0 (length vertices.items) cuts },
-    ghost all: { vertices.items ≡ range_with_len 0 apply.flat.now.vertices } by { Prim.hlevel (props) },
+    ghost whole: { AreEnds 0 apply.flat.now.vertices cuts } by { AreEnds-prop 0 apply.flat.now.vertices cuts },
     ghost form: { IfSome bits (λ s. s.form ≡ Form.Bits) } by { Prim.hlevel (props) },
     ghost sources: { (m : StateValue) (from : ℕ → Bool) → apply.vectors.now.vectors ≡ m.vectors → HasSizes apply.sizes.now m → IsEndTest apply.from m from
         → (v : ℕ) → v < apply.flat.now.vertices → passes_set bits v ≡ from v } by { Prim.hlevel (props) },
+    ghost member_bits: { IfSome members (λ s. (m : StateValue) (test : ℕ → Bool) → IsEndTest apply.to m test
+        → (v : ℕ) → test v ≡ is_member v s.members) } by { Prim.hlevel (props) },
     ghost shaped: { IsShapeOfApply shape apply.first.now apply.second } by { Prim.hlevel (HasShape-prop, props) },
 }
 
@@ -46,7 +48,7 @@ impl Drop for PullWork<'_> {
         let PullWork {
             apply: _,
             bits: _,
-            vertices: _,
+            members: _,
             cuts: _,
             shape: _,
         } = self;
@@ -54,9 +56,9 @@ impl Drop for PullWork<'_> {
 }
 
 impl<'a> PullWork<'a> {
-    /// The pieces of an apply for n workers, 1 to 64. What is cut is the list of all vertices, which are tested in
-    /// their pieces. Where the schedule cuts by edges, their degrees are read; the sources that pass are put into bits. It
-    /// takes time in proportion to the graph's vertices. The scratch serves any apply after this one.
+    /// The pieces of an apply for n workers, 1 to 64. All vertices are cut, and are tested in their pieces. If the schedule
+    /// cuts by edges, their degrees are read. The sources that pass are put into bits, and so are destinations that are a set.
+    /// It takes time in proportion to the graph's vertices if the schedule cuts by edges or an end has to be put into bits. The scratch serves any apply after this one.
     ///
     /// Errors: `BadWorkers` where the number of workers is not 1 to 64, else `NoMemory`.
     pub fn new(
@@ -76,13 +78,13 @@ impl<'a> PullWork<'a> {
             return Err(CrewError::BadWorkers);
         }
         let context = apply.context(FoldStart::Unit);
-        let all = all_vertices(alloc, apply.flat)?;
         let bits = source_bits(alloc, apply.from, context, scratch)?;
-        let cuts = cut_vertices(alloc, apply.parallelization, workers, apply.flat, &all)?;
+        let members = member_bits(alloc, apply.to)?;
+        let cuts = cut_vertices(alloc, apply.parallelization, workers, apply.flat)?;
         Ok(PullWork {
             apply: *apply,
             bits,
-            vertices: all,
+            members,
             cuts,
             shape: apply_shape(apply.first, apply.second),
         })

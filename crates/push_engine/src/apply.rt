@@ -10,7 +10,7 @@ ghost use Rattle.edge_apply.specs.Contexts.{IsApplyOf};
 ghost use Rattle.edge_fold.specs.Folded.{IsContextOf, HasFolded};
 ghost use Rattle.edge_apply.specs.Applied.{AreChangesOf, AreChangesOn};
 ghost use Rattle.edge_apply.specs.Words.{passes_words};
-ghost use Rattle.push_engine.specs.Work.{work_from};
+ghost use Rattle.push_engine.specs.Work.{tests_first, work_from, work_from_end};
 
 use crate::neighbour_block::NeighbourBlock;
 use crate::sources::{RowInput, fold_all, fold_members, fold_passing};
@@ -48,7 +48,9 @@ pub fn push(alloc: Global, apply: &Apply<'_>, scratch: &mut Scratch) -> Result<C
 }
 
 /// Whether destinations are tested as they come, and not at the end.
-pub(crate) fn is_tested_first(apply: &Apply<'_>, to: EndpointFilter<'_>) -> bool {
+pub(crate) fn is_tested_first(apply: &Apply<'_>, to: EndpointFilter<'_>) -> bool
+    ensures { result ≡ tests_first apply.now.flat.now apply.now.from to.entry }
+{
     if let EndpointFilter::Members(set) = to {
         if set.words().is_some() {
             return true;
@@ -61,6 +63,7 @@ pub(crate) fn is_tested_first(apply: &Apply<'_>, to: EndpointFilter<'_>) -> bool
 /// else all edges.
 fn has_work_above(apply: &Apply<'_>, limit: usize) -> bool
     requires { limit < 2 ^ 63 }
+    ensures { result ≡ nat_lt limit (work_from_end apply.now.flat.now.edges apply.now.from) }
 {
     match apply.from {
         Some(EndpointFilter::Members(set)) => is_work_above(apply.flat, set, limit),

@@ -1,5 +1,5 @@
 //! The sources of an apply, listed, and its destinations as bits.
-ghost use Rattle.std.specs.Prelude.{◌≡◌, ℕ, ◌<◌, Bool, Some, false, List, length, map, IfOk, IfSome};
+ghost use Rattle.std.specs.Prelude.{◌≡◌, ◌↔◌, ℕ, ◌<◌, Bool, Some, true, false, List, length, map, IfOk, IfSome, IsSome};
 ghost use Rattle.std.specs.List.{filter, range_with_len};
 ghost use Rattle.kernels.specs.EdgeApply.{is_member};
 ghost use Rattle.kernels.specs.State.{StateValue};
@@ -15,6 +15,7 @@ ghost use Rattle.vertex_sets.specs.VertexSet.{IsVertexSet};
 ghost use Rattle.edge_apply.specs.Lists.{AscendsFrom, IsEndOf};
 ghost use Rattle.edge_apply.specs.Words.{is_set};
 ghost use Rattle.push_engine.specs.Sources.{AreSources, cut_list};
+ghost use Rattle.push_engine.specs.Work.{is_kept_as_bits, makes_bits};
 
 use crate::apply::is_tested_first;
 use apply_options::{Direction, Parallelization};
@@ -187,6 +188,7 @@ pub(crate) fn destination_bits(
     ensures passing { IfOk result (λ b. IfSome b (λ s. (m : StateValue) (to : ℕ → Bool) → apply.now.vectors.now.vectors ≡ m.vectors
         → HasSizes apply.now.sizes.now m → IsEndTest apply.now.to m to
         → (v : ℕ) → v < apply.now.flat.now.vertices → is_member v s.members ≡ to v)) }
+    ensures made { IfOk result (λ b. IsSome b ↔ (makes_bits apply.now.flat.now apply.now.from apply.now.to ≡ true)) }
 {
     let Some(end) = apply.to else {
         return Ok(None);
@@ -208,6 +210,7 @@ fn bits_of_end(
     ensures passing { IfOk result (λ b. IfSome b (λ s. (m : StateValue) (test : ℕ → Bool) → apply.now.vectors.now.vectors ≡ m.vectors
         → HasSizes apply.now.sizes.now m → IsTest to.entry m test
         → (v : ℕ) → v < apply.now.flat.now.vertices → is_member v s.members ≡ test v)) }
+    ensures made { IfOk result (λ b. IsSome b ↔ (is_kept_as_bits to.entry ≡ false)) }
 {
     match to {
         EndpointFilter::Members(set) => {

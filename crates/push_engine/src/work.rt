@@ -1,5 +1,5 @@
 //! Work of an apply by push, in pieces.
-ghost use Rattle.std.specs.Prelude.{◌≡◌, ℕ, ◌<◌, Bool, Err, length, map, vec_len, IfOk, IfSome};
+ghost use Rattle.std.specs.Prelude.{◌≡◌, ◌↔◌, ℕ, ◌<◌, Bool, true, Err, length, map, vec_len, IfOk, IfSome, IsSome};
 ghost use Rattle.kernels.specs.EdgeApply.{is_member};
 ghost use Rattle.kernels.specs.State.{StateValue};
 ghost use Rattle.kernels.specs.Registers.{HasSizes};
@@ -14,6 +14,7 @@ ghost use Rattle.edge_apply.specs.inside.Propositions.{AreEnds-prop, AscendsFrom
 ghost use Rattle.edge_apply.specs.Lists.{IsEndOf};
 ghost use Rattle.vertex_sets.specs.declared.form.Form.TheVariants as Form;
 ghost use Rattle.push_engine.specs.Sources.{AreSources, cut_list};
+ghost use Rattle.push_engine.specs.Work.{makes_bits};
 
 use crate::listed::{cut_sources, destination_bits, list_sources};
 use crew::{CrewError, Partition, is_crew};
@@ -75,6 +76,7 @@ impl<'a> PushWork<'a> {
             → IsEndOf apply.now.flat.now.vertices apply.now.from → w.sources.items ≡ cut_list apply.now.direction apply.now.flat.now.vertices from) }
         ensures cuts { IfOk result (λ w. w.cuts ≡ boundaries apply.now.parallelization workers (vec_len w.sources)
             (map (λ u. length (destinations_of u apply.now.flat.now.edges)) w.sources.items)) }
+        ensures bits { IfOk result (λ w. IsSome w.bits ↔ (makes_bits apply.now.flat.now apply.now.from apply.now.to ≡ true)) }
     {
         if !is_crew(workers) {
             return Err(CrewError::BadWorkers);

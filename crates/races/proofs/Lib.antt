@@ -6,3 +6,4 @@ mod Runs
 mod Crossing
 mod Pairs
 mod Seats
+mod OwnCommits

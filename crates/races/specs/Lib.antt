@@ -2,6 +2,7 @@ pub mod Refusal
 pub mod RaceScript
 pub mod ScriptLaw
 pub mod Race
+pub mod RaceLaw
 pub mod Refused
 pub mod RaceText
 pub mod inside

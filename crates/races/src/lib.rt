@@ -22,7 +22,7 @@ mod racing;
 mod reading;
 
 pub use error::{RaceError, RaceScriptError};
-pub use laws::race_scripts_mean_what_scripts_mean;
+pub use laws::{numbered_races_have_no_other_commits, race_scripts_mean_what_scripts_mean};
 pub use outcomes::{CommitReply, ProgramRuns, Race, VersionRun};
 pub use race_text::write_race;
 pub use racing::race;

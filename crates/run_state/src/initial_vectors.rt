@@ -21,6 +21,10 @@ pub(crate) fn open_vectors(
     ensures groups { IfOk result (λ v. AreGroups (opened_vectors graph.now vectors.now) groups.now v.groups) }
 {
     let arrays = open_arrays(alloc, vectors, graph)?;
+    // Nothing is copied if no vectors stand together.
+    if groups.is_empty() {
+        return Vectors::new(alloc, arrays);
+    }
     match Vectors::grouped(alloc, &arrays, groups) {
         Ok(grouped) => Ok(grouped),
         Err(GroupError::Unfit) => Vectors::new(alloc, arrays),

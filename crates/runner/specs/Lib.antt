@@ -7,3 +7,5 @@ pub mod Job
 pub mod RunRefusal
 pub mod HybridSources
 pub mod Groups
+pub mod Employment
+pub mod ChangedSets

@@ -1,5 +1,5 @@
 //! The direction of an edge apply: from the sources, or into the destinations.
-ghost use Rattle.std.specs.Prelude.{◌≡◌, ◌/◌, length, if◌then◌else◌, nat_lt, IfOk};
+ghost use Rattle.std.specs.Prelude.{◌≡◌, ◌/◌, length, if◌then◌else◌, nat_lt, true, false, IfOk};
 ghost use Rattle.apply_options.specs.declared.apply_schedule.Direction.TheVariants as direction;
 ghost use Rattle.edge_fold.specs.Changed.{AreApart};
 ghost use Rattle.edge_apply.specs.Applied.{AreChangesOf};
@@ -46,7 +46,7 @@ pub fn push_or_pull(
     by_direction(alloc, &among, scratch)
 }
 
-/// The same where the hybrid has its sources in a set.
+/// The changes of an apply whose sources are in a set if it is a hybrid with a filter.
 fn by_direction(
     alloc: Global,
     apply: &Apply<'_>,
@@ -56,10 +56,36 @@ fn by_direction(
     ensures changes { IfOk result (λ c. AreChangesOf apply.now c.vectors.items) }
 {
     if is_pulled(apply) {
-        pull(alloc, apply, scratch)
+        pull_pulled(alloc, apply, scratch)
     } else {
-        push(alloc, apply, scratch)
+        push_pushed(alloc, apply, scratch)
     }
+}
+
+/// Does an apply that goes into the destinations.
+fn pull_pulled(
+    alloc: Global,
+    apply: &Apply<'_>,
+    scratch: &mut Scratch,
+) -> Result<Changes, AllocError>
+    requires { pulls apply.now.direction apply.now.flat.now.edges apply.now.from ≡ true }
+    ensures once { IfOk result (λ c. AreApart c.vectors.items) }
+    ensures changes { IfOk result (λ c. AreChangesOf apply.now c.vectors.items) }
+{
+    pull(alloc, apply, scratch)
+}
+
+/// Does an apply that goes from the sources.
+fn push_pushed(
+    alloc: Global,
+    apply: &Apply<'_>,
+    scratch: &mut Scratch,
+) -> Result<Changes, AllocError>
+    requires { pulls apply.now.direction apply.now.flat.now.edges apply.now.from ≡ false }
+    ensures once { IfOk result (λ c. AreApart c.vectors.items) }
+    ensures changes { IfOk result (λ c. AreChangesOf apply.now c.vectors.items) }
+{
+    push(alloc, apply, scratch)
 }
 
 /// The sources of a hybrid that a filter lets through, in a set, and none for other applies. Each vertex is tested once.

@@ -1,15 +1,17 @@
 //! Employment: how many of a run's workers do an edge apply.
-ghost use Rattle.std.specs.Prelude.{◌≡◌, ◌<◌, ◌≤◌, ◌^◌, IfSome, IsTrue, Some};
+ghost use Rattle.std.specs.Prelude.{◌≡◌, ◌<◌, ◌^◌, min, IfSome};
 ghost use Rattle.crew.specs.Outcome.{AreWorkers};
+ghost use Rattle.push_engine.specs.Work.{work_from_end};
+ghost use Rattle.runner.specs.Employment.{employed_of, work_into_end};
 
 use apply_options::Parallelization;
 use crew::workers_for;
 use flat_snapshot::Flat;
 use kernels::EndpointFilter;
 
-/// How many of n workers do an apply in pieces, or none where the caller does it as a whole. Where somebody watches,
-/// all of them do it. Else it is as many as its edges are worth, and the caller alone where it is to be in one piece or is
-/// not worth a second worker.
+/// How many of n workers do an apply in pieces, or none if the caller does it as a whole. If somebody watches, all of them
+/// do it. Else it is as many as its edges are worth, and the caller alone if it is to be in one piece or is not worth a
+/// second worker.
 pub(crate) fn employed(
     is_watched: bool,
     workers: usize,
@@ -17,8 +19,8 @@ pub(crate) fn employed(
     edges: usize,
 ) -> Option<usize>
     requires { AreWorkers workers }
-    ensures watched { IsTrue is_watched → result ≡ Some workers }
-    ensures some { IfSome result (λ n. (1 ≤ n) × (n ≤ workers)) }
+    ensures employed { result ≡ employed_of is_watched parallelization workers edges }
+    ensures workers { IfSome result AreWorkers }
 {
     if is_watched {
         return Some(workers);
@@ -32,10 +34,11 @@ pub(crate) fn employed(
     }
 }
 
-/// The number of sources and edges from them, where the sources are members of a set, and else that of all edges. It stops
-/// counting where so many are reached, which are fewer than 2^32.
+/// The number of sources and edges from them if the sources are members of a set, and else that of all edges. It stops
+/// counting at a limit, which is less than 2^32.
 pub(crate) fn edges_from(flat: &Flat, from: Option<EndpointFilter<'_>>, most: usize) -> usize
     requires { most < 2 ^ 32 }
+    ensures { min result most ≡ min (work_from_end flat.now.edges from.entry) most }
 {
     let Some(EndpointFilter::Members(set)) = from else {
         return flat.edge_count();
@@ -50,9 +53,10 @@ pub(crate) fn edges_from(flat: &Flat, from: Option<EndpointFilter<'_>>, most: us
     edges
 }
 
-/// The same of destinations and the edges to them.
+/// The number of destinations and edges to them, like [`edges_from`].
 pub(crate) fn edges_into(flat: &Flat, to: Option<EndpointFilter<'_>>, most: usize) -> usize
     requires { most < 2 ^ 32 }
+    ensures { min result most ≡ min (work_into_end flat.now.edges to.entry) most }
 {
     let Some(EndpointFilter::Members(set)) = to else {
         return flat.edge_count();

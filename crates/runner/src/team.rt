@@ -1,9 +1,12 @@
 //! The team of a run: its workers, as edge applies employ them.
-ghost use Rattle.std.specs.Prelude.{◌≡◌, IfErr, IfOk, IfSome};
+ghost use Rattle.std.specs.Prelude.{◌≡◌, true, false, None, Some, IfErr, IfOk, IfSome};
 ghost use Rattle.crew.specs.Outcome.{AreWorkers};
 ghost use Rattle.edge_fold.specs.Changed.{AreApart};
 ghost use Rattle.edge_apply.specs.Applied.{AreChangesOf};
+ghost use Rattle.push_engine.specs.Work.{work_from_end};
 ghost use Rattle.runner.specs.EdgeMap.{AreChangesOfApply};
+ghost use Rattle.runner.specs.Employment.{AreEmployed, work_into_end};
+ghost use Rattle.runner.specs.HybridSources.{pulls};
 ghost use Rattle.runner.specs.declared.run_error.RunError.TheVariants.{BadWorkers};
 
 use crate::direction::{hybrid_sources, is_pulled};
@@ -78,7 +81,7 @@ impl<R: Threads + Sync, G: Gate + Sync> Team<'_, R, G> {
         self.push_or_pull(alloc, &apply, scratch, states)
     }
 
-    /// The same of an apply of the engines.
+    /// The changes of an apply of the engines.
     fn push_or_pull(
         &self,
         alloc: Global,
@@ -100,7 +103,7 @@ impl<R: Threads + Sync, G: Gate + Sync> Team<'_, R, G> {
         self.by_direction(alloc, &among, scratch, states)
     }
 
-    /// The same where the hybrid has its sources in a set.
+    /// The changes of an apply whose sources are in a set if it is a hybrid with a filter.
     fn by_direction(
         &self,
         alloc: Global,
@@ -118,7 +121,7 @@ impl<R: Threads + Sync, G: Gate + Sync> Team<'_, R, G> {
         }
     }
 
-    /// The same by push.
+    /// Does an apply that goes from the sources.
     fn push(
         &self,
         alloc: Global,
@@ -126,21 +129,60 @@ impl<R: Threads + Sync, G: Gate + Sync> Team<'_, R, G> {
         scratch: &mut Scratch,
         states: &mut Vec<Scratch>,
     ) -> Result<Changes, AllocError>
+        requires { pulls apply.now.direction apply.now.flat.now.edges apply.now.from ≡ false }
         ensures once { IfOk result (λ c. AreApart c.vectors.items) }
         ensures changes { IfOk result (λ c. AreChangesOf apply.now c.vectors.items) }
     {
+        match self.push_workers(apply) {
+            None => self.push_alone(alloc, apply, scratch),
+            Some(workers) => self.push_together(workers, alloc, apply, scratch, states),
+        }
+    }
+
+    /// How many workers do a push in pieces, or none if the caller does it as a whole.
+    fn push_workers(&self, apply: &Apply<'_>) -> Option<usize>
+        ensures workers { IfSome result AreWorkers }
+        ensures employed { AreEmployed apply.now.parallelization self.now.workers (work_from_end apply.now.flat.now.edges apply.now.from) result }
+    {
         let edges = edges_from(apply.flat, apply.from, edges_for(self.workers));
-        let Some(workers) = self.employed(apply, edges) else {
-            return push(alloc, apply, scratch);
-        };
-        let (rt, gate) = (self.rt, self.gate);
-        match push_crew(rt, gate, workers, alloc, apply, scratch, states) {
+        self.employed(apply, edges)
+    }
+
+    /// Does a push as a whole, which is not worth a second worker.
+    fn push_alone(
+        &self,
+        alloc: Global,
+        apply: &Apply<'_>,
+        scratch: &mut Scratch,
+    ) -> Result<Changes, AllocError>
+        requires { AreEmployed apply.now.parallelization self.now.workers (work_from_end apply.now.flat.now.edges apply.now.from) None }
+        ensures once { IfOk result (λ c. AreApart c.vectors.items) }
+        ensures changes { IfOk result (λ c. AreChangesOf apply.now c.vectors.items) }
+    {
+        push(alloc, apply, scratch)
+    }
+
+    /// Does a push in pieces, by as many workers as it is worth.
+    fn push_together(
+        &self,
+        workers: usize,
+        alloc: Global,
+        apply: &Apply<'_>,
+        scratch: &mut Scratch,
+        states: &mut Vec<Scratch>,
+    ) -> Result<Changes, AllocError>
+        requires workers { AreWorkers workers }
+        requires employed { AreEmployed apply.now.parallelization self.now.workers (work_from_end apply.now.flat.now.edges apply.now.from) (Some workers) }
+        ensures once { IfOk result (λ c. AreApart c.vectors.items) }
+        ensures changes { IfOk result (λ c. AreChangesOf apply.now c.vectors.items) }
+    {
+        match push_crew(self.rt, self.gate, workers, alloc, apply, scratch, states) {
             Ok(changes) => Ok(changes),
             Err(_) => Err(AllocError),
         }
     }
 
-    /// The same by pull.
+    /// Does an apply that goes into the destinations.
     fn pull(
         &self,
         alloc: Global,
@@ -148,23 +190,63 @@ impl<R: Threads + Sync, G: Gate + Sync> Team<'_, R, G> {
         scratch: &mut Scratch,
         states: &mut Vec<Scratch>,
     ) -> Result<Changes, AllocError>
+        requires { pulls apply.now.direction apply.now.flat.now.edges apply.now.from ≡ true }
         ensures once { IfOk result (λ c. AreApart c.vectors.items) }
         ensures changes { IfOk result (λ c. AreChangesOf apply.now c.vectors.items) }
     {
+        match self.pull_workers(apply) {
+            None => self.pull_alone(alloc, apply, scratch),
+            Some(workers) => self.pull_together(workers, alloc, apply, scratch, states),
+        }
+    }
+
+    /// How many workers do a pull in pieces, or none if the caller does it as a whole.
+    fn pull_workers(&self, apply: &Apply<'_>) -> Option<usize>
+        ensures workers { IfSome result AreWorkers }
+        ensures employed { AreEmployed apply.now.parallelization self.now.workers (work_into_end apply.now.flat.now.edges apply.now.to) result }
+    {
         let edges = edges_into(apply.flat, apply.to, edges_for(self.workers));
-        let Some(workers) = self.employed(apply, edges) else {
-            return pull(alloc, apply, scratch);
-        };
-        let (rt, gate) = (self.rt, self.gate);
-        match pull_crew(rt, gate, workers, alloc, apply, scratch, states) {
+        self.employed(apply, edges)
+    }
+
+    /// Does a pull as a whole, which is not worth a second worker.
+    fn pull_alone(
+        &self,
+        alloc: Global,
+        apply: &Apply<'_>,
+        scratch: &mut Scratch,
+    ) -> Result<Changes, AllocError>
+        requires { AreEmployed apply.now.parallelization self.now.workers (work_into_end apply.now.flat.now.edges apply.now.to) None }
+        ensures once { IfOk result (λ c. AreApart c.vectors.items) }
+        ensures changes { IfOk result (λ c. AreChangesOf apply.now c.vectors.items) }
+    {
+        pull(alloc, apply, scratch)
+    }
+
+    /// Does a pull in pieces, by as many workers as it is worth.
+    fn pull_together(
+        &self,
+        workers: usize,
+        alloc: Global,
+        apply: &Apply<'_>,
+        scratch: &mut Scratch,
+        states: &mut Vec<Scratch>,
+    ) -> Result<Changes, AllocError>
+        requires workers { AreWorkers workers }
+        requires employed { AreEmployed apply.now.parallelization self.now.workers (work_into_end apply.now.flat.now.edges apply.now.to) (Some workers) }
+        ensures once { IfOk result (λ c. AreApart c.vectors.items) }
+        ensures changes { IfOk result (λ c. AreChangesOf apply.now c.vectors.items) }
+    {
+        match pull_crew(self.rt, self.gate, workers, alloc, apply, scratch, states) {
             Ok(changes) => Ok(changes),
             Err(_) => Err(AllocError),
         }
     }
 
-    /// How many workers do an apply in pieces, or none where the caller does it as a whole.
+    /// How many workers do an apply over so many edges in pieces, or none if the caller does it as a whole.
     fn employed(&self, apply: &Apply<'_>, edges: usize) -> Option<usize>
-        ensures { IfSome result AreWorkers }
+        ensures workers { IfSome result AreWorkers }
+        ensures employed { AreEmployed apply.now.parallelization self.now.workers edges result }
     {
         employed(
             self.gate.watches(),

@@ -92,10 +92,8 @@ module _ (J : RattleType) (g : naming.Ghosts J.Denot) where
   history_prefix_send = history_prefix_the.the_send J g
 
   pub reader_send : IsSend (reader.the_row J g)
-  reader_send =
-      let o : IsSend (option.the_row ShownRead) = search (sendable, read_send) depth 20 in
-      view_send _ _ _ _ _ (declared_send (reader_inside.the_type J g)
-      (number_send, (o, (history_prefix_send, (history_prefix_send, (number_send, tt))))))
+  reader_send = view_send _ _ _ _ _ (declared_send (reader_inside.the_type J g)
+      (number_send, (read_send, (history_prefix_send, (history_prefix_send, (number_send, tt))))))
 
 writer_send : IsSend ShownWriter
 writer_send = writer_the.the_send shown.the_row shown.the_row (option.the_row shown.the_row) grows.the_row heap.the_row shown.the_row

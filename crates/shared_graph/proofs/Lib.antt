@@ -5,3 +5,4 @@ pub mod Growing
 pub mod Steps
 pub mod Crossing
 pub mod Versions
+pub mod Counted

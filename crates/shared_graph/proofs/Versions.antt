@@ -19,7 +19,7 @@ steps_append : (log more : List Entry) → steps_of (log ++ more) ≡ steps_of l
 steps_append [] more = refl
 steps_append (e ∷ log) more = ap (λ (l : List Done). e.done ∷ l) (steps_append log more)
 
-batches_append : (log more : List Entry) → batches_of (log ++ more) ≡ batches_of log ++ batches_of more
+pub batches_append : (log more : List Entry) → batches_of (log ++ more) ≡ batches_of log ++ batches_of more
 batches_append log more = ap commits_of (steps_append log more) ∙ commits_append (steps_of log) (steps_of more)
 
 -- a longer history begins with the batches of a beginning of it

@@ -18,7 +18,7 @@
 //! take one while the writer changes the other (left-right, Ramalhete and Correia, 2015).
 //!
 //! Which graph a reader or a token belongs to is a type parameter, a [`Naming`]. It stands on
-//! `version_list`; `gsnap race` will stand on it.
+//! `version_list`; `snapshot_runs` and `races` stand on it.
 #![tactic(auto)]
 
 mod book;
@@ -41,7 +41,7 @@ pub use entry::Entry;
 pub use error::{LatestError, SharedError};
 pub use held::{Held, Unreleased};
 pub use laws::{
-    held_versions_are_of_the_history, longer_histories_keep_their_versions,
+    commits_are_counted, held_versions_are_of_the_history, longer_histories_keep_their_versions,
     versions_are_folds_of_commits,
 };
 pub use naming::Naming;

@@ -16,6 +16,7 @@ use crate::naming::Naming;
 use crate::publisher::{Seeing, ShownReader};
 use crate::shown::Shown;
 use crate::snapshot::Snapshot;
+use core::mem::replace_with;
 use std::marker::Model;
 
 /// One of the readers of a shared graph, and the one by whose name its owner commits and holds.
@@ -23,7 +24,7 @@ use std::marker::Model;
 /// reader that made each, which only grows at its end.
 pub struct Reader<J: Naming> {
     number: u64,
-    read: Option<ShownReader>,
+    read: ShownReader,
     history_prefix: HistoryPrefix<J>,
     last: HistoryPrefix<J>,
     steps: u64,
@@ -42,7 +43,7 @@ impl<J: Naming> Drop for Reader<J> {
 }
 
 impl<J: Naming> Model for Reader<J> {
-    ghost use Rattle.std.specs.Prelude.{◌≡◌, length, Some, IfSome};
+    ghost use Rattle.std.specs.Prelude.{◌≡◌, length};
     ghost use mathlib.Core.List.{IsPrefix};
     ghost use Rattle.left_right.specs.Sides.{view as view_of};
     ghost use Rattle.version_list.specs.Machine.{opened};
@@ -55,7 +56,7 @@ impl<J: Naming> Model for Reader<J> {
     ghost view = { λ r. record { number = r.number; shown = r.history_prefix; last = r.last } };
 
     ghost invariant = { λ r. (r.steps ≡ length (own r.number r.last)) × IsPrefix r.last r.history_prefix
-        × IfSome r.read (λ x. Knows J.book (opened J.vertices J.room) (view_of x.place)) };
+        × Knows J.book (opened J.vertices J.room) (view_of r.read.place) };
 }
 
 impl<J: Naming> Reader<J> {
@@ -67,7 +68,7 @@ impl<J: Naming> Reader<J> {
     {
         Reader {
             number,
-            read: Some(read),
+            read,
             history_prefix: first.again(),
             last: first.again(),
             steps: 0,
@@ -89,12 +90,11 @@ impl<J: Naming> Reader<J> {
         ensures legal { IsLegal (opened J.vertices J.room) (steps_of self.new.shown) }
     {
         self.history_prefix.len();
-        let Some(reader) = self.read.take() else {
-            return Err(LatestError::Closed);
-        };
-        let (reader, seen) = read_shown(reader, &self.history_prefix);
-        self.read = Some(reader);
-        let (snapshot, history_prefix) = seen?;
+        let (snapshot, history_prefix) = replace_with(
+            &mut self.read,
+            &self.history_prefix,
+            read_shown::<J>,
+        )?;
         self.history_prefix = history_prefix;
         Ok(snapshot)
     }

@@ -1,12 +1,14 @@
 //! Graphs that threads share.
 
-ghost use Rattle.std.specs.Prelude.{◌≡◌, IfOk};
+ghost use Rattle.std.specs.Prelude.{◌≡◌, ◌<◌, ◌≤◌, IfOk};
 ghost use Rattle.version_list.specs.declared.step.Step.TheVariants.{Commit, Acquire, Trim};
 ghost use Rattle.version_list.specs.declared.step.Reply.TheVariants as reply;
 ghost use Rattle.version_list.specs.Machine.{opened};
+ghost use Rattle.version_list.specs.Timeline.{beginning};
 ghost use Rattle.shared_graph.specs.Histories.{state_at};
 ghost use Rattle.shared_graph.specs.Holding.{HoldsVersion};
 ghost use Rattle.shared_graph.specs.Outcome.{Answers, AnswersRelease, Opens};
+ghost use Rattle.shared_graph.specs.Passes.{fresh_passes};
 
 use crate::book::Opening;
 use crate::error::SharedError;
@@ -19,7 +21,7 @@ use std::alloc::Global;
 use std::sync::{Arc, Mutex, Wait};
 use std::thread::Threads;
 use tree_batch::Batch;
-use version_list::{MAX_HISTORY, Versions, Which};
+use version_list::{MAX_HISTORY, VersionError, Versions, Which};
 
 /// The most readers of a shared graph.
 pub const MAX_READERS: usize = 64;
@@ -93,10 +95,7 @@ impl<J: Naming, R: Wait + Drop> SharedGraph<J, R> {
         requires room { J.room ≡ room }
         ensures { Opens vertices chunk_size readers (λ r. r.1.items) result }
     {
-        let versions = Versions::with_room(alloc, vertices, chunk_size, room)?;
-        if readers == 0 || readers > MAX_READERS {
-            return Err(SharedError::BadSeats);
-        }
+        let versions = versions_for(alloc, vertices, chunk_size, readers, room)?;
         let graph = Arc::new(alloc, versions.newest().1.clone()?)?;
         let start = HistoryStart { vertices, room };
         let (published_log, passes) = PublishedLog::open(
@@ -189,5 +188,26 @@ impl<J: Naming, R: Wait + Drop> SharedGraph<J, R> {
         ensures { Answers (opened J.vertices J.room) me.old Trim reply.Trimmed result me.new }
     {
         self.locked_state.lock(rt).trim(rt, me)
+    }
+}
+
+// The versions of a graph that is opened with so many readers. The errors are those of [`SharedGraph::open`].
+fn versions_for(
+    alloc: Global,
+    vertices: u32,
+    chunk_size: u32,
+    readers: usize,
+    room: u64,
+) -> Result<Versions, SharedError>
+    ensures opens { Opens vertices chunk_size readers (λ _. fresh_passes readers) result }
+    ensures versions { IfOk result (λ v. v ≡ beginning (opened vertices room)) }
+    ensures readers { IfOk result (λ _. (0 < readers) × (readers ≤ 64)) }
+{
+    let are_readers = 1 <= readers && readers <= MAX_READERS;
+    match Versions::with_room(alloc, vertices, chunk_size, room) {
+        Ok(versions) if are_readers => Ok(versions),
+        Ok(_) => Err(SharedError::BadSeats),
+        Err(VersionError::NoMemory) if !are_readers => Err(SharedError::BadSeats),
+        Err(error) => Err(SharedError::from(error)),
     }
 }

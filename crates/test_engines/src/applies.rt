@@ -1,7 +1,7 @@
 //! In how many pieces workers do an apply, of which they tell a gate, and what a run shows while pieces are held.
 
 use crate::roll::Roll;
-use algorithm_meaning::Outcome;
+use algorithm_meaning::{End, Outcome};
 use crew::PieceAssignment;
 use flat_snapshot::Flat;
 use runner::run;
@@ -236,28 +236,44 @@ fn applies_are_cut_as_their_schedules_say(rt: HostRuntime) -> Result<(), Fail> {
     Ok(())
 }
 
-// In how many applies a piece was held in a run by n workers, or none if one was held too long or the first vector does not
-// have these entries.
+// What a run ends with: its turns, the entries of its vector, and how many members its set has.
+type Wanted<'a> = (u64, &'a [i64], usize);
+
+// Whether a run finished with this.
+fn has_finished_with(outcome: &Outcome, (turns, entries, members): Wanted<'_>) -> bool {
+    let (vectors, sets) = (outcome.vectors.as_slice(), outcome.sets.as_slice());
+    let (Some(vector), Some(set)) = (vectors.first(), sets.first()) else {
+        return false;
+    };
+    outcome.end == End::Finished
+        && outcome.turns == turns
+        && vector.entries.as_slice() == entries
+        && set.members.as_slice().len() == members
+}
+
+// In how many applies a piece was held in a run by n workers, or none if one was held too long or the run did not finish with
+// what is wanted.
 fn held_pieces(
     rt: &(impl Threads + AllocGlobal + Sync),
     graph: &Flat,
     text: Text,
     workers: usize,
-    wanted: &[i64],
+    wanted: Wanted<'_>,
 ) -> Result<Option<u64>, Fail> {
     // One worker enters piece 2 after piece 1, so nothing is held for it.
     let roll = Roll::new(rt.alloc(), workers > 1)?;
     let outcome = shown(rt, graph, text, workers, &roll)?;
-    let found = match outcome.vectors.as_slice().first() {
-        Some(vector) => vector.entries.as_slice() == wanted,
-        None => false,
-    };
+    let found = has_finished_with(&outcome, wanted);
     Ok((found && roll.is_right()).then_some(roll.held()))
 }
 
 /// A fork of six vertices that comes together, and a vertex that no edge reaches.
 pub(crate) const FORK: &[(u32, u32)] = &[(0, 1), (0, 2), (1, 3), (2, 3), (3, 4)];
 
+// What a search from vertex 0 finds in the fork.
+const PARENTS: &[i64] = &[0, 0, 0, 2, 3, -1];
+
+// Several workers hold a piece in some apply, unless all of it is one piece.
 #[test]
 fn a_search_finds_the_same_while_pieces_are_held(rt: HostRuntime) -> Result<(), Fail> {
     let fork = graph_of(rt.alloc(), 6, FORK)?;
@@ -265,14 +281,18 @@ fn a_search_finds_the_same_while_pieces_are_held(rt: HostRuntime) -> Result<(), 
         for schedule in 0..16usize {
             let (direction, share) = (DIRECTIONS[schedule / 4], SHARES[schedule % 4]);
             let text = [SEARCH, "", "", direction, share];
-            let held = held_pieces(&rt, &fork, text, workers, &[0, 0, 0, 2, 3, -1])?;
-            assert!(rt; held.is_some(), "schedule {schedule} by {workers}");
+            let held = held_pieces(&rt, &fork, text, workers, (4, PARENTS, 0))?;
+            let is_cut = workers > 1 && schedule % 4 > 0;
+            assert!(rt;
+                held.map(|count| count > 0) == Some(is_cut),
+                "schedule {schedule} by {workers}"
+            );
         }
     }
     Ok(())
 }
 
-// Piece 1 of 250 is held until another worker enters piece 2.
+// Piece 1 is held until another worker enters piece 2, under each share of an apply that is cut.
 #[test]
 fn sixty_four_workers_share_a_thousand_sources(rt: HostRuntime) -> Result<(), Fail> {
     let ring = ring_of(rt.alloc(), 1000)?;
@@ -280,8 +300,10 @@ fn sixty_four_workers_share_a_thousand_sources(rt: HostRuntime) -> Result<(), Fa
     for vertex in 0..1000i64 {
         before.push((vertex + 999) % 1000)?;
     }
-    let text = [HEAD, ALL, TAIL, SPARSE_PUSH, DYNAMIC];
-    let held = held_pieces(&rt, &ring, text, 64, &before)?;
-    assert!(rt; held == Some(1));
+    for share in [STATIC, DYNAMIC, BY_EDGES] {
+        let text = [HEAD, ALL, TAIL, SPARSE_PUSH, share];
+        let held = held_pieces(&rt, &ring, text, 64, (0, &before, 1000))?;
+        assert!(rt; held == Some(1), "{share}");
+    }
     Ok(())
 }

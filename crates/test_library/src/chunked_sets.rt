@@ -1,5 +1,5 @@
 //! How sets are cut into chunks, those that were made of a list and those that were united and subtracted.
-use c_tree::CTree;
+use c_tree::{CTree, CTreeError};
 use set_ops::{SetError, difference, union};
 use std::alloc::Global;
 
@@ -89,6 +89,31 @@ fn cuts_unions_and_differences(rt: HostRuntime) {
             "{first:?}"
         );
     }
+}
+
+// Why the union and the difference of a set in chunks of 4 with one in chunks of 64 are refused.
+fn refusals_of_sizes(alloc: Global) -> Result<[Option<u16>; 2], CTreeError> {
+    let (one, other) = (CTree::new(4)?, CTree::new(64)?);
+    let all = union(alloc, &one, &other).err();
+    let rest = difference(alloc, &one, &other).err();
+    Ok([all, rest].map(|error| error.map(|it| it.number())))
+}
+
+// Lists that do not ascend, chunk sizes that are no power of two from 1 to 256, and sets in chunks of two sizes.
+#[test]
+fn lists_and_sizes_that_do_not_fit_are_refused(rt: HostRuntime) {
+    let number_of = |error: CTreeError| error.number();
+    for list in [&[(2, 1), (2, 1)], &[(2, 1), (1, 1)]] {
+        let refused = CTree::from_sorted(rt.alloc(), 4, list).err();
+        assert!(rt; refused.map(number_of) == Some(101), "{list:?}");
+    }
+    for size in [0, 3, 512] {
+        assert!(rt;
+            CTree::new(size).err().map(number_of) == Some(103),
+            "{size}"
+        );
+    }
+    assert!(rt; refusals_of_sizes(rt.alloc()) == Ok([Some(104); 2]));
 }
 
 // Whether the set has so many members and this cut.

@@ -2,6 +2,7 @@
 use Asked::{Acquire, Commit, Release, Trim};
 use Reply::{Refused, Released, Ticket, Trimmed, Version};
 use std::alloc::Global;
+use std::thread::Threads;
 use tree_batch::Batch;
 use version_list::{Reply, Step, VersionError, Versions, Which};
 
@@ -100,6 +101,43 @@ fn a_history_has_room_for_its_tickets(rt: HostRuntime) {
             "a room of {room}"
         );
     }
+}
+
+// Whether the steps of the first history are answered so by a call each: a commit by its two halves where it has room.
+fn calls_answer<R: Threads + AllocGlobal + Sync>(rt: &R) -> Result<bool, VersionError> {
+    let mut versions = Versions::with_room(rt.alloc(), 3, 64, 3)?;
+    let (ticket, graph) = versions.acquire(Which::Newest)?;
+    let held = (
+        graph.vertices(),
+        graph.edge_count(),
+        versions.version(ticket),
+    );
+    let prepared = versions.prepare(rt, rt.alloc(), Batch::new(rt.alloc()), 1)?;
+    let before = (versions.newest().0, versions.history().len());
+    let number = versions.finish(prepared);
+    let after = (versions.newest().0, versions.history().len());
+    let empty = Batch::new(rt.alloc());
+    let second = versions.prepare(rt, rt.alloc(), empty, 1).err();
+    let hold = versions.acquire(Which::Newest).err();
+    let released = versions.release(ticket);
+    let last = versions.commit(rt.alloc(), Batch::new(rt.alloc())).err();
+    let full = Some(VersionError::HistoryFull);
+    Ok(
+        ticket.number == 1
+            && held == (3, 0, Some(0))
+            && before == (0, 1)
+            && number == 1
+            && after == (1, 2)
+            && second == full
+            && hold == full
+            && released.is_ok()
+            && last == full,
+    )
+}
+
+#[test]
+fn each_call_answers_as_its_step(rt: HostRuntime) {
+    assert!(rt; calls_answer(&rt) == Ok(true));
 }
 
 // Whether a trim by its two halves drops two entries, and the version that a ticket holds stays.

@@ -25,6 +25,24 @@ const SOURCES: [(&[u8], &[u8]); 5] = [
     ),
 ];
 
+// A breadth-first search, and what is written of it after the lines of the head.
+const SEARCH: &[u8] = b"element Vertex end element Edge end \
+    const edges : edgeset{Edge}(Vertex, Vertex) = load(argv[1]); const parent : vector{Vertex}(int) = -1; \
+    func unseen(v : Vertex) -> output : bool output = parent[v] == -1; end \
+    func visit(src : Vertex, dst : Vertex) parent[dst] max= src; end \
+    func main() var frontier : vertexset{Vertex} = new vertexset{Vertex}(0); \
+    frontier.addVertex(0); parent[0] = 0; while frontier.getVertexSetSize() != 0 \
+    #s1# frontier = edges.from(frontier).to(unseen).applyModified(visit, parent); end end";
+
+const WRITTEN_SEARCH: &[u8] =
+    b"const edges : edgeset { Edge } ( Vertex , Vertex ) = load ( argv [ 1 ] ) ;\n\
+    const parent : vector { Vertex } ( int ) = - 1 ;\n\
+    func unseen ( v : Vertex ) -> output : bool output = parent [ v ] == - 1 ;\nend\n\
+    func visit ( src : Vertex , dst : Vertex ) parent [ dst ] max= src ;\nend\n\
+    func main ( ) var frontier : vertexset { Vertex } = new vertexset { Vertex } ( 0 ) ;\n\
+    frontier . addVertex ( 0 ) ;\nparent [ 0 ] = 0 ;\nwhile frontier . getVertexSetSize ( ) != 0 \
+    #s1# frontier = edges . from ( frontier ) . to ( unseen ) . applyModified ( visit , parent ) ;\nend\nend\n";
+
 const HEAD: &[u8] = b"element Vertex end\nelement Edge end\n";
 
 // Whether this is written of a source, after the lines of the head.
@@ -35,6 +53,32 @@ fn is_written(alloc: Global, text: &[u8], want: &[u8]) -> bool {
     match write(alloc, &source) {
         Ok(lines) => lines.strip_prefix(HEAD) == Some(want),
         Err(_) => false,
+    }
+}
+
+// Whether a text is read back from what is written of it, so that the same is written of both.
+fn is_read_back(alloc: Global, text: &[u8]) -> bool {
+    let Ok(source) = parse(alloc, text) else {
+        return false;
+    };
+    let Ok(written) = write(alloc, &source) else {
+        return false;
+    };
+    let Ok(again) = parse(alloc, &written) else {
+        return false;
+    };
+    match write(alloc, &again) {
+        Ok(lines) => lines == written,
+        Err(_) => false,
+    }
+}
+
+#[test]
+fn a_search_is_written_and_read_back(rt: HostRuntime) {
+    assert!(rt; is_written(rt.alloc(), SEARCH, WRITTEN_SEARCH));
+    assert!(rt; is_read_back(rt.alloc(), SEARCH));
+    for (text, _) in SOURCES {
+        assert!(rt; is_read_back(rt.alloc(), text), "{text:?}");
     }
 }
 

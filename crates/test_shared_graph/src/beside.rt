@@ -121,7 +121,7 @@ const ROWS_OF_COMMITS: Table = Table {
 };
 
 #[test]
-fn readers_are_given_the_newest_behind_any_number_of_commits(rt: HostRuntime) -> Result<(), Fail> {
+fn readers_are_given_the_newest_after_up_to_100000_commits(rt: HostRuntime) -> Result<(), Fail> {
     assert_eq!(rt; wrong(&rt, &ROWS_OF_COMMITS), RIGHT);
     Ok(())
 }

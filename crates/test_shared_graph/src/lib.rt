@@ -16,6 +16,8 @@ mod calls;
 #[cfg(test)]
 mod kept;
 #[cfg(test)]
+mod memory;
+#[cfg(test)]
 mod refused_growths;
 #[cfg(test)]
 mod roles;

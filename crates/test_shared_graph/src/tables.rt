@@ -228,7 +228,7 @@ const REFUSED: Table = Table {
 };
 
 #[test]
-fn calls_go_on_behind_a_refusal(rt: HostRuntime) -> Result<(), Fail> {
+fn calls_are_answered_after_a_refusal(rt: HostRuntime) -> Result<(), Fail> {
     assert_eq!(rt; wrong(&rt, &REFUSED), RIGHT);
     Ok(())
 }
@@ -258,7 +258,7 @@ fn one_reader_commits_more_than_a_million_times(rt: HostRuntime) -> Result<(), F
     Ok(())
 }
 
-// Commits from 4,096 entries on start threads.
+// Commits of 4,095, 4,096 and 4,097 entries: from 4,096 on they start threads, which `tests/checks/costs` counts.
 const LARGE: Table = Table {
     vertices: 70,
     chunk_size: 64,
@@ -276,7 +276,7 @@ const LARGE: Table = Table {
 };
 
 #[test]
-fn commits_from_4096_entries_on_start_threads(rt: HostRuntime) -> Result<(), Fail> {
+fn commits_of_about_4096_entries_are_whole(rt: HostRuntime) -> Result<(), Fail> {
     assert_eq!(rt; wrong(&rt, &LARGE), RIGHT);
     Ok(())
 }

@@ -62,6 +62,8 @@ pub(crate) enum Program {
     OnGrown,
     /// The program that writes one entry, on these.
     Marked,
+    /// The search on three vertices, where version 1 has an edge from vertex 0 to vertex 1.
+    OnThree,
     /// The search on a fork that comes together, and has a tail; a sixth vertex has no edge.
     OnSix,
 }
@@ -95,6 +97,7 @@ impl Program {
             (Program::Marked, 1) => faulted(&[5, 5]),
             (Program::Marked, 2) => faulted(&[5, 5, 5]),
             (Program::Marked, _) => finished(&[5, 5, 5, 6, 5], 0),
+            (Program::OnThree, _) => finished(&[0, 0, -1], 2),
             (Program::OnSix, _) => finished(&[0, 0, 0, 2, 3, -1], 4),
             (Program::NoTurns | Program::Broken, _) => Shown {
                 entries: &[0, -1, -1, -1],

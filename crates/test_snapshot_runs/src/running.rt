@@ -9,7 +9,7 @@ use snapshot_runs::{run_held, run_latest};
 use std::alloc::Global;
 use std::thread::Threads;
 use test_helpers::{ask, tell};
-use text_runs::{RunBounds, TextRunError, run_text_on_latest};
+use text_runs::{RunBounds, run_text_on_latest};
 
 /// The plan of a text, if it has one.
 pub(crate) fn planned(alloc: Global, text: &[u8]) -> Option<Plan> {
@@ -58,8 +58,7 @@ pub(crate) fn run_text<J: Naming, R: Threads + Sync>(
     };
     match run_text_on_latest(rt, alloc, program.text(), me, bounds, &gate) {
         Ok((number, outcome)) => program.answer(number, &outcome, (&gate, workers)),
-        Err(TextRunError::NotCompiled(error)) => Err(error.number()),
-        Err(TextRunError::NotRun(error)) => Err(error.number()),
+        Err(error) => Err(error.number()),
     }
 }
 

@@ -77,6 +77,30 @@ const HELD: Table = Table {
     closed: &[],
 };
 
+// Three readers of three vertices: a reader that learns a commit holds its version and runs on it, and the third, which learned
+// nothing, runs on it as well.
+const THREE: Table = Table {
+    vertices: 3,
+    readers: 3,
+    rows: &[
+        (0, Call::Commit(&[Entry::Add(0, 1, 1)]), Ok(1)),
+        (1, Call::Learn, Ok(0)),
+        (1, Call::Newest(Program::OnThree, 1), Ok(1)),
+        (1, Call::Hold(Which::At(0)), Err(121)),
+        (1, Call::Hold(Which::Newest), Ok(1)),
+        (1, Call::Held(0, Program::OnThree, 1), Ok(1)),
+        (1, Call::Release, Ok(0)),
+        (2, Call::Newest(Program::OnThree, 1), Ok(1)),
+    ],
+    closed: &[],
+};
+
+#[test]
+fn three_readers_see_one_commit(rt: HostRuntime) -> Result<(), Fail> {
+    assert_eq!(rt; wrong(&rt, &THREE), [None; 2]);
+    Ok(())
+}
+
 #[test]
 fn a_held_version_stays_what_it_was(rt: HostRuntime) -> Result<(), Fail> {
     assert_eq!(rt; wrong(&rt, &HELD), [None; 2]);

@@ -1,6 +1,7 @@
 //! Why a text was not run.
 ghost use Rattle.std.specs.Prelude.{◌≡◌};
 ghost use Rattle.text_runs.specs.declared.error.TextRunError.TheVariants.{NotCompiled, NotRun};
+ghost use Rattle.text_runs.specs.Refusal.{number_of};
 
 use compiler::CompileError;
 use snapshot_runs::LatestRunError;
@@ -13,6 +14,18 @@ pub enum TextRunError {
     NotCompiled(CompileError),
     #[error("{0}")]
     NotRun(LatestRunError),
+}
+
+impl TextRunError {
+    /// The number by which users know the refusal: one of [`CompileError`], or one of [`LatestRunError`].
+    pub fn number(self) -> u16
+        ensures { result ≡ number_of self }
+    {
+        match self {
+            TextRunError::NotCompiled(error) => error.number(),
+            TextRunError::NotRun(error) => error.number(),
+        }
+    }
 }
 
 impl From<CompileError> for TextRunError {

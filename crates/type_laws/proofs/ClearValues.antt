@@ -17,7 +17,7 @@ use Rattle.expression_types.specs.declared.scope.Entity.{Entity}
 use Rattle.expression_types.specs.declared.scope.Entity.TheVariants as entity
 use Rattle.expression_types.specs.declared.scope.Inside.{Inside}
 use Rattle.expression_types.specs.declared.scope.Inside.TheVariants as inside
-use Rattle.expression_types.specs.Expression.{as_size, as_vector, used, vector_index}
+use Rattle.expression_types.specs.Expression.{as_size, as_vector, entry_of, used, vector_index}
 use Rattle.expression_types.specs.WithFaults.{fault_at, sure}
 use Rattle.expression_types.specs.Operators.{IntegersTree, Integers, MixedIntegers, ErrorIntegers, ConditionsTree, Conditions, MixedConditions, ErrorConditions, beside_condition, beside_integer, compared, condition_index, entry_value, equated, first_condition, first_integer, function_entry, given, grouped_conditions, grouped_integers, main_entry, related_value, signed_value}
 use Rattle.expression_types.specs.ScopeTree.{ScopeTree}
@@ -191,6 +191,15 @@ pub vector_there : (At : Vertices) (i : Inside) (scope : ScopeTree) (at : ℕ) (
 vector_there At i scope at name known none =
     let e = used scope name in
     vector_is_there At at name.bytes e.value (used_known At i scope name known (no_left e.faults _ none)) (no_right e.faults _ none)
+
+-- the faults of an entry, if its index has no faulty part
+pub entry_parts : (i : Inside) (at : ℕ) (e : Entity) (v : ValueTree) → IsClear v → (entry_of i at e v).faults ≡ []
+    → ((as_vector at e).faults ≡ []) × ((entry_value i at (as_vector at e).value v).faults ≡ [])
+entry_parts i at e (Integer x) clear none = (no_left (as_vector at e).faults _ none, no_right (as_vector at e).faults _ none)
+entry_parts i at e (Condition c) clear none = (no_left (as_vector at e).faults _ none, no_right (as_vector at e).faults _ none)
+entry_parts i at e (Vertex p) clear none = (no_left (as_vector at e).faults _ none, no_right (as_vector at e).faults _ none)
+entry_parts i at e (Set slot) clear none = (no_left (as_vector at e).faults _ none, no_right (as_vector at e).faults _ none)
+entry_parts i at e ErrorValue clear none = absurd clear
 
 -- entries
 index_clear : (b : Bool) (at vector : ℕ) (e : IntegerTree) → (if b then fault_at at rule.WrongIndex ErrorValue else sure (Integer (Entry vector e))).faults ≡ []

@@ -12,8 +12,8 @@ use Rattle.expression_types.specs.WithFaults.{WithFaults, sure}
 use Rattle.expression_types.specs.ScopeTree.{ScopeTree}
 use Rattle.expression_types.specs.ValueTree.{ValueTree}
 use Rattle.type_laws.specs.EntryAccess.{ComparisonReadsAt, ConjunctionReadsAt, ExpressionReadsAt, PrimaryReadsAt, SumReadsAt, TermReadsAt, UnaryReadsAt}
-use Rattle.type_laws.proofs.ClearValues.{ConditionsAreClear, IntegersAreClear, IsClear, IsThere, beside_condition_clear, beside_integer_clear, entry_clear, first_condition_clear, first_integer_clear, grouped_conditions_clear, grouped_integers_clear, named_clear, related_clear, signed_clear, size_clear, vector_there}
-use Rattle.type_laws.proofs.Faultless.{no_left, no_right}
+use Rattle.type_laws.proofs.ClearValues.{ConditionsAreClear, IntegersAreClear, IsClear, IsThere, beside_condition_clear, beside_integer_clear, entry_clear, entry_parts, first_condition_clear, first_integer_clear, grouped_conditions_clear, grouped_integers_clear, named_clear, related_clear, signed_clear, size_clear, vector_there}
+use Rattle.type_laws.proofs.Faultless.{both_none, no_left, no_right}
 use Rattle.type_laws.proofs.KnownScopes.{IsKnown, Vertices, used_known}
 
 -- the names at an index are known, and an entry without a fault is read at such an index
@@ -162,14 +162,16 @@ mutual
       let e = used scope name in
       (tt, named_clear At at name.bytes e.value (used_known At i scope name r.known (no_left e.faults _ none)) (no_right e.faults _ none))
   primary_reads {At = At} {i = i} scope at r (tree.Entry vector subscript) none =
+      let e = used scope vector in
       let index = vector_index scope at vector in
       let v = index_value scope at subscript in
-      let behind = no_right index.faults _ none in
-      let there = vector_there At i scope at vector r.known (no_left index.faults _ none) in
+      let behind = no_right e.faults _ none in
       let sound = no_left v.faults _ behind in
-      let clear = index_clear scope subscript (value_of scope at subscript) (λ none. (expression_reads scope at r subscript none).1) sound in (
-        entry_index scope at r index.value subscript there sound clear (no_right v.faults _ behind),
-        entry_clear scope.inside at index.value v.value there clear (no_right v.faults _ behind),
+      let clear = index_clear scope subscript (value_of scope at subscript) (λ none. (expression_reads scope at r subscript none).1) sound in
+      let parts = entry_parts scope.inside at e.value v.value clear (no_right v.faults _ behind) in
+      let there = vector_there At i scope at vector r.known (both_none e.faults _ (no_left e.faults _ none) parts.0) in (
+        entry_index scope at r index.value subscript there sound clear parts.1,
+        entry_clear scope.inside at index.value v.value there clear parts.1,
       )
   primary_reads {At = At} {i = i} scope at r (tree.Size set) none =
       let e = used scope set in

@@ -34,9 +34,11 @@ use Rattle.type_laws.specs.ExpressionTypes.{ComparisonHas, ConjunctionHas, Expre
 use Rattle.type_laws.specs.Meanings as meaning
 use Rattle.type_laws.specs.ScopeMeanings.{AreMeant, meaning_of, meanings_of}
 use Rattle.type_laws.specs.Meanings.{Meaning, Meanings}
-use Rattle.type_laws.proofs.Faultless.{no_left, no_right, not_empty}
+use Rattle.type_laws.proofs.Faultless.{both_none, no_left, no_right, not_empty}
 use Rattle.type_laws.proofs.PlainIndexes.{IsPlain, expression_plain}
 use Rattle.type_laws.proofs.TypedExpressions.{AreConditions, AreIntegers, IsOf, found_meaning}
+use Rattle.type_laws.proofs.ClearValues.{IsClear, entry_parts}
+use Rattle.type_laws.proofs.EntryReads.{index_clear}
 
 -- what is found is one of them
 pub record IsMeant (names : Meanings) (name : Identifier) (e : Entity) : Type 0 where
@@ -69,6 +71,31 @@ pub record Typed (m : WithFaults ValueTree) (Has : ExpressionType → Type 0) : 
   pub type : ExpressionType
   pub has : Has type
   pub is : IsOf type m.value
+
+of_type_clear : (type : ExpressionType) (v : ValueTree) → IsOf type v → IsClear v
+of_type_clear Number (value.Integer e) is = tt
+of_type_clear Number (value.Condition c) is = tt
+of_type_clear Number (value.Vertex p) is = tt
+of_type_clear Number (value.Set slot) is = tt
+of_type_clear Number value.ErrorValue is = is
+of_type_clear Truth (value.Integer e) is = tt
+of_type_clear Truth (value.Condition c) is = tt
+of_type_clear Truth (value.Vertex p) is = tt
+of_type_clear Truth (value.Set slot) is = tt
+of_type_clear Truth value.ErrorValue is = is
+of_type_clear (Vertex p) (value.Integer e) is = tt
+of_type_clear (Vertex p) (value.Condition c) is = tt
+of_type_clear (Vertex p) (value.Vertex q) is = tt
+of_type_clear (Vertex p) (value.Set slot) is = tt
+of_type_clear (Vertex p) value.ErrorValue is = is
+of_type_clear Set (value.Integer e) is = tt
+of_type_clear Set (value.Condition c) is = tt
+of_type_clear Set (value.Vertex p) is = tt
+of_type_clear Set (value.Set slot) is = tt
+of_type_clear Set value.ErrorValue is = is
+
+typed_clear : {m : WithFaults ValueTree} {Has : ExpressionType → Type 0} → Typed m Has → IsClear m.value
+typed_clear {m = m} t = of_type_clear t.type m.value t.is
 
 -- names
 named_typed : (at : ℕ) (e : Entity) → (e ≡ entity.Error → ⊥) → (given at rule.WrongType (named_value e)).faults ≡ []
@@ -563,11 +590,14 @@ mutual
       let t = named_typed at e.value m.clear (no_right e.faults _ none) in
       record { type = t.type; has = subst (λ o. type_named o ≡ Some t.type) (sym m.means) t.has; is = t.is }
   primary_typed scope at meant (tree.Entry vector subscript) none =
-      let index = vector_index scope at vector in
-      let v = vector_found scope at vector meant (no_left index.faults _ none) in
-      let behind = no_right index.faults _ none in
-      let all = entry_typed scope at v.vector index.value subscript v.index (expression_typed scope at meant subscript) (no_left (index_value scope at subscript).faults _ behind)
-      (no_right (index_value scope at subscript).faults _ behind) in
+      let e = used scope vector in
+      let x = index_value scope at subscript in
+      let behind = no_right e.faults _ none in
+      let sound = no_left x.faults _ behind in
+      let clear = index_clear scope subscript (value_of scope at subscript) (λ none. typed_clear (expression_typed scope at meant subscript none)) sound in
+      let parts = entry_parts scope.inside at e.value x.value clear (no_right x.faults _ behind) in
+      let v = vector_found scope at vector meant (both_none e.faults _ (no_left e.faults _ none) parts.0) in
+      let all = entry_typed scope at v.vector (vector_index scope at vector).value subscript v.index (expression_typed scope at meant subscript) sound parts.1 in
       record { type = Number; has = (refl, record { vector = v.vector; means = v.means }, all.0); is = all.1 }
   primary_typed scope at meant (tree.Size set) none =
       let e = used scope set in

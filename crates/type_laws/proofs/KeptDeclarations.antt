@@ -26,9 +26,9 @@ use Rattle.type_laws.specs.Meanings as meaning
 use Rattle.type_laws.specs.ScopeMeanings.{meaning_of, meanings_of}
 use Rattle.type_laws.specs.Meanings.{IsNew, Known, closed_known, known_after, known_behind, labelled_known, with_name}
 use Rattle.type_laws.proofs.Booleans.{false_is_not_true}
-use Rattle.type_laws.proofs.TypedExpressions.{both_none}
 use Rattle.type_laws.proofs.KeptNames.{Matches, declared_kept, labels_named, used_kept}
 use Rattle.type_laws.proofs.KeptStatements.{of_edges_fine}
+use Rattle.type_laws.proofs.Faultless.{both_none}
 
 -- what a checker knows between declarations
 pub record CheckerAgrees (c : CheckerTree) (k : Known) : Type 0 where

@@ -22,7 +22,8 @@ use Rattle.type_laws.specs.ExpressionTypes.{ExpressionHas, ExpressionType, IsNum
 use Rattle.type_laws.specs.Meanings as meaning
 use Rattle.type_laws.specs.ScopeMeanings.{meaning_of, meanings_of}
 use Rattle.type_laws.specs.Meanings.{IsNew, Known, LabelIsNew, Meaning, Meanings, closed_known, labelled_known, with_name}
-use Rattle.type_laws.proofs.TypedExpressions.{Fine, IsNumeric, IsOf, NumericFine, both_none, expression_fine, found_meaning, numeric_fine, used_means, vector_fine}
+use Rattle.type_laws.proofs.TypedExpressions.{Fine, IsNumeric, IsOf, NumericFine, expression_fine, found_meaning, numeric_fine, used_means, vector_fine}
+use Rattle.type_laws.proofs.Faultless.{both_none}
 
 abbrev pub labels_named : List (List ℕ × ℕ) → List (List ℕ)
 labels_named [] = []

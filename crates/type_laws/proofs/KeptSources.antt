@@ -27,11 +27,11 @@ use Rattle.type_laws.specs.KeptRules.{BlockKeeps, DeclarationKeeps, Declarations
 use Rattle.type_laws.specs.Meanings as meaning
 use Rattle.type_laws.specs.ScopeMeanings.{meaning_of}
 use Rattle.type_laws.specs.Meanings.{IsNew, Known, closed_known, known_after, known_behind, labelled_known, reduced_in, with_name}
-use Rattle.type_laws.proofs.TypedExpressions.{both_none}
 use Rattle.type_laws.proofs.KeptNames.{Matches, declared_kept}
 use Rattle.type_laws.proofs.KeptStatements.{statements_kept}
 use Rattle.type_laws.proofs.KeptSteps.{steps_kept}
 use Rattle.type_laws.proofs.KeptDeclarations.{Agrees, CheckerAgrees, Fits, constant_kept, checker_declared, one_more}
+use Rattle.type_laws.proofs.Faultless.{both_none}
 
 label_written : (k : Known) (label : Option Identifier) → (labelled_known k label).written ≡ k.written
 label_written k None = refl

@@ -35,8 +35,9 @@ use Rattle.type_laws.specs.Meanings as meaning
 use Rattle.type_laws.specs.ScopeMeanings.{meaning_of}
 use Rattle.type_laws.specs.Meanings.{IsNew, Known, closed_known, known_after, known_behind, labelled_known, variable_meaning, with_name}
 use Rattle.type_laws.proofs.PlainEntries.{ReadsNone, expression_reads_none}
-use Rattle.type_laws.proofs.TypedExpressions.{IsNumeric, IsOf, both_none}
+use Rattle.type_laws.proofs.TypedExpressions.{IsNumeric, IsOf}
 use Rattle.type_laws.proofs.KeptNames.{Matches, closed_kept, counted_kept, declared_kept, edge_function_entity, edges_are, expression_kept, filter_entity, labelled_kept, number_kept, number_value, number_variable, numeric_integer, set_kept, set_variable, truth_condition, truth_kept, truth_variable, used_kept, vector_entity, vector_kept, vertex_function_entity}
+use Rattle.type_laws.proofs.Faultless.{both_none}
 
 -- initial and assigned values
 pub given_number : (i : Inside) (c : CheckerTree) (k : Known) → Matches i c k → (at : ℕ) (initial : InitialTree) → GivesNumber k.names i initial

@@ -29,9 +29,10 @@ use Rattle.type_laws.specs.KeptRules.{ActionKeeps, AgreesWith, AssignFits, Assig
 use Rattle.type_laws.specs.Meanings as meaning
 use Rattle.type_laws.specs.ScopeMeanings.{meanings_of}
 use Rattle.type_laws.specs.Meanings.{IsNew, Known, closed_known, known_after, known_behind, labelled_known, reduced_in, reduced_with, variable_meaning, with_name, with_reduction}
-use Rattle.type_laws.proofs.TypedExpressions.{IsOf, both_none, index_is_value}
+use Rattle.type_laws.proofs.TypedExpressions.{IsOf, index_is_value}
 use Rattle.type_laws.proofs.KeptNames.{Matches, closed_kept, expression_kept, labelled_kept, number_kept, number_value, number_variable, numeric_integer, truth_kept, truth_variable, used_kept, vector_kept}
 use Rattle.type_laws.proofs.KeptStatements.{declares, given_number, given_truth}
+use Rattle.type_laws.proofs.Faultless.{both_none}
 
 -- a function of a user
 abbrev pub IsUser : Inside → Type 0

@@ -1,14 +1,18 @@
 pub mod Booleans
+pub mod BrokenRules
 pub mod ClearValues
 pub mod EachDeclaration
 pub mod EdgeAdds
 pub mod EntryAccess
 pub mod EntryReads
+pub mod ExpressionRules
 pub mod Faultless
 pub mod FaultlessExpressions
 pub mod FaultlessSources
 pub mod FaultlessStatements
 pub mod FaultlessSteps
+pub mod FaultyForms
+pub mod FaultyParts
 pub mod InitialValues
 pub mod KeptDeclarations
 pub mod KeptNames
@@ -18,6 +22,8 @@ pub mod KeptSteps
 pub mod KnownDeclarations
 pub mod KnownScopes
 pub mod LabelLaws
+pub mod LoopPrograms
+pub mod LoopStatements
 pub mod MainFunction
 pub mod MainLabels
 pub mod NamedPrograms
@@ -26,6 +32,8 @@ pub mod NamesGrow
 pub mod NewNames
 pub mod Numbers
 pub mod Outcomes
+pub mod OwnFaults
+pub mod PartSplits
 pub mod PlainEntries
 pub mod PlainIndexes
 pub mod Prints
@@ -34,6 +42,7 @@ pub mod ResolvedScopes
 pub mod ResolvedStatements
 pub mod ResolvedSteps
 pub mod ResolvedValues
+pub mod SplitFaults
 pub mod TypedExpressions
 pub mod UsedNames
 pub mod VertexNames

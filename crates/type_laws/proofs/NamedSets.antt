@@ -1,7 +1,6 @@
 -- The statements of a main without a fault name visible vertex sets apart, and ask for written vectors.
 use Rattle.std.proofs.Common.{◌≡◌, ◌≢◌, refl, ap, sym, subst, ◌∙◌, inl, inr, ◌⊎◌, ℕ, zero, suc, ◌+◌, ◌≤◌, ℤ, pos, negsuc, Bool, true, false, ◌||◌, if◌then◌else◌, List, [], ◌∷◌, ◌++◌, length, length-append, map, arith, Option, Some, None}
 use Rattle.std.specs.Prelude.{slice_get}
-use Rattle.std.specs.Str.{bytes_eq}
 use Rattle.std.specs.List.{AllByRecursion, Contains}
 use Rattle.std.proofs.lemmas.List.{map-append}
 use Rattle.std.proofs.lemmas.Option.{none-some, same_Some}
@@ -22,7 +21,7 @@ use Rattle.typed_tree.specs.IntegerTree.{IntegerTree}
 use Rattle.typed_tree.specs.ProgramTree.{ProgramTree}
 use Rattle.expression_types.specs.declared.scope.Entity.{Entity}
 use Rattle.expression_types.specs.declared.scope.Entity.TheVariants as entity
-use Rattle.expression_types.specs.Expression.{used, used_as, value_of, vector_index}
+use Rattle.expression_types.specs.Expression.{used, value_of, vector_index}
 use Rattle.expression_types.specs.Names.{found}
 use Rattle.expression_types.specs.ScopeTree.{ScopeTree, declared_over, sets_of, with_entity}
 use Rattle.expression_types.specs.WithFaults.{WithFaults}
@@ -41,6 +40,7 @@ use Rattle.type_laws.proofs.KnownScopes.{labelled_scope}
 use Rattle.type_laws.proofs.NamesGrow.{Begins, statements_grow}
 use Rattle.type_laws.proofs.NewNames.{declared_new}
 use Rattle.type_laws.proofs.ResolvedScopes.{all_then, declared_over_is, get_before, get_last}
+use Rattle.type_laws.proofs.ResolvedValues.{used_among}
 
 -- one of these names
 abbrev pub IsAmong : List ℕ → List (List ℕ) → Type 0
@@ -175,16 +175,6 @@ module _ (p : ProgramTree) where
     pub declared_count : (declared_in c name e).value.scope.sets ≡ c.scope.sets + sets_of e
     declared_count = ap (λ (scope : ScopeTree). scope.sets) is_entity
 
-  -- a used name
-  used_first : (V : Visible) (name : Identifier) (b : Bool) (e : Entity) (o : Option Entity) → EntityStands V e → EntityStands V (used_as name o).value
-      → EntityStands V (used_as name (if b then Some e else o)).value
-  used_first V name true e o first others = first
-  used_first V name false e o first others = others
-
-  used_among : (V : Visible) (name : Identifier) (visible : List (List ℕ × Entity)) → AllByRecursion (λ x. EntityStands V x.1) visible → EntityStands V (used_as name (found name.bytes visible)).value
-  used_among V name [] all = tt
-  used_among V name (x ∷ others) all = used_first V name (bytes_eq name.bytes x.0) x.1 (found name.bytes others) all.0 (used_among V name others all.1)
-
   -- in main: the names of the sets by their indices, and what edge functions write
   abbrev pub AreWritten : List (List (ℕ × Reduction)) → Type 0
   AreWritten written = (function vector : ℕ) → writes_vector written function vector ≡ true → Contains (function_writes p.edge_functions function) vector
@@ -213,7 +203,7 @@ module _ (p : ProgramTree) where
 
   module _ (functions : ℕ) where
     main_used : (names : SetNames) (c : CheckerTree) (name : Identifier) → MainFits functions names c → Stands names (used c.scope name).value
-    main_used names c name fits = used_among (InNames names) name c.scope.visible fits.sets.known
+    main_used names c name fits = used_among (Stands names) tt name c.scope.visible fits.sets.known
 
     abbrev MaybeVisible : SetNames → Option VarRef → Type 0
     MaybeVisible names None = Unit {0}

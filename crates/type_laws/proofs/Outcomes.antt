@@ -13,7 +13,7 @@ one_told : (first : Fault) (others : List Fault) → (f : Fault) × (least_of (S
 one_told first [] = (first, refl)
 one_told first (e ∷ others) = one_told (earlier (Some first) e) others
 
-abbrev Outcome : SourceTree → ℕ → Type 0
+abbrev pub Outcome : SourceTree → ℕ → Type 0
 Outcome source length = ((program : ProgramTree) × Checks source length (Ok program)) ⊎ ((f : Fault) × Checks source length (Err f))
 
 outcome_of : (source : SourceTree) (length : ℕ) (faults : List Fault) → (program_of source length).faults ≡ faults → Outcome source length

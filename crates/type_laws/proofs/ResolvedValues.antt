@@ -93,20 +93,18 @@ ConditionsAreResolved p v (Conditions c) = ConditionIsResolved p v c
 ConditionsAreResolved p v MixedConditions = Unit {0}
 ConditionsAreResolved p v ErrorConditions = Unit {0}
 
--- names
-used_first : (p : ProgramTree) (v : VisibleTree) (name : Identifier) (b : Bool) (e : Entity) (o : Option Entity) → EntityIsResolved p v e
-    → EntityIsResolved p v (used_as name o).value → EntityIsResolved p v (used_as name (if b then Some e else o)).value
-used_first p v name true e o first others = first
-used_first p v name false e o first others = others
+-- a used name is one of the visible names, or faulty
+module _ (P : Entity → Type 0) (faulty : P entity.Error) (name : Identifier) where
+  used_first : (b : Bool) (e : Entity) (o : Option Entity) → P e → P (used_as name o).value → P (used_as name (if b then Some e else o)).value
+  used_first true e o first others = first
+  used_first false e o first others = others
 
-used_among : (p : ProgramTree) (v : VisibleTree) (name : Identifier) (visible : List (List ℕ × Entity)) → AllByRecursion (λ x. EntityIsResolved p v x.1) visible
-    → EntityIsResolved p v (used_as name (found name.bytes visible)).value
-used_among p v name [] all = tt
-used_among p v name (x ∷ others) all =
-    used_first p v name (bytes_eq name.bytes x.0) x.1 (found name.bytes others) all.0 (used_among p v name others all.1)
+  pub used_among : (visible : List (List ℕ × Entity)) → AllByRecursion (λ x. P x.1) visible → P (used_as name (found name.bytes visible)).value
+  used_among [] all = faulty
+  used_among (x ∷ others) all = used_first (bytes_eq name.bytes x.0) x.1 (found name.bytes others) all.0 (used_among others all.1)
 
 pub used_resolved : (p : ProgramTree) (v : VisibleTree) (scope : ScopeTree) (name : Identifier) → Known p v scope → EntityIsResolved p v (used scope name).value
-used_resolved p v scope name known = used_among p v name scope.visible known.1
+used_resolved p v scope name known = used_among (EntityIsResolved p v) tt name scope.visible known.1
 
 given_resolved : (p : ProgramTree) (v : VisibleTree) (at : ℕ) (rule : TypeRule) (o : Option ValueTree) → MaybeValue p v o → ValueIsResolved p v (given at rule o).value
 given_resolved p v at rule None is = tt

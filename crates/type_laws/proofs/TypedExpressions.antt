@@ -23,12 +23,12 @@ use Rattle.expression_types.specs.declared.scope.Entity.TheVariants as entity
 use Rattle.expression_types.specs.declared.scope.Inside.{Inside}
 use Rattle.expression_types.specs.declared.scope.Inside.TheVariants as inside
 use Rattle.expression_types.specs.BareNames.{bare_name, comparison_name, conjunction_name, primary_name, sum_name, term_name, unary_name}
-use Rattle.expression_types.specs.Expression.{as_size, as_vector, comparison_value, conjunction_value, conjuncts, disjuncts, factors, index_lacks_value, index_value, lacks_value, name_lacks_value, name_value, no_vertex, primary_value, size_value, sum_value, summands, term_value, unary_value, used, used_as, value_of, vector_index}
+use Rattle.expression_types.specs.Expression.{as_size, as_vector, comparison_value, conjunction_value, conjuncts, disjuncts, entry_of, factors, index_lacks_value, index_value, lacks_value, name_lacks_value, name_value, no_vertex, primary_value, size_value, sum_value, summands, term_value, unary_value, used, used_as, value_of, vector_index}
 use Rattle.expression_types.specs.Names.{found}
-use Rattle.expression_types.specs.Operators.{ConditionsTree, Conditions, MixedConditions, ErrorConditions, IntegersTree, Integers, MixedIntegers, ErrorIntegers, added, beside_condition, beside_integer, compared_value, entry_value, equated_value, first_condition, first_integer, function_entry, given, grouped_conditions, grouped_integers, main_entry, multiplied, related_value, signed_value}
+use Rattle.expression_types.specs.Operators.{Conditions, ConditionsTree, ErrorConditions, ErrorIntegers, Integers, IntegersTree, MixedConditions, MixedIntegers, added, beside_condition, beside_integer, compared_value, entry_value, equated_value, first_condition, first_integer, function_entry, given, grouped_conditions, grouped_integers, main_entry, multiplied, related_value, signed_value, unless_faulty}
 use Rattle.expression_types.specs.ScopeTree.{ScopeTree}
 use Rattle.expression_types.specs.ValueTree as value
-use Rattle.expression_types.specs.ValueTree.{ValueTree, named_value, reads_entry}
+use Rattle.expression_types.specs.ValueTree.{ValueTree, is_error, named_value, reads_entry}
 use Rattle.expression_types.specs.WithFaults.{WithFaults, fault_at, sure}
 use Rattle.type_laws.specs.EntryAccess.{HasNoEntry}
 use Rattle.type_laws.specs.ExpressionTypes.{ComparisonHas, ConjunctionHas, ExpressionHas, ExpressionType, IndexFits, IsEquality, NameHas, Number, PrimaryHas, ReadsAsNumber, Set, SumHas, TermHas, Truth, UnaryHas, Vertex, type_named}
@@ -36,6 +36,7 @@ use Rattle.type_laws.specs.Meanings as meaning
 use Rattle.type_laws.specs.ScopeMeanings.{meaning_of, meanings_of}
 use Rattle.type_laws.specs.Meanings.{Meaning, Meanings}
 use Rattle.type_laws.proofs.PlainEntries.{ReadsNone, expression_reads_none}
+use Rattle.type_laws.proofs.Faultless.{both_none, no_left, no_right}
 
 if_meaning : (b : Bool) (e : Entity) (o : Option Entity) → (if b then Some (meaning_of e) else option_map meaning_of o) ≡ option_map meaning_of (if b then Some e else o)
 if_meaning true e o = refl
@@ -63,10 +64,6 @@ pub record Fine (m : WithFaults ValueTree) (type : ExpressionType) : Type 0 wher
 
 pub fine_as : (m : WithFaults ValueTree) (a b : ExpressionType) → a ≡ b → Fine m b → Fine m a
 fine_as m a b is fine = subst (λ t. Fine m t) (sym is) fine
-
-pub both_none : {A : Type 0} (xs ys : List A) → xs ≡ [] → ys ≡ [] → xs ++ ys ≡ []
-both_none [] ys first second = second
-both_none (x ∷ xs) ys first second = cc
 
 some_type : (a b : ExpressionType) → Some a ≡ Some b → a ≡ b
 some_type a b is = cc
@@ -455,6 +452,19 @@ entry_fine scope at vector index subscript is fine =
     let here = subst (λ o. Fine (entry_value scope.inside at o subscript.value) Number) (sym is) fine.1 in
     (both_none subscript.faults _ fine.0 here.none, here.is)
 
+-- a name that is a vector and an index that fits have no fault together
+unless_none : {A : Type 0} (faulty : Bool) (m : WithFaults A) → m.faults ≡ [] → (unless_faulty faulty m).faults ≡ []
+unless_none true m none = refl
+unless_none false m none = none
+
+entry_none : (i : Inside) (at : ℕ) (e : WithFaults Entity) (index : WithFaults ValueTree) → e.faults ++ (as_vector at e.value).faults ≡ []
+    → index.faults ++ (entry_value i at (as_vector at e.value).value index.value).faults ≡ []
+    → e.faults ++ (index.faults ++ (entry_of i at e.value index.value).faults) ≡ []
+entry_none i at e index named indexed =
+    let vector = unless_faulty (is_error index.value) (as_vector at e.value) in
+    both_none e.faults _ (no_left e.faults _ named) (both_none index.faults _ (no_left index.faults _ indexed)
+    (both_none vector.faults _ (unless_none (is_error index.value) (as_vector at e.value) (no_right e.faults _ named)) (no_right index.faults _ indexed)))
+
 -- a row of operands reads as a number as a whole
 row_of : {First Others : Type 0} → ((Number ≡ Number) × First × Others) ⊎ ((p : Endpoint) × ((Vertex p ≡ Number) × First × Others)) → First × Others
 row_of has = elim has [ inl row ↦ (row.1, row.2) | inr at ↦ (at.1.1, at.1.2) ]
@@ -604,6 +614,7 @@ mutual
       let there = vector_fine scope at vector has.1.vector has.1.means in
       let fits = index_fine scope.inside scope at has.1.vector subscript (expression_fine scope at subscript) has.2 in
       let all = entry_fine scope at has.1.vector index.value (index_value scope at subscript) there.1 fits in
-      fine_as (primary_value scope at (tree.Entry vector subscript)) type Number has.0 (record { none = both_none index.faults _ there.0 all.0; is = all.1 })
+      fine_as (primary_value scope at (tree.Entry vector subscript)) type Number has.0
+      (record { none = entry_none scope.inside at (used scope vector) (index_value scope at subscript) there.0 all.0; is = all.1 })
   primary_fine scope at (tree.Size set) type has = fine_as (primary_value scope at (tree.Size set)) type Number has.0 (size_fine scope at set has.1)
   primary_fine scope at (tree.Parentheses inside) type has = expression_fine scope at inside type has

@@ -189,9 +189,9 @@ mutual
   primary_visible scope at (tree.Truth b) none = tt
   primary_visible scope at (tree.Variable name) none = used_visible scope name (no_left (used scope name).faults _ none)
   primary_visible scope at (tree.Entry vector subscript) none =
-      let index = vector_index scope at vector in (
-        vector_visible scope at vector (no_left index.faults _ none),
-        index_visible scope subscript (value_of scope at subscript) (expression_visible scope at subscript) (no_left (index_value scope at subscript).faults _ (no_right index.faults _ none)),
+      let e = used scope vector in (
+        used_visible scope vector (no_left e.faults _ none),
+        index_visible scope subscript (value_of scope at subscript) (expression_visible scope at subscript) (no_left (index_value scope at subscript).faults _ (no_right e.faults _ none)),
       )
   primary_visible scope at (tree.Size set) none = used_visible scope set (no_left (used scope set).faults _ none)
   primary_visible scope at (tree.Parentheses inside) none = expression_visible scope at inside none

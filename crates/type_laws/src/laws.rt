@@ -1,25 +1,32 @@
 //! Laws of sources and of checked programs, one for each rule of types. The calls do nothing.
-ghost use Rattle.std.specs.Prelude.{◌≡◌, ◌⊎◌, ◌↔◌, ℕ, ◌≤◌, [], map, Ok, Err};
-ghost use Rattle.std.specs.List.{AllByRecursion, IsDistinct};
+ghost use Rattle.std.specs.Prelude.{◌≡◌, ◌≢◌, ◌⊎◌, ◌↔◌, ℕ, ◌≤◌, true, false, [], ◌++◌, map, Ok, Err};
+ghost use Rattle.std.specs.List.{AllByRecursion, Contains, IsDistinct};
 ghost use Rattle.std.specs.Str.{bytes_eq};
 ghost use Rattle.syntax.specs.ExpressionTrees.{ExpressionTree};
-ghost use Rattle.syntax.specs.SourceTrees.{SourceTree};
+ghost use Rattle.syntax.specs.SourceTrees.{InitialTree, SourceTree};
 ghost use Rattle.typed_tree.specs.ProgramTree.{ProgramTree};
 ghost use Rattle.typed_tree.specs.Resolved.{IsResolved};
 ghost use Rattle.expression_types.specs.declared.fault.Fault as fault;
+ghost use Rattle.expression_types.specs.declared.fault.TypeRule as type_rule;
 ghost use Rattle.expression_types.specs.Expression.{value_of};
 ghost use Rattle.expression_types.specs.Least.{IsLeast};
 ghost use Rattle.expression_types.specs.ScopeTree.{ScopeTree};
+ghost use Rattle.type_laws.specs.BrokenRules.{BreaksNoRule, BreaksRule, IsLeastBroken};
+ghost use Rattle.type_laws.specs.ExpressionRules.{own_faults};
+ghost use Rattle.type_laws.specs.ExpressionParts.{Form, any_faulty, faults_of_all, form_faults, is_faulty, parts};
 ghost use Rattle.type_laws.specs.ExpressionTypes.{ExpressionHas, ExpressionType};
+ghost use Rattle.type_laws.specs.SourceParts.{initial_forms};
 ghost use Rattle.type_laws.specs.ScopeMeanings.{AreMeant, meanings_of};
 ghost use Rattle.type_laws.specs.AskedVectors.{AskForWritten};
 ghost use Rattle.type_laws.specs.EntryAccess.{AccessesEntriesWell};
-ghost use Rattle.types.specs.Checker.{without_ends};
+ghost use Rattle.types.specs.Checker.{CheckerTree, without_ends};
+ghost use Rattle.types.specs.Initial.{initializer_of, is_sound};
 ghost use Rattle.types.specs.Declaration.{main_bytes};
 ghost use Rattle.type_laws.specs.InitialValues.{DeclarationInitialsFit};
 ghost use Rattle.type_laws.specs.KeptRules.{KeepsRules};
 ghost use Rattle.type_laws.specs.LabelIndices.{LabelsAreInOrder};
 ghost use Rattle.type_laws.specs.Labels.{labels_of};
+ghost use Rattle.type_laws.specs.LoopVariables.{KeepsLoopVariables};
 ghost use Rattle.type_laws.specs.MainFunction.{DeclaresMain, functions_named};
 ghost use Rattle.type_laws.specs.NewNames.{DeclarationsDeclareNew, edges_declared};
 ghost use Rattle.type_laws.specs.Numbers.{InOrder, numbers};
@@ -29,8 +36,8 @@ ghost use Rattle.type_laws.specs.VisibleSets.{NamesSetsApart};
 ghost use Rattle.type_laws.specs.WellTyped.{DeclarationFits};
 ghost use Rattle.types.specs.Program.{Checks, program_of};
 
-/// The law that a source has a program or a fault that is told, and not both. It has a program exactly where it has no
-/// fault, and of several the least is told, by the law [`expression_types::least_fault_is_told`].
+/// The law that a source has a program or a fault that is reported, and not both. It has a program exactly where it has no
+/// fault, and of several the least is reported, by the law [`expression_types::least_fault_is_told`].
 pub fn sources_have_a_program_or_a_fault()
     ensures one { (source : SourceTree) (length : ℕ) → ((program : ProgramTree) × Checks source length (Ok program)) ⊎ ((f : fault.Fault)
         × Checks source length (Err f)) }
@@ -82,6 +89,12 @@ pub fn checked_programs_name_visible_sets_apart()
 /// edge function writes.
 pub fn checked_programs_ask_for_written_vectors()
     ensures { (source : SourceTree) (length : ℕ) (program : ProgramTree) → Checks source length (Ok program) → AskForWritten program }
+{}
+
+/// The law that in a checked program no statement of `main` assigns or reduces the variable of a `for` around it, nor the
+/// bound of that `for`, which has the index after the variable's.
+pub fn checked_programs_keep_loop_variables()
+    ensures { (source : SourceTree) (length : ℕ) (program : ProgramTree) → Checks source length (Ok program) → KeepsLoopVariables program }
 {}
 
 /// The law that the statements of `main` are numbered from 1 in the order of the text, without a gap, a block before
@@ -144,9 +157,9 @@ pub fn sources_have_a_program_where_they_keep_the_rules()
     ensures { (source : SourceTree) (length : ℕ) → ((program : ProgramTree) × Checks source length (Ok program)) ↔ KeepsRules source }
 {}
 
-/// The law that the fault which is told of a source is one of its faults, and the least: no fault of it has a lesser
+/// The law that the fault which is reported of a source is one of its faults, and the least: no fault of it has a lesser
 /// offset, or the same and a lesser number.
-pub fn told_faults_are_the_least()
+pub fn reported_faults_are_the_least()
     ensures { (source : SourceTree) (length : ℕ) (f : fault.Fault) → Checks source length (Err f) → IsLeast f (program_of source length).faults }
 {}
 
@@ -157,4 +170,48 @@ pub fn expressions_have_types_where_they_have_no_fault()
         → (type : ExpressionType) × ExpressionHas (meanings_of scope.visible) scope.inside e type }
     ensures faultless { (scope : ScopeTree) (at : ℕ) (e : ExpressionTree) (type : ExpressionType)
         → ExpressionHas (meanings_of scope.visible) scope.inside e type → (value_of scope at e).faults ≡ [] }
+{}
+
+/// The law that the faults of a form of expression are those of its parts, and the rules that it breaks itself if none of
+/// its parts is faulty. `form_breaks` has one case for each rule and each form that can break it: 221 at the name, 223 and
+/// 226 at the statement or declaration around the expression.
+pub fn faults_of_expressions_are_their_broken_rules()
+    ensures { (scope : ScopeTree) (at : ℕ) (form : Form) → form_faults scope at form
+        ≡ faults_of_all scope at (parts scope form) ++ own_faults scope at form }
+{}
+
+/// The law that an expression with a faulty part has no further fault, for each form of expression that has parts: it has
+/// the faults of its parts, and is faulty itself. An expression is faulty if it has a fault, or if a name in it has a
+/// faulty declaration. An initial or assigned value with a faulty part has no fault but those of its parts, and no statement or
+/// declaration asks for its type.
+pub fn expressions_with_faulty_parts_have_no_further_fault()
+    ensures further { (scope : ScopeTree) (at : ℕ) (form : Form) → any_faulty scope at (parts scope form) ≡ true
+        → form_faults scope at form ≡ faults_of_all scope at (parts scope form) }
+    ensures whole { (scope : ScopeTree) (at : ℕ) (form : Form) → any_faulty scope at (parts scope form) ≡ true → is_faulty scope at form ≡ true }
+    ensures fault { (scope : ScopeTree) (at : ℕ) (form : Form) → form_faults scope at form ≢ [] → is_faulty scope at form ≡ true }
+    ensures initial { (c : CheckerTree) (at : ℕ) (x : InitialTree) (f : fault.Fault) → any_faulty c.scope at (initial_forms x) ≡ true
+        → Contains (initializer_of c at x).faults f → Contains (faults_of_all c.scope at (initial_forms x)) f }
+    ensures unsound { (c : CheckerTree) (at : ℕ) (x : InitialTree) → any_faulty c.scope at (initial_forms x) ≡ true
+        → is_sound (initializer_of c at x).value ≡ false }
+{}
+
+/// The law that the faults of a source are the rules that it breaks, each at its offset, and no others.
+///
+/// `BreaksRule` goes over the parts of a source and has one definition for each rule: which parts break it themselves. What
+/// is known at a part, as the visible names, is what the checker knows there.
+pub fn faults_are_the_broken_rules()
+    ensures broken { (source : SourceTree) (length : ℕ) (f : fault.Fault) → Contains (program_of source length).faults f
+        → BreaksRule source length f.at f.rule }
+    ensures faults { (source : SourceTree) (length at : ℕ) (r : type_rule.TypeRule) → BreaksRule source length at r
+        → Contains (program_of source length).faults (record { at = at; rule = r }) }
+{}
+
+/// The law that the reported fault of a source is the least rule that it breaks: no rule is broken at a lesser offset, and
+/// none with a lesser number at the same one. A source with a program breaks no rule, and a source breaks no rule exactly
+/// where it keeps the rules.
+pub fn reported_faults_are_the_least_broken_rules()
+    ensures least { (source : SourceTree) (length : ℕ) (f : fault.Fault) → Checks source length (Err f)
+        → IsLeastBroken source length f.at f.rule }
+    ensures none { (source : SourceTree) (length : ℕ) (program : ProgramTree) → Checks source length (Ok program) → BreaksNoRule source length }
+    ensures kept { (source : SourceTree) (length : ℕ) → BreaksNoRule source length ↔ KeepsRules source }
 {}

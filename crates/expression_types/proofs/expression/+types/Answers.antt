@@ -4,10 +4,10 @@ use Rattle.syntax.specs.Terminals.{Identifier}
 use Rattle.syntax.specs.ExpressionViews.{unary_of, term_of, sum_of, primary_of, comparison_of, comparison_from, conjunction_of}
 use Rattle.typed_tree.specs.declared.expression.Connective.TheVariants as connective
 use Rattle.expression_types.specs.declared.fault.TypeRule.TheVariants as rule
-use Rattle.expression_types.specs.Expression.{value_of, conjunction_value, comparison_value, index_lacks_value, no_vertex, sum_value, term_value, unary_value, primary_value, vector_index}
+use Rattle.expression_types.specs.Expression.{value_of, conjunction_value, comparison_value, index_lacks_value, no_vertex, sum_value, term_value, unary_value, primary_value, used, entry_of}
 use Rattle.expression_types.specs.WithFaults.{WithFaults, ReportsFaults, sure, outcome, ◌>>=◌}
 use Rattle.expression_types.specs.Operands.{conditions_of, integers_of}
-use Rattle.expression_types.specs.Operators.{added, multiplied, given, related_value, entry_value, first_integer, first_condition, beside_integer, beside_condition, grouped_integers, grouped_conditions}
+use Rattle.expression_types.specs.Operators.{added, multiplied, given, related_value, first_integer, first_condition, beside_integer, beside_condition, grouped_integers, grouped_conditions}
 use Rattle.expression_types.specs.inside.Signs.{signs_value}
 use Rattle.expression_types.specs.ScopeTree.{ScopeTree}
 use Rattle.expression_types.specs.ValueTree.{ValueTree, value_tree}
@@ -120,38 +120,38 @@ comparison-returns-in_ok-right-in-Some t c =
 -- an entry at an index that has no value, and at one that has
 abbrev entry_at : ScopeTree → ℕ → Identifier → ExpressionTree → Bool → WithFaults ValueTree
 entry_at scope at name index lacks =
-    vector_index scope at name >>= λ vector. (if lacks then sure no_vertex else value_of scope at index) >>= λ v. entry_value scope.inside at vector v
+    used scope name >>= λ e. (if lacks then sure no_vertex else value_of scope at index) >>= λ v. entry_of scope.inside at e v
 
 pub primary-returns-then-is_name_without_value : goal.primary-returns-then-is_name_without_value
 primary-returns-then-is_name_without_value t c =
     let scope = c.args.scope.now in
     let at = c.args.at in
-    let vector = c.vector-vector.result in
+    let entity = c.entity-entity.result in
     let index = c.in-Entry.index.value in
     subst (λ p. ReportsFaults value_tree c.args.first_fault.now c.entry.new.first_fault c.entry.result (primary_value scope at (primary_of p))) (sym c.in-Entry.is)
     (subst (λ b. ReportsFaults value_tree c.args.first_fault.now c.entry.new.first_fault c.entry.result (entry_at scope at c.in-Entry.name index b))
     (sym c.if-is_name_without_value.true ∙ c.is_name_without_value.ensures ∙ ap (index_lacks_value scope.inside scope) c.deref.ensures)
-    (reports_then value_tree c.args.first_fault.now c.vector-vector.new.first_fault c.entry.new.first_fault (vector_index scope at c.in-Entry.name) vector
-    (λ vector. sure no_vertex >>= λ v. entry_value scope.inside at vector v) c.entry.result c.vector-vector.ensures
-    (subst (λ inside. ReportsFaults value_tree c.vector-vector.new.first_fault c.entry.new.first_fault c.entry.result (entry_value inside at vector no_vertex)) c.inside.ensures
-    (subst (λ v. ReportsFaults value_tree c.vector-vector.new.first_fault c.entry.new.first_fault c.entry.result (entry_value c.inside.result at vector v)) c.other_index.ensures c.entry.ensures))))
+    (reports_then value_tree c.args.first_fault.now c.entity-entity.new.first_fault c.entry.new.first_fault (used scope c.in-Entry.name) entity
+    (λ e. sure no_vertex >>= λ v. entry_of scope.inside at e v) c.entry.result c.entity-entity.ensures
+    (subst (λ inside. ReportsFaults value_tree c.entity-entity.new.first_fault c.entry.new.first_fault c.entry.result (entry_of inside at entity no_vertex)) c.inside.ensures
+    (subst (λ v. ReportsFaults value_tree c.entity-entity.new.first_fault c.entry.new.first_fault c.entry.result (entry_of c.inside.result at entity v)) c.other_index.ensures c.entry.ensures))))
 
 pub primary-returns-in_ok-index-in-Entry : goal.primary-returns-in_ok-index-in-Entry
 primary-returns-in_ok-index-in-Entry t c =
     let scope = c.args.scope.now in
     let at = c.args.at in
-    let vector = c.vector-vector.result in
+    let entity = c.entity-entity.result in
     let v = value_tree c.in_ok-index-in-Entry.index in
     let index = c.in-Entry.index.value in
     subst (λ p. ReportsFaults value_tree c.args.first_fault.now c.entry-in-Entry.new.first_fault c.entry-in-Entry.result (primary_value scope at (primary_of p))) (sym c.in-Entry.is)
     (subst (λ b. ReportsFaults value_tree c.args.first_fault.now c.entry-in-Entry.new.first_fault c.entry-in-Entry.result (entry_at scope at c.in-Entry.name index b))
     (sym c.if-is_name_without_value.false ∙ c.is_name_without_value.ensures ∙ ap (index_lacks_value scope.inside scope) c.deref.ensures)
-    (reports_then value_tree c.args.first_fault.now c.vector-vector.new.first_fault c.entry-in-Entry.new.first_fault (vector_index scope at c.in-Entry.name) vector
-    (λ vector. value_of scope at index >>= λ v. entry_value scope.inside at vector v) c.entry-in-Entry.result c.vector-vector.ensures
-    (reports_then value_tree c.vector-vector.new.first_fault c.type_expression.new.first_fault c.entry-in-Entry.new.first_fault (value_of scope at index) v
-    (λ v. entry_value scope.inside at vector v) c.entry-in-Entry.result
-    (subst (λ e. outcome c.vector-vector.new.first_fault (value_of scope at e) ≡ (v, c.type_expression.new.first_fault)) c.deref-in-Entry.ensures c.in_ok-index-in-Entry.ensures)
-    (subst (λ inside. ReportsFaults value_tree c.type_expression.new.first_fault c.entry-in-Entry.new.first_fault c.entry-in-Entry.result (entry_value inside at vector v)) c.inside-in-Entry.ensures c.entry-in-Entry.ensures))))
+    (reports_then value_tree c.args.first_fault.now c.entity-entity.new.first_fault c.entry-in-Entry.new.first_fault (used scope c.in-Entry.name) entity
+    (λ e. value_of scope at index >>= λ v. entry_of scope.inside at e v) c.entry-in-Entry.result c.entity-entity.ensures
+    (reports_then value_tree c.entity-entity.new.first_fault c.type_expression.new.first_fault c.entry-in-Entry.new.first_fault (value_of scope at index) v
+    (λ v. entry_of scope.inside at entity v) c.entry-in-Entry.result
+    (subst (λ e. outcome c.entity-entity.new.first_fault (value_of scope at e) ≡ (v, c.type_expression.new.first_fault)) c.deref-in-Entry.ensures c.in_ok-index-in-Entry.ensures)
+    (subst (λ inside. ReportsFaults value_tree c.type_expression.new.first_fault c.entry-in-Entry.new.first_fault c.entry-in-Entry.result (entry_of inside at entity v)) c.inside-in-Entry.ensures c.entry-in-Entry.ensures))))
 
 pub unary-returns : goal.unary-returns
 unary-returns t c =

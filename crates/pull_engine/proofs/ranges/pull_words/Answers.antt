@@ -3,6 +3,7 @@ use Rattle.kernels.specs.Value.{entry}
 use Rattle.vectors.specs.Lanes.{lane_entry}
 use Rattle.edge_apply.specs.Words.{passes_words}
 use Rattle.edge_fold.specs.Changed.{changed_from}
+use Rattle.pull_engine.specs.Lets.{lets}
 use Rattle.pull_engine.specs.Ranges.{pulled_to}
 use Rattle.pull_engine.proofs.RangeCuts.{within, block_more, blocks_begun, range_whole}
 use Rattle.pull_engine.proofs.ranges.pull_words.Goals as goal
@@ -12,7 +13,7 @@ rounds-init g c =
     let a = c.args in
     let old = lane_entry c.lane.result in
     c.new-changes.ensures.items
-    ∙ blocks_begun old (pulled_to (g.F.SourceFold.reduction a.fold.now) (g.F.SourceFold.number a.fold.now) old (passes_words a.range.from) (within a.range.low a.range.high (g.W.DestinationWords.lets a.to.now)) a.range.flat.now.edges)
+    ∙ blocks_begun old (pulled_to (g.F.SourceFold.reduction a.fold.now) (g.F.SourceFold.number a.fold.now) old (passes_words a.range.from) (within a.range.low a.range.high (lets a.to.now)) a.range.flat.now.edges)
     (64 * (a.range.low / 64)) (a.range.low / 64)
 
 pub rounds-preserved : goal.rounds-preserved
@@ -20,7 +21,7 @@ rounds-preserved g c =
     let a = c.args in
     let k = c.rounds.block in
     let order : a.range.low / 64 ≤ k = c.rounds.auto.block in
-    block_more (g.F.SourceFold.reduction a.fold.now) (g.F.SourceFold.number a.fold.now) (lane_entry c.lane.result) (passes_words a.range.from) (g.W.DestinationWords.lets a.to.now) a.range.flat.now.edges
+    block_more (g.F.SourceFold.reduction a.fold.now) (g.F.SourceFold.number a.fold.now) (lane_entry c.lane.result) (passes_words a.range.from) (lets a.to.now) a.range.flat.now.edges
     a.range.low a.range.high (a.range.low / 64) k c.range_word.result c.word.result c.rounds.changes.items c.pull_block.new.changes.items
     order c.range_word.ensures c.word.ensures c.in_ok-pull_block.ensures c.rounds.invariant
 
@@ -31,7 +32,7 @@ returns g c m test vectors sizes is =
     let r = g.F.SourceFold.reduction a.fold.now in
     let number = g.F.SourceFold.number a.fold.now in
     let lane = lane_entry c.lane.result in
-    let lets = g.W.DestinationWords.lets a.to.now in
+    let lets = lets a.to.now in
     let stop = c.blocks_below-stop.result in
     let covered = c.blocks_below-stop.ensures.covered in
     let last : c.rounds.block ≡ stop = omega (arith, c.rounds-test.false, covered, c.requires.order, c.rounds.auto.block, c.rounds.auto.block-end) in

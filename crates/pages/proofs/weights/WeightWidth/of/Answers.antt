@@ -1,9 +1,12 @@
-use Rattle.std.proofs.Common.{◌≡◌, ℕ, ℤ, pos, ◌≤ℤ◌, get_or, w64, int_cmp, refl, inl, inr, ◌∙◌, ap, arith, rules}
+use Rattle.std.proofs.Common.{◌≡◌, ℕ, ◌+◌, ◌<◌, ℤ, pos, ◌≤ℤ◌, get_or, w64, int_cmp, ◌⊎◌, subst, refl, sym, inl, inr, ◌∙◌, ap, arith, rules}
 use Rattle.std.specs.Ordering.{ord_min, ord_max}
 use Rattle.std.specs.Int.{int_min, int_max}
 use Rattle.std.proofs.lemmas.Bool.{cases_Bool}
 use Rattle.std.proofs.lemmas.Int.{ints, clamps, to_z-of_z}
 use Rattle.std.proofs.lemmas.List.{get_or_default}
+use Rattle.pages.specs.declared.weights.WeightWidth.{WeightWidth}
+use Rattle.pages.specs.declared.weights.WeightWidth.TheVariants.{Ones}
+use Rattle.pages.specs.inside.Weights.{Allows}
 use lib.Signed.{lt_z}
 use mir.Val.{SFits, to_z, of_z}
 use Rattle.pages.proofs.Weighing.{true_more}
@@ -28,11 +31,14 @@ min_low a b m is = (omega (arith, ints, clamps), omega (arith, ints, clamps))
 max_high : (a b m : ℤ) → m ≡ int_max a b → (a ≤ℤ m) × (b ≤ℤ m)
 max_high a b m is = (omega (arith, ints, clamps), omega (arith, ints, clamps))
 
-min_ones : (a b m : ℤ) → m ≡ int_min a b → a ≡ pos 1 → b ≡ pos 1 → m ≡ pos 1
-min_ones a b m is one also = omega (arith, ints, clamps)
+one_of_min : (a b m : ℤ) → m ≡ int_min a b → (m ≡ a) ⊎ (m ≡ b)
+one_of_min a b m is = elim (cases_Bool (lt_z b a)) [ inl lt ↦ inr (omega (arith, ints, clamps)) | inr ge ↦ inl (omega (arith, ints, clamps)) ]
 
-max_ones : (a b m : ℤ) → m ≡ int_max a b → a ≡ pos 1 → b ≡ pos 1 → m ≡ pos 1
-max_ones a b m is one also = omega (arith, ints, clamps)
+one_of_max : (a b m : ℤ) → m ≡ int_max a b → (m ≡ a) ⊎ (m ≡ b)
+one_of_max a b m is = elim (cases_Bool (lt_z b a)) [ inl lt ↦ inl (omega (arith, ints, clamps)) | inr ge ↦ inr (omega (arith, ints, clamps)) ]
+
+allowed : (w : WeightWidth) (a b m : ℤ) → (m ≡ a) ⊎ (m ≡ b) → Allows w a → Allows w b → Allows w m
+allowed w a b m one first second = elim one [ inl is ↦ subst (Allows w) (sym is) first | inr is ↦ subst (Allows w) (sym is) second ]
 
 through : (a b d : ℤ) → a ≤ℤ b → b ≤ℤ d → a ≤ℤ d
 through a b d s t = omega (arith, ints)
@@ -53,13 +59,17 @@ loop-weight-preserved c =
     let under = min_low (to_z w64 l.least-bits) x low least in
     let over = max_high (to_z w64 l.greatest-bits) x high greatest in
     let same : x ≡ get_or ws n (pos 1) = get_or_default ws n (pos 0) (pos 1) c.loop-weight-test.true in
+    let allows : (w : WeightWidth) → Allows w (pos 1) → ((i : ℕ) → i < n + 1 → Allows w (get_or ws i (pos 1))) → Allows w low × Allows w high = λ w one all.
+    let before = l.invariant.allows w one (λ i lt. all i (omega (arith, lt))) in
+    let here : Allows w x = subst (Allows w) (sym same) (all n (omega arith)) in (
+      allowed w (to_z w64 l.least-bits) x low (one_of_min (to_z w64 l.least-bits) x low least) before.0 here,
+      allowed w (to_z w64 l.greatest-bits) x high (one_of_max (to_z w64 l.greatest-bits) x high greatest) before.1 here,
+    ) in
     record {
       least = through low (to_z w64 l.least-bits) (pos 1) under.0 l.invariant.least;
       greatest = through (pos 1) (to_z w64 l.greatest-bits) high l.invariant.greatest over.0;
       low = true_more (λ w. low ≤ℤ w) ws n (λ i lt. through low (to_z w64 l.least-bits) (get_or ws i (pos 1)) under.0 (l.invariant.low i lt)) (rw (← same) under.1);
       high = true_more (λ w. w ≤ℤ high) ws n (λ i lt. through (get_or ws i (pos 1)) (to_z w64 l.greatest-bits) high (l.invariant.high i lt) over.0) (rw (← same) over.1);
-      ones = λ all.
-          let before = l.invariant.ones (λ i lt. all i (omega (arith, lt))) in
-          let here : x ≡ pos 1 = same ∙ all n (omega arith) in
-          (min_ones (to_z w64 l.least-bits) x low least before.0 here, max_ones (to_z w64 l.greatest-bits) x high greatest before.1 here);
+      ones = allows Ones refl;
+      allows = allows;
     }

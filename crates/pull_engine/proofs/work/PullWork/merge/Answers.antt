@@ -1,9 +1,7 @@
-use Rattle.std.proofs.Common.{ℕ, length, sym, ap, ◌∙◌, subst}
+use Rattle.std.proofs.Common.{ℕ, sym, ap, ◌∙◌, subst}
 use Rattle.std.specs.List.{flat_map, range_with_len}
 use Rattle.std.specs.List.Sorted.{IsPermutation}
-use Rattle.std.proofs.lemmas.List.FromFn.{length-range_with_len}
 use Rattle.std.proofs.lemmas.Result.{IfOk-weaker}
-use Rattle.crew.specs.Partition.{AreEnds}
 use Rattle.crew.specs.Pieces.{pieces_of}
 use Rattle.kernels.specs.Value.{entry}
 use Rattle.edge_fold.specs.Between.{edges_between}
@@ -22,8 +20,6 @@ returns-in_ok-changes-in-Some-clause-changes c =
     let at = c.in-Some.ensures.some in
     let n = w.apply.flat.now.vertices in
     let count = c.pieces.ensures in
-    let long = ap length w.all ∙ length-range_with_len 0 n in
-    let ends = subst (λ (l : ℕ). AreEnds 0 l w.cuts) long w.whole in
     IfOk-weaker c.changes_in.result _ _
     (λ cs told answers order m steps from to vectors sizes kernels is_from is_to.
     let es = edges_between from to w.apply.flat.now.edges in
@@ -36,7 +32,7 @@ returns-in_ok-changes-in-Some-clause-changes c =
     (subst (λ (l : ℕ). IsPermutation (pieces_of fs) (range_with_len 1 l)) (sym count) order)
     (pulled_parts w fs y at answers m steps from to vectors sizes kernels is_from is_to r by)
     ∙ ap (λ (l : ℕ). flat_map (told_in_piece old new w.cuts) (range_with_len 1 l)) count
-    ∙ told_in_pieces old new w.cuts n ends))
+    ∙ told_in_pieces old new w.cuts n w.whole))
     c.changes_in.ensures.changes
 
 pub returns-in-None-clause-changes : goal.returns-in-None-clause-changes

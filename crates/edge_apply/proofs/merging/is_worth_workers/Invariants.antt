@@ -1,0 +1,7 @@
+use Rattle.std.proofs.Common.{◌≡◌, ◌-◌, ◌^◌, min, take}
+use Rattle.edge_apply.specs.GatheredNumbers.{numbers_found}
+use Rattle.edge_apply.proofs.merging.is_worth_workers.Given as goal
+
+-- the numbers of the pieces that have come are counted
+abbrev pub invariant-found : goal.invariant-found
+invariant-found l = l.numbers ≡ min (numbers_found (take l.one-index l.found)) (2 ^ 64 - 1)

@@ -1,0 +1,14 @@
+use Rattle.std.proofs.Common.{◌*◌, ◌-◌}
+use Rattle.std.specs.List.{filter, range_with_len}
+use Rattle.edge_fold.proofs.Walks.{FoldsMore}
+use Rattle.edge_apply.specs.Words.{passes_words}
+use Rattle.pull_engine.specs.Columns.{columns}
+use Rattle.pull_engine.specs.Lets.{lets}
+use Rattle.pull_engine.proofs.RangeCuts.{within}
+use Rattle.pull_engine.proofs.destinations.fold_words.Given as goal
+
+-- the edges into the vertices of the blocks so far are folded
+abbrev pub invariant-rounds : goal.invariant-rounds
+invariant-rounds l =
+    FoldsMore l.input.context (columns (passes_words l.input.from) l.input.flat.now.edges (filter (within l.range.low l.range.high (lets l.to)) (range_with_len (64 * l.first) (64 * (l.block - l.first)))))
+    l.fn.scratch l.scratch

@@ -1,0 +1,46 @@
+-- Programs with no statement that assigns a variable of a `for` around it.
+use Rattle.std.specs.Prelude.{◌≢◌, ℕ, ◌+◌, List, [], ◌∷◌}
+use Rattle.typed_tree.specs.BlockTree.{ActionTree, DeclareInteger, DeclareCondition, SetInteger, SetCondition, ReduceInteger, SetEntry, ReduceEntry, DeclareSet, AssignSet, AddVertex, PrintInteger, PrintCondition, ApplyVertex, ApplyEdges, If, IfElse, While, For, BlockTree, Empty, Then}
+use Rattle.typed_tree.specs.ProgramTree.{ProgramTree}
+
+-- An integer is no variable of these loops, and no bound. A loop has its variable at its index and its bound at the next one.
+abbrev pub IsOutside : (indices : List ℕ) → (index : ℕ) → Type 0
+IsOutside [] x = Unit {0}
+IsOutside (i ∷ is) x = (x ≢ i) × (x ≢ i + 1) × IsOutside is x
+
+-- how many integers are visible after a statement, if n are visible before it
+abbrev pub integers_behind : ActionTree → ℕ → ℕ
+integers_behind (DeclareInteger name e) n = n + 1
+integers_behind _ n = n
+
+abbrev mutual
+  -- A statement assigns no variable of the loops around it, and neither do those in it. If n integers are visible before a loop, its
+  -- variable has the index n.
+  pub KeepsInside : (integers : ℕ) → (indices : List ℕ) → ActionTree → Type 0
+  KeepsInside n is (DeclareInteger name e) = Unit {0}
+  KeepsInside n is (DeclareCondition name c) = Unit {0}
+  KeepsInside n is (SetInteger slot e) = IsOutside is slot.index
+  KeepsInside n is (SetCondition slot c) = Unit {0}
+  KeepsInside n is (ReduceInteger slot by e) = IsOutside is slot.index
+  KeepsInside n is (SetEntry vector index e) = Unit {0}
+  KeepsInside n is (ReduceEntry vector index by e) = Unit {0}
+  KeepsInside n is (DeclareSet name value) = Unit {0}
+  KeepsInside n is (AssignSet slot value) = Unit {0}
+  KeepsInside n is (AddVertex slot e) = Unit {0}
+  KeepsInside n is (PrintInteger e) = Unit {0}
+  KeepsInside n is (PrintCondition c) = Unit {0}
+  KeepsInside n is (ApplyVertex set function) = Unit {0}
+  KeepsInside n is (ApplyEdges ends function) = Unit {0}
+  KeepsInside n is (If c body) = KeepsLoops n is body
+  KeepsInside n is (IfElse c body other) = KeepsLoops n is body × KeepsLoops n is other
+  KeepsInside n is (While c body) = KeepsLoops n is body
+  KeepsInside n is (For name first end body) = KeepsLoops (n + 2) (n ∷ is) body
+
+  -- nor does a statement of a block
+  pub KeepsLoops : (integers : ℕ) → (indices : List ℕ) → BlockTree → Type 0
+  KeepsLoops n is Empty = Unit {0}
+  KeepsLoops n is (Then number label action rest) = KeepsInside n is action × KeepsLoops (integers_behind action n) is rest
+
+-- No statement of main assigns a variable of a `for` around it. No integer is visible before the first statement.
+abbrev pub KeepsLoopVariables : ProgramTree → Type 0
+KeepsLoopVariables p = KeepsLoops 0 [] p.main
