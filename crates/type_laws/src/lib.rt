@@ -48,6 +48,6 @@ pub use laws::{
     expressions_with_faulty_parts_have_no_further_fault, faults_are_the_broken_rules,
     faults_of_expressions_are_their_broken_rules, labels_of_main_are_in_order,
     reported_faults_are_the_least, reported_faults_are_the_least_broken_rules,
-    sources_have_a_program_or_a_fault,
-    sources_have_a_program_where_they_keep_the_rules, statements_are_numbered_in_order,
+    sources_have_a_program_or_a_fault, sources_have_a_program_where_they_keep_the_rules,
+    statements_are_numbered_in_order,
 };
