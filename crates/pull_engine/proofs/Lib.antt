@@ -11,5 +11,6 @@ pub mod RangeCuts
 pub mod BlockColumns
 pub mod FoundParts
 pub mod Crossing
+pub mod SourceWords
 mod Chosen
 mod Rows

@@ -9,3 +9,4 @@ pub mod Pieces
 pub mod PieceRanges
 pub mod EntryTests
 pub mod Lets
+pub mod Sources

@@ -1,7 +1,6 @@
 //! Whole applies by pull: into the destinations.
 ghost use Rattle.std.specs.Prelude.{◌≡◌, ℕ, ◌==◌, Bool, if◌then◌else◌, List, [], IfOk};
 ghost use Rattle.kernels.specs.StepTree.{StepsTree};
-ghost use Rattle.kernels.specs.EdgeApply.{is_member};
 ghost use Rattle.kernels.specs.State.{StateValue};
 ghost use Rattle.edge_fold.specs.Between.{edges_between};
 ghost use Rattle.edge_fold.specs.Changed.{AreApart, changes_of};
@@ -15,13 +14,11 @@ ghost use Rattle.flat_snapshot.specs.Digraph.{IsDigraph};
 use crate::destinations::fold_range;
 use crate::ranges::PullRange;
 use crate::shapes::{apply_shape, pull_shape, shape_target};
-use edge_apply::{Apply, passing_set};
-use edge_fold::{ApplyContext, FoldStart, Scratch};
-use flat_snapshot::Flat;
-use kernels::EndpointFilter;
+use crate::source_words::SourceWords;
+use edge_apply::Apply;
+use edge_fold::{FoldStart, Scratch};
 use std::alloc::{AllocError, Global};
 use vectors::{Changes, EntryChange, VectorChanges};
-use vertex_sets::{Form, VertexSet};
 
 /// What an apply of edge functions changes, where it goes over the destinations and their sources: for each vector that
 /// a function has given something one list of changes, by ascending vertices, and a vector without one does not change.
@@ -39,68 +36,17 @@ pub fn pull(alloc: Global, apply: &Apply<'_>, scratch: &mut Scratch) -> Result<C
     ensures once { IfOk result (λ c. AreApart c.vectors.items) }
     ensures changes { IfOk result (λ c. AreChangesOf apply.now c.vectors.items) }
 {
-    let flat = apply.flat;
     let context = apply.context(FoldStart::OldEntry);
-    let Some(end) = apply.from else {
-        return pull_from(alloc, flat, context, None, apply.to, scratch);
-    };
-    match end {
-        EndpointFilter::Members(set) => pull_members(alloc, flat, context, set, apply.to, scratch),
-        EndpointFilter::Filter(_) => {
-            let passing = passing_set(alloc, context, end, scratch)?;
-            pull_members(alloc, flat, context, &passing, apply.to, scratch)
-        }
-    }
-}
-
-/// What an apply from the members of a set changes.
-fn pull_members(
-    alloc: Global,
-    flat: &Flat,
-    context: ApplyContext<'_>,
-    set: &VertexSet,
-    to: Option<EndpointFilter<'_>>,
-    scratch: &mut Scratch,
-) -> Result<Changes, AllocError>
-    ensures once { IfOk result (λ c. AreApart c.vectors.items) }
-    ensures changes { IfOk result (λ c. (m : StateValue) (steps : List StepsTree) (from test : ℕ → Bool) → IsContextOf context.entry m steps
-        → context.entry.vertices ≡ flat.now.vertices → context.entry.start ≡ OldEntry
-        → ((v : ℕ) → from v ≡ is_member v set.now.members) → IsEndTest to.entry m test
-        → AreChangesOn flat.now.vertices (edges_between from test flat.now.edges) m steps c.vectors.items) }
-{
-    if let Some(words) = set.words() {
-        return pull_from(alloc, flat, context, Some(words), to, scratch);
-    }
-    let bits = set.to_form(alloc, Form::Bits)?;
-    let Some(words) = bits.words() else {
-        unreachable!();
-    };
-    pull_from(alloc, flat, context, Some(words), to, scratch)
-}
-
-/// What an apply from the sources whose bits are set changes, or from all.
-fn pull_from(
-    alloc: Global,
-    flat: &Flat,
-    context: ApplyContext<'_>,
-    from: Option<&[u64]>,
-    to: Option<EndpointFilter<'_>>,
-    scratch: &mut Scratch,
-) -> Result<Changes, AllocError>
-    ensures once { IfOk result (λ c. AreApart c.vectors.items) }
-    ensures changes { IfOk result (λ c. (m : StateValue) (steps : List StepsTree) (test : ℕ → Bool) → IsContextOf context.entry m steps
-        → context.entry.vertices ≡ flat.now.vertices → context.entry.start ≡ OldEntry → IsEndTest to.entry m test
-        → AreChangesOn flat.now.vertices (edges_between (passes_words from.entry) test flat.now.edges) m steps c.vectors.items) }
-{
-    let shape = apply_shape(context.first, context.second);
+    let sources = SourceWords::of(alloc, apply.from, context, scratch)?;
     let range = PullRange {
-        flat,
+        flat: apply.flat,
         context,
-        from,
-        to,
+        from: sources.words(),
+        to: apply.to,
         low: 0,
-        high: flat.vertices(),
+        high: apply.flat.vertices(),
     };
+    let shape = apply_shape(context.first, context.second);
     let Some(target) = shape_target(shape) else {
         return pull_folded(alloc, range, scratch);
     };

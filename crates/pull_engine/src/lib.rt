@@ -48,6 +48,7 @@ mod ranges;
 mod shapes;
 mod source_block;
 mod source_folds;
+mod source_words;
 mod work;
 
 pub use changes::pull;

@@ -7,6 +7,10 @@ use Rattle.kernels.specs.declared.endpoint_filter.EndpointFilter.{EndpointFilter
 use Rattle.kernels.specs.declared.endpoint_filter.EndpointFilter.TheVariants as end
 use Rattle.crew.specs.Outcome.{edges_of_a_worker}
 use Rattle.flat_snapshot.specs.Neighbours.{sources_of}
+use Rattle.edge_apply.specs.declared.apply.Apply.{Apply}
+use Rattle.push_engine.specs.Work.{work_from_end}
+use Rattle.runner.specs.declared.direction.Traversal.{Traversal}
+use Rattle.runner.specs.declared.direction.Traversal.TheVariants as way
 
 -- the work of a pull: one for each vertex, and one for each edge to it
 abbrev pub work_into : (edges : List Edge) → (destinations : List ℕ) → ℕ
@@ -18,6 +22,11 @@ abbrev pub work_into_end : (edges : List Edge) → (to : Option EndpointFilter) 
 work_into_end edges None = length edges
 work_into_end edges (Some (end.Members set)) = work_into edges set.now.members
 work_into_end edges (Some (end.Filter filter)) = length edges
+
+-- that of an apply, gone over this way
+abbrev pub work_of : Traversal → Apply → ℕ
+work_of way.Push a = work_from_end a.flat.now.edges a.from
+work_of way.Pull a = work_into_end a.flat.now.edges a.to
 
 -- two workers or more, or none
 abbrev pub several : ℕ → Option ℕ

@@ -1,5 +1,5 @@
--- The sources of a hybrid, in a set, and which applies go into the destinations.
-use Rattle.std.specs.Prelude.{◌≡◌, ℕ, ◌<◌, ◌/◌, ◌&&◌, Bool, true, false, List, Option, Some, None, length, nat_lt}
+-- The sources of a hybrid, in a set, and which way an apply goes over the edges.
+use Rattle.std.specs.Prelude.{◌≡◌, ℕ, ◌<◌, ◌/◌, ◌&&◌, if◌then◌else◌, Bool, true, false, List, Option, Some, None, length, nat_lt}
 use Rattle.edge_lists.specs.Edge.{Edge}
 use Rattle.apply_options.specs.declared.apply_schedule.Direction.{Direction}
 use Rattle.apply_options.specs.declared.apply_schedule.Direction.TheVariants as direction
@@ -13,6 +13,8 @@ use Rattle.vertex_sets.specs.VertexSet.{VertexSubset}
 use Rattle.edge_fold.specs.Ends.{IsEndTest}
 use Rattle.edge_apply.specs.declared.apply.Apply.{Apply}
 use Rattle.push_engine.specs.Work.{work_from}
+use Rattle.runner.specs.declared.direction.Traversal.{Traversal}
+use Rattle.runner.specs.declared.direction.Traversal.TheVariants as way
 
 -- the members of a set are the vertices of the graph that the first end of an apply lets through
 pub record HasSources (a : Apply) (set : VertexSubset) : Type 0 where
@@ -38,16 +40,20 @@ abbrev pub AreSourcesOf : Apply → Option VertexSubset → Type 0
 AreSourcesOf a None = (is_hybrid a.direction && is_filtered a.from) ≡ false
 AreSourcesOf a (Some set) = HasSources a set
 
--- whether the hybrid goes into the destinations: where all sources pass, and where those in a set and the edges from them
--- are more than the edges divided by 20, rounded down
-abbrev pub hybrid_pulls : List Edge → Option EndpointFilter → Bool
-hybrid_pulls edges None = true
-hybrid_pulls edges (Some (end.Members set)) = nat_lt (length edges / 20) (work_from edges set.now.members)
-hybrid_pulls edges (Some (end.Filter filter)) = true
+-- the hybrid goes into the destinations if all sources pass, and if those in a set and the edges from them are more than the
+-- edges divided by 20, rounded down
+abbrev pub hybrid_traversal : List Edge → Option EndpointFilter → Traversal
+hybrid_traversal edges None = way.Pull
+hybrid_traversal edges (Some (end.Members set)) = if nat_lt (length edges / 20) (work_from edges set.now.members) then way.Pull else way.Push
+hybrid_traversal edges (Some (end.Filter filter)) = way.Pull
 
--- whether an apply goes into the destinations
-abbrev pub pulls : Direction → List Edge → Option EndpointFilter → Bool
-pulls direction.SparsePush edges from = false
-pulls direction.DensePush edges from = false
-pulls direction.DensePull edges from = true
-pulls direction.Hybrid edges from = hybrid_pulls edges from
+-- which way a direction goes
+abbrev pub direction_traversal : Direction → List Edge → Option EndpointFilter → Traversal
+direction_traversal direction.SparsePush edges from = way.Push
+direction_traversal direction.DensePush edges from = way.Push
+direction_traversal direction.DensePull edges from = way.Pull
+direction_traversal direction.Hybrid edges from = hybrid_traversal edges from
+
+-- which way an apply goes over the edges
+abbrev pub traversal_of : Apply → Traversal
+traversal_of a = direction_traversal a.direction a.flat.now.edges a.from

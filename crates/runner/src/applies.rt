@@ -23,7 +23,7 @@ ghost use Rattle.runner.specs.Results.{IsUpdateFor, result_of_second, with_both}
 
 use crate::changed_vertices::changed_vertices;
 use crate::edge_applier::EdgeApplier;
-use crate::edge_maps::EdgeMap;
+use crate::edge_maps::{EdgeMap, edge_map};
 use crate::flow::Flow;
 use crate::memory::Memory;
 use apply_options::ApplySchedule;
@@ -107,7 +107,7 @@ impl Memory {
             schedule,
         };
         let view = self.state.view(functions, graph);
-        let changes = by.edge_map(alloc, view, asked)?;
+        let changes = edge_map(alloc, view, asked, by)?;
         let second = result_of(second);
         take_changes(
             alloc,

@@ -1,20 +1,22 @@
-//! Edge applies of a plan, and how one worker does them.
+//! Edge applies of a plan.
 ghost use Rattle.std.specs.Prelude.{◌≡◌, ℕ, [], IfOk, slice_get};
 ghost use Rattle.typed_tree.specs.ProgramTree.{ProgramTree};
 ghost use Rattle.algorithm_meaning.specs.Function.{steps_of};
+ghost use Rattle.edge_fold.specs.Changed.{AreApart};
 ghost use Rattle.edge_fold.specs.Folded.{AreKernels};
+ghost use Rattle.edge_apply.specs.Applied.{AreChangesOf};
 ghost use Rattle.kernels.specs.Kernels.{IsEdgeKernel};
 ghost use Rattle.kernels.specs.declared.kernel.EdgeKernel.{EdgeKernel};
 ghost use Rattle.plans.specs.Functions.{AreFunctionKernels};
 ghost use Rattle.plans.specs.Reducing.{indices_of, steps_at};
 ghost use Rattle.runner.specs.EdgeMap.{AreChangesOfApply, IsApplyOfRun};
 
-use crate::direction::push_or_pull;
+use crate::direction::Traversal;
+use crate::edge_applier::EdgeApplier;
 use crate::ends::end_of;
 use apply_options::{ApplySchedule, Direction, Parallelization};
 use edge_apply::Apply;
-use edge_fold::Scratch;
-use kernels::EdgeKernel;
+use kernels::{EdgeKernel, EndpointFilter};
 use run_state::RunView;
 use std::alloc::{AllocError, Global};
 use typed_tree::ApplyEnds;
@@ -35,21 +37,46 @@ pub struct EdgeMap {
 /// a set has no members; an index without a function has one that does nothing. It promises so where the functions give
 /// each vector numbers by one reduction, and each vector has an entry for each vertex.
 ///
-/// Where the schedule says nothing, a sparse push is done, in one piece. The changes do not depend on it. The vectors,
-/// the sets and the graph stay as they are, and the scratch serves any apply after this one, whatever became of it.
+/// Where the schedule says nothing, a sparse push is done, in one piece. The changes do not depend on it. The hybrid goes by
+/// [`crate::pick_direction`]; where all sources pass it pulls, and a filter of sources is run for each vertex, once. The
+/// vectors, the sets and the graph stay as they are.
 ///
-/// The only error is out of memory.
-pub fn edge_map(
+/// The only error is out of memory. Who does the apply serves any apply after this one, whatever became of it.
+pub fn edge_map<E: EdgeApplier>(
     alloc: Global,
     run: RunView<'_>,
     asked: EdgeMap,
-    scratch: &mut Scratch,
+    by: &mut E,
 ) -> Result<Changes, AllocError>
-    ensures { IfOk result (λ c. AreChangesOfApply run.entry asked c.vectors.items) }
+    requires { E.is_ready by.old }
+    ensures changes { IfOk result (λ c. AreChangesOfApply run.entry asked c.vectors.items) }
+    ensures ready { E.is_ready by.new }
 {
     let no_members = VertexSet::empty(alloc, run.graph.vertices(), Form::List)?;
     let apply = apply_of(run, asked, &no_members);
-    push_or_pull(alloc, &apply, scratch)
+    push_or_pull(alloc, apply, by)
+}
+
+/// What an apply of the engines changes, by push or by pull, as [`edge_map`] says.
+fn push_or_pull<E: EdgeApplier>(
+    alloc: Global,
+    apply: Apply<'_>,
+    by: &mut E,
+) -> Result<Changes, AllocError>
+    requires { E.is_ready by.old }
+    ensures once { IfOk result (λ c. AreApart c.vectors.items) }
+    ensures changes { IfOk result (λ c. AreChangesOf apply.entry c.vectors.items) }
+    ensures ready { E.is_ready by.new }
+{
+    let sources = by.sources(alloc, &apply)?;
+    let Some(set) = &sources else {
+        return by.traverse(alloc, apply, Traversal::of(&apply));
+    };
+    let among = Apply {
+        from: Some(EndpointFilter::Members(set)),
+        ..apply
+    };
+    by.traverse(alloc, among, Traversal::of(&among))
 }
 
 /// The apply as the engines take it, a sparse push in one piece where the schedule says nothing. An index without a set has

@@ -2,10 +2,12 @@
 ghost use Rattle.std.specs.Prelude.{◌≡◌, ◌<◌, ◌^◌, min, IfSome};
 ghost use Rattle.crew.specs.Outcome.{AreWorkers};
 ghost use Rattle.push_engine.specs.Work.{work_from_end};
-ghost use Rattle.runner.specs.Employment.{employed_of, work_into_end};
+ghost use Rattle.runner.specs.Employment.{employed_of, work_into_end, work_of};
 
+use crate::direction::Traversal;
 use apply_options::Parallelization;
 use crew::workers_for;
+use edge_apply::Apply;
 use flat_snapshot::Flat;
 use kernels::EndpointFilter;
 
@@ -34,9 +36,21 @@ pub(crate) fn employed(
     }
 }
 
+/// The number of vertices and edges that an apply goes over: those of its sources by a push, and of its destinations by a
+/// pull, and all edges if these are no members of a set. It stops counting at a limit, which is less than 2^32.
+pub(crate) fn work_up_to(apply: &Apply<'_>, traversal: Traversal, most: usize) -> usize
+    requires { most < 2 ^ 32 }
+    ensures { min result most ≡ min (work_of traversal apply.now) most }
+{
+    match traversal {
+        Traversal::Push => edges_from(apply.flat, apply.from, most),
+        Traversal::Pull => edges_into(apply.flat, apply.to, most),
+    }
+}
+
 /// The number of sources and edges from them if the sources are members of a set, and else that of all edges. It stops
-/// counting at a limit, which is less than 2^32.
-pub(crate) fn edges_from(flat: &Flat, from: Option<EndpointFilter<'_>>, most: usize) -> usize
+/// counting at a limit.
+fn edges_from(flat: &Flat, from: Option<EndpointFilter<'_>>, most: usize) -> usize
     requires { most < 2 ^ 32 }
     ensures { min result most ≡ min (work_from_end flat.now.edges from.entry) most }
 {
@@ -54,7 +68,7 @@ pub(crate) fn edges_from(flat: &Flat, from: Option<EndpointFilter<'_>>, most: us
 }
 
 /// The number of destinations and edges to them, like [`edges_from`].
-pub(crate) fn edges_into(flat: &Flat, to: Option<EndpointFilter<'_>>, most: usize) -> usize
+fn edges_into(flat: &Flat, to: Option<EndpointFilter<'_>>, most: usize) -> usize
     requires { most < 2 ^ 32 }
     ensures { min result most ≡ min (work_into_end flat.now.edges to.entry) most }
 {

@@ -5,14 +5,15 @@
 //! of the crate `plans` stands after as many steps. `specs/Position.antt` says where a run stands, and `specs/Resting.antt`
 //! what a job is.
 //!
-//! An [`EdgeApplier`] does the edge applies of a run: [`Alone`] is one worker, and a [`Crew`] the workers of a [`Team`].
-//! [`run`] runs a plan by 1 to 64 workers; what it shows is the same however the pieces of applies fall to them. [`edge_map`] makes an apply for the engines
-//! of two ends, one or two functions and what the schedule says of them, and tells what it changes: written to the
-//! vectors, they are those after the apply (`after_edge_apply` of `algorithm_meaning`). The promise is for a program whose
-//! functions give each vector numbers by one reduction (`specs/Reducing.antt` of `plans`). [`push_or_pull`] does an apply
-//! by the direction that its schedule has for it, and [`pick_direction`] is the rule of the hybrid: it pulls where the
-//! sources and the edges from them are more than a twentieth of all edges. That rule, and the name of the operator, are
-//! those of Ligra (Shun, Blelloch, PPoPP 2013).
+//! [`run`] runs a plan by 1 to 64 workers; what it shows is the same however the pieces of applies fall to them.
+//!
+//! [`edge_map`] does an edge apply of a plan. It makes an apply for the engines of two ends, one or two functions and what the
+//! schedule says of them, chooses push or pull ([`Traversal`]), and tells what the apply changes: written to the vectors, the
+//! changes are those after the apply (`after_edge_apply` of `algorithm_meaning`). The promise is for a program whose functions
+//! give each vector numbers by one reduction (`specs/Reducing.antt` of `plans`). An [`EdgeApplier`] then goes over the edges:
+//! a [`SerialApplier`] by one worker, and a [`ParallelApplier`] by many. [`pick_direction`] is the rule of the hybrid: it pulls
+//! where the sources and the edges from them are more than a twentieth of all edges. That rule, and the name of the operator,
+//! are those of Ligra (Shun, Blelloch, PPoPP 2013).
 //!
 //! Every value of a plan is that of some program, and so a run ends: its turns are bounded, and between two turns each
 //! step leads to an index of lower rank.
@@ -39,10 +40,9 @@ mod team;
 mod variables;
 mod whole_run;
 
-pub use direction::{pick_direction, push_or_pull};
-pub use edge_applier::{Alone, Crew, EdgeApplier};
+pub use direction::{Traversal, pick_direction};
+pub use edge_applier::{EdgeApplier, ParallelApplier, SerialApplier};
 pub use edge_maps::{EdgeMap, edge_map};
 pub use job::{Job, Stand};
 pub use run_error::RunError;
-pub use team::Team;
 pub use whole_run::{run, run_alone, run_by};

@@ -8,20 +8,22 @@ ghost use Rattle.plans.specs.Reducing.{AppliesReduce};
 ghost use Rattle.plans.specs.PlanOf.{IsPlan};
 ghost use Rattle.crew.specs.Outcome.{AreWorkers};
 ghost use Rattle.run_state.specs.State.{graph_value};
-ghost use Rattle.runner.specs.EdgeMap.{AreChangesOfApply};
+ghost use Rattle.edge_fold.specs.Changed.{AreApart};
+ghost use Rattle.edge_apply.specs.Applied.{AreChangesOf};
+ghost use Rattle.runner.specs.HybridSources.{traversal_of};
 ghost use Rattle.runner.specs.declared.run_error.RunError.TheVariants.{BadWorkers, NoMemory};
 
-use crate::edge_applier::{Alone, Crew, EdgeApplier};
-use crate::edge_maps::EdgeMap;
+use crate::direction::Traversal;
+use crate::edge_applier::{EdgeApplier, ParallelApplier, SerialApplier};
 use crate::plan_run::PlanRun;
 use crate::run_error::RunError;
 use crate::team::Team;
 use algorithm_meaning::Outcome;
 use crew::Gate;
+use edge_apply::Apply;
 use edge_fold::Scratch;
 use flat_snapshot::Flat;
 use plans::Plan;
-use run_state::RunView;
 use std::alloc::{AllocError, Global};
 use std::thread::Threads;
 use vectors::Changes;
@@ -67,7 +69,7 @@ pub fn run_alone(
     ensures { IfOk result (λ o. (p : ProgramTree) (s : ScheduleTree) → IsPlan plan.now p s → AppliesReduce p (plan_of p s)
         → o ≡ meaning p (graph_value graph.now) turns) }
 {
-    let mut alone = Alone::new(alloc);
+    let mut alone = SerialApplier::new(alloc);
     run_by(alloc, plan, graph, turns, &mut alone)
 }
 
@@ -100,13 +102,18 @@ pub fn run<R: Threads + Sync, G: Gate + Sync>(
         → o ≡ meaning p (graph_value graph.now) turns) }
 {
     let team = Team::new(rt, gate, workers)?;
-    let mut crew = Crew::new(
+    let mut crew = ParallelApplier::new(
         alloc,
-        |alloc: Global, view: RunView<'_>, asked: EdgeMap, scratch: &mut Scratch, states: &mut Vec<
-            Scratch,
-        >| -> Result<Changes, AllocError>
-            ensures { IfOk result (λ c. AreChangesOfApply view.entry asked c.vectors.items) }
-        { team.edge_map(alloc, view, asked, scratch, states) },
+        |alloc: Global, apply: Apply<
+            '_,
+        >, traversal: Traversal, scratch: &mut Scratch, states: &mut Vec<Scratch>| -> Result<
+            Changes,
+            AllocError,
+        >
+            requires { traversal ≡ traversal_of apply }
+            ensures once { IfOk result (λ c. AreApart c.vectors.items) }
+            ensures changes { IfOk result (λ c. AreChangesOf apply.entry c.vectors.items) }
+        { team.traverse(alloc, &apply, traversal, scratch, states) },
     );
     let outcome = run_by(alloc, plan, graph, turns, &mut crew)?;
     Ok(outcome)

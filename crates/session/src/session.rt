@@ -13,7 +13,7 @@ ghost use Rattle.session.specs.inside.Attempts.{Attempts, StepsVersions, told_of
 use crate::error::SessionError;
 use crate::step::{SessionReply, SessionStep};
 use plans::Plan;
-use runner::{Alone, Job};
+use runner::{Job, SerialApplier};
 use std::alloc::Global;
 use std::marker::Model;
 use std::sync::Arc;
@@ -27,7 +27,7 @@ pub struct Session {
     versions: Versions,
     flats: VersionFlats,
     jobs: Vec<Job>,
-    alone: Alone,
+    alone: SerialApplier,
 }
 
 // By hand: a derived drop would be written out, and proved again, in each function that lets a session go.
@@ -87,7 +87,7 @@ impl Session {
             versions,
             flats: VersionFlats::new(alloc),
             jobs: Vec::new(alloc),
-            alone: Alone::new(alloc),
+            alone: SerialApplier::new(alloc),
         })
     }
 

@@ -2,7 +2,7 @@
 
 use crate::applies::{FORK, graph_of};
 use algorithm_meaning::{End, Outcome};
-use runner::{Alone, Job, Stand};
+use runner::{Job, SerialApplier, Stand};
 use std::alloc::{AllocError, Global};
 use std::sync::Arc;
 use std::test::Fail;
@@ -61,7 +61,7 @@ fn job_of(alloc: Global, text: &str) -> Result<Job, Fail> {
 
 // Takes so many steps of a job, and tells how it stands then.
 fn stepped(alloc: Global, job: &mut Job, steps: u32) -> Result<Stand, AllocError> {
-    let mut alone = Alone::new(alloc);
+    let mut alone = SerialApplier::new(alloc);
     let mut stand = Stand::Going;
     for _step in 0..steps {
         stand = job.step(alloc, &mut alone)?;

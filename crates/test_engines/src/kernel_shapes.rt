@@ -12,10 +12,12 @@ const HEAD: &str = "element Vertex end\nelement Edge end\n\
     const edges : edgeset{Edge}(Vertex, Vertex, int) = load(argv[1]);\n\
     const k : int = -3; const x : vector{Vertex}(int) = 5; const y : vector{Vertex}(int) = 1;\n";
 
-// What is looked at of a shape: the number of a sum of an entry and a number, the operator between an entry and the weight, or a
-// number alone.
+// What is looked at of a shape: the source, its entry, the number of a sum of an entry and a number, the operator between an
+// entry and the weight, or a number alone.
 #[derive(Clone, Copy, PartialEq, Eq)]
 enum Kind {
+    Source,
+    Entry,
     Sum(i64),
     Weighted(Operator),
     Number(i64),
@@ -23,10 +25,18 @@ enum Kind {
 }
 
 // The body of a function, and its shape.
-const ROWS: [(&str, Kind); 14] = [
+const ROWS: [(&str, Kind); 22] = [
+    ("y[d] max= s;", Kind::Source),
+    ("y[d] min= s;", Kind::Source),
+    ("y[d] max= x[s];", Kind::Entry),
+    ("y[d] min= y[s];", Kind::Entry),
+    ("y[d] += x[s];", Kind::Entry),
+    ("y[d] max= x[s] + w;", Kind::Weighted(Operator::Add)),
+    ("y[d] min= d;", Kind::Other),
     ("y[d] += x[s] + k;", Kind::Sum(-3)),
     ("y[d] += x[s] - k;", Kind::Sum(3)),
     ("x[d] min= x[s] + -2;", Kind::Sum(-2)),
+    ("x[d] += 1;", Kind::Number(1)),
     ("x[d] += -3;", Kind::Number(-3)),
     ("if s < d x[d] += 1; end", Kind::Other),
     ("y[d] min= x[s] + w;", Kind::Weighted(Operator::Add)),
@@ -43,6 +53,8 @@ const ROWS: [(&str, Kind); 14] = [
 // What is looked at of a shape.
 fn kind_of(shape: Shape) -> Kind {
     match shape {
+        Shape::Source(_, _) => Kind::Source,
+        Shape::Entry(_, _, _) => Kind::Entry,
         Shape::EntryPlus(_, _, 0, number) => Kind::Sum(number),
         Shape::EntryWith(_, _, 0, operator) => Kind::Weighted(operator),
         Shape::Constant(_, _, number) => Kind::Number(number),

@@ -5,7 +5,7 @@ use crate::programs::VERTICES;
 use algorithm_meaning::Outcome;
 use flat_snapshot::Flat;
 use plans::Plan;
-use runner::{Alone, Job, Stand};
+use runner::{Job, SerialApplier, Stand};
 use session::{SessionError, SessionReply, SessionStep};
 use std::alloc::{AllocError, Global};
 use std::sync::Arc;
@@ -275,7 +275,7 @@ fn run_afresh(
 ) -> Result<(Stand, Outcome), SessionError> {
     let graph = Arc::new(alloc, graph)?;
     let mut job = Job::new(alloc, plan.clone()?, graph, asked.turns)?;
-    let mut alone = Alone::new(alloc);
+    let mut alone = SerialApplier::new(alloc);
     let mut stand = Stand::Going;
     for _step in 0..asked.count {
         stand = job.step(alloc, &mut alone)?;

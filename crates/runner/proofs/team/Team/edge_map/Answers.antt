@@ -1,8 +1,0 @@
-use Rattle.runner.proofs.EdgeMaps.{apply_is_meant, from_both}
-use Rattle.runner.proofs.team.Team.edge_map.Goals as goal
-
-pub returns : goal.returns
-returns g c =
-    from_both _ _ _ c.push_or_pull.result
-    (λ cs once changes. apply_is_meant c.args.run c.args.asked c.apply_of-apply.result cs.vectors.items c.vertices.ensures.graph c.apply_of-apply.ensures once changes)
-    c.push_or_pull.ensures.once c.push_or_pull.ensures.changes
