@@ -13,3 +13,4 @@ pub mod FoundParts
 pub mod Crossing
 mod Chosen
 mod Rows
+pub mod DegreeTotals
