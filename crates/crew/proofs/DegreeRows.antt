@@ -1,5 +1,5 @@
 -- Sums at numbers in a row, and the weight of the degrees of vertices in a row.
-use Rattle.std.proofs.Common.{◌≡◌, ◌≢◌, ℕ, zero, suc, ◌+◌, ◌-◌, ◌<◌, ◌≤◌, ◌⊎◌, inl, inr, min, List, [], ◌∷◌, length, map, take, drop, slice_range, refl, sym, ap, ap₂, ◌∙◌, arith}
+use Rattle.std.proofs.Common.{◌≡◌, ◌≢◌, ℕ, zero, suc, ◌+◌, ◌-◌, ◌<◌, ◌≤◌, inl, inr, min, List, [], ◌∷◌, length, map, take, drop, slice_range, refl, sym, ap, ap₂, ◌∙◌, arith}
 use Rattle.std.specs.List.{range_with_len, sum_by}
 use Rattle.std.proofs.Math.Nat.{suc-min-suc}
 use Rattle.std.proofs.lemmas.Bool.{cases_eq}
@@ -70,7 +70,7 @@ range_shifted f g a b (suc n) same =
     let of_g = sum_by-cons g b (range_with_len (b + 1) n) in
     let first : f a ≡ g b = ap f (let e : a ≡ a + 0 = omega arith in e) ∙ same 0 (omega arith) ∙ ap g (let e : b + 0 ≡ b = omega arith in e) in
     let rest = range_shifted f g (a + 1) (b + 1) n
-        (λ i l. ap f (let e : a + 1 + i ≡ a + suc i = omega arith in e) ∙ same (suc i) (omega (arith, l)) ∙ ap g (let e : b + suc i ≡ b + 1 + i = omega arith in e)) in
+    (λ i l. ap f (let e : a + 1 + i ≡ a + suc i = omega arith in e) ∙ same (suc i) (omega (arith, l)) ∙ ap g (let e : b + suc i ≡ b + 1 + i = omega arith in e)) in
     omega (arith, of_f, of_g, first, rest)
 
 -- the weight of degrees

@@ -1,10 +1,6 @@
-use Rattle.std.proofs.Common.{ℕ, List, length, ap, ap₂, sym, ◌∙◌}
+use Rattle.std.proofs.Common.{ℕ, length, ap, ◌∙◌}
 use Rattle.std.proofs.lemmas.List.{length-map}
-use Rattle.std.proofs.lemmas.Result.{IfOk-weaker}
-use Rattle.crew.specs.Boundaries.{boundaries}
-use Rattle.flat_snapshot.specs.Digraph.{Digraph}
 use Rattle.flat_snapshot.specs.Neighbours.{destinations_of}
-use Rattle.push_engine.specs.Degrees.{out_degrees}
 use Rattle.push_engine.proofs.listed.cut_sources.Goals as goal
 
 pub by_degrees-requires-clause-degrees : goal.by_degrees-requires-clause-degrees
