@@ -5,6 +5,8 @@ pub mod Ordered
 pub mod Turns
 pub mod Runs
 pub mod Reaching
+pub mod LimitCuts
+pub mod DegreeRows
 pub mod PieceLists
 pub mod AllPartitions
 pub mod FoundPieces

@@ -22,7 +22,8 @@
 //! pieces' ends (`specs/Boundaries.antt`). Its laws say that the pieces are disjoint and make the whole list
 //! ([`boundaries_cut_the_list`], [`pieces_make_the_list`]), that there is a piece for each worker
 //! ([`static_pieces_are_those_of_workers`]), and where a piece of vertices and edges ends ([`edge_aware_pieces_end_at_the_limit`]). The
-//! edge-aware way is GraphIt's (Zhang et al., OOPSLA 2018).
+//! edge-aware way is GraphIt's (Zhang et al., OOPSLA 2018). It asks a [`DegreeList`] for the edges of whole runs of 64 vertices, and for
+//! single degrees only where a piece ends.
 //!
 //! It is made for the engines, which do an apply in pieces.
 #![tactic(auto)]
@@ -30,6 +31,8 @@
 mod alone;
 mod claim_word;
 mod claimed;
+mod degree_list;
+mod edge_aware;
 mod error;
 mod fixed;
 mod gate;
@@ -44,6 +47,7 @@ mod work;
 mod worker;
 mod workers;
 
+pub use degree_list::DegreeList;
 pub use error::CrewError;
 pub use gate::{Gate, Open};
 pub use partition::Partition;

@@ -1,10 +1,11 @@
 //! Partition: where the pieces of some work end.
 ghost use Rattle.std.specs.Prelude.{◌≡◌, ℕ, ◌+◌, ◌-◌, ◌*◌, ◌^◌, ◌<◌, ◌≤◌, [], ◌++◌, length, replicate, IfOk, OnOk};
 ghost use Rattle.apply_options.specs.declared.apply_schedule.Parallelization.TheVariants.{EdgeAwareDynamicVertex};
-ghost use Rattle.crew.specs.Boundaries.{dynamic_ends, edge_aware_ends, boundaries, ends_from, rest_of, serial_ends, static_ends};
-ghost use Rattle.crew.specs.Limits.{limited_ends, weight};
+ghost use Rattle.crew.specs.Boundaries.{dynamic_ends, boundaries, ends_from, rest_of, static_ends};
 ghost use Rattle.crew.specs.Partition.{AreEnds, end_of};
 
+use crate::degree_list::{DegreeList, ListedDegrees};
+use crate::edge_aware::push_edge_aware;
 use apply_options::Parallelization;
 use std::alloc::{AllocError, Global};
 use std::marker::Model;
@@ -43,6 +44,27 @@ impl Partition {
         ensures ends { IfOk result (λ c. c ≡ boundaries parallelization workers count degrees.now) }
         ensures whole { IfOk result (λ c. AreEnds 0 count c) }
     {
+        let listed = ListedDegrees { list: degrees };
+        Partition::by_degrees(alloc, parallelization, workers, count, &listed)
+    }
+
+    /// The partition of vertices of these degrees, like [`Partition::of`]. If the schedule says `EdgeAwareDynamicVertex`, it takes
+    /// time in proportion to the runs of the degrees and to 64 for each piece.
+    ///
+    /// The only error is out of memory.
+    pub fn by_degrees<D: DegreeList>(
+        alloc: Global,
+        parallelization: Parallelization,
+        workers: usize,
+        count: usize,
+        degrees: &D,
+    ) -> Result<Partition, AllocError>
+        requires workers { (1 ≤ workers) × (workers ≤ 64) }
+        requires few { count < 2 ^ 32 }
+        requires degrees { parallelization ≡ EdgeAwareDynamicVertex → length (D.degrees degrees.now) ≡ count }
+        ensures ends { IfOk result (λ c. c ≡ boundaries parallelization workers count (D.degrees degrees.now)) }
+        ensures whole { IfOk result (λ c. AreEnds 0 count c) }
+    {
         let mut ends = Vec::new(alloc);
         if count > 0 {
             push_ends(&mut ends, parallelization, workers, count, degrees)?;
@@ -74,24 +96,26 @@ impl Partition {
 }
 
 /// Adds the ends of the pieces of n vertices.
-fn push_ends(
+fn push_ends<D: DegreeList>(
     ends: &mut Vec<usize>,
     parallelization: Parallelization,
     workers: usize,
     count: usize,
-    degrees: &[u32],
+    degrees: &D,
 ) -> Result<(), AllocError>
     requires workers { (1 ≤ workers) × (workers ≤ 64) }
     requires some { 0 < count }
     requires few { count < 2 ^ 32 }
-    requires degrees { parallelization ≡ EdgeAwareDynamicVertex → length degrees.now ≡ count }
-    ensures { OnOk result (ends.new.items ≡ ends.old.items ++ boundaries parallelization workers count degrees.now) }
+    requires degrees { parallelization ≡ EdgeAwareDynamicVertex → length (D.degrees degrees.now) ≡ count }
+    ensures { OnOk result (ends.new.items ≡ ends.old.items ++ boundaries parallelization workers count (D.degrees degrees.now)) }
 {
     match parallelization {
         Parallelization::Serial => push_rest(ends, 0, count),
         Parallelization::StaticVertex => push_static(ends, workers, count),
         Parallelization::DynamicVertex => push_dynamic(ends, workers, count),
-        Parallelization::EdgeAwareDynamicVertex => push_edge_aware(ends, workers, degrees),
+        Parallelization::EdgeAwareDynamicVertex => {
+            push_edge_aware(ends, workers, count, degrees)
+        }
     }
 }
 
@@ -123,17 +147,6 @@ fn push_dynamic(ends: &mut Vec<usize>, workers: usize, count: usize) -> Result<(
     Ok(())
 }
 
-/// Those of four pieces for each worker, by vertices and edges.
-fn push_edge_aware(ends: &mut Vec<usize>, workers: usize, degrees: &[u32]) -> Result<(), AllocError>
-    requires workers { (1 ≤ workers) × (workers ≤ 64) }
-    requires few { length degrees.now < 2 ^ 32 }
-    ensures { OnOk result (ends.new.items ≡ ends.old.items ++ edge_aware_ends workers degrees.now) }
-{
-    let limit = weight_of(degrees).div_ceil(4 * workers);
-    push_limited(ends, limit, degrees)?;
-    Ok(())
-}
-
 /// Adds the ends of n runs that have so many vertices each, and gives the last one.
 fn push_runs(
     ends: &mut Vec<usize>,
@@ -160,38 +173,6 @@ fn push_rest(ends: &mut Vec<usize>, start: usize, rest: usize) -> Result<(), All
 {
     if rest > 0 {
         ends.push(start + rest)?;
-    }
-    Ok(())
-}
-
-/// The vertices of these degrees, and their edges.
-fn weight_of(degrees: &[u32]) -> usize
-    requires { length degrees.now < 2 ^ 32 }
-    ensures { result ≡ weight degrees.now }
-{
-    let mut weight = 0usize;
-    'degrees: for degree in degrees {
-        weight += *degree as usize + 1;
-    }
-    weight
-}
-
-/// Adds the ends of runs of vertices of these degrees, each ended where it reaches the limit, or with the list.
-fn push_limited(ends: &mut Vec<usize>, limit: usize, degrees: &[u32]) -> Result<(), AllocError>
-    requires limit { limit < 2 ^ 63 }
-    requires few { length degrees.now < 2 ^ 32 }
-    ensures { OnOk result (ends.new.items ≡ ends.old.items ++ limited_ends limit 0 0 degrees.now) }
-{
-    let mut reached = 0usize;
-    'degrees: for (index, degree) in degrees.iter().enumerate() {
-        reached += *degree as usize + 1;
-        if limit <= reached {
-            ends.push(index + 1)?;
-            reached = 0;
-        }
-    }
-    if reached > 0 {
-        ends.push(degrees.len())?;
     }
     Ok(())
 }

@@ -14,3 +14,4 @@ pub mod Crossing
 pub mod SourceWords
 mod Chosen
 mod Rows
+pub mod DegreeTotals

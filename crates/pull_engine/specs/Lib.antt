@@ -1,5 +1,6 @@
 pub mod Columns
 pub mod Destinations
+pub mod Degrees
 pub mod EarlySources
 pub mod Words
 pub mod Ranges

@@ -41,6 +41,7 @@ mod destination_words;
 mod destinations;
 mod early_sources;
 mod entry_tests;
+mod in_degrees;
 mod list_folds;
 mod listed;
 mod pieces;

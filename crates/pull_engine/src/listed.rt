@@ -1,9 +1,8 @@
 //! Cuts of an apply by pull into pieces, and its sources as bits.
-ghost use Rattle.std.specs.Prelude.{◌≡◌, ℕ, ◌<◌, Bool, [], length, map, IfOk, IfSome, OnOk};
+ghost use Rattle.std.specs.Prelude.{◌≡◌, ℕ, ◌<◌, Bool, length, map, IfOk, IfSome};
 ghost use Rattle.std.specs.List.{range_with_len};
 ghost use Rattle.kernels.specs.EdgeApply.{is_member};
 ghost use Rattle.kernels.specs.State.{StateValue};
-ghost use Rattle.apply_options.specs.declared.apply_schedule.Parallelization.TheVariants.{EdgeAwareDynamicVertex};
 ghost use Rattle.kernels.specs.Registers.{HasSizes};
 ghost use Rattle.crew.specs.Outcome.{AreWorkers};
 ghost use Rattle.edge_fold.specs.Ends.{IsEndTest};
@@ -13,6 +12,7 @@ ghost use Rattle.flat_snapshot.specs.Neighbours.{sources_of};
 ghost use Rattle.pull_engine.specs.Destinations.{passes_set};
 ghost use Rattle.edge_apply.specs.Words.{passes_words};
 
+use crate::in_degrees::InDegrees;
 use apply_options::Parallelization;
 use crew::Partition;
 use edge_apply::passing_set;
@@ -34,37 +34,9 @@ pub(crate) fn cut_vertices(
         (map (λ v. length (sources_of v flat.now.edges)) (range_with_len 0 flat.now.vertices))) }
     ensures whole { IfOk result (λ c. AreEnds 0 flat.now.vertices c) }
 {
-    let degrees = degrees_for(alloc, parallelization, flat)?;
     let count = flat.vertices() as usize;
-    Partition::of(alloc, parallelization, workers, count, &degrees)
-}
-
-/// How many edges there are to each vertex, if a schedule asks for it, and else none.
-fn degrees_for(
-    alloc: Global,
-    parallelization: Parallelization,
-    flat: &Flat,
-) -> Result<Vec<u32>, AllocError>
-    ensures { IfOk result (λ ds. parallelization ≡ EdgeAwareDynamicVertex
-        → ds.items ≡ map (λ v. length (sources_of v flat.now.edges)) (range_with_len 0 flat.now.vertices)) }
-{
-    let mut degrees = Vec::new(alloc);
-    if parallelization == Parallelization::EdgeAwareDynamicVertex {
-        list_degrees(flat, &mut degrees)?;
-    }
-    Ok(degrees)
-}
-
-/// Adds the number of edges to each vertex to a list that is empty.
-fn list_degrees(flat: &Flat, degrees: &mut Vec<u32>) -> Result<(), AllocError>
-    requires { degrees.old.items ≡ [] }
-    ensures { OnOk result (degrees.new.items ≡ map (λ v. length (sources_of v flat.now.edges)) (range_with_len 0 flat.now.vertices)) }
-{
-    degrees.reserve(flat.vertices() as usize)?;
-    'vertices: for vertex in 0..flat.vertices() {
-        degrees.push(flat.in_degree(vertex))?;
-    }
-    Ok(())
+    let degrees = InDegrees { flat };
+    Partition::by_degrees(alloc, parallelization, workers, count, &degrees)
 }
 
 /// The destinations of an apply in bits, if they are a set that is kept in another form. The only error is out of memory.

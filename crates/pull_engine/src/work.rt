@@ -57,8 +57,9 @@ impl Drop for PullWork<'_> {
 
 impl<'a> PullWork<'a> {
     /// The pieces of an apply for n workers, 1 to 64. All vertices are cut, and are tested in their pieces. If the schedule
-    /// cuts by edges, their degrees are read. The sources that pass are put into bits, and so are destinations that are a set.
-    /// It takes time in proportion to the graph's vertices if the schedule cuts by edges or an end has to be put into bits. The scratch serves any apply after this one.
+    /// cuts by edges, the edges of each block of 64 vertices are read, and degrees only in blocks in which a piece ends. The
+    /// sources that pass are put into bits, and so are destinations that are a set. It takes time in proportion to the graph's
+    /// vertices if an end has to be put into bits, and else to its blocks. The scratch serves any apply after this one.
     ///
     /// Errors: `BadWorkers` where the number of workers is not 1 to 64, else `NoMemory`.
     pub fn new(

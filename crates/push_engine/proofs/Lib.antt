@@ -6,3 +6,4 @@ pub mod Merging
 pub mod Answered
 pub mod GatheredAlike
 pub mod Crossing
+pub mod SourceTotals

@@ -23,6 +23,7 @@ mod crew_apply;
 mod listed;
 mod merge;
 mod neighbour_block;
+mod source_degrees;
 mod sources;
 mod work;
 

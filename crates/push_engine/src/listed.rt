@@ -18,11 +18,11 @@ ghost use Rattle.push_engine.specs.Sources.{AreSources, cut_list};
 ghost use Rattle.push_engine.specs.Work.{is_kept_as_bits, makes_bits};
 
 use crate::apply::is_tested_first;
+use crate::source_degrees::SourceDegrees;
 use apply_options::{Direction, Parallelization};
 use crew::Partition;
 use edge_apply::{Apply, all_vertices, passing_set};
 use edge_fold::{FoldStart, Scratch};
-use flat_snapshot::Flat;
 use kernels::EndpointFilter;
 use std::alloc::{AllocError, Global};
 use vertex_sets::{Form, VertexSet};
@@ -147,34 +147,15 @@ pub(crate) fn cut_sources(
 {
     let count = sources.len();
     // A graph has fewer vertices.
-    if count > u32::MAX as usize {
+    if count > i32::MAX as usize {
         return Err(AllocError);
     }
-    let degrees = degrees_for(alloc, apply, sources)?;
-    Partition::of(alloc, apply.parallelization, workers, count, &degrees)
-}
-
-/// How many edges there are from each source, where a schedule asks for it, and else none.
-fn degrees_for(alloc: Global, apply: &Apply<'_>, sources: &[u32]) -> Result<Vec<u32>, AllocError>
-    ensures { IfOk result (λ ds. apply.now.parallelization ≡ EdgeAwareDynamicVertex
-        → ds.items ≡ map (λ u. length (destinations_of u apply.now.flat.now.edges)) sources.now) }
-{
-    if apply.parallelization == Parallelization::EdgeAwareDynamicVertex {
-        let degrees = degrees_of(alloc, apply.flat, sources)?;
-        return Ok(degrees);
+    let parallelization = apply.parallelization;
+    if parallelization != Parallelization::EdgeAwareDynamicVertex {
+        return Partition::of(alloc, parallelization, workers, count, &[]);
     }
-    Ok(Vec::new(alloc))
-}
-
-/// The same of any schedule.
-fn degrees_of(alloc: Global, flat: &Flat, sources: &[u32]) -> Result<Vec<u32>, AllocError>
-    ensures { IfOk result (λ ds. ds.items ≡ map (λ u. length (destinations_of u flat.now.edges)) sources.now) }
-{
-    let mut degrees = Vec::with_capacity(alloc, sources.len())?;
-    'sources: for source in sources {
-        degrees.push(flat.out_degree(*source))?;
-    }
-    Ok(degrees)
+    let degrees = SourceDegrees::new(alloc, apply.flat, sources)?;
+    Partition::by_degrees(alloc, parallelization, workers, count, &degrees)
 }
 
 /// The destinations that an end lets through, as bits, where they are tested as edges come and are not kept so already.

@@ -1,6 +1,6 @@
 use Rattle.std.proofs.Common.{◌≡◌, ◌*◌, ◌^◌, ◌≤◌, take}
 use Rattle.crew.specs.Limits.{weight}
-use Rattle.crew.proofs.partition.weight_of.Given as goal
+use Rattle.crew.proofs.degree_list.weight_of.Given as goal
 
 -- those of the vertices so far
 abbrev pub invariant-degrees : goal.invariant-degrees

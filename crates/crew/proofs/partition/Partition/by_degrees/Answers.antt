@@ -2,13 +2,13 @@ use Rattle.std.proofs.Common.{◌≡◌, ◌++◌, ◌∙◌, ap, sym, subst, Li
 use Rattle.crew.specs.Boundaries.{boundaries}
 use Rattle.crew.specs.Partition.{AreEnds}
 use Rattle.crew.proofs.AllPartitions.{all_are_ends, none_of_none}
-use Rattle.crew.proofs.partition.Partition.of.Goals as goal
-use Rattle.crew.proofs.partition.Partition.of.Goals.{then-count-gt0+in_ok-push_ends, else-count-gt0}
+use Rattle.crew.proofs.partition.Partition.by_degrees.Goals as goal
+use Rattle.crew.proofs.partition.Partition.by_degrees.Goals.{then-count-gt0+in_ok-push_ends, else-count-gt0}
 
 pub returns-clause-ends : goal.returns-clause-ends
-returns-clause-ends c =
+returns-clause-ends g c =
     let p = c.args.parallelization in
-    let ds = c.args.degrees.now in
+    let ds = g.D.DegreeList.degrees c.args.degrees.now in
     elim c.if-count-gt0.branch [
       | then-count-gt0+in_ok-push_ends w ↦ ap (λ v. v.items) w.ends-is ∙ w.in_ok-push_ends.ensures
           ∙ ap (λ (es : List ℕ). es ++ boundaries p c.args.workers c.args.count ds) c.new-ends.ensures.items
@@ -20,7 +20,7 @@ returns-clause-ends c =
     ]
 
 pub returns-clause-whole : goal.returns-clause-whole
-returns-clause-whole c =
+returns-clause-whole g c =
     let some = c.requires.workers.0 in
-    subst (AreEnds 0 c.args.count) (sym (returns-clause-ends c))
-    (all_are_ends c.args.parallelization c.args.workers c.args.count c.args.degrees.now (omega (arith, some)) c.requires.degrees)
+    subst (AreEnds 0 c.args.count) (sym (returns-clause-ends g c))
+    (all_are_ends c.args.parallelization c.args.workers c.args.count (g.D.DegreeList.degrees c.args.degrees.now) (omega (arith, some)) c.requires.degrees)
