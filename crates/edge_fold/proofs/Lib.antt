@@ -1,5 +1,6 @@
 pub mod ChangedRows
 pub mod Entries
+pub mod Filled
 pub mod Folds
 pub mod Rows
 pub mod SlotRows
