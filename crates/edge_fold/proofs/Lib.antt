@@ -1,4 +1,5 @@
 pub mod ChangedRows
+pub mod ChangedWords
 pub mod Entries
 pub mod Filled
 pub mod Folds

@@ -61,6 +61,7 @@ mod source_numbers;
 mod vector_accumulator;
 mod vector_accumulators;
 mod weighted;
+mod whole_changes;
 
 pub use apply_changes::has_vector;
 pub use apply_context::{ApplyContext, FoldStart, reads_weights};
