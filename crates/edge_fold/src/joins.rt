@@ -319,12 +319,23 @@ impl Accumulator {
         ensures { AreJoined opening.entry reduction self.old self.new ((vertex, number) ∷ []) }
     {
         let index = vertex as usize;
-        if self.marks.contains(vertex) {
+        if self.has_entry(vertex) {
             self.values[index] = reduce(reduction, self.values[index], number);
             return;
         }
         self.values[index] = opening.first(reduction, index, number);
         self.marks.insert(vertex);
+    }
+
+    /// Whether a vertex has an entry. Of one that is filled the mark is not read.
+    #[inline(always)]
+    fn has_entry(&self, vertex: u32) -> bool
+        ensures { result ≡ is_marked self.now.marks vertex }
+    {
+        if (vertex as usize) < self.filled {
+            return true;
+        }
+        self.marks.contains(vertex)
     }
 
     /// The new entry at a vertex that was given something, and some number at another: whether it was is not asked again.

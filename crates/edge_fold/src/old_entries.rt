@@ -10,10 +10,11 @@ ghost use Rattle.edge_fold.specs.VectorAccumulators.{HaveJoined};
 ghost use Rattle.edge_fold.specs.declared.initial_entries.InitialEntries.TheVariants as opening;
 
 use crate::accumulator::Accumulator;
-use crate::apply_context::{ApplyContext, SourceContribution};
+use crate::apply_context::ApplyContext;
 use crate::initial_entries::InitialEntries;
 use crate::scratch::Scratch;
 use crate::vector_accumulator::VectorAccumulators;
+use apply_options::Reduction;
 use std::alloc::{AllocError, Global};
 use vectors::Lane;
 
@@ -30,10 +31,13 @@ impl Scratch {
     {
         self.slots.used = 0;
         self.pairs.count = 0;
-        let Some(sent) = context.sent(0) else {
-            return Ok(());
-        };
-        self.slots.fill(alloc, context, sent)
+        if let Some(sent) = context.sent(0) {
+            return self.slots.fill(alloc, context, sent.vector, sent.reduction);
+        }
+        if let Some(given) = context.entry_contribution() {
+            return self.slots.fill(alloc, context, given.vector, given.reduction);
+        }
+        Ok(())
     }
 }
 
@@ -44,13 +48,14 @@ impl VectorAccumulators {
         &mut self,
         alloc: Global,
         context: ApplyContext<'_>,
-        sent: SourceContribution,
+        vector: usize,
+        reduction: Reduction,
     ) -> Result<(), AllocError>
         requires { self.old.used ≡ 0 }
-        ensures { OnOk result ((x : ℕ) (r : Reducing) → (sent.vector ≡ x → sent.reduction ≡ r) → HaveJoined context.entry x r self.old self.new []) }
+        ensures { OnOk result ((x : ℕ) (r : Reducing) → (vector ≡ x → reduction ≡ r) → HaveJoined context.entry x r self.old self.new []) }
     {
-        let position = self.position(alloc, sent.vector, sent.reduction, context.vertices)?;
-        let opening = context.opening(sent.vector);
+        let position = self.position(alloc, vector, reduction, context.vertices)?;
+        let opening = context.opening(vector);
         self.slots[position].entries.fill(opening, context.vertices);
         Ok(())
     }

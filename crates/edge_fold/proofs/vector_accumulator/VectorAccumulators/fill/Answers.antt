@@ -10,7 +10,7 @@ use Rattle.edge_fold.proofs.vector_accumulator.VectorAccumulators.fill.Goals as 
 pub fill-requires : goal.fill-requires
 fill-requires c combine v h =
     let now = c.position.new.self in
-    let x = c.args.sent.vector in
+    let x = c.args.vector in
     let was : VectorAccumulator = c.index_mut.result.now in
     let few : now.used ≤ length now.slots.items = search rules in
     let at = c.in_ok-position.ensures.position in
@@ -22,14 +22,13 @@ fill-requires c combine v h =
 pub returns : goal.returns
 returns c x r own =
     let now = c.position.new.self in
-    let sent = c.args.sent in
     let p = c.in_ok-position.position in
     let f = c.args.context in
     let was : VectorAccumulator = c.index_mut.result.now in
     let few : now.used ≤ length now.slots.items = search rules in
     let at = c.in_ok-position.ensures.position in
     let op = c.opening-opening in
-    joined_slot f x sent.vector p r c.args.self.now now _ was (record { vector = was.vector; reduction = was.reduction; entries = c.fill.new.self }) [] refl
+    joined_slot f x c.args.vector p r c.args.self.now now _ was (record { vector = was.vector; reduction = was.reduction; entries = c.fill.new.self }) [] refl
     at.0 at.1 few c.index_mut.ensures.value refl refl c.in_ok-position.ensures.held (c.in_ok-position.ensures.reduction x r own)
-    (λ v h same. along f x sent.vector v sent.reduction r (start_of op.result) was.entries c.fill.new.self h _ (λ _. []) (equal sent.vector x same) (own (equal sent.vector x same)) op.ensures.start (op.ensures.seed v h) (c.fill.ensures sent.reduction v h))
+    (λ v h same. along f x c.args.vector v c.args.reduction r (start_of op.result) was.entries c.fill.new.self h _ (λ _. []) (equal c.args.vector x same) (own (equal c.args.vector x same)) op.ensures.start (op.ensures.seed v h) (c.fill.ensures c.args.reduction v h))
     (λ off. refl)
