@@ -35,7 +35,9 @@ impl Scratch {
             return self.slots.fill(alloc, context, sent.vector, sent.reduction);
         }
         if let Some(given) = context.entry_contribution() {
-            return self.slots.fill(alloc, context, given.vector, given.reduction);
+            return self
+                .slots
+                .fill(alloc, context, given.vector, given.reduction);
         }
         Ok(())
     }
