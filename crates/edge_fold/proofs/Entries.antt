@@ -56,24 +56,3 @@ pub joined_new : (r : Reduction) (combine : ℤ → ℤ → ℤ) (o : ℕ → �
     → ((u : ℕ) → after u ≡ (p == u) || marked u) → combine (o p) x ≡ reduced r (o p) n
     → entry_in combine (set values p x) after v (o v) ≡ if p == v then reduced r (entry_in combine values marked v (o v)) n else entry_in combine values marked v (o v)
 joined_new r combine o values marked after p v x n l off more e = new_at r combine o values marked after p v x n (p == v) refl l off more e
-
--- an entry that is marked, and is the number itself
-filled_at : (combine : ℤ → ℤ → ℤ) (o : ℕ → ℤ) (values : List ℤ) (marked after : ℕ → Bool) (p v : ℕ) (x : ℤ) (b : Bool) → (p == v) ≡ b → p < length values → marked p ≡ false
-    → ((u : ℕ) → after u ≡ (p == u) || marked u) → combine (o p) x ≡ o p
-    → entry_in combine (set values p x) after v (o v) ≡ entry_in combine values marked v (o v)
-filled_at combine o values marked after p v x true t l off more e =
-    let i = same p v t in
-    let on : after v ≡ true = more v ∙ ap (λ (b : Bool). b || marked v) t in
-    let new = ap (λ k. get_or (set values p x) k (pos 0)) (sym i) ∙ get_or-set_same values p x (pos 0) l in
-    let was = ap (λ (c : Bool). if c then combine (o v) (get_or values v (pos 0)) else o v) (ap marked (sym i) ∙ off) in
-    ap (λ (c : Bool). if c then combine (o v) (get_or (set values p x) v (pos 0)) else o v) on
-    ∙ ap (combine (o v)) new ∙ ap (λ k. combine (o k) x) (sym i) ∙ e ∙ ap o i ∙ sym was
-filled_at combine o values marked after p v x false t l off more e =
-    let stays : after v ≡ marked v = more v ∙ ap (λ (b : Bool). b || marked v) t in
-    ap (λ (y : ℤ). if after v then combine (o v) y else o v) (get_or-set_other values p v x (pos 0) (λ (w : v ≡ p). apart p v t (sym w)))
-    ∙ ap (λ (c : Bool). if c then combine (o v) (get_or values v (pos 0)) else o v) stays
-
-pub filled_new : (combine : ℤ → ℤ → ℤ) (o : ℕ → ℤ) (values : List ℤ) (marked after : ℕ → Bool) (p v : ℕ) (x : ℤ) → p < length values → marked p ≡ false
-    → ((u : ℕ) → after u ≡ (p == u) || marked u) → combine (o p) x ≡ o p
-    → entry_in combine (set values p x) after v (o v) ≡ entry_in combine values marked v (o v)
-filled_new combine o values marked after p v x l off more e = filled_at combine o values marked after p v x (p == v) refl l off more e

@@ -1,5 +1,5 @@
 -- What was joined, one join after the other.
-use Rattle.std.proofs.Common.{◌≡◌, ℕ, ◌<◌, ◌≤◌, ◌==◌, ℤ, Bool, true, false, List, [], ◌++◌, length, get_or, set, take, refl, sym, ap, ◌∙◌, subst, arith}
+use Rattle.std.proofs.Common.{◌≡◌, ℕ, ◌<◌, ◌≤◌, ◌==◌, ℤ, Bool, true, false, List, [], ◌++◌, length, get_or, set, take, refl, sym, ap, ◌∙◌, subst, arith, cond}
 use Rattle.std.proofs.lemmas.Bool.Decides.{nat_tests}
 use Rattle.edge_lists.specs.Edge.{Edge}
 use Rattle.apply_options.specs.declared.reduction.Reduction.{Reduction}
@@ -16,7 +16,7 @@ use Rattle.typed_tree.specs.StepTree.{StepsTree}
 use Rattle.algorithm_meaning.specs.State.{StateValue}
 use Rattle.algorithm_meaning.specs.Value.{entry}
 use Rattle.edge_fold.specs.Folded.{HasFoldedFor, waiting}
-use Rattle.edge_fold.specs.Contributions.{all_given, given_on, reduced_at}
+use Rattle.edge_fold.specs.Contributions.{all_given, given_on, pairs, reduced_at}
 use Rattle.edge_fold.specs.Held.{held_with}
 use Rattle.edge_fold.specs.FoldStarts.{combined, first_entry, seed}
 use Rattle.edge_fold.specs.VectorAccumulators.{HaveJoined, active, held_in, held_in_with, index_in, reduction_in}
@@ -110,6 +110,18 @@ folded_before_alike f m steps es more a b x r gs same joined alike has = record 
 pub folded_before : (f : ApplyContext) (m : StateValue) (steps : List StepsTree) (es more : List Edge) (a b : Scratch) (x : ℕ) (r : Reduction) → waiting f.weighted b.pairs ≡ waiting f.weighted a.pairs
     → HaveJoined f x r a.slots b.slots (given_on x (all_given m steps) more) → HasFoldedFor f m steps es a x r → HasFoldedFor f m steps (es ++ more) b x r
 folded_before f m steps es more a b x r same joined has = folded_before_alike f m steps es more a b x r (given_on x (all_given m steps) more) same joined (λ v n l. refl) has
+
+-- nothing was joined to slots of which none was in use, and no edge waits
+pub folded_nothing : (f : ApplyContext) (m : StateValue) (steps : List StepsTree) (none : VectorAccumulators) (s : Scratch) (x : ℕ) (r : Reduction) → none.used ≡ 0 → s.pairs.count ≡ 0
+    → HaveJoined f x r none s.slots [] → HasFoldedFor f m steps [] s x r
+folded_nothing f m steps none s x r empty waits joined = record {
+  entries = λ v h l.
+      let o = first_entry f x v h in
+      let n = held_in_with (combined f.start r) (active s.slots) x v o in
+      ap (λ (k : ℕ). reduced_at r v n (given_on x (all_given m steps) (pairs (take k s.pairs.sources) (take k s.pairs.destinations) (cond f.weighted (take k s.pairs.weights) [])))) waits
+      ∙ joined.entries v h ∙ ap (λ (k : ℕ). held_in_with (combined f.start r) (take k none.slots.items) x v o) empty;
+  reduction = joined.reduction (ap (λ (k : ℕ). reduction_in (take k none.slots.items) x r) empty);
+}
 
 -- edges that wait
 pub folded_later : (f : ApplyContext) (m : StateValue) (steps : List StepsTree) (es more : List Edge) (a b : Scratch) (x : ℕ) (r : Reduction) (w : Bool) → f.weighted ≡ w → b.slots ≡ a.slots → waiting w b.pairs ≡ waiting w a.pairs ++ more

@@ -1,5 +1,7 @@
 pub mod ChangedRows
+pub mod ChangedWords
 pub mod Entries
+pub mod Filled
 pub mod Folds
 pub mod Rows
 pub mod SlotRows

@@ -147,3 +147,19 @@ first_vector ss x k p d e l few =
     let long = length-take-le k ss few in
     ap (λ (s : VectorAccumulator). s.vector) (sym (get_or-take k ss p d l) ∙ ap (λ (q : ℕ). get_or (take k ss) q d) e)
     ∙ vector_there (take k ss) x d (omega (arith, e, l, long))
+
+-- what a vector has is what the slot at its index has
+slot_at : {A : Type 0} (of : VectorAccumulator → A) (s : VectorAccumulator) (ss : List VectorAccumulator) (x : ℕ) (rest : A) (d : VectorAccumulator) (b : Bool) → cond b 0 (suc (index_in x ss)) < suc (length ss)
+    → (index_in x ss < length ss → rest ≡ of (get_or ss (index_in x ss) d)) → cond b (of s) rest ≡ of (get_or (s ∷ ss) (cond b 0 (suc (index_in x ss))) d)
+slot_at of s ss x rest d true l more = refl
+slot_at of s ss x rest d false l more = more (omega (arith, l))
+
+of_slot-index : {A : Type 0} (of : VectorAccumulator → A) (ss : List VectorAccumulator) (x : ℕ) (y : A) (d : VectorAccumulator) → index_in x ss < length ss → of_slot of ss x y ≡ of (get_or ss (index_in x ss) d)
+of_slot-index of [] x y d l = absurd (omega (arith, l))
+of_slot-index of (s ∷ ss) x y d l = slot_at of s ss x (of_slot of ss x y) d (s.vector == x) l (of_slot-index of ss x y d)
+
+pub first_slot : {A : Type 0} (of : VectorAccumulator → A) (ss : List VectorAccumulator) (x k p : ℕ) (y : A) (d : VectorAccumulator) → p ≡ index_in x (take k ss) → p < k → k ≤ length ss → of_slot of (take k ss) x y ≡ of (get_or ss p d)
+first_slot of ss x k p y d e l few =
+    let long = length-take-le k ss few in
+    of_slot-index of (take k ss) x y d (omega (arith, e, l, long))
+    ∙ ap of (ap (λ (q : ℕ). get_or (take k ss) q d) (sym e) ∙ get_or-take k ss p d l)

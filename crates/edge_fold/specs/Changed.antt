@@ -18,6 +18,11 @@ changed_from old new v (suc n) = change_at old new v ++ changed_from old new (v 
 abbrev pub changed : (n : ℕ) → (old new : ℕ → ℤ) → List EntryChange
 changed n old new = changed_from old new 0 n
 
+-- the new entries at these vertices
+abbrev pub entries_at : (new : ℕ → ℤ) → List ℕ → List EntryChange
+entries_at new [] = []
+entries_at new (v ∷ vs) = record { vertex = v; number = new v } ∷ entries_at new vs
+
 -- the changes of a vector, or these where it is not there
 abbrev pub changes_or : (vector : ℕ) → List VectorChanges → List EntryChange → List EntryChange
 changes_or x [] rest = rest

@@ -1,7 +1,6 @@
 //! Changes of an apply: what its accumulators have for each vector.
-ghost use Rattle.std.specs.Prelude.{◌≡◌, ℕ, ℤ, ◌==◌, ◌<◌, ◌≤◌, Contains, ◌++◌, Bool, if◌then◌else◌, List, [], length, slice_index_or, IfOk, OnOk};
+ghost use Rattle.std.specs.Prelude.{◌≡◌, ℕ, ◌==◌, ◌≤◌, ◌++◌, Bool, if◌then◌else◌, List, [], length, slice_index_or, IfOk, OnOk};
 ghost use Rattle.std.specs.List.{filter};
-ghost use Rattle.std.specs.List.Sorted.{IsNonDecreasing};
 ghost use Rattle.edge_lists.specs.Edge.{Edge};
 ghost use Rattle.apply_options.specs.declared.reduction.Reduction.{Reduction};
 ghost use Rattle.typed_tree.specs.StepTree.{StepsTree};
@@ -15,7 +14,7 @@ ghost use Rattle.edge_fold.specs.declared.apply_context.ApplyContext.{ApplyConte
 ghost use Rattle.edge_fold.specs.declared.apply_context.FoldStart.TheVariants.{OldEntry};
 ghost use Rattle.edge_fold.specs.Ends.{IsEndTest, IsTest};
 ghost use Rattle.edge_fold.specs.Folded.{IsContextOf, HasFolded};
-ghost use Rattle.edge_fold.specs.Held.{AreMarked, held, held_with};
+ghost use Rattle.edge_fold.specs.Held.{held};
 ghost use Rattle.edge_fold.specs.VectorAccumulators.{active, held_in};
 ghost use Rattle.algorithm_meaning.specs.EdgeApply.{after_edges};
 
@@ -23,6 +22,7 @@ use crate::apply_context::ApplyContext;
 use crate::passing::keep_passing;
 use crate::scratch::Scratch;
 use crate::vector_accumulator::{VectorAccumulator, VectorAccumulators};
+use crate::whole_changes::whole_changes;
 use kernels::{Block, EndpointFilter};
 use std::alloc::{AllocError, Global};
 use vectors::{Changes, EntryChange, VectorChanges};
@@ -132,57 +132,36 @@ fn found_in_slot(
         → c.changes.items ≡ changed context.entry.vertices (entry m.vectors slot.now.vector)
         (λ v. if test v then held slot.now.entries v (entry m.vectors slot.now.vector v) else entry m.vectors slot.now.vector v)) }
 {
-    let marked = slot.entries.marked(alloc)?;
-    let found = found_among(alloc, context, to, slot, &marked, block)?;
-    Ok(found)
-}
-
-/// The same, where these vertices have all new entries of the graph.
-fn found_among(
-    alloc: Global,
-    context: ApplyContext<'_>,
-    to: Option<EndpointFilter<'_>>,
-    slot: &VectorAccumulator,
-    marked: &[u32],
-    block: &mut Block,
-) -> Result<VectorChanges, AllocError>
-    requires ascending { IsNonDecreasing marked.now }
-    requires given { AreMarked slot.now.entries marked.now }
-    requires covers { (combine : ℤ → ℤ → ℤ) (v : ℕ) (h : ℤ) → v < context.vertices → ¬ Contains marked.now v → held_with combine slot.now.entries v h ≡ h }
-    ensures vector { IfOk result (λ c. c.vector ≡ slot.now.vector) }
-    ensures changes { IfOk result (λ c. (m : StateValue) (test : ℕ → Bool) → context.entry.vectors.now.vectors ≡ m.vectors
-        → HasSizes context.entry.sizes.now m → IsEndTest to.entry m test
-        → c.changes.items ≡ changed context.entry.vertices (entry m.vectors slot.now.vector)
-        (λ v. if test v then held slot.now.entries v (entry m.vectors slot.now.vector v) else entry m.vectors slot.now.vector v)) }
-{
     let vector = slot.vector;
     match to {
         None => {
-            let changes = all_changes(alloc, context, slot, marked)?;
+            let changes = all_changes(alloc, context, slot)?;
             Ok(VectorChanges { vector, changes })
         }
         Some(end) => {
-            let changes = passing_changes(alloc, context, end, slot, marked, block)?;
+            let changes = passing_changes(alloc, context, end, slot, block)?;
             Ok(VectorChanges { vector, changes })
         }
     }
 }
 
-/// Its changes at all vertices.
+/// Its changes at all vertices. If all of these are filled, no mark is asked for.
 fn all_changes(
     alloc: Global,
     context: ApplyContext<'_>,
     slot: &VectorAccumulator,
-    marked: &[u32],
 ) -> Result<Vec<EntryChange>, AllocError>
-    requires ascending { IsNonDecreasing marked.now }
-    requires given { AreMarked slot.now.entries marked.now }
-    requires covers { (combine : ℤ → ℤ → ℤ) (v : ℕ) (h : ℤ) → v < context.vertices → ¬ Contains marked.now v → held_with combine slot.now.entries v h ≡ h }
     ensures { IfOk result (λ cs. cs.items ≡ changed context.entry.vertices (entry context.entry.vectors.now.vectors slot.now.vector)
         (λ v. held slot.now.entries v (entry context.entry.vectors.now.vectors slot.now.vector v))) }
 {
     let old = context.vectors.lane(slot.vector);
-    let changes = slot.entries.changes(alloc, old, marked, context.vertices)?;
+    let entries = &slot.entries;
+    if context.vertices as usize <= entries.filled {
+        let changes = whole_changes(alloc, old, &entries.values, context.vertices)?;
+        return Ok(changes);
+    }
+    let marked = entries.marked(alloc)?;
+    let changes = entries.changes(alloc, old, &marked, context.vertices)?;
     Ok(changes)
 }
 
@@ -192,19 +171,16 @@ fn passing_changes(
     context: ApplyContext<'_>,
     end: EndpointFilter<'_>,
     slot: &VectorAccumulator,
-    marked: &[u32],
     block: &mut Block,
 ) -> Result<Vec<EntryChange>, AllocError>
-    requires ascending { IsNonDecreasing marked.now }
-    requires given { AreMarked slot.now.entries marked.now }
-    requires covers { (combine : ℤ → ℤ → ℤ) (v : ℕ) (h : ℤ) → v < context.vertices → ¬ Contains marked.now v → held_with combine slot.now.entries v h ≡ h }
     ensures { IfOk result (λ cs. (m : StateValue) (test : ℕ → Bool) → context.entry.vectors.now.vectors ≡ m.vectors
         → HasSizes context.entry.sizes.now m → IsTest end.entry m test
         → cs.items ≡ changed context.entry.vertices (entry m.vectors slot.now.vector)
         (λ v. if test v then held slot.now.entries v (entry m.vectors slot.now.vector v) else entry m.vectors slot.now.vector v)) }
 {
+    let marked = slot.entries.marked(alloc)?;
     let mut kept = Vec::new(alloc);
-    keep_passing(context, end, marked, block, &mut kept)?;
+    keep_passing(context, end, &marked, block, &mut kept)?;
     let old = context.vectors.lane(slot.vector);
     let changes = slot.entries.changes(alloc, old, &kept, context.vertices)?;
     Ok(changes)

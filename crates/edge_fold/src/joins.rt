@@ -1,9 +1,11 @@
 //! Joins: contributions reduced into the entries of an accumulator.
-ghost use Rattle.std.specs.Prelude.{◌≡◌, ℕ, ℤ, pos, ◌^◌, ◌∷◌, [], ◌<◌, ◌≤◌, true, false, Contains, length, slice_index_or, vec_len, IfOk, OnOk};
+ghost use Rattle.std.specs.Prelude.{◌≡◌, ℕ, ℤ, pos, ◌^◌, ◌∷◌, [], ◌<◌, ◌≤◌, true, false, Contains, drop, length, slice_index_or, vec_len, IfOk, OnOk};
 ghost use Rattle.std.specs.List.Sorted.{IsNonDecreasing};
 ghost use Rattle.edge_fold.specs.Gathered.{numbers_of};
 ghost use Rattle.edge_fold.specs.EntryNumbers.{each_weighed, number_with};
-ghost use Rattle.edge_fold.specs.Contributions.{each_given, entries_of, for_vector, given_from};
+ghost use Rattle.edge_fold.specs.Contributions.{each_given, entries_of, for_vector, given_from, reduced_at};
+ghost use Rattle.edge_fold.specs.FoldStarts.{combined, opening_seed, start_of};
+ghost use Rattle.edge_fold.specs.declared.initial_entries.InitialEntries.{InitialEntries};
 ghost use Rattle.edge_fold.specs.Held.{AreJoined, AreMarked, held, held_with, room};
 ghost use Rattle.vertex_marks.specs.Marks.{is_marked};
 ghost use Rattle.kernels.specs.ContributionColumns.{contribution_at, truth_at};
@@ -27,6 +29,7 @@ impl Accumulator {
         Accumulator {
             values: Vec::new(alloc),
             marks: VertexMarks::new(alloc),
+            filled: 0,
         }
     }
 
@@ -36,6 +39,7 @@ impl Accumulator {
     pub(crate) fn begin(&mut self, vertices: u32) -> Result<(), AllocError>
         ensures { (combine : ℤ → ℤ → ℤ) (v : ℕ) (h : ℤ) → held_with combine self.new v h ≡ h }
     {
+        self.filled = 0;
         self.marks.clear();
         self.make_room(vertices as usize)
     }
@@ -136,10 +140,30 @@ impl Accumulator {
     ) -> Result<(), AllocError>
         ensures { OnOk result (AreJoined opening.entry reduction self.old self.new (each_given number destinations.now)) }
     {
-        'each: for vertex in destinations {
+        let joined = self.join_filled(reduction, number, destinations);
+        let rest = &destinations[joined..];
+        'each: for vertex in rest {
             self.join(reduction, opening, *vertex, number)?;
         }
         Ok(())
+    }
+
+    /// Reduces the entries at the first destinations with one number, as long as they are filled, and says how many they are.
+    #[inline(always)]
+    fn join_filled(&mut self, reduction: Reduction, number: i64, destinations: &[u32]) -> usize
+        ensures inside { result ≤ length destinations.now }
+        ensures joined { (o : InitialEntries) (v : ℕ) (h : ℤ)
+            → reduced_at reduction v (held_with (combined (start_of o) reduction) self.new v (opening_seed o v h)) (each_given number (drop result destinations.now))
+            ≡ reduced_at reduction v (held_with (combined (start_of o) reduction) self.old v (opening_seed o v h)) (each_given number destinations.now) }
+    {
+        let filled = self.filled;
+        reduce_filled(
+            reduction,
+            number,
+            filled,
+            self.values.as_mut_slice(),
+            destinations,
+        )
     }
 
     /// Reduces the entries at destinations with the numbers of these weights. The only error is out of memory, after which
@@ -295,12 +319,23 @@ impl Accumulator {
         ensures { AreJoined opening.entry reduction self.old self.new ((vertex, number) ∷ []) }
     {
         let index = vertex as usize;
-        if self.marks.contains(vertex) {
+        if self.has_entry(vertex) {
             self.values[index] = reduce(reduction, self.values[index], number);
             return;
         }
         self.values[index] = opening.first(reduction, index, number);
         self.marks.insert(vertex);
+    }
+
+    /// Whether a vertex has an entry. Of one that is filled the mark is not read.
+    #[inline(always)]
+    fn has_entry(&self, vertex: u32) -> bool
+        ensures { result ≡ is_marked self.now.marks vertex }
+    {
+        if (vertex as usize) < self.filled {
+            return true;
+        }
+        self.marks.contains(vertex)
     }
 
     /// The new entry at a vertex that was given something, and some number at another: whether it was is not asked again.
@@ -324,6 +359,32 @@ impl Accumulator {
         let found = self.marks.members(alloc)?;
         Ok(found)
     }
+}
+
+/// Reduces the numbers at the first vertices with one number, as long as they are below a count, and says how many they are.
+#[inline(always)]
+fn reduce_filled(
+    reduction: Reduction,
+    number: i64,
+    filled: usize,
+    values: &mut [i64],
+    vertices: &[u32],
+) -> usize
+    requires { filled ≤ length values.old }
+    ensures inside { result ≤ length vertices.now }
+    ensures reduced { (v : ℕ) → reduced_at reduction v (slice_index_or values.new v (pos 0)) (each_given number (drop result vertices.now))
+        ≡ reduced_at reduction v (slice_index_or values.old v (pos 0)) (each_given number vertices.now) }
+    ensures others { (v : ℕ) (h : ℤ) → filled ≤ v → reduced_at reduction v h (each_given number (drop result vertices.now))
+        ≡ reduced_at reduction v h (each_given number vertices.now) }
+{
+    'vertices: for (index, vertex) in vertices.iter().enumerate() {
+        let at = *vertex as usize;
+        if at >= filled {
+            return index;
+        }
+        values[at] = reduce(reduction, values[at], number);
+    }
+    vertices.len()
 }
 
 /// Adds zeros where there are fewer numbers than this.

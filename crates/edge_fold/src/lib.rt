@@ -27,6 +27,8 @@
 //! A slot has the new entries of one vector, at vertices that are marked (`vertex_marks`). What an apply marked is let go
 //! when the next one begins. So an apply takes time in proportion to its edges, and to the vertices only for memory that
 //! is new. Slots keep their memory: 8 bytes and a little more than a bit a vertex for each vector that one apply writes.
+//! An apply of many edges begins with a slot that is filled with the old entries of all vertices ([`Scratch::begin_whole`]):
+//! then no edge reads or sets a mark, and the changes are found by comparing 64 entries at a time.
 //!
 //! What depends on the source alone, as an entry of the source with a constant added, is worked out once for a source and
 //! joined to its destinations in one loop. Where it comes from several sources to one destination, it is first reduced to
@@ -61,6 +63,7 @@ mod source_numbers;
 mod vector_accumulator;
 mod vector_accumulators;
 mod weighted;
+mod whole_changes;
 
 pub use apply_changes::has_vector;
 pub use apply_context::{ApplyContext, FoldStart, reads_weights};

@@ -1,18 +1,20 @@
 //! Old entries as the first new ones, at all vertices.
-ghost use Rattle.std.specs.Prelude.{◌≡◌, ℕ, ◌<◌, [], List, OnOk};
+ghost use Rattle.std.specs.Prelude.{◌≡◌, ℕ, ℤ, pos, ◌<◌, ◌≤◌, [], List, length, slice_index_or, OnOk};
 ghost use Rattle.apply_options.specs.declared.reduction.Reduction.{Reduction as Reducing};
 ghost use Rattle.typed_tree.specs.StepTree.{StepsTree};
 ghost use Rattle.algorithm_meaning.specs.State.{StateValue};
+ghost use Rattle.vectors.specs.Lanes.{lane_entry};
 ghost use Rattle.edge_fold.specs.Folded.{IsContextOf, HasFolded};
-ghost use Rattle.edge_fold.specs.Held.{AreJoined, room};
+ghost use Rattle.edge_fold.specs.Held.{AreJoined, held_with};
 ghost use Rattle.edge_fold.specs.VectorAccumulators.{HaveJoined};
 ghost use Rattle.edge_fold.specs.declared.initial_entries.InitialEntries.TheVariants as opening;
 
 use crate::accumulator::Accumulator;
-use crate::apply_context::{ApplyContext, SourceContribution};
+use crate::apply_context::ApplyContext;
 use crate::initial_entries::InitialEntries;
 use crate::scratch::Scratch;
 use crate::vector_accumulator::VectorAccumulators;
+use apply_options::Reduction;
 use std::alloc::{AllocError, Global};
 use vectors::Lane;
 
@@ -27,27 +29,35 @@ impl Scratch {
     ) -> Result<(), AllocError>
         ensures { OnOk result ((m : StateValue) (steps : List StepsTree) → IsContextOf context.entry m steps → HasFolded context.entry m steps [] self.new) }
     {
-        self.begin();
-        let Some(sent) = context.sent(0) else {
-            return Ok(());
-        };
-        self.slots.fill(alloc, context, sent)
+        self.slots.used = 0;
+        self.pairs.count = 0;
+        if let Some(sent) = context.sent(0) {
+            return self.slots.fill(alloc, context, sent.vector, sent.reduction);
+        }
+        if let Some(given) = context.entry_contribution() {
+            return self
+                .slots
+                .fill(alloc, context, given.vector, given.reduction);
+        }
+        Ok(())
     }
 }
 
 impl VectorAccumulators {
-    /// Gives each vertex its old entry, in the vector that is given something, where it has no new one and new ones begin
-    /// with the old. The only error is out of memory.
+    /// Gives each vertex its old entry, in the vector that is given something, where no vector has an entry and new ones
+    /// begin with the old. The only error is out of memory.
     fn fill(
         &mut self,
         alloc: Global,
         context: ApplyContext<'_>,
-        sent: SourceContribution,
+        vector: usize,
+        reduction: Reduction,
     ) -> Result<(), AllocError>
-        ensures { OnOk result ((x : ℕ) (r : Reducing) → (sent.vector ≡ x → sent.reduction ≡ r) → HaveJoined context.entry x r self.old self.new []) }
+        requires { self.old.used ≡ 0 }
+        ensures { OnOk result ((x : ℕ) (r : Reducing) → (vector ≡ x → reduction ≡ r) → HaveJoined context.entry x r self.old self.new []) }
     {
-        let position = self.position(alloc, sent.vector, sent.reduction, context.vertices)?;
-        let opening = context.opening(sent.vector);
+        let position = self.position(alloc, vector, reduction, context.vertices)?;
+        let opening = context.opening(vector);
         self.slots[position].entries.fill(opening, context.vertices);
         Ok(())
     }
@@ -56,6 +66,7 @@ impl VectorAccumulators {
 impl Accumulator {
     /// The same of one vector, at n vertices.
     fn fill(&mut self, opening: InitialEntries<'_>, vertices: u32)
+        requires { (combine : ℤ → ℤ → ℤ) (v : ℕ) (h : ℤ) → held_with combine self.old v h ≡ h }
         ensures { (r : Reducing) → AreJoined opening.entry r self.old self.new [] }
     {
         match opening {
@@ -64,29 +75,29 @@ impl Accumulator {
         }
     }
 
-    /// The same where new entries begin with these.
+    /// The same where new entries begin with these: in blocks of 64 vertices, as far as there is room.
     fn fill_from(&mut self, old: Lane<'_>, vertices: u32)
+        requires { (combine : ℤ → ℤ → ℤ) (v : ℕ) (h : ℤ) → held_with combine self.old v h ≡ h }
         ensures { (r : Reducing) → AreJoined (opening.Entries old.entry) r self.old self.new [] }
     {
-        'vertices: for vertex in 0..vertices {
-            if vertex as usize >= self.marks.room() {
-                return;
-            }
-            self.fill_at(old, vertex);
-        }
+        let blocks = ((vertices as usize + 63) / 64).min(self.marks.room() / 64);
+        copy_entries(old, 64 * blocks, self.values.as_mut_slice());
+        self.marks.insert_blocks(blocks);
+        self.filled = 64 * blocks;
     }
+}
 
-    /// The same at one vertex, for which there is room.
-    #[inline(always)]
-    fn fill_at(&mut self, old: Lane<'_>, vertex: u32)
-        requires { vertex < room self.old }
-        ensures { (r : Reducing) → AreJoined (opening.Entries old.entry) r self.old self.new [] }
-    {
-        if self.marks.contains(vertex) {
-            return;
-        }
-        let index = vertex as usize;
-        self.values[index] = old.get(index);
-        self.marks.insert(vertex);
+/// Copies the first entries, as many as this, in one go where they stand one after the other.
+fn copy_entries(old: Lane<'_>, count: usize, values: &mut [i64])
+    requires { count ≤ length values.old }
+    ensures { (v : ℕ) → v < count → slice_index_or values.new v (pos 0) ≡ lane_entry old.entry v }
+{
+    let mut copied = 0;
+    if let Some(numbers) = old.entries() {
+        copied = numbers.len().min(count);
+        values[..copied].copy_from_slice(&numbers[..copied]);
+    }
+    'rest: for index in copied..count {
+        values[index] = old.get(index);
     }
 }

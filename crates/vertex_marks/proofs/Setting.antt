@@ -1,7 +1,8 @@
 -- Words in which one bit was set, and words that were set to zero.
-use Rattle.std.proofs.Common.{◌≡◌, ◌≢◌, ℕ, ◌*◌, ◌+◌, ◌/◌, ◌%◌, ◌<◌, ◌≤◌, ◌⊎◌, inl, inr, ◌↔◌, ◌==◌, ◌||◌, false, List, length, set, subst, take, drop, take_all, ap₂, ◌++◌, ◌-◌, ◌^◌, bit_and, get_or, get_or-set_other, sym, ◌∙◌, ap, arith, Contains}
+use Rattle.std.proofs.Common.{◌≡◌, ◌≢◌, ℕ, ◌*◌, ◌+◌, ◌/◌, ◌%◌, ◌<◌, ◌≤◌, ◌⊎◌, inl, inr, ◌↔◌, ◌==◌, ◌||◌, false, List, length, set, subst, take, drop, take_all, ap₂, ◌++◌, ◌-◌, ◌^◌, bit_and, get_or, get_or-set_other, nat_lt, sym, ◌∙◌, ap, arith, Contains}
 use Rattle.std.specs.Int.{bit_at}
-use Rattle.std.proofs.lemmas.Bool.{cases_eq, cases_lt, eq-eqb, ne_eqb}
+use Rattle.std.proofs.lemmas.Bool.{cases_eq, cases_lt, eq-eqb, le-ltb, lt-ltb, ne_eqb}
+use Rattle.std.proofs.lemmas.Nat.Bits.{bit_at_ones}
 use Rattle.std.proofs.lemmas.List.{append-nil, get_or_past, drop_all}
 use Rattle.vertex_sets.specs.inside.Words.{bit_members}
 use Rattle.vertex_sets.proofs.Ascending.{contains_nothing, first_or_later}
@@ -50,6 +51,29 @@ summary_more words summary v word within summed index some =
       | inr apart ↦
           (bit_set summary (v / 64) index within).1
           (inr (summed index (λ none. some (get_or-set_other words (v / 64) index word 0 apart ∙ none))))
+    ]
+
+-- all bits of the first words are set
+pub all_marked : (words new : List ℕ) (blocks v : ℕ) → ((k : ℕ) → k < blocks → get_or new k 0 ≡ 18446744073709551615) → ((k : ℕ) → blocks ≤ k → get_or new k 0 ≡ get_or words k 0)
+    → (bit_at (get_or new (v / 64) 0) (v % 64) == 1) ≡ nat_lt v (64 * blocks) || (bit_at (get_or words (v / 64) 0) (v % 64) == 1)
+all_marked words new blocks v first others =
+    let old = bit_at (get_or words (v / 64) 0) (v % 64) == 1 in
+    elim (cases_lt v (64 * blocks)) [
+      | inl low ↦
+          eq-eqb (bit_at (get_or new (v / 64) 0) (v % 64)) 1
+          (ap (λ w. bit_at w (v % 64)) (first (v / 64) (omega (arith, low))) ∙ bit_at_ones 64 (v % 64) (omega arith))
+          ∙ sym (ap (λ b. b || old) (lt-ltb v (64 * blocks) low))
+      | inr high ↦
+          ap (λ w. bit_at w (v % 64) == 1) (others (v / 64) (omega (arith, high)))
+          ∙ sym (ap (λ b. b || old) (le-ltb v (64 * blocks) high))
+    ]
+
+-- a summary whose bits are all set names all words
+pub all_summed : (words summary : List ℕ) (sums : ℕ) → length words ≤ 64 * sums → ((k : ℕ) → k < sums → get_or summary k 0 ≡ 18446744073709551615) → IsSummary words summary
+all_summed words summary sums within first index some =
+    elim (cases_lt index (64 * sums)) [
+      | inl low ↦ ap (λ w. bit_at w (index % 64)) (first (index / 64) (omega (arith, low))) ∙ bit_at_ones 64 (index % 64) (omega arith)
+      | inr high ↦ absurd (some (get_or_past words index 0 (omega (arith, within, high))))
     ]
 
 -- no bit is set where all words are zero

@@ -1,5 +1,5 @@
 //! Vertices that are marked.
-ghost use Rattle.std.specs.Prelude.{◌≡◌, ℕ, ◌*◌, ◌^◌, ◌<◌, ◌≤◌, ◌==◌, ◌||◌, false, length, slice_index, OnOk};
+ghost use Rattle.std.specs.Prelude.{◌≡◌, ℕ, ◌*◌, ◌^◌, ◌<◌, ◌≤◌, ◌==◌, ◌||◌, false, length, nat_lt, slice_index, vec_len, OnOk};
 ghost use Rattle.vertex_marks.specs.Marks.{is_marked, room};
 
 use crate::vertex_marks::VertexMarks;
@@ -65,6 +65,30 @@ impl VertexMarks {
         let sum = self.summary[index / 64] | 1u64 << (index % 64);
         self.words[index] = word;
         self.summary[index / 64] = sum;
+    }
+
+    /// Marks all vertices of the first blocks of 64, for which there is room. It takes time in proportion to the room: a
+    /// word for each 64 vertices.
+    pub fn insert_blocks(&mut self, blocks: usize)
+        requires { 64 * blocks ≤ room self.old }
+        ensures marks { (v : ℕ) → is_marked self.new v ≡ nat_lt v (64 * blocks) || is_marked self.old v }
+        ensures room { room self.new ≡ room self.old }
+    {
+        let sums = self.summary.len();
+        set_all(&mut self.summary, sums);
+        set_all(&mut self.words, blocks);
+    }
+}
+
+/// Sets all bits of the first words, as many as this.
+fn set_all(words: &mut Vec<u64>, count: usize)
+    requires { count ≤ vec_len words.old }
+    ensures first { (k : ℕ) → k < count → slice_index words.new.items k ≡ 18446744073709551615 }
+    ensures others { (k : ℕ) → count ≤ k → slice_index words.new.items k ≡ slice_index words.old.items k }
+    ensures len { vec_len words.new ≡ vec_len words.old }
+{
+    'words: for index in 0..count {
+        words[index] = u64::MAX;
     }
 }
 

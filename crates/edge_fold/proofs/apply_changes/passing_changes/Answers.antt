@@ -15,17 +15,18 @@ returns c m test vectors sizes is =
     let lane = lane_entry c.lane-old.result in
     let e = entry m.vectors slot.vector in
     let old = λ (v : ℕ). c.lane-old.ensures v ∙ ap (λ (vs : List (List ℤ)). entry vs slot.vector v) vectors in
-    let marked = c.args.marked.now in
+    let marked = c.in_ok-marked.marked.items in
+    let all = c.in_ok-marked.ensures in
     let new = λ (v : ℕ). if test v then held slot.entries v (lane v) else lane v in
     let kept = c.in_ok-keep_passing.ensures m test vectors sizes is in
-    let same = c.deref.ensures.value ∙ kept ∙ ap (λ (ks : List ℕ). ks ++ filter test marked) c.new-kept.ensures.items in
-    let rising = IsNonDecreasingBy-filter (λ (x : ℕ). x) test marked c.requires.ascending in
+    let same = c.deref-2.ensures.value ∙ kept ∙ ap (λ (ks : List ℕ). ks ++ filter test c.deref.result.now) c.new-kept.ensures.items ∙ ap (filter test) c.deref.ensures.value in
+    let rising = IsNonDecreasingBy-filter (λ (x : ℕ). x) test marked all.ascending in
     let up = subst (λ (ks : List ℕ). IsNonDecreasing ks) (sym same) rising in
-    let here = λ (v : ℕ) (has : Contains c.deref.result.now v).
+    let here = λ (v : ℕ) (has : Contains c.deref-2.result.now v).
     (let passes = kept_passes test marked v (subst (λ (ks : List ℕ). Contains ks v) same has) in
     ap (λ (b : Bool). if b then held slot.entries v (lane v) else lane v) passes) in
-    let there = λ (v : ℕ) (l : v < n) (absent : ¬ Contains c.deref.result.now v).
-    not_kept test marked v (test v) (held slot.entries v (lane v)) (lane v) refl (λ h. absent (subst (λ (ks : List ℕ). Contains ks v) (sym same) h)) (λ h. c.requires.covers (λ h y. y) v (lane v) l h) in
-    let given = λ (v : ℕ) (has : Contains c.deref.result.now v). c.requires.given v (among_kept test marked v (subst (λ (ks : List ℕ). Contains ks v) same has)) in
+    let there = λ (v : ℕ) (l : v < n) (absent : ¬ Contains c.deref-2.result.now v).
+    not_kept test marked v (test v) (held slot.entries v (lane v)) (lane v) refl (λ h. absent (subst (λ (ks : List ℕ). Contains ks v) (sym same) h)) (λ h. all.covers (λ h y. y) v (lane v) h) in
+    let given = λ (v : ℕ) (has : Contains c.deref-2.result.now v). all.given v (among_kept test marked v (subst (λ (ks : List ℕ). Contains ks v) same has)) in
     c.in_ok-changes.ensures up given new here there
     ∙ changed_agree lane e new (λ v. if test v then held slot.entries v (e v) else e v) old 0 n (λ v l. ap (λ (x : ℤ). if test v then held slot.entries v x else x) (old v))

@@ -7,5 +7,5 @@ use Rattle.edge_fold.proofs.accumulator.Accumulator.join_each.Given as goal
 -- what is left to join, with what is held, comes to the whole
 abbrev pub invariant-each : goal.invariant-each
 invariant-each l = (v : ℕ) (h : ℤ)
-    → reduced_at l.reduction v (held_with (combined (start_of l.opening) l.reduction) l.self v (opening_seed l.opening v h)) (each_given l.number (drop l.vertex-index l.destinations))
+    → reduced_at l.reduction v (held_with (combined (start_of l.opening) l.reduction) l.self v (opening_seed l.opening v h)) (each_given l.number (drop l.vertex-index l.rest))
     ≡ reduced_at l.reduction v (held_with (combined (start_of l.opening) l.reduction) l.fn.self v (opening_seed l.opening v h)) (each_given l.number l.destinations)

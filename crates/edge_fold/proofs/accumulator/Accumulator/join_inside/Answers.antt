@@ -8,8 +8,8 @@ use Rattle.edge_fold.proofs.Entries.{joined_again, joined_new}
 use Rattle.edge_fold.proofs.JoinedSlots.{combined_more}
 use Rattle.edge_fold.proofs.accumulator.Accumulator.join_inside.Goals as goal
 
-pub returns-then-contains : goal.returns-then-contains
-returns-then-contains c v h =
+pub returns-then-has_entry : goal.returns-then-has_entry
+returns-then-has_entry c v h =
     let now = c.args.self.now in
     let fits : FitsSigned w64 c.reduce.result = search rules in
     let inside : c.args.vertex < length now.values.items = search rules in

@@ -1,4 +1,4 @@
-use Rattle.std.proofs.Common.{◌+◌, ◌/◌, ◌*◌, ◌≤◌, arith, rules, vec_len}
+use Rattle.std.proofs.Common.{◌+◌, ◌/◌, ◌*◌, ◌≤◌, ◌∙◌, arith, rules, vec_len}
 use Rattle.vertex_marks.specs.Marks.{room}
 use Rattle.edge_fold.proofs.accumulator.Accumulator.make_room.Goals as goal
 
@@ -10,4 +10,4 @@ invariant_of-self-2 c =
     let longer : vec_len now.values ≤ vec_len c.lengthen.new.numbers = c.lengthen.ensures.longer in
     let enough : (c.args.vertices + 63) / 64 * 64 ≤ vec_len c.lengthen.new.numbers = search rules in
     let most = c.make_room.ensures.most words (omega (arith, same, longer)) (omega (arith, enough)) in
-    record { same = omega (arith, most) }
+    record { same = omega (arith, most); inside = omega (arith, longer, now.inside); whole = λ v low. c.make_room.ensures.marks v ∙ now.whole v low }

@@ -1,4 +1,4 @@
-use Rattle.std.proofs.Common.{rules, ◌≡◌, ◌<◌, ℕ, ℤ, pos, length, ap, arith}
+use Rattle.std.proofs.Common.{rules, ◌<◌, ℕ, ℤ, pos, length, ap, arith}
 use Rattle.edge_fold.proofs.WeightColumns.{entries-at, entries-length}
 use Rattle.edge_fold.proofs.entry_numbers.EntryColumnSourceEntries.source.Goals as goal
 

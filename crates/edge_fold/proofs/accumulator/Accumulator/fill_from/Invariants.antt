@@ -1,9 +1,0 @@
-use Rattle.std.proofs.Common.{[]}
-use Rattle.apply_options.specs.declared.reduction.Reduction.{Reduction}
-use Rattle.edge_fold.specs.Held.{AreJoined}
-use Rattle.edge_fold.specs.declared.initial_entries.InitialEntries.TheVariants as opening
-use Rattle.edge_fold.proofs.accumulator.Accumulator.fill_from.Given as goal
-
--- nothing was given
-abbrev pub invariant-vertices : goal.invariant-vertices
-invariant-vertices l = (r : Reduction) → AreJoined (opening.Entries l.old) r l.fn.self l.self []
