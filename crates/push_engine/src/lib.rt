@@ -20,6 +20,7 @@
 
 mod apply;
 mod crew_apply;
+mod destinations;
 mod listed;
 mod merge;
 mod neighbour_block;

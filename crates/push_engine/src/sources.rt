@@ -6,7 +6,7 @@ ghost use Rattle.kernels.specs.StepTree.{StepsTree};
 ghost use Rattle.kernels.specs.EdgeApply.{is_member};
 ghost use Rattle.kernels.specs.State.{StateValue};
 ghost use Rattle.edge_fold.specs.Between.{edges_between};
-ghost use Rattle.edge_fold.specs.Ends.{IsTest};
+ghost use Rattle.edge_fold.specs.Ends.{IsEndTest, IsTest};
 ghost use Rattle.edge_fold.specs.Folded.{IsContextOf, HasFolded};
 ghost use Rattle.edge_fold.specs.Contributions.{row};
 ghost use Rattle.flat_snapshot.specs.Neighbours.{destinations_of};
@@ -14,6 +14,7 @@ ghost use Rattle.push_engine.specs.Rows.{rows_to};
 ghost use Rattle.edge_apply.specs.Words.{passes_words};
 
 use crate::neighbour_block::NeighbourBlock;
+use apply_options::Direction;
 use edge_apply::{keep_members, keep_members_weighted, take_part};
 use edge_fold::{ApplyContext, Scratch};
 use flat_snapshot::Flat;
@@ -31,8 +32,34 @@ pub(crate) struct RowInput<'a> {
     pub(crate) to: Option<&'a [u64]>,
 }
 
+/// Folds the edges from the sources that an end lets through; one that is not given lets all through. By `DensePush` all
+/// vertices with edges are tested.
+pub(crate) fn fold_sources(
+    alloc: Global,
+    input: RowInput<'_>,
+    from: Option<EndpointFilter<'_>>,
+    direction: Direction,
+    scratch: &mut Scratch,
+) -> Result<(), AllocError>
+    ensures { OnOk result ((m : StateValue) (steps : List StepsTree) (test : ℕ → Bool) → IsContextOf input.entry.context m steps → IsEndTest from.entry m test
+        → HasFolded input.entry.context m steps [] scratch.old
+        → HasFolded input.entry.context m steps (edges_between test (passes_words input.entry.to) input.entry.flat.now.edges)
+        scratch.new) }
+{
+    let mut block = NeighbourBlock::new();
+    let Some(end) = from else {
+        return fold_all(alloc, input, &mut block, scratch);
+    };
+    match end {
+        EndpointFilter::Members(set) if direction != Direction::DensePush => {
+            fold_members(alloc, input, set, &mut block, scratch)
+        }
+        _ => fold_passing(alloc, input, end, &mut block, scratch),
+    }
+}
+
 /// Folds all edges.
-pub(crate) fn fold_all(
+fn fold_all(
     alloc: Global,
     input: RowInput<'_>,
     block: &mut NeighbourBlock,
@@ -50,7 +77,7 @@ pub(crate) fn fold_all(
 }
 
 /// The same from the members of a set.
-pub(crate) fn fold_members(
+fn fold_members(
     alloc: Global,
     input: RowInput<'_>,
     set: &VertexSet,
@@ -70,7 +97,7 @@ pub(crate) fn fold_members(
 }
 
 /// The same from the sources that an end lets through. Each vertex with an edge is tested once.
-pub(crate) fn fold_passing(
+fn fold_passing(
     alloc: Global,
     input: RowInput<'_>,
     from: EndpointFilter<'_>,
@@ -137,13 +164,13 @@ fn fold_row(
     }
 }
 
-/// The same to the destinations of a walk, whose weights are read where a function reads them.
+/// The same to the destinations of a walk, whose weights are read if a function reads them.
 #[inline]
 fn fold_walk<W: NeighbourWalk + Drop>(
     alloc: Global,
     input: RowInput<'_>,
     source: u32,
-    walk: W,
+    mut walk: W,
     block: &mut NeighbourBlock,
     scratch: &mut Scratch,
 ) -> Result<(), AllocError>
@@ -154,24 +181,6 @@ fn fold_walk<W: NeighbourWalk + Drop>(
     if input.context.weighted {
         return fold_weighted(alloc, input, source, walk, block, scratch);
     }
-    fold_unweighted(alloc, input, source, walk, block, scratch)
-}
-
-/// The same where no function reads weights.
-#[inline]
-fn fold_unweighted<W: NeighbourWalk + Drop>(
-    alloc: Global,
-    input: RowInput<'_>,
-    source: u32,
-    mut walk: W,
-    block: &mut NeighbourBlock,
-    scratch: &mut Scratch,
-) -> Result<(), AllocError>
-    requires { input.context.weighted ≡ false }
-    ensures { OnOk result ((m : StateValue) (steps : List StepsTree) (edges : List Edge) → IsContextOf input.entry.context m steps
-        → HasFolded input.entry.context m steps edges scratch.old → HasFolded input.entry.context m steps (edges
-        ++ row source (filter (λ e. passes_words input.entry.to e.0) (W.coming walk))) scratch.new) }
-{
     'rounds: while walk.len() > 0 {
         let count = walk.fill(&mut block.keys);
         let kept = keep_members(input.to, &mut block.keys, count);
@@ -180,7 +189,7 @@ fn fold_unweighted<W: NeighbourWalk + Drop>(
     Ok(())
 }
 
-/// The same where a function reads weights.
+/// The same if a function reads weights.
 #[inline]
 fn fold_weighted<W: NeighbourWalk + Drop>(
     alloc: Global,

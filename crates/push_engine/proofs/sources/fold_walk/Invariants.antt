@@ -2,7 +2,7 @@ use Rattle.std.proofs.Common.{length}
 use Rattle.edge_fold.proofs.Walks.{HasWalked}
 use Rattle.edge_apply.specs.Words.{passes_words}
 use Rattle.push_engine.proofs.Walked.{row_to}
-use Rattle.push_engine.proofs.sources.fold_unweighted.Given as goal
+use Rattle.push_engine.proofs.sources.fold_walk.Given as goal
 
 -- some neighbours are folded, and the rest is left
 abbrev pub invariant-rounds : goal.invariant-rounds

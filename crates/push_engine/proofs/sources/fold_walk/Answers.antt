@@ -4,7 +4,7 @@ use Rattle.edge_fold.proofs.Walks.{parts_of, walk_begun, walk_done, walk_more}
 use Rattle.edge_apply.specs.Words.{passes_words}
 use Rattle.push_engine.proofs.Blocks.{keys_kept, none_left}
 use Rattle.push_engine.proofs.Walked.{row_in_row, row_to}
-use Rattle.push_engine.proofs.sources.fold_unweighted.Goals as goal
+use Rattle.push_engine.proofs.sources.fold_walk.Goals as goal
 
 pub rounds-preserved : goal.rounds-preserved
 rounds-preserved g c =
