@@ -7,4 +7,5 @@ pub mod Answered
 pub mod GatheredAlike
 pub mod Crossing
 pub mod CountedWork
-pub mod WordsGiven
+pub mod EndTests
+pub mod BlockRows

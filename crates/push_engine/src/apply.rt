@@ -7,7 +7,7 @@ ghost use Rattle.edge_fold.specs.Folded.{IsContextOf, HasFolded};
 ghost use Rattle.edge_apply.specs.Applied.{AreChangesOf};
 ghost use Rattle.push_engine.specs.Work.{AnswersUpTo, tests_first, work_from, work_from_end};
 
-use crate::destinations::{destinations_of, is_in_bits};
+use crate::push_end::{destinations_of, is_in_bits, sources_of};
 use crate::sources::{RowInput, fold_sources};
 use edge_apply::Apply;
 use edge_fold::{ApplyContext, FoldStart, Scratch};
@@ -36,14 +36,15 @@ pub fn push(alloc: Global, apply: &Apply<'_>, scratch: &mut Scratch) -> Result<C
     let context = apply.context(FoldStart::OldEntry);
     let work = work_up_to(apply, flat.vertices());
     let destinations = destinations_of(alloc, apply, work, scratch)?;
+    let sources = sources_of(alloc, apply)?;
     begin(alloc, context, work, scratch)?;
     let input = RowInput {
         flat,
         context,
         to: destinations.words(),
     };
-    fold_sources(alloc, input, apply.from, apply.direction, scratch)?;
-    let changes = scratch.changes(alloc, context, destinations.last())?;
+    fold_sources(alloc, input, &sources, scratch)?;
+    let changes = scratch.changes(alloc, context, destinations.untested())?;
     Ok(changes)
 }
 

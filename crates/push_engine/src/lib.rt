@@ -20,10 +20,10 @@
 
 mod apply;
 mod crew_apply;
-mod destinations;
 mod listed;
 mod merge;
 mod neighbour_block;
+mod push_end;
 mod sources;
 mod work;
 

@@ -1,27 +1,23 @@
-use Rattle.std.proofs.Common.{ℕ, Bool, List, Option, Some, [], OnOk, sym, ap, ◌∙◌, subst}
-use Rattle.kernels.specs.StepTree.{StepsTree}
-use Rattle.kernels.specs.State.{StateValue}
+use Rattle.std.proofs.Common.{◌∙◌, subst}
 use Rattle.kernels.specs.declared.endpoint_filter.EndpointFilter.{EndpointFilter}
-use Rattle.edge_fold.specs.Between.{edges_between}
-use Rattle.edge_fold.specs.Ends.{IsEndTest}
-use Rattle.edge_fold.specs.Folded.{IsContextOf, HasFolded}
+use Rattle.edge_fold.specs.Ends.{IsTest}
+use Rattle.edge_fold.proofs.Walks.{folded_along}
 use Rattle.edge_apply.specs.Words.{passes_words}
+use Rattle.edge_apply.proofs.Filtered.{between_same}
+use Rattle.push_engine.proofs.EndTests.{bits_are_all, left_is_end}
 use Rattle.push_engine.proofs.sources.fold_sources.Goals as goal
 
 pub returns-in_default : goal.returns-in_default
-returns-in_default c =
+returns-in_default c m steps test are tests has =
     let a = c.args in
-    subst (λ (end : Option EndpointFilter). OnOk c.fold_all.result ((m : StateValue) → (steps : List StepsTree) → (test : ℕ → Bool) → IsContextOf a.input.context m steps → IsEndTest end m test → HasFolded a.input.context m steps [] a.scratch.now
-    → HasFolded a.input.context m steps (edges_between test (passes_words a.input.to) a.input.flat.now.edges) c.fold_all.new.scratch)) (sym c.in_default.is) c.fold_all.ensures
+    folded_along a.input.context m steps _ _ c.fold_words.new.scratch
+    (between_same (passes_words c.words.result) test (passes_words a.input.to) a.input.flat.now.edges (λ v. c.words.ensures v ∙ bits_are_all m test a.from.now c.in_default.ensures tests v))
+    (c.in_ok-fold_words.ensures m steps are has)
 
-pub returns-in-Members : goal.returns-in-Members
-returns-in-Members c =
-    let a = c.args in
-    subst (λ (end : Option EndpointFilter). OnOk c.fold_members.result ((m : StateValue) → (steps : List StepsTree) → (test : ℕ → Bool) → IsContextOf a.input.context m steps → IsEndTest end m test → HasFolded a.input.context m steps [] a.scratch.now
-    → HasFolded a.input.context m steps (edges_between test (passes_words a.input.to) a.input.flat.now.edges) c.fold_members.new.scratch)) (sym (c.in-Some.is ∙ ap Some c.in-Members.is)) c.fold_members.ensures
+pub returns-in_ok-fold_members-in-Members : goal.returns-in_ok-fold_members-in-Members
+returns-in_ok-fold_members-in-Members c m steps test are tests has =
+    c.in_ok-fold_members-in-Members.ensures m steps test are (subst (λ (e : EndpointFilter). IsTest e m test) c.in-Members.is (left_is_end m test c.in-Some.end c.args.from.now c.in-Some.ensures tests)) has
 
-pub returns-in_default-end : goal.returns-in_default-end
-returns-in_default-end c =
-    let a = c.args in
-    subst (λ (end : Option EndpointFilter). OnOk c.fold_passing.result ((m : StateValue) → (steps : List StepsTree) → (test : ℕ → Bool) → IsContextOf a.input.context m steps → IsEndTest end m test → HasFolded a.input.context m steps [] a.scratch.now
-    → HasFolded a.input.context m steps (edges_between test (passes_words a.input.to) a.input.flat.now.edges) c.fold_passing.new.scratch)) (sym c.in-Some.is) c.fold_passing.ensures
+pub returns-in_ok-fold_passing-in-Filter : goal.returns-in_ok-fold_passing-in-Filter
+returns-in_ok-fold_passing-in-Filter c m steps test are tests has =
+    c.in_ok-fold_passing-in-Filter.ensures m steps test are (left_is_end m test c.in-Some.end c.args.from.now c.in-Some.ensures tests) has

@@ -5,7 +5,7 @@ use Rattle.kernels.specs.declared.endpoint_filter.EndpointFilter.{EndpointFilter
 use Rattle.edge_fold.specs.Ends.{IsTest}
 use Rattle.edge_fold.specs.declared.apply_context.ApplyContext.{ApplyContext}
 use Rattle.edge_apply.proofs.Filtered.{and_true}
-use Rattle.push_engine.proofs.destinations.first_destinations.Goals as goal
+use Rattle.push_engine.proofs.push_end.end_in_bits.Goals as goal
 
 pub returns-in-Members-clause-lets : goal.returns-in-Members-clause-lets
 returns-in-Members-clause-lets c =
@@ -19,6 +19,6 @@ returns-in_ok-passing-in-Filter-clause-lets c m test vectors sizes is =
     let found = c.in_ok-passing-in-Filter.ensures.members m test (ap (λ (f : ApplyContext). f.vectors.now.vectors) context ∙ vectors)
     (subst (λ (f : ApplyContext). HasSizes f.sizes.now m) (sym context) sizes) is in
     record {
-      last = λ v. refl;
+      untested = λ v. refl;
       both = λ v l. and_true _ ∙ found v (omega (arith, ap (λ (f : ApplyContext). f.vertices) context, l));
     }
