@@ -24,13 +24,13 @@ words_of_members s (Some words) given are bits v = words_have_members s words.no
 -- where nothing is left to test, the bits are the test of the apply's end
 pub bits_are_all : (m : StateValue) (test : ℕ → Bool) (e : PushEnd) → None ≡ untested_end e → ((n : ℕ) → AreTests n m test e) → (v : ℕ) → passes_bits e v ≡ test v
 bits_are_all m test tested.All none are v = (are (v + 1)).both v (omega arith)
-bits_are_all m test (tested.Words words) none are v = sym (and_true _) ∙ (are (v + 1)).both v (omega arith)
-bits_are_all m test (tested.Bits set) none are v = sym (and_true _) ∙ (are (v + 1)).both v (omega arith)
+bits_are_all m test (tested.Given words) none are v = sym (and_true _) ∙ (are (v + 1)).both v (omega arith)
+bits_are_all m test (tested.Members set) none are v = sym (and_true _) ∙ (are (v + 1)).both v (omega arith)
 bits_are_all m test (tested.Untested end) none are v = cc
 
 -- an end that is left to test is the apply's
 pub left_is_end : (m : StateValue) (test : ℕ → Bool) (end : EndpointFilter) (e : PushEnd) → Some end ≡ untested_end e → ((n : ℕ) → AreTests n m test e) → IsTest end m test
 left_is_end m test end tested.All left are = cc
-left_is_end m test end (tested.Words words) left are = cc
-left_is_end m test end (tested.Bits set) left are = cc
+left_is_end m test end (tested.Given words) left are = cc
+left_is_end m test end (tested.Members set) left are = cc
 left_is_end m test end (tested.Untested other) left are = subst (λ (o : Option EndpointFilter). IsEndTest o m test) (sym left) (are 0).untested

@@ -20,9 +20,9 @@ use vertex_sets::{Form, VertexSet};
 pub(crate) enum PushEnd<'a> {
     All,
     /// Those whose bits are set in words, bit v % 64 of word v / 64 that of vertex v.
-    Words(&'a [u64]),
+    Given(&'a [u64]),
     /// The members of a set in bits.
-    Bits(VertexSet),
+    Members(VertexSet),
     /// Those that an end lets through, which is still to be tested.
     Untested(EndpointFilter<'a>),
 }
@@ -35,8 +35,8 @@ impl<'a> PushEnd<'a> {
     {
         match self {
             PushEnd::All => None,
-            PushEnd::Words(words) => Some(*words),
-            PushEnd::Bits(set) => set.words(),
+            PushEnd::Given(words) => Some(*words),
+            PushEnd::Members(set) => set.words(),
             PushEnd::Untested(_) => None,
         }
     }
@@ -47,8 +47,8 @@ impl<'a> PushEnd<'a> {
     {
         match self {
             PushEnd::All => None,
-            PushEnd::Words(_) => None,
-            PushEnd::Bits(_) => None,
+            PushEnd::Given(_) => None,
+            PushEnd::Members(_) => None,
             PushEnd::Untested(end) => Some(*end),
         }
     }
@@ -105,7 +105,7 @@ fn end_in_bits<'a>(
         EndpointFilter::Filter(_) => {
             let context = apply.context(FoldStart::OldEntry);
             let passing = passing_set(alloc, context, to, scratch)?;
-            Ok(PushEnd::Bits(passing))
+            Ok(PushEnd::Members(passing))
         }
     }
 }
@@ -117,10 +117,10 @@ fn members_in_bits<'a>(alloc: Global, set: &'a VertexSet) -> Result<PushEnd<'a>,
     ensures lets { IfOk result (λ d. (n : ℕ) (m : StateValue) (to : ℕ → Bool) → ((v : ℕ) → to v ≡ is_member v set.now.members) → AreTests n m to d) }
 {
     if let Some(words) = set.words() {
-        return Ok(PushEnd::Words(words));
+        return Ok(PushEnd::Given(words));
     }
     let bits = set.to_form(alloc, Form::Bits)?;
-    Ok(PushEnd::Bits(bits))
+    Ok(PushEnd::Members(bits))
 }
 
 /// The sources of an apply. A set of them is gone over by the words of its bits if it is kept as bits, and by `DensePush`,
