@@ -6,6 +6,5 @@ pub mod Merging
 pub mod Answered
 pub mod GatheredAlike
 pub mod Crossing
-pub mod CountedWork
 pub mod EndTests
 pub mod BlockRows

@@ -19,7 +19,7 @@
 //! Push and pull are those of Ligra's edge map (Shun, Blelloch, PPoPP 2013).
 #![tactic(auto)]
 
-mod apply;
+mod changes;
 mod crew_apply;
 mod listed;
 mod merge;
@@ -28,6 +28,6 @@ mod push_end;
 mod sources;
 mod work;
 
-pub use apply::{is_work_above, push};
+pub use changes::{is_work_above, push};
 pub use crew_apply::push_crew;
 pub use work::PushWork;

@@ -12,7 +12,7 @@ use Rattle.edge_apply.specs.Words.{passes_words}
 use Rattle.edge_apply.proofs.Filtered.{to_agree}
 use Rattle.push_engine.specs.PushEnds.{passes_untested}
 use Rattle.push_engine.proofs.RowFolds.{between_tested}
-use Rattle.push_engine.proofs.apply.push.Goals as goal
+use Rattle.push_engine.proofs.changes.push.Goals as goal
 
 pub returns-clause-changes : goal.returns-clause-changes
 returns-clause-changes c m steps from to vectors sizes kernels is_from is_to x r by long =

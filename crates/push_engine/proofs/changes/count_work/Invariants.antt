@@ -1,6 +1,6 @@
 use Rattle.std.proofs.Common.{◌≡◌, ◌+◌, ◌≤◌}
 use Rattle.push_engine.specs.Work.{work_from}
-use Rattle.push_engine.proofs.apply.count_work.Given as goal
+use Rattle.push_engine.proofs.changes.count_work.Given as goal
 
 -- what is counted, with what is left, is the whole
 abbrev pub invariant-sources : goal.invariant-sources
