@@ -7,3 +7,5 @@ pub mod Answered
 pub mod GatheredAlike
 pub mod Crossing
 pub mod SourceTotals
+pub mod EndTests
+pub mod BlockRows

@@ -18,7 +18,7 @@ found_first : (u : ℕ) (e : Edge) (es : List Edge) (same : Bool) → e.0 == u �
 found_first u e es true is some = inl ((Decides-eqb e.0 u).0 is)
 found_first u e es false is some = inr some
 
-source_within : (n u : ℕ) (es : List Edge) → ((p : Ends) (w : ℤ) → weight_in p es ≡ Some w → IsWithin n p) → 0 < length (destinations_of u es) → u < n
+pub source_within : (n u : ℕ) (es : List Edge) → ((p : Ends) (w : ℤ) → weight_in p es ≡ Some w → IsWithin n p) → 0 < length (destinations_of u es) → u < n
 source_within n u [] within some = absurd (omega (arith, some))
 source_within n u (e ∷ es) within some = elim (found_first u e es (e.0 == u) refl some) [
   | inl at ↦ let here = (within (ends_of e) e.2 (has_first e es)).0 in omega (arith, at, here)

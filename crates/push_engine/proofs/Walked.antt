@@ -37,7 +37,7 @@ one_source f to edges u s t more m steps es are has =
     folded_along f m steps (es ++ row_to to u (destinations_of u edges)) (es ++ rows_to to edges (u ∷ [])) t (ap (λ ks. es ++ ks) (sym (one_row to edges u))) (more m steps es are has)
 
 -- the edges between the ends
-folded_edges : (f : ApplyContext) (m : StateValue) (steps : List StepsTree) (from to : ℕ → Bool) (us : List ℕ) (es : List Edge) (s : Scratch) → Rises 0 us → Agree from us es
+pub folded_edges : (f : ApplyContext) (m : StateValue) (steps : List StepsTree) (from to : ℕ → Bool) (us : List ℕ) (es : List Edge) (s : Scratch) → Rises 0 us → Agree from us es
     → HasFolded f m steps (rows_to to es us) s → HasFolded f m steps (edges_between from to es) s
 folded_edges f m steps from to us es s up agree has = λ x r by.
     let was = has x r by in

@@ -5,10 +5,11 @@
 //! written: the functions read the vectors that are lent.
 //!
 //! Sources that are members of a set are gone over in the set, so that an apply costs what these and their edges cost,
-//! and nothing in proportion to the graph. By the direction `DensePush` all vertices with edges are tested. A filter is
-//! run over the vertices with edges, a block at a time. Neighbours are read in blocks, with their weights where a
-//! function reads these, and folded by `edge_fold`. Where many edges are to come, the destinations that pass are put into
-//! bits first, and a block keeps only these.
+//! and nothing in proportion to the graph but a word for each 64 vertices of a set in bits. Of the 64 only those that have
+//! edges are looked at. By the direction `DensePush` any set is put into bits first. A filter is run over the vertices with
+//! edges, a part at a time. Neighbours are read in blocks, with their weights if a function reads these, and
+//! folded by `edge_fold`. If many edges are to come, the destinations that pass are put into bits first, and a block keeps
+//! only these. The sources and their edges are counted once, and no further than to the number of vertices.
 //!
 //! [`PushWork`] is an apply in pieces, for the workers of `crew`: the sources are listed once and cut as the schedule says
 //! (`crew::Partition`), a piece answers what the edges from its sources give, and [`PushWork::merge`] makes the changes of the
@@ -18,15 +19,16 @@
 //! Push and pull are those of Ligra's edge map (Shun, Blelloch, PPoPP 2013).
 #![tactic(auto)]
 
-mod apply;
+mod changes;
 mod crew_apply;
 mod listed;
 mod merge;
 mod neighbour_block;
+mod push_end;
 mod source_degrees;
 mod sources;
 mod work;
 
-pub use apply::{is_work_above, push};
+pub use changes::{is_work_above, push};
 pub use crew_apply::push_crew;
 pub use work::PushWork;

@@ -17,7 +17,7 @@ ghost use Rattle.edge_apply.specs.Words.{is_set};
 ghost use Rattle.push_engine.specs.Sources.{AreSources, cut_list};
 ghost use Rattle.push_engine.specs.Work.{is_kept_as_bits, makes_bits};
 
-use crate::apply::is_tested_first;
+use crate::changes::is_tested_first;
 use crate::source_degrees::SourceDegrees;
 use apply_options::{Direction, Parallelization};
 use crew::Partition;

@@ -1,6 +1,8 @@
 //! Going over the sources of an apply.
-ghost use Rattle.std.specs.Prelude.{◌≡◌, ℕ, ◌++◌, Bool, false, true, List, [], OnOk};
-ghost use Rattle.std.specs.List.{filter};
+ghost use Rattle.std.specs.Prelude.{◌≡◌, ℕ, ◌+◌, ◌*◌, ◌%◌, ◌^◌, ◌<◌, ◌==◌, ◌++◌, Bool, false, true, List, [], OnOk};
+ghost use Rattle.std.specs.Int.{bit_at};
+ghost use Rattle.std.specs.List.{filter, range_with_len};
+ghost use Rattle.std.specs.Option.{option_copied};
 ghost use Rattle.edge_lists.specs.Edge.{Edge};
 ghost use Rattle.kernels.specs.StepTree.{StepsTree};
 ghost use Rattle.kernels.specs.EdgeApply.{is_member};
@@ -10,16 +12,20 @@ ghost use Rattle.edge_fold.specs.Ends.{IsTest};
 ghost use Rattle.edge_fold.specs.Folded.{IsContextOf, HasFolded};
 ghost use Rattle.edge_fold.specs.Contributions.{row};
 ghost use Rattle.flat_snapshot.specs.Neighbours.{destinations_of};
+ghost use Rattle.edge_apply.specs.Words.{is_set, passes_words};
+ghost use Rattle.pages.specs.Vertices.{neighbours_of};
+ghost use Rattle.vertex_blocks.specs.Blocks.{vertices_at};
+ghost use Rattle.push_engine.specs.PushEnds.{AreTests, IsInBits};
 ghost use Rattle.push_engine.specs.Rows.{rows_to};
-ghost use Rattle.edge_apply.specs.Words.{passes_words};
 
 use crate::neighbour_block::NeighbourBlock;
+use crate::push_end::PushEnd;
 use edge_apply::{keep_members, keep_members_weighted, take_part};
 use edge_fold::{ApplyContext, Scratch};
 use flat_snapshot::Flat;
 use kernels::EndpointFilter;
 use std::alloc::{AllocError, Global};
-use vertex_blocks::{NeighbourForm, NeighbourWalk, SetWalk};
+use vertex_blocks::{NeighbourForm, NeighbourSet, NeighbourWalk, SetWalk, VertexBlock};
 use vertex_sets::VertexSet;
 
 /// What rows are folded of: the functions, and the edges to the destinations whose bits are set. Words that are not given
@@ -31,26 +37,118 @@ pub(crate) struct RowInput<'a> {
     pub(crate) to: Option<&'a [u64]>,
 }
 
-/// Folds all edges.
-pub(crate) fn fold_all(
+/// Folds the edges from the sources: by the words of their bits, from the members of a set, or from those of all vertices that
+/// a filter lets through.
+pub(crate) fn fold_sources(
     alloc: Global,
     input: RowInput<'_>,
+    from: &PushEnd<'_>,
+    scratch: &mut Scratch,
+) -> Result<(), AllocError>
+    requires { IsInBits from.now }
+    ensures { OnOk result ((m : StateValue) (steps : List StepsTree) (test : ℕ → Bool) → IsContextOf input.entry.context m steps
+        → ((n : ℕ) → AreTests n m test from.now)
+        → HasFolded input.entry.context m steps [] scratch.old
+        → HasFolded input.entry.context m steps (edges_between test (passes_words input.entry.to) input.entry.flat.now.edges)
+        scratch.new) }
+{
+    let mut block = NeighbourBlock::new();
+    let Some(end) = from.untested() else {
+        fold_words(alloc, input, from.words(), &mut block, scratch)?;
+        return Ok(());
+    };
+    match end {
+        EndpointFilter::Members(set) => {
+            fold_members(alloc, input, set, &mut block, scratch)?;
+            Ok(())
+        }
+        EndpointFilter::Filter(_) => {
+            fold_passing(alloc, input, end, &mut block, scratch)?;
+            Ok(())
+        }
+    }
+}
+
+/// Folds the edges from the sources whose bits are set, a block of 64 after the other; words that are not given let all sources
+/// through.
+fn fold_words(
+    alloc: Global,
+    input: RowInput<'_>,
+    words: Option<&[u64]>,
     block: &mut NeighbourBlock,
     scratch: &mut Scratch,
 ) -> Result<(), AllocError>
-    ensures { OnOk result ((m : StateValue) (steps : List StepsTree) (from : ℕ → Bool) → IsContextOf input.entry.context m steps → ((v : ℕ) → from v ≡ true)
-        → HasFolded input.entry.context m steps [] scratch.old
-        → HasFolded input.entry.context m steps (edges_between from (passes_words input.entry.to) input.entry.flat.now.edges)
+    ensures { OnOk result ((m : StateValue) (steps : List StepsTree) → IsContextOf input.entry.context m steps → HasFolded input.entry.context m steps [] scratch.old
+        → HasFolded input.entry.context m steps (edges_between (passes_words words.entry) (passes_words input.entry.to) input.entry.flat.now.edges)
         scratch.new) }
 {
-    'sources: for (source, _) in input.flat.sources() {
-        fold_row(alloc, input, source, block, scratch)?;
+    let stop = input.flat.vertices() / 64 + 1;
+    'rounds: for number in 0..stop {
+        fold_block(alloc, input, words, number, block, scratch)?;
     }
     Ok(())
 }
 
-/// The same from the members of a set.
-pub(crate) fn fold_members(
+/// The same from the sources of a block. Only vertices that have edges are gone over.
+fn fold_block(
+    alloc: Global,
+    input: RowInput<'_>,
+    words: Option<&[u64]>,
+    number: u32,
+    block: &mut NeighbourBlock,
+    scratch: &mut Scratch,
+) -> Result<(), AllocError>
+    requires { number < 2 ^ 26 }
+    ensures { OnOk result ((m : StateValue) (steps : List StepsTree) (edges : List Edge) → IsContextOf input.entry.context m steps
+        → HasFolded input.entry.context m steps edges scratch.old
+        → HasFolded input.entry.context m steps (edges ++ rows_to (passes_words input.entry.to) input.entry.flat.now.edges
+        (filter (passes_words words.entry) (range_with_len (64 * number) 64))) scratch.new) }
+{
+    let Some(found) = input.flat.out_block(number) else {
+        return Ok(());
+    };
+    let mut left = word_at(words, number) & present_in(found);
+    'vertices: while left != 0 {
+        let source = number * 64 + left.trailing_zeros();
+        left &= left - 1;
+        fold_row(alloc, input, source, Some(found), block, scratch)?;
+    }
+    Ok(())
+}
+
+/// The word of a block, in which a bit is set for each vertex that passes.
+#[inline(always)]
+fn word_at(words: Option<&[u64]>, number: u32) -> u64
+    ensures { (i : ℕ) → i < 64 → (bit_at result i == 1) ≡ passes_words words.entry (64 * number + i) }
+{
+    match words {
+        None => u64::MAX,
+        Some(given) => given_word(given, number),
+    }
+}
+
+/// The same of words that are given: 0 after the last one.
+#[inline(always)]
+fn given_word(words: &[u64], number: u32) -> u64
+    ensures { (i : ℕ) → i < 64 → (bit_at result i == 1) ≡ is_set words.now (64 * number + i) }
+{
+    match words.get(number as usize) {
+        Some(word) => *word,
+        None => 0,
+    }
+}
+
+/// A bit for each vertex of a block: one whose bit is not set has no neighbour.
+#[inline(always)]
+fn present_in(found: &VertexBlock) -> u64
+    ensures { (u : ℕ) → u < 64 → bit_at result u ≡ 0 → neighbours_of u found.now ≡ [] }
+{
+    let (page, own) = found.packed();
+    page.present() | own
+}
+
+/// Folds the edges from the members of a set.
+fn fold_members(
     alloc: Global,
     input: RowInput<'_>,
     set: &VertexSet,
@@ -64,13 +162,14 @@ pub(crate) fn fold_members(
         scratch.new) }
 {
     'sources: for source in set.iter() {
-        fold_row(alloc, input, source, block, scratch)?;
+        let found = input.flat.out_block(source / 64);
+        fold_row(alloc, input, source, found, block, scratch)?;
     }
     Ok(())
 }
 
 /// The same from the sources that an end lets through. Each vertex with an edge is tested once.
-pub(crate) fn fold_passing(
+fn fold_passing(
     alloc: Global,
     input: RowInput<'_>,
     from: EndpointFilter<'_>,
@@ -109,25 +208,60 @@ pub(crate) fn fold_rows(
         ++ rows_to (passes_words input.entry.to) input.entry.flat.now.edges sources.now) scratch.new) }
 {
     'sources: for source in sources {
-        fold_row(alloc, input, *source, block, scratch)?;
+        let found = input.flat.out_block(*source / 64);
+        fold_row(alloc, input, *source, found, block, scratch)?;
     }
     Ok(())
 }
 
-/// The same from a source.
-#[inline]
+/// The same from a source, whose list is read from its block.
+#[inline(always)]
 fn fold_row(
     alloc: Global,
     input: RowInput<'_>,
     source: u32,
+    found: Option<&VertexBlock>,
     block: &mut NeighbourBlock,
     scratch: &mut Scratch,
 ) -> Result<(), AllocError>
     ensures { OnOk result ((m : StateValue) (steps : List StepsTree) (edges : List Edge) → IsContextOf input.entry.context m steps
         → HasFolded input.entry.context m steps edges scratch.old → HasFolded input.entry.context m steps (edges
-        ++ row source (filter (λ e. passes_words input.entry.to e.0) (destinations_of source input.entry.flat.now.edges))) scratch.new) }
+        ++ row source (filter (λ e. passes_words input.entry.to e.0) (neighbours_of (source % 64) (vertices_at (option_copied found.entry))))) scratch.new) }
 {
-    match input.flat.out_set(source).into_form() {
+    let Some(lists) = found else {
+        return Ok(());
+    };
+    let vertex = source % 64;
+    let (page, own) = lists.packed();
+    if (own >> vertex) % 2 == 0 {
+        let list = page.list(vertex);
+        return fold_walk(alloc, input, source, list.ascending(), block, scratch);
+    }
+    fold_set(
+        alloc,
+        input,
+        source,
+        lists.neighbours(vertex),
+        block,
+        scratch,
+    )
+}
+
+/// The same to the neighbours of a set, as they stand.
+#[inline(never)]
+fn fold_set(
+    alloc: Global,
+    input: RowInput<'_>,
+    source: u32,
+    neighbours: NeighbourSet<'_>,
+    block: &mut NeighbourBlock,
+    scratch: &mut Scratch,
+) -> Result<(), AllocError>
+    ensures { OnOk result ((m : StateValue) (steps : List StepsTree) (edges : List Edge) → IsContextOf input.entry.context m steps
+        → HasFolded input.entry.context m steps edges scratch.old → HasFolded input.entry.context m steps (edges
+        ++ row source (filter (λ e. passes_words input.entry.to e.0) neighbours.entry)) scratch.new) }
+{
+    match neighbours.into_form() {
         NeighbourForm::Packed(list) => {
             fold_walk(alloc, input, source, list.ascending(), block, scratch)
         }
@@ -137,13 +271,13 @@ fn fold_row(
     }
 }
 
-/// The same to the destinations of a walk, whose weights are read where a function reads them.
+/// The same to the destinations of a walk, whose weights are read if a function reads them.
 #[inline]
 fn fold_walk<W: NeighbourWalk + Drop>(
     alloc: Global,
     input: RowInput<'_>,
     source: u32,
-    walk: W,
+    mut walk: W,
     block: &mut NeighbourBlock,
     scratch: &mut Scratch,
 ) -> Result<(), AllocError>
@@ -154,24 +288,6 @@ fn fold_walk<W: NeighbourWalk + Drop>(
     if input.context.weighted {
         return fold_weighted(alloc, input, source, walk, block, scratch);
     }
-    fold_unweighted(alloc, input, source, walk, block, scratch)
-}
-
-/// The same where no function reads weights.
-#[inline]
-fn fold_unweighted<W: NeighbourWalk + Drop>(
-    alloc: Global,
-    input: RowInput<'_>,
-    source: u32,
-    mut walk: W,
-    block: &mut NeighbourBlock,
-    scratch: &mut Scratch,
-) -> Result<(), AllocError>
-    requires { input.context.weighted ≡ false }
-    ensures { OnOk result ((m : StateValue) (steps : List StepsTree) (edges : List Edge) → IsContextOf input.entry.context m steps
-        → HasFolded input.entry.context m steps edges scratch.old → HasFolded input.entry.context m steps (edges
-        ++ row source (filter (λ e. passes_words input.entry.to e.0) (W.coming walk))) scratch.new) }
-{
     'rounds: while walk.len() > 0 {
         let count = walk.fill(&mut block.keys);
         let kept = keep_members(input.to, &mut block.keys, count);
@@ -180,7 +296,7 @@ fn fold_unweighted<W: NeighbourWalk + Drop>(
     Ok(())
 }
 
-/// The same where a function reads weights.
+/// The same if a function reads weights.
 #[inline]
 fn fold_weighted<W: NeighbourWalk + Drop>(
     alloc: Global,

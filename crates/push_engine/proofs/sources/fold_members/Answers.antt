@@ -3,6 +3,9 @@ use Rattle.edge_fold.proofs.Walks.{HasWalked, walk_begun, walk_more}
 use Rattle.vertex_sets.proofs.Ascending.{rises}
 use Rattle.push_engine.specs.Rows.{rows_to}
 use Rattle.edge_apply.specs.Words.{passes_words}
+use Rattle.std.specs.Option.{option_copied}
+use Rattle.vertex_blocks.specs.Blocks.{vertices_at}
+use Rattle.push_engine.proofs.BlockRows.{row_of_block}
 use Rattle.push_engine.proofs.RowFolds.{agree_on_rows, rows_to-append}
 use Rattle.push_engine.proofs.Walked.{one_source, walked_all}
 use Rattle.push_engine.proofs.sources.fold_members.Goals as goal
@@ -15,7 +18,8 @@ sources-preserved c =
     let u = c.in-Some.source in
     let then = c.fold_row.new.scratch in
     walk_more a.input.context (rows_to to edges) a.set.now.members c.sources.source-iterator (u ∷ []) c.next.new.self a.scratch.now c.sources.scratch then
-    (rows_to-append to edges) (sym c.in-Some.ensures.steps) (one_source a.input.context to edges u c.sources.scratch then c.in_ok-fold_row.ensures) c.sources.invariant
+    (rows_to-append to edges) (sym c.in-Some.ensures.steps) (one_source a.input.context to edges u c.sources.scratch then
+    (row_of_block a.input.context to edges u (vertices_at (option_copied c.out_block-found.result)) c.sources.scratch then (c.out_block-found.ensures u refl) c.in_ok-fold_row.ensures)) c.sources.invariant
 
 pub returns : goal.returns
 returns c m steps from are is =

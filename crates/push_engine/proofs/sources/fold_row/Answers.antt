@@ -1,24 +1,42 @@
-use Rattle.std.proofs.Common.{◌++◌, ℕ, ℤ, List, OnOk, sym, ap, ◌∙◌, subst}
+use Rattle.std.proofs.Common.{rules, ◌≡◌, ◌%◌, ◌<◌, ◌++◌, ℕ, ℤ, List, Option, OnOk, sym, ap, ◌∙◌, subst, arith}
+use Rattle.std.proofs.lemmas.List.{append-nil}
+use Rattle.std.specs.Borrow.{Bor}
+use Rattle.std.specs.Int.{bit_at}
 use Rattle.std.specs.List.{filter}
+use Rattle.std.specs.Option.{option_copied}
 use Rattle.edge_lists.specs.Edge.{Edge}
 use Rattle.kernels.specs.StepTree.{StepsTree}
 use Rattle.kernels.specs.State.{StateValue}
 use Rattle.edge_fold.specs.Folded.{IsContextOf, HasFolded}
 use Rattle.edge_fold.specs.Contributions.{row}
-use Rattle.vertex_blocks.specs.Forms.{listed}
+use Rattle.edge_fold.proofs.Walks.{folded_along}
 use Rattle.edge_apply.specs.Words.{passes_words}
+use Rattle.pages.specs.Vertices.{neighbours_of}
+use Rattle.vertex_blocks.specs.Blocks.{vertices_at}
 use Rattle.push_engine.proofs.sources.fold_row.Goals as goal
 
-pub returns-in-Packed : goal.returns-in-Packed
-returns-in-Packed c =
+pub returns-in_default : goal.returns-in_default
+returns-in_default c m steps edges are has =
     let a = c.args in
-    let same = c.ascending.ensures ∙ ap listed (sym c.in-Packed.is) ∙ c.into_form.ensures ∙ c.out_set.ensures in
+    let of = λ (lists : List (ℕ × List (ℕ × ℤ))). edges ++ row a.source (filter (λ e. passes_words a.input.to e.0) (neighbours_of (a.source % 64) lists)) in
+    folded_along a.input.context m steps edges (of (vertices_at (option_copied a.found))) a.scratch.now
+    (sym (append-nil edges) ∙ ap (λ (o : Option (Bor (List (ℕ × List (ℕ × ℤ))))). of (vertices_at (option_copied o))) (sym c.in_default.is)) has
+
+pub returns-then-own-vertex-eq0 : goal.returns-then-own-vertex-eq0
+returns-then-own-vertex-eq0 c =
+    let a = c.args in
+    let v = a.source % 64 in
+    let lists = c.in-Some.lists.now in
+    let low : v < 64 = omega arith in
+    let clear : bit_at c.packed-own.result.1 v ≡ 0 = search rules in
+    let same = c.ascending.ensures ∙ c.list-list.ensures ∙ c.packed-own.ensures v low clear ∙ ap (λ (o : Option (Bor (List (ℕ × List (ℕ × ℤ))))). neighbours_of v (vertices_at (option_copied o))) (sym c.in-Some.is) in
     subst (λ (es : List (ℕ × ℤ)). OnOk c.fold_walk.result ((m : StateValue) → (steps : List StepsTree) → (edges : List Edge) → IsContextOf a.input.context m steps → HasFolded a.input.context m steps edges a.scratch.now
     → HasFolded a.input.context m steps (edges ++ row a.source (filter (λ e. passes_words a.input.to e.0) es)) c.fold_walk.new.scratch)) same c.fold_walk.ensures
 
-pub returns-in-Chunked : goal.returns-in-Chunked
-returns-in-Chunked c =
+pub returns : goal.returns
+returns c =
     let a = c.args in
-    let same = c.new.ensures ∙ ap listed (sym c.in-Chunked.is) ∙ c.into_form.ensures ∙ c.out_set.ensures in
-    subst (λ (es : List (ℕ × ℤ)). OnOk c.fold_walk-in-Chunked.result ((m : StateValue) → (steps : List StepsTree) → (edges : List Edge) → IsContextOf a.input.context m steps → HasFolded a.input.context m steps edges a.scratch.now
-    → HasFolded a.input.context m steps (edges ++ row a.source (filter (λ e. passes_words a.input.to e.0) es)) c.fold_walk-in-Chunked.new.scratch)) same c.fold_walk-in-Chunked.ensures
+    let v = a.source % 64 in
+    let same = c.neighbours.ensures ∙ ap (λ (o : Option (Bor (List (ℕ × List (ℕ × ℤ))))). neighbours_of v (vertices_at (option_copied o))) (sym c.in-Some.is) in
+    subst (λ (es : List (ℕ × ℤ)). OnOk c.fold_set.result ((m : StateValue) → (steps : List StepsTree) → (edges : List Edge) → IsContextOf a.input.context m steps → HasFolded a.input.context m steps edges a.scratch.now
+    → HasFolded a.input.context m steps (edges ++ row a.source (filter (λ e. passes_words a.input.to e.0) es)) c.fold_set.new.scratch)) same c.fold_set.ensures

@@ -1,4 +1,0 @@
-use Rattle.push_engine.proofs.apply.begin.Goals as goal
-
-pub returns : goal.returns
-returns c m steps are = c.begin.ensures c.args.context m steps
