@@ -1,5 +1,4 @@
 pub mod Columns
-pub mod Destinations
 pub mod Degrees
 pub mod EarlySources
 pub mod Words
@@ -11,3 +10,4 @@ pub mod PieceRanges
 pub mod EntryTests
 pub mod Lets
 pub mod Sources
+pub mod inside

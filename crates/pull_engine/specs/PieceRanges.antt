@@ -11,7 +11,7 @@ use Rattle.edge_apply.specs.Words.{passes_words}
 use Rattle.flat_snapshot.specs.Digraph.{IsDigraph}
 use Rattle.pull_engine.specs.declared.work.PullWork.{PullWork}
 use Rattle.pull_engine.specs.declared.ranges.PullRange.{PullRange}
-use Rattle.pull_engine.specs.Destinations.{passes_set}
+use Rattle.pull_engine.specs.Sources.{is_source}
 
 -- the range is that of the vertices of a piece, with the ends of the apply
 pub record IsRangeOfPiece (w : PullWork) (start : FoldStart) (piece : ℕ) (p : PullRange) : Type 0 where
@@ -19,7 +19,7 @@ pub record IsRangeOfPiece (w : PullWork) (start : FoldStart) (piece : ℕ) (p : 
   pub graph : IsDigraph w.apply.flat.now
   pub context : p.context ≡ context_of w.apply start
   pub reads : (m : StateValue) (steps : List StepsTree) → IsApplyOf w.apply m steps → IsContextOf p.context m steps
-  pub from : (v : ℕ) → passes_words p.from v ≡ passes_set w.bits v
+  pub from : (v : ℕ) → passes_words p.from v ≡ is_source w.sources v
   pub to : (m : StateValue) (test : ℕ → Bool) → IsEndTest w.apply.to m test → IsEndTest p.to m test
   pub low : p.low ≡ end_of w.cuts (piece - 1)
   pub high : p.high ≡ end_of w.cuts piece

@@ -3,20 +3,15 @@ ghost use Rattle.std.specs.Prelude.{◌≡◌, ℕ, ◌<◌, Bool, length, map, 
 ghost use Rattle.std.specs.List.{range_with_len};
 ghost use Rattle.kernels.specs.EdgeApply.{is_member};
 ghost use Rattle.kernels.specs.State.{StateValue};
-ghost use Rattle.kernels.specs.Registers.{HasSizes};
 ghost use Rattle.crew.specs.Outcome.{AreWorkers};
 ghost use Rattle.edge_fold.specs.Ends.{IsEndTest};
 ghost use Rattle.crew.specs.Boundaries.{boundaries};
 ghost use Rattle.crew.specs.Partition.{AreEnds};
 ghost use Rattle.flat_snapshot.specs.Neighbours.{sources_of};
-ghost use Rattle.pull_engine.specs.Destinations.{passes_set};
-ghost use Rattle.edge_apply.specs.Words.{passes_words};
 
 use crate::in_degrees::InDegrees;
 use apply_options::Parallelization;
 use crew::Partition;
-use edge_apply::passing_set;
-use edge_fold::{ApplyContext, Scratch};
 use flat_snapshot::Flat;
 use kernels::EndpointFilter;
 use std::alloc::{AllocError, Global};
@@ -55,40 +50,4 @@ pub(crate) fn member_bits(
     }
     let bits = set.to_form(alloc, Form::Bits)?;
     Ok(Some(bits))
-}
-
-/// The sources that pass, as bits, where not all do. The only error is out of memory.
-pub(crate) fn source_bits(
-    alloc: Global,
-    from: Option<EndpointFilter<'_>>,
-    context: ApplyContext<'_>,
-    scratch: &mut Scratch,
-) -> Result<Option<VertexSet>, AllocError>
-    ensures form { IfOk result (λ b. IfSome b (λ s. s.form ≡ Form.Bits)) }
-    ensures passing { IfOk result (λ b. (m : StateValue) (test : ℕ → Bool) → context.entry.vectors.now.vectors ≡ m.vectors
-        → HasSizes context.entry.sizes.now m → IsEndTest from.entry m test
-        → (v : ℕ) → v < context.entry.vertices → passes_set b v ≡ test v) }
-{
-    match from {
-        None => Ok(None),
-        Some(EndpointFilter::Members(set)) => {
-            let bits = set.to_form(alloc, Form::Bits)?;
-            Ok(Some(bits))
-        }
-        Some(end) => {
-            let bits = passing_set(alloc, context, end, scratch)?;
-            Ok(Some(bits))
-        }
-    }
-}
-
-/// The words of a set in bits, where one is given.
-pub(crate) fn words_of(bits: &Option<VertexSet>) -> Option<&[u64]>
-    requires { IfSome bits.now (λ s. s.form ≡ Form.Bits) }
-    ensures { (v : ℕ) → passes_words result v ≡ passes_set bits.now v }
-{
-    match bits {
-        None => None,
-        Some(set) => set.words(),
-    }
 }

@@ -15,7 +15,6 @@ ghost use Rattle.pull_engine.specs.Ranges.{all_listed, shape_vector as vector_of
 
 use crate::changes::changes_in;
 use crate::destinations::fold_range;
-use crate::listed::words_of;
 use crate::ranges::PullRange;
 use crate::shapes::{ShapeTarget, pull_shape, shape_target};
 use crate::work::PullWork;
@@ -112,7 +111,7 @@ impl PullWork<'_> {
         PullRange {
             flat: self.apply.flat,
             context: self.apply.context(start),
-            from: words_of(&self.bits),
+            from: self.sources.words(),
             to: self.destinations(),
             low,
             high,

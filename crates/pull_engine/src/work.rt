@@ -13,12 +13,14 @@ ghost use Rattle.crew.specs.Partition.{AreEnds};
 ghost use Rattle.edge_apply.specs.inside.Propositions.{AreEnds-prop};
 ghost use Rattle.flat_snapshot.specs.Neighbours.{sources_of};
 ghost use Rattle.vertex_sets.specs.declared.form.Form.TheVariants as Form;
-ghost use Rattle.pull_engine.specs.Destinations.{passes_set};
+ghost use Rattle.pull_engine.specs.Sources.{AreInBits, is_source};
+ghost use Rattle.pull_engine.specs.inside.Propositions.{AreInBits-prop};
 ghost use Rattle.kernels.specs.inside.Propositions.{HasShape-prop};
 ghost use Rattle.pull_engine.specs.Ranges.{IsShapeOfApply};
 
-use crate::listed::{cut_vertices, member_bits, source_bits};
+use crate::listed::{cut_vertices, member_bits};
 use crate::shapes::apply_shape;
+use crate::source_words::SourceWords;
 use crew::{CrewError, Partition, is_crew};
 use edge_apply::Apply;
 use edge_fold::{FoldStart, Scratch};
@@ -30,14 +32,14 @@ use vertex_sets::VertexSet;
 /// what the edges into those of its vertices give that pass. [`PullWork::merge`] makes the changes of the whole apply of it.
 pub struct PullWork<'a> {
     pub(crate) apply: Apply<'a>,
-    pub(crate) bits: Option<VertexSet>,
+    pub(crate) sources: SourceWords<'a>,
     pub(crate) members: Option<VertexSet>,
     pub(crate) cuts: Partition,
     pub(crate) shape: Shape,
     ghost whole: { AreEnds 0 apply.flat.now.vertices cuts } by { AreEnds-prop 0 apply.flat.now.vertices cuts },
-    ghost form: { IfSome bits (λ s. s.form ≡ Form.Bits) } by { Prim.hlevel (props) },
-    ghost sources: { (m : StateValue) (from : ℕ → Bool) → apply.vectors.now.vectors ≡ m.vectors → HasSizes apply.sizes.now m → IsEndTest apply.from m from
-        → (v : ℕ) → v < apply.flat.now.vertices → passes_set bits v ≡ from v } by { Prim.hlevel (props) },
+    ghost form: { AreInBits sources } by { AreInBits-prop sources },
+    ghost passing: { (m : StateValue) (from : ℕ → Bool) → apply.vectors.now.vectors ≡ m.vectors → HasSizes apply.sizes.now m → IsEndTest apply.from m from
+        → (v : ℕ) → v < apply.flat.now.vertices → is_source sources v ≡ from v } by { Prim.hlevel (props) },
     ghost member_bits: { IfSome members (λ s. (m : StateValue) (test : ℕ → Bool) → IsEndTest apply.to m test
         → (v : ℕ) → test v ≡ is_member v s.members) } by { Prim.hlevel (props) },
     ghost shaped: { IsShapeOfApply shape apply.first.now apply.second } by { Prim.hlevel (HasShape-prop, props) },
@@ -47,7 +49,7 @@ impl Drop for PullWork<'_> {
     fn drop(self) {
         let PullWork {
             apply: _,
-            bits: _,
+            sources: _,
             members: _,
             cuts: _,
             shape: _,
@@ -58,7 +60,7 @@ impl Drop for PullWork<'_> {
 impl<'a> PullWork<'a> {
     /// The pieces of an apply for n workers, 1 to 64. All vertices are cut, and are tested in their pieces. If the schedule
     /// cuts by edges, the edges of each block of 64 vertices are read, and degrees only in blocks in which a piece ends. The
-    /// sources that pass are put into bits, and so are destinations that are a set. It takes time in proportion to the graph's
+    /// sources that pass are put into bits, and so are destinations that are a set, if they are not kept so. It takes time in proportion to the graph's
     /// vertices if an end has to be put into bits, and else to its blocks. The scratch serves any apply after this one.
     ///
     /// Errors: `BadWorkers` where the number of workers is not 1 to 64, else `NoMemory`.
@@ -79,12 +81,12 @@ impl<'a> PullWork<'a> {
             return Err(CrewError::BadWorkers);
         }
         let context = apply.context(FoldStart::Unit);
-        let bits = source_bits(alloc, apply.from, context, scratch)?;
+        let sources = SourceWords::of(alloc, apply.from, context, scratch)?;
         let members = member_bits(alloc, apply.to)?;
         let cuts = cut_vertices(alloc, apply.parallelization, workers, apply.flat)?;
         Ok(PullWork {
             apply: *apply,
-            bits,
+            sources,
             members,
             cuts,
             shape: apply_shape(apply.first, apply.second),

@@ -33,6 +33,6 @@ returns c m steps from to vectors sizes kernels is_from is_to x r by =
     let same = filter_all (λ (e : Edge). true) whole (λ e. refl)
     ∙ ap (λ (d : Digraph). columns passes d.edges (filter to (range_with_len p.low (p.high - p.low)))) of_piece.flat
     ∙ ap (λ (us : List ℕ). columns passes g.edges (filter to us)) row
-    ∙ columns_agree g passes from of_piece.graph (λ v l. of_piece.from v ∙ w.sources m from vectors sizes is_from v l) (filter to (piece_of w.cuts all k)) in
+    ∙ columns_agree g passes from of_piece.graph (λ v l. of_piece.from v ∙ w.passing m from vectors sizes is_from v l) (filter to (piece_of w.cuts all k)) in
     subst (λ (n : ℕ). AreGatheredFor n m steps (columns from g.edges (filter to (piece_of w.cuts all k))) found x r) (ap (λ (f : ApplyContext). f.vertices) of_piece.context)
     (subst (λ (es : List Edge). AreGatheredFor p.context.vertices m steps es found x r) same gathered)

@@ -5,7 +5,7 @@ pub invariant_of-result : goal.invariant_of-result
 invariant_of-result c = record {
   whole = search rules;
   form = search rules;
-  sources = search rules;
+  passing = search rules;
   member_bits = c.in_ok-members.ensures;
   shaped = search rules;
 }

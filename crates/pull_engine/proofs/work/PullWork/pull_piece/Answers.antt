@@ -29,7 +29,7 @@ returns c =
     (λ x changed m steps from to vectors sizes kernels is_from is_to.
     let es = edges_between from to g.edges in
     let same = ap (λ (d : Digraph). edges_between passes to d.edges) of_piece.flat
-    ∙ between_agree g passes from to of_piece.graph (λ v l. of_piece.from v ∙ w.sources m from vectors sizes is_from v l) in
+    ∙ between_agree g passes from to of_piece.graph (λ v l. of_piece.from v ∙ w.passing m from vectors sizes is_from v l) in
     subst (λ (e : ℕ). AreChangesFrom x (end_of w.cuts (k - 1)) (e - end_of w.cuts (k - 1)) es m steps cs.items) of_piece.high
     (subst (λ (s : ℕ). AreChangesFrom x s (p.high - s) es m steps cs.items) of_piece.low
     (subst (λ (fs : List Edge). AreChangesFrom x p.low (p.high - p.low) fs m steps cs.items) same
