@@ -5,7 +5,7 @@ ghost use Rattle.vertex_marks.specs.Marks.{is_marked, room as marks_room};
 use vertex_marks::VertexMarks;
 
 /// The new entries of one vector, at the vertices that an apply has given something, which are marked. The first vertices,
-/// as many as are filled, are all marked, so that nobody asks for their marks.
+/// as many as are filled, are all marked: their marks are not read.
 pub(crate) struct Accumulator {
     pub(crate) values: Vec<i64>,
     pub(crate) marks: VertexMarks,

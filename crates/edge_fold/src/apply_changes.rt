@@ -145,7 +145,7 @@ fn found_in_slot(
     }
 }
 
-/// Its changes at all vertices. If all of these are filled, no mark is asked for.
+/// Its changes at all vertices. If all of these are filled, no mark is read.
 fn all_changes(
     alloc: Global,
     context: ApplyContext<'_>,

@@ -44,8 +44,8 @@ impl Scratch {
 }
 
 impl VectorAccumulators {
-    /// Gives each vertex its old entry, in the vector that is given something, where no vector has an entry and new ones
-    /// begin with the old. The only error is out of memory.
+    /// Gives each vertex its old entry in a vector, if new entries begin with the old ones. No vector has an entry yet. The
+    /// only error is out of memory.
     fn fill(
         &mut self,
         alloc: Global,
@@ -75,7 +75,7 @@ impl Accumulator {
         }
     }
 
-    /// The same where new entries begin with these: in blocks of 64 vertices, as far as there is room.
+    /// The same if new entries begin with these: in blocks of 64 vertices, as far as there is room.
     fn fill_from(&mut self, old: Lane<'_>, vertices: u32)
         requires { (combine : ℤ → ℤ → ℤ) (v : ℕ) (h : ℤ) → held_with combine self.old v h ≡ h }
         ensures { (r : Reducing) → AreJoined (opening.Entries old.entry) r self.old self.new [] }
@@ -87,7 +87,7 @@ impl Accumulator {
     }
 }
 
-/// Copies the first entries, as many as this, in one go where they stand one after the other.
+/// Copies the first entries, as many as this, in one go if they stand one after the other.
 fn copy_entries(old: Lane<'_>, count: usize, values: &mut [i64])
     requires { count ≤ length values.old }
     ensures { (v : ℕ) → v < count → slice_index_or values.new v (pos 0) ≡ lane_entry old.entry v }
