@@ -5,7 +5,7 @@ ghost use Rattle.crew.specs.Outcome.{AreWorkers};
 ghost use Rattle.edge_fold.specs.Changed.{AreApart};
 ghost use Rattle.edge_apply.specs.Applied.{AreChangesOf};
 
-use crate::merge::Workers;
+use crate::pieces::Workers;
 use crate::work::PushWork;
 use crew::{CrewError, Gate, PieceAssignment, run_pieces};
 use edge_apply::Apply;

@@ -22,8 +22,8 @@
 mod changes;
 mod crew_apply;
 mod listed;
-mod merge;
 mod neighbour_block;
+mod pieces;
 mod push_end;
 mod source_degrees;
 mod sources;

@@ -4,7 +4,7 @@ use Rattle.edge_apply.specs.Words.{is_set}
 use Rattle.push_engine.specs.Rows.{rows}
 use Rattle.push_engine.specs.Sources.{passing_in}
 use Rattle.push_engine.proofs.GatheredAlike.{gathered_first, gathered_second, gathered_where}
-use Rattle.push_engine.proofs.merge.PushWorkWork.piece.Goals as goal
+use Rattle.push_engine.proofs.pieces.PushWorkWork.piece.Goals as goal
 
 pub returns-in_ok-gathered-in-Some-clause-out : goal.returns-in_ok-gathered-in-Some-clause-out
 returns-in_ok-gathered-in-Some-clause-out c =

@@ -6,7 +6,7 @@ use Rattle.edge_fold.proofs.Walks.{folded_along}
 use Rattle.edge_apply.specs.Words.{passes_words}
 use Rattle.push_engine.specs.Rows.{rows_to}
 use Rattle.edge_apply.proofs.Listed.{filter_all}
-use Rattle.push_engine.proofs.merge.fold_passing_part.Goals as goal
+use Rattle.push_engine.proofs.pieces.fold_passing_part.Goals as goal
 
 pub returns-in_ok-fold_rows-in-None : goal.returns-in_ok-fold_rows-in-None
 returns-in_ok-fold_rows-in-None c m steps test are is has =
