@@ -1,6 +1,7 @@
 -- Blocks of neighbours that are read from a walk, and what is kept of them.
-use Rattle.std.proofs.Common.{◌≡◌, ◌≤◌, ℕ, ℤ, Bool, List, [], ◌∷◌, length, take, sym, ap, refl, ◌∙◌, arith}
-use Rattle.std.proofs.lemmas.List.{take-map}
+use Rattle.std.proofs.Common.{◌≡◌, ◌+◌, ◌<◌, ◌≤◌, ℕ, ℤ, Bool, true, false, cond, List, [], ◌∷◌, ◌++◌, get_or, length, set, take, sym, ap, refl, ◌∙◌, arith}
+use Rattle.std.proofs.lemmas.List.{append-nil, take-map, take-set, take_more, take_more_set}
+use Rattle.std.proofs.lemmas.List.Elements.{filter-append}
 use Rattle.std.specs.List.{filter}
 use Rattle.std.specs.Map.{keys_of, values_of}
 use Rattle.edge_fold.specs.Between.{firsts}
@@ -27,3 +28,26 @@ entries_kept test n coming keys weights kept first second keeps =
     ∙ ap (λ ws. entries_of (take n (keys_of coming)) ws) second
     ∙ entries_read n coming
     )
+
+-- one more neighbour is read, and counts if it passes
+pub one_read : (p : ℕ → Bool) (xs keys : List ℕ) (k i x n : ℕ) (b : Bool) → i < length xs → k < length keys → p x ≡ b → x ≡ get_or xs i 0 → (b ≡ true → n ≡ k + 1) → (b ≡ false → n ≡ k)
+    → take k keys ≡ filter p (take i xs) → take n (set keys k x) ≡ filter p (take (i + 1) xs)
+one_read p xs keys k i x n true inside fits is here counts stays at =
+    ap (λ m. take m (set keys k x)) (counts refl)
+    ∙ take_more_set keys k x fits
+    ∙ ap (λ ks. ks ++ x ∷ []) at
+    ∙ ap (λ ks. filter p (take i xs) ++ ks) (sym (ap (λ (c : Bool). cond c (x ∷ []) []) is) ∙ ap (λ y. filter p (y ∷ [])) here)
+    ∙ sym (filter-append p (take i xs) (get_or xs i 0 ∷ []))
+    ∙ ap (filter p) (sym (take_more xs i 0 inside))
+one_read p xs keys k i x n false inside fits is here counts stays at =
+    ap (λ m. take m (set keys k x)) (stays refl)
+    ∙ take-set keys k x
+    ∙ at
+    ∙ sym (append-nil (filter p (take i xs)))
+    ∙ ap (λ ks. filter p (take i xs) ++ ks) (sym (ap (λ (c : Bool). cond c (x ∷ []) []) is) ∙ ap (λ y. filter p (y ∷ [])) here)
+    ∙ sym (filter-append p (take i xs) (get_or xs i 0 ∷ []))
+    ∙ ap (filter p) (sym (take_more xs i 0 inside))
+
+pub one_at_most : (k n : ℕ) (b : Bool) → (b ≡ true → n ≡ k + 1) → (b ≡ false → n ≡ k) → n ≤ k + 1
+one_at_most k n true on off = let e = on refl in omega (arith, e)
+one_at_most k n false on off = let e = off refl in omega (arith, e)

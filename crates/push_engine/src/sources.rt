@@ -1,7 +1,8 @@
 //! Going over the sources of an apply.
-ghost use Rattle.std.specs.Prelude.{◌≡◌, ℕ, ◌+◌, ◌*◌, ◌%◌, ◌^◌, ◌<◌, ◌==◌, ◌++◌, Bool, false, true, List, [], OnOk};
+ghost use Rattle.std.specs.Prelude.{◌≡◌, ℕ, ◌+◌, ◌*◌, ◌%◌, ◌^◌, ◌<◌, ◌≤◌, ◌==◌, ◌++◌, Bool, false, true, List, [], drop, length, take, OnOk};
 ghost use Rattle.std.specs.Int.{bit_at};
 ghost use Rattle.std.specs.List.{filter, range_with_len};
+ghost use Rattle.std.specs.Map.{keys_of};
 ghost use Rattle.std.specs.Option.{option_copied};
 ghost use Rattle.edge_lists.specs.Edge.{Edge};
 ghost use Rattle.kernels.specs.StepTree.{StepsTree};
@@ -20,12 +21,14 @@ ghost use Rattle.push_engine.specs.Rows.{rows_to};
 
 use crate::neighbour_block::NeighbourBlock;
 use crate::push_end::PushEnd;
-use edge_apply::{keep_members, keep_members_weighted, take_part};
+use edge_apply::{keep_members, keep_members_weighted, passes, take_part};
 use edge_fold::{ApplyContext, Scratch};
 use flat_snapshot::Flat;
-use kernels::EndpointFilter;
+use kernels::{EndpointFilter, PAIRS};
 use std::alloc::{AllocError, Global};
-use vertex_blocks::{NeighbourForm, NeighbourSet, NeighbourWalk, SetWalk, VertexBlock};
+use vertex_blocks::{
+    ByWidth, NeighbourForm, NeighbourSet, NeighbourWalk, Neighbours, SetWalk, VertexBlock,
+};
 use vertex_sets::VertexSet;
 
 /// What rows are folded of: the functions, and the edges to the destinations whose bits are set. Words that are not given
@@ -235,7 +238,7 @@ fn fold_row(
     let (page, own) = lists.packed();
     if (own >> vertex) % 2 == 0 {
         let list = page.list(vertex);
-        return fold_walk(alloc, input, source, list.ascending(), block, scratch);
+        return fold_list(alloc, input, source, list, block, scratch);
     }
     fold_set(
         alloc,
@@ -245,6 +248,83 @@ fn fold_row(
         block,
         scratch,
     )
+}
+
+/// The same to the neighbours of a packed list, by a loop for each width.
+#[inline]
+fn fold_list(
+    alloc: Global,
+    input: RowInput<'_>,
+    source: u32,
+    list: Neighbours<'_>,
+    block: &mut NeighbourBlock,
+    scratch: &mut Scratch,
+) -> Result<(), AllocError>
+    ensures { OnOk result ((m : StateValue) (steps : List StepsTree) (edges : List Edge) → IsContextOf input.entry.context m steps
+        → HasFolded input.entry.context m steps edges scratch.old → HasFolded input.entry.context m steps (edges
+        ++ row source (filter (λ e. passes_words input.entry.to e.0) list.entry)) scratch.new) }
+{
+    if input.context.weighted {
+        return fold_weighted(alloc, input, source, list.ascending(), block, scratch);
+    }
+    match list.by_width() {
+        ByWidth::One(narrow) => fold_parts(alloc, input, source, &narrow, block, scratch),
+        ByWidth::Two(narrow) => fold_parts(alloc, input, source, &narrow, block, scratch),
+        ByWidth::Three(narrow) => fold_parts(alloc, input, source, &narrow, block, scratch),
+        ByWidth::Four(narrow) => fold_parts(alloc, input, source, &narrow, block, scratch),
+    }
+}
+
+/// The same of one width, if no function reads weights.
+#[inline(always)]
+fn fold_parts(
+    alloc: Global,
+    input: RowInput<'_>,
+    source: u32,
+    list: &Neighbours<'_>,
+    block: &mut NeighbourBlock,
+    scratch: &mut Scratch,
+) -> Result<(), AllocError>
+    requires { input.context.weighted ≡ false }
+    ensures { OnOk result ((m : StateValue) (steps : List StepsTree) (edges : List Edge) → IsContextOf input.entry.context m steps
+        → HasFolded input.entry.context m steps edges scratch.old → HasFolded input.entry.context m steps (edges
+        ++ row source (filter (λ e. passes_words input.entry.to e.0) list.now)) scratch.new) }
+{
+    let len = list.len();
+    let mut first = 0usize;
+    'parts: while first < len {
+        let count = (len - first).min(PAIRS);
+        let kept = read_passing(input.to, list, first, count, &mut block.keys);
+        scratch.fold(alloc, input.context, source, &block.keys[..kept])?;
+        first += count;
+    }
+    Ok(())
+}
+
+/// Reads so many neighbours from an index on, keeps those whose bits are set at the front of a block, in their order, and
+/// gives their number. All are kept if no words are given.
+#[inline(always)]
+fn read_passing(
+    words: Option<&[u64]>,
+    list: &Neighbours<'_>,
+    first: usize,
+    count: usize,
+    keys: &mut [u32],
+) -> usize
+    requires inside { first + count ≤ length list.now }
+    requires room { count ≤ length keys.old }
+    requires few { length list.now < 2 ^ 32 }
+    ensures few { result ≤ count }
+    ensures room { length keys.new ≡ length keys.old }
+    ensures kept { take result keys.new ≡ filter (passes_words words.entry) (take count (drop first (keys_of list.now))) }
+{
+    let mut kept = 0usize;
+    'indices: for index in 0..count {
+        let vertex = list.neighbour(first + index);
+        keys[kept] = vertex;
+        kept += usize::from(passes(words, vertex));
+    }
+    kept
 }
 
 /// The same to the neighbours of a set, as they stand.

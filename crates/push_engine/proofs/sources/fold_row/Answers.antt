@@ -29,9 +29,9 @@ returns-then-own-vertex-eq0 c =
     let lists = c.in-Some.lists.now in
     let low : v < 64 = omega arith in
     let clear : bit_at c.packed-own.result.1 v ≡ 0 = search rules in
-    let same = c.ascending.ensures ∙ c.list-list.ensures ∙ c.packed-own.ensures v low clear ∙ ap (λ (o : Option (Bor (List (ℕ × List (ℕ × ℤ))))). neighbours_of v (vertices_at (option_copied o))) (sym c.in-Some.is) in
-    subst (λ (es : List (ℕ × ℤ)). OnOk c.fold_walk.result ((m : StateValue) → (steps : List StepsTree) → (edges : List Edge) → IsContextOf a.input.context m steps → HasFolded a.input.context m steps edges a.scratch.now
-    → HasFolded a.input.context m steps (edges ++ row a.source (filter (λ e. passes_words a.input.to e.0) es)) c.fold_walk.new.scratch)) same c.fold_walk.ensures
+    let same = c.list-list.ensures ∙ c.packed-own.ensures v low clear ∙ ap (λ (o : Option (Bor (List (ℕ × List (ℕ × ℤ))))). neighbours_of v (vertices_at (option_copied o))) (sym c.in-Some.is) in
+    subst (λ (es : List (ℕ × ℤ)). OnOk c.fold_list.result ((m : StateValue) → (steps : List StepsTree) → (edges : List Edge) → IsContextOf a.input.context m steps → HasFolded a.input.context m steps edges a.scratch.now
+    → HasFolded a.input.context m steps (edges ++ row a.source (filter (λ e. passes_words a.input.to e.0) es)) c.fold_list.new.scratch)) same c.fold_list.ensures
 
 pub returns : goal.returns
 returns c =
