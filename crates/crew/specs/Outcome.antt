@@ -1,5 +1,5 @@
 -- What a run of pieces gives, case by case.
-use Rattle.std.specs.Prelude.{◌≡◌, ℕ, ◌/◌, ◌≤◌, min, max, Result, Ok, Err, Vec}
+use Rattle.std.specs.Prelude.{◌≡◌, ℕ, ◌≤◌, Result, Ok, Err, Vec}
 use Rattle.crew.specs.declared.error.CrewError.{CrewError}
 use Rattle.crew.specs.declared.error.CrewError.TheVariants.{BadWorkers, NoMemory}
 use Rattle.crew.specs.declared.piece_results.Found.{Found}
@@ -18,9 +18,3 @@ Finds answers pieces workers (Err NoMemory) = AreWorkers workers
 -- the edges that each worker is to have
 abbrev pub edges_of_a_worker : ℕ
 edges_of_a_worker = 16384
-
--- a worker for each n edges, one at least and no more than there are, or the refusal of a number of workers
-abbrev pub Employs : ℕ → ℕ → Result ℕ CrewError → Type 0
-Employs edges workers (Ok n) = AreWorkers workers × (n ≡ max 1 (min workers (edges / edges_of_a_worker)))
-Employs edges workers (Err BadWorkers) = ¬ AreWorkers workers
-Employs edges workers (Err NoMemory) = ⊥

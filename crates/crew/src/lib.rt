@@ -14,8 +14,8 @@
 //!
 //! The starts go by halves, each half on a thread of its own, and where no thread can be started its half
 //! is done by the thread that wanted it. What the workers found is put into the slots of the pieces
-//! afterwards, in time `O(n)`. A [`Gate`] is told of each piece before it is done. [`workers_for`] says
-//! how many workers are worth their threads, where nobody watches the gate.
+//! afterwards, in time `O(n)`. A [`Gate`] is told of each piece before it is done. [`WorkerCount`] is a number
+//! of 1 to 64, and [`WorkerCount::worth`] says how many of them are worth their threads, if nobody watches the gate.
 //!
 //! [`Partition`] cuts a list of vertices into pieces, which are runs of it, one after the other, as a schedule says: one piece, one
 //! for each worker, or four for each, of as many vertices or of as many vertices and edges. A contract sees it as the list of the
@@ -45,6 +45,7 @@ mod piece_results;
 mod run;
 mod work;
 mod worker;
+mod worker_count;
 mod workers;
 
 pub use degree_list::DegreeList;
@@ -59,4 +60,5 @@ pub use piece_assignment::PieceAssignment;
 pub use piece_results::Found;
 pub use run::run_pieces;
 pub use work::Work;
-pub use workers::{edges_for, is_crew, workers_for};
+pub use worker_count::WorkerCount;
+pub use workers::Workers;

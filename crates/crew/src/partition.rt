@@ -6,6 +6,7 @@ ghost use Rattle.crew.specs.Partition.{AreEnds, end_of};
 
 use crate::degree_list::{DegreeList, ListedDegrees};
 use crate::edge_aware::push_edge_aware;
+use crate::worker_count::WorkerCount;
 use apply_options::Parallelization;
 use std::alloc::{AllocError, Global};
 use std::marker::Model;
@@ -34,11 +35,10 @@ impl Partition {
     pub fn of(
         alloc: Global,
         parallelization: Parallelization,
-        workers: usize,
+        workers: WorkerCount,
         count: usize,
         degrees: &[u32],
     ) -> Result<Partition, AllocError>
-        requires workers { (1 ≤ workers) × (workers ≤ 64) }
         requires few { count < 2 ^ 32 }
         requires degrees { parallelization ≡ EdgeAwareDynamicVertex → length degrees.now ≡ count }
         ensures ends { IfOk result (λ c. c ≡ boundaries parallelization workers count degrees.now) }
@@ -55,16 +55,16 @@ impl Partition {
     pub fn by_degrees<D: DegreeList>(
         alloc: Global,
         parallelization: Parallelization,
-        workers: usize,
+        workers: WorkerCount,
         count: usize,
         degrees: &D,
     ) -> Result<Partition, AllocError>
-        requires workers { (1 ≤ workers) × (workers ≤ 64) }
         requires few { count < 2 ^ 32 }
         requires degrees { parallelization ≡ EdgeAwareDynamicVertex → length (D.degrees degrees.now) ≡ count }
         ensures ends { IfOk result (λ c. c ≡ boundaries parallelization workers count (D.degrees degrees.now)) }
         ensures whole { IfOk result (λ c. AreEnds 0 count c) }
     {
+        let workers = workers.get();
         let mut ends = Vec::new(alloc);
         if count > 0 {
             push_ends(&mut ends, parallelization, workers, count, degrees)?;

@@ -8,3 +8,4 @@ pub mod FoundPieces
 pub mod Crossing
 pub mod Told
 pub mod PartChanges
+pub mod BlockTotals

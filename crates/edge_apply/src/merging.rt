@@ -5,7 +5,6 @@ ghost use Rattle.edge_lists.specs.Edge.{Edge};
 ghost use Rattle.kernels.specs.StepTree.{StepsTree};
 ghost use Rattle.kernels.specs.State.{StateValue};
 ghost use Rattle.kernels.specs.Registers.{HasSizes};
-ghost use Rattle.crew.specs.Outcome.{AreWorkers};
 ghost use Rattle.crew.specs.Pieces.{pieces_of};
 ghost use Rattle.edge_fold.specs.Changed.{AreApart};
 ghost use Rattle.edge_fold.specs.Folded.{AreKernels};
@@ -19,7 +18,7 @@ use crate::apply::Apply;
 use crate::joining::join_between;
 use crate::range_merge::RangeMerge;
 use apply_options::Parallelization;
-use crew::{Found, Open, Partition, PieceAssignment, Work, run_pieces};
+use crew::{Found, Open, Partition, PieceAssignment, Work, WorkerCount, Workers};
 use edge_fold::{FoldStart, Gathered, GatheredIn, Scratch};
 use std::alloc::{AllocError, Global};
 use std::thread::Threads;
@@ -64,21 +63,20 @@ impl<'a> Work for RangeMerge<'a> {
 /// The only error is out of memory.
 pub fn merge_by_ranges<R: Threads + Sync>(
     rt: &R,
-    workers: usize,
+    count: WorkerCount,
     alloc: Global,
     apply: &Apply<'_>,
     found: &[Found<Gathered>],
     states: &mut Vec<Scratch>,
 ) -> Result<Changes, AllocError>
-    requires { AreWorkers workers }
     ensures once { IfOk result (λ c. AreApart c.vectors.items) }
     ensures changes { IfOk result (λ c. (m : StateValue) (steps : List StepsTree) (edges_of : ℕ → List Edge)
         → apply.now.vectors.now.vectors ≡ m.vectors → HasSizes apply.now.sizes.now m
         → AreKernels apply.now.first.now apply.now.second steps → EachAscending found.now → EachGathered apply.now.flat.now.vertices m steps edges_of found.now
         → AreChangesOn apply.now.flat.now.vertices (flat_map edges_of (pieces_of found.now)) m steps c.vectors.items) }
 {
-    let count = apply.flat.vertices() as usize;
-    let ranges = Partition::of(alloc, Parallelization::DynamicVertex, workers, count, &[])?;
+    let vertices = apply.flat.vertices() as usize;
+    let ranges = Partition::of(alloc, Parallelization::DynamicVertex, count, vertices, &[])?;
     let pieces = ranges.pieces();
     // A graph has fewer vertices.
     if pieces > u32::MAX as usize {
@@ -89,11 +87,13 @@ pub fn merge_by_ranges<R: Threads + Sync>(
         found,
         ranges,
     };
-    let claimed = PieceAssignment::Claimed;
-    match run_pieces(rt, alloc, pieces, workers, claimed, &Open, &work, states) {
-        Ok(parts) => append_changes(alloc, &parts),
-        Err(_) => Err(AllocError),
-    }
+    let workers = Workers {
+        rt,
+        gate: &Open,
+        count,
+    };
+    let parts = workers.run_pieces(alloc, pieces, PieceAssignment::Claimed, &work, states)?;
+    append_changes(alloc, &parts)
 }
 
 // The numbers for which a merge is worth the threads of more than one worker.

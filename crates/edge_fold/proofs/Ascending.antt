@@ -1,4 +1,4 @@
--- Numbers that stand by ascending vertices, and those of a range of vertices among them.
+-- Numbers by ascending vertices, and those of a range of vertices among them.
 use Rattle.std.proofs.Common.{◌≡◌, ◌≢◌, ℕ, zero, suc, pos, length-append, length-drop, ◌+◌, ◌-◌, ◌<◌, ◌≤◌, ◌==◌, ℤ, Bool, true, false, cond, List, [], ◌∷◌, ◌++◌, length, get_or, take, drop, refl, sym, ap, ◌∙◌, subst, arith}
 use Rattle.std.proofs.lemmas.Bool.Decides.{nat_tests}
 use Rattle.std.proofs.lemmas.Bool.{false≢true}
@@ -72,7 +72,7 @@ inside_test low high v is = (grind (arith, nat_tests), grind (arith, nat_tests))
 pub within_test : (low high k : ℕ) → low ≤ k → k < high → is_between low high k ≡ true
 within_test low high k l b = grind (arith, nat_tests)
 
--- those of a range stand between those before it and those after it
+-- those of a range are between those before it and those after it
 abbrev Stand : (P : ℕ → Type 0) → List EntryChange → Type 0
 Stand P cs = (i : ℕ) (d : EntryChange) → i < length cs → P (get_or cs i d).vertex
 

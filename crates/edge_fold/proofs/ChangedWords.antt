@@ -12,27 +12,27 @@ use Rattle.vertex_sets.proofs.WordMembers.{next_bit}
 use Rattle.edge_fold.specs.Changed.{change_at, changed_from, entries_at}
 use Rattle.edge_fold.proofs.ChangedRows.{changed_from-append, one_change}
 
-first_told : (old new : ℕ → ℤ) (a : ℕ) (us : List ℕ) (cs : List EntryChange) (b e : Bool) → b ≡ not e → int_equal (old a) (new a) ≡ e → entries_at new us ≡ cs
+first_changed : (old new : ℕ → ℤ) (a : ℕ) (us : List ℕ) (cs : List EntryChange) (b e : Bool) → b ≡ not e → int_equal (old a) (new a) ≡ e → entries_at new us ≡ cs
     → entries_at new (cond b (a ∷ us) us) ≡ change_at old new a ++ cs
-first_told old new a us cs b true is same more =
+first_changed old new a us cs b true is same more =
     let change : EntryChange = record { vertex = a; number = new a } in
     ap (λ (c : Bool). entries_at new (cond c (a ∷ us) us)) is ∙ more ∙ sym (ap (λ (c : Bool). cond c [] (change ∷ []) ++ cs) same)
-first_told old new a us cs b false is same more =
+first_changed old new a us cs b false is same more =
     let change : EntryChange = record { vertex = a; number = new a } in
     ap (λ (c : Bool). entries_at new (cond c (a ∷ us) us)) is ∙ ap (λ ds. change ∷ ds) more ∙ sym (ap (λ (c : Bool). cond c [] (change ∷ []) ++ cs) same)
 
 -- if the bits say which entries differ, the new entries at the set bits are the changes
-pub word_told : (old new : ℕ → ℤ) (k a word : ℕ) → ((i : ℕ) → i < k → (bit_at word i == 1) ≡ not (int_equal (old (a + i)) (new (a + i))))
+pub word_changed : (old new : ℕ → ℤ) (k a word : ℕ) → ((i : ℕ) → i < k → (bit_at word i == 1) ≡ not (int_equal (old (a + i)) (new (a + i))))
     → entries_at new (bit_members k a word) ≡ changed_from old new a k
 unfolding bit_members changed_from
-word_told old new zero a word told = refl
-word_told old new (suc k) a word told =
+word_changed old new zero a word bits = refl
+word_changed old new (suc k) a word bits =
     let here : a + 0 ≡ a = omega arith in
-    first_told old new a (bit_members k (a + 1) (word / 2)) (changed_from old new (a + 1) k) (word % 2 == 1) (int_equal (old a) (new a))
-    (ap (λ b. b == 1) (sym (bit_at_lowest word)) ∙ told 0 (omega arith) ∙ ap (λ u. not (int_equal (old u) (new u))) here) refl
-    (word_told old new k (a + 1) (word / 2) (λ i l.
+    first_changed old new a (bit_members k (a + 1) (word / 2)) (changed_from old new (a + 1) k) (word % 2 == 1) (int_equal (old a) (new a))
+    (ap (λ b. b == 1) (sym (bit_at_lowest word)) ∙ bits 0 (omega arith) ∙ ap (λ u. not (int_equal (old u) (new u))) here) refl
+    (word_changed old new k (a + 1) (word / 2) (λ i l.
     let next : a + suc i ≡ a + 1 + i = omega arith in
-    ap (λ b. b == 1) (sym (bit_at-suc word i)) ∙ told (suc i) (omega (arith, l)) ∙ ap (λ u. not (int_equal (old u) (new u))) next))
+    ap (λ b. b == 1) (sym (bit_at-suc word i)) ∙ bits (suc i) (omega (arith, l)) ∙ ap (λ u. not (int_equal (old u) (new u))) next))
 
 -- the vertex of the lowest bit comes next
 pub lowest_pushed : (new : ℕ → ℤ) (a left : ℕ) (found more all : List EntryChange) → 0 < left → left < 2 ^ 64 → more ≡ found ++ entries_at new ((a + count_trailing_zeros 64 left) ∷ [])
@@ -75,7 +75,7 @@ part_at numbers first count i l = get_or-take count (drop first numbers) i (pos 
 pub differs_more : (test : ℕ → Bool) (bit word next : ℕ) (b : Bool) → bit < 64 → next ≡ cond b (bit_or word (1 * 2 ^ bit % 2 ^ 64)) word → b ≡ test bit
     → ((i : ℕ) → i < bit → (bit_at word i == 1) ≡ test i) → ((i : ℕ) → bit ≤ i → bit_at word i ≡ 0)
     → ((i : ℕ) → i < bit + 1 → (bit_at next i == 1) ≡ test i) × ((i : ℕ) → bit + 1 ≤ i → bit_at next i ≡ 0)
-differs_more test bit word next b lt e now told others =
+differs_more test bit word next b lt e now bits others =
     let at : (i : ℕ) → 0 + i ≡ i = λ i. omega arith in
-    let all = next_bit (λ v c. c ≡ test v) 0 bit word next b lt e (now ∙ ap test (sym (at bit))) (λ i l. told i l ∙ ap test (sym (at i))) others in
+    let all = next_bit (λ v c. c ≡ test v) 0 bit word next b lt e (now ∙ ap test (sym (at bit))) (λ i l. bits i l ∙ ap test (sym (at i))) others in
     (λ i l. all.0 i l ∙ ap test (at i), all.1)

@@ -13,12 +13,13 @@ pub one_entry_more : (r : Reduction) (f : ℕ → ℤ → ℤ) (n : ℤ) (k : �
     → reduced_over r f (reduced r n (f (get_or es k (0, pos 1)).0 (get_or es k (0, pos 1)).1)) (drop (k + 1) es) ≡ reduced_over r f n (drop k es)
 one_entry_more r f n k es l = sym (ap (λ (xs : List (ℕ × ℤ)). reduced_over r f n xs) (drop_more es k (0, pos 1) l))
 
--- the number of one weight more of a row
-pub one_weight_more : (r : Reduction) (v : ℕ) (f : ℤ → ℤ) (n : ℤ) (k : ℕ) (ds : List ℕ) (ws : List ℤ) → k < length ds → length ws ≡ length ds
-    → reduced_at r v (if get_or ds k 0 == v then reduced r n (f (get_or ws k (pos 0))) else n) (each_weighed f (entries_of (drop (k + 1) ds) (drop (k + 1) ws))) ≡ reduced_at r v n (each_weighed f (entries_of (drop k ds) (drop k ws)))
-one_weight_more r v f n k ds ws l same =
-    sym (ap (λ (xs : List ℕ). reduced_at r v n (each_weighed f (entries_of xs (drop k ws)))) (drop_more ds k 0 l)
-    ∙ ap (λ (xs : List ℤ). reduced_at r v n (each_weighed f (entries_of (get_or ds k 0 ∷ drop (k + 1) ds) xs))) (drop_more ws k (pos 0) (omega (arith, l, same))))
+-- one more entry of a row, whose number was joined
+pub one_weight_more : (r : Reduction) (v : ℕ) (f : ℤ → ℤ) (now next : ℤ) (k u : ℕ) (n : ℤ) (es : List (ℕ × ℤ)) → k < length es → u ≡ (get_or es k (0, pos 1)).0 → n ≡ f (get_or es k (0, pos 1)).1
+    → next ≡ reduced_at r v now ((u, n) ∷ []) → reduced_at r v next (each_weighed f (drop (k + 1) es)) ≡ reduced_at r v now (each_weighed f (drop k es))
+one_weight_more r v f now next k u n es l at of is =
+    ap (λ (y : ℤ). reduced_at r v y (each_weighed f (drop (k + 1) es)))
+    (is ∙ ap (λ (w : ℕ). reduced_at r v now ((w, n) ∷ [])) at ∙ ap (λ (m : ℤ). reduced_at r v now (((get_or es k (0, pos 1)).0, m) ∷ [])) of)
+    ∙ sym (ap (λ (xs : List (ℕ × ℤ)). reduced_at r v now (each_weighed f xs)) (drop_more es k (0, pos 1) l))
 
 -- what a row gives, a number for each weight
 pub weighed_row : (x y source : ℕ) (r : Reduction) (number : ℤ → ℤ) (g : Edge → List (ℕ × Reduction × ℤ)) → ((d : ℕ) (w : ℤ) → g (source, d, w) ≡ (y, r, number w) ∷ []) → (es : List (ℕ × ℤ))

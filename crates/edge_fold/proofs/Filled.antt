@@ -10,25 +10,31 @@ use Rattle.edge_fold.specs.FoldStarts.{combined}
 use Rattle.edge_fold.proofs.Entries.{joined_again}
 use Rattle.edge_fold.proofs.JoinedSlots.{combined_more}
 
-given_more : (n : ℤ) (ds : List ℕ) (k : ℕ) → k < length ds → each_given n (drop k ds) ≡ (get_or ds k 0, n) ∷ each_given n (drop (k + 1) ds)
-given_more n ds k more = ap (each_given n) (drop_more ds k 0 more)
+given_more : (n : ℤ) (ds : List ℕ) (k u : ℕ) → k < length ds → u ≡ get_or ds k 0 → each_given n (drop k ds) ≡ (u, n) ∷ each_given n (drop (k + 1) ds)
+given_more n ds k u more at = ap (each_given n) (drop_more ds k 0 more) ∙ ap (λ (d : ℕ). (d, n) ∷ each_given n (drop (k + 1) ds)) (sym at)
 
 -- one more vertex, whose value was reduced
-pub value_more : (r : Reduction) (n : ℤ) (values : List ℤ) (ds : List ℕ) (k v : ℕ) (x whole : ℤ) → k < length ds → get_or ds k 0 < length values → x ≡ reduced r (get_or values (get_or ds k 0) (pos 0)) n
+pub value_more : (r : Reduction) (n : ℤ) (values : List ℤ) (ds : List ℕ) (k u v : ℕ) (x whole : ℤ) → k < length ds → u ≡ get_or ds k 0 → u < length values → x ≡ reduced r (get_or values u (pos 0)) n
     → reduced_at r v (get_or values v (pos 0)) (each_given n (drop k ds)) ≡ whole
-    → reduced_at r v (get_or (set values (get_or ds k 0) x) v (pos 0)) (each_given n (drop (k + 1) ds)) ≡ whole
-value_more r n values ds k v x whole more inside is was =
-    ap (λ (y : ℤ). reduced_at r v y (each_given n (drop (k + 1) ds))) (joined_again r (λ h y. y) values (λ _. true) (get_or ds k 0) v x (pos 0) n inside refl is)
-    ∙ ap (λ (gs : List (ℕ × ℤ)). reduced_at r v (get_or values v (pos 0)) gs) (sym (given_more n ds k more))
+    → reduced_at r v (get_or (set values u x) v (pos 0)) (each_given n (drop (k + 1) ds)) ≡ whole
+value_more r n values ds k u v x whole more at inside is was =
+    ap (λ (y : ℤ). reduced_at r v y (each_given n (drop (k + 1) ds))) (joined_again r (λ h y. y) values (λ _. true) u v x (pos 0) n inside refl is)
+    ∙ ap (λ (gs : List (ℕ × ℤ)). reduced_at r v (get_or values v (pos 0)) gs) (sym (given_more n ds k u more at))
     ∙ was
 
 -- one more vertex, which is another
-pub other_more : (r : Reduction) (n : ℤ) (ds : List ℕ) (k v : ℕ) (h whole : ℤ) → k < length ds → (get_or ds k 0 ≡ v → ⊥)
+pub other_more : (r : Reduction) (n : ℤ) (ds : List ℕ) (k u v : ℕ) (h whole : ℤ) → k < length ds → u ≡ get_or ds k 0 → (u ≡ v → ⊥)
     → reduced_at r v h (each_given n (drop k ds)) ≡ whole → reduced_at r v h (each_given n (drop (k + 1) ds)) ≡ whole
-other_more r n ds k v h whole more apart was =
-    sym (ap (λ (gs : List (ℕ × ℤ)). reduced_at r v h gs) (given_more n ds k more)
-    ∙ ap (λ (b : Bool). reduced_at r v (cond b (reduced r h n) h) (each_given n (drop (k + 1) ds))) (ne_eqb (get_or ds k 0) v apart))
+other_more r n ds k u v h whole more at apart was =
+    sym (ap (λ (gs : List (ℕ × ℤ)). reduced_at r v h gs) (given_more n ds k u more at)
+    ∙ ap (λ (b : Bool). reduced_at r v (cond b (reduced r h n) h) (each_given n (drop (k + 1) ds))) (ne_eqb u v apart))
     ∙ was
+
+-- one more vertex, whose entry was joined
+pub given_first : (r : Reduction) (n : ℤ) (ds : List ℕ) (k u v : ℕ) (now next : ℤ) → k < length ds → u ≡ get_or ds k 0 → next ≡ reduced_at r v now ((u, n) ∷ [])
+    → reduced_at r v next (each_given n (drop (k + 1) ds)) ≡ reduced_at r v now (each_given n (drop k ds))
+given_first r n ds k u v now next more at is =
+    ap (λ (y : ℤ). reduced_at r v y (each_given n (drop (k + 1) ds))) is ∙ sym (ap (λ (gs : List (ℕ × ℤ)). reduced_at r v now gs) (given_more n ds k u more at))
 
 -- to combine with a number and reduce with all that is given, in either order
 combined_once : (s : FoldStart) (r : Reduction) (h y n : ℤ) (b : Bool) → cond b (reduced r (combined s r h y) n) (combined s r h y) ≡ combined s r h (cond b (reduced r y n) y)

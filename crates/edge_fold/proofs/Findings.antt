@@ -56,7 +56,7 @@ pub changes_or-push : (x : ℕ) (cs : List VectorChanges) (c : VectorChanges) (r
 changes_or-push x [] c rest = refl
 changes_or-push x (d ∷ ds) c rest = ap (λ (r : List EntryChange). cond (d.vector == x) d.changes.items r) (changes_or-push x ds c rest)
 
--- a vector that is there already
+-- a vector that has changes already
 named_at : (x y : ℕ) (d : VectorChanges) (new rest now was : List EntryChange) (p q : Bool) → (d.vector == y) ≡ p → (d.vector == x) ≡ q → ((p ≡ false) → now ≡ was)
     → (p ≡ true → q ≡ false → (y == x) ≡ false) → ((y == x) ≡ false → now ≡ was)
     → cond q d.changes.items now ≡ cond q d.changes.items was

@@ -83,7 +83,7 @@ one_pair_more r v x n row k ds l =
     sym (reduced_at-append r v n (for_vector x (get_or ds k 0) (row k)) (given_from x row (k + 1) (drop (k + 1) ds)))
     ∙ ap (λ (zs : List ℕ). reduced_at r v n (given_from x row k zs)) (sym (drop_more ds k 0 l))
 
--- the same is given to each pair
+-- each pair is given the same
 pub given_same : (x : ℕ) (a b : ℕ → List (ℕ × Reduction × ℤ)) → ((i : ℕ) → a i ≡ b i) → (i : ℕ) (ds : List ℕ) → given_from x a i ds ≡ given_from x b i ds
 given_same x a b e i [] = refl
 given_same x a b e i (d ∷ ds) =

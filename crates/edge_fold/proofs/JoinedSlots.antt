@@ -41,7 +41,7 @@ joined_more f x r a b c gs hs one more = record {
   reduction = λ was. more.reduction (one.reduction was);
 }
 
--- what is given otherwise, and comes to the same
+-- what is given otherwise, if entries reduced with it are the same
 pub joined_alike : (f : ApplyContext) (x : ℕ) (r : Reduction) (a b : VectorAccumulators) (gs hs : List (ℕ × ℤ)) → ((v : ℕ) (n : ℤ) → reduced_at r v n gs ≡ reduced_at r v n hs) → HaveJoined f x r a b gs → HaveJoined f x r a b hs
 joined_alike f x r a b gs hs same one = record {
   entries = λ v h. one.entries v h ∙ same v (held_in_with (combined f.start r) (active a) x v (first_entry f x v h));
@@ -92,7 +92,7 @@ joined_slot f x y p r before now after was t gs is index inside few slot vector 
           ∙ kept has;
     }
 
--- edges that are joined at once, before those that wait, where what is joined comes to what they give
+-- edges that are joined at once, before those that wait, if to reduce with what is joined is to reduce with what they give
 pub folded_before_alike : (f : ApplyContext) (m : StateValue) (steps : List StepsTree) (es more : List Edge) (a b : Scratch) (x : ℕ) (r : Reduction) (gs : List (ℕ × ℤ)) → waiting f.weighted b.pairs ≡ waiting f.weighted a.pairs
     → HaveJoined f x r a.slots b.slots gs → ((v : ℕ) (n : ℤ) → v < f.vertices → reduced_at r v n gs ≡ reduced_at r v n (given_on x (all_given m steps) more))
     → HasFoldedFor f m steps es a x r → HasFoldedFor f m steps (es ++ more) b x r

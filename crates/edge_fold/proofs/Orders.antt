@@ -22,7 +22,7 @@ folded_alike f m steps es fs s alike has x r by =
     let was = has x r by in
     record { entries = λ v h l. was.entries v h l ∙ alike x v r (first_entry f x v h); reduction = was.reduction }
 
--- the same of edges that come last
+-- edges that come last
 pub folded_more_alike : (f : ApplyContext) (m : StateValue) (steps : List StepsTree) (es more other : List Edge) (s : Scratch)
     → ((x : ℕ) → given_on x (all_given m steps) more ≡ given_on x (all_given m steps) other) → HasFolded f m steps (es ++ more) s → HasFolded f m steps (es ++ other) s
 folded_more_alike f m steps es more other s alike =

@@ -128,7 +128,7 @@ pushed ss new k s e is =
     let long = length-append ss (s ∷ []) in
     ap (take (k + 1)) is ∙ take_all (k + 1) (ss ++ s ∷ []) (omega (arith, e, long)) ∙ ap (λ (ts : List VectorAccumulator). ts ++ s ∷ []) (sym (take_all k ss (omega (arith, e))))
 
--- the same after a change at the index of a vector's slot, where the first slots are in use
+-- what a vector's slot has after a change at the index of a slot, if the first slots are in use
 pub of_slot-change : {A : Type 0} (of : VectorAccumulator → A) (f : A → A) (dflt : A) (x y k p : ℕ) (ss : List VectorAccumulator) (t d : VectorAccumulator) → p ≡ index_in x (take k ss) → p < k → k ≤ length ss → t.vector ≡ x
     → ((x == y) ≡ true → of t ≡ f (of (get_or ss p d)))
     → ((x == y) ≡ false → (z : A) → f z ≡ z)

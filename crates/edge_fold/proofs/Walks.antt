@@ -56,7 +56,7 @@ walk_done f edges_of all left start s none w m steps es are has =
     let whole = sym (append-nil w.done) ∙ ap (λ ks. w.done ++ ks) (sym none) ∙ w.split in
     folded_along f m steps (es ++ edges_of w.done) (es ++ edges_of all) s (ap (λ ks. es ++ edges_of ks) whole) (w.folded m steps es are has)
 
--- the same where only those that an end lets through bring edges
+-- how far a walk has come if only the items that an end lets through bring edges
 abbrev pub FoldsPassing : EndpointFilter → ApplyContext → (edges_of : List ℕ → List Edge) → List ℕ → (before after : Scratch) → Type 0
 FoldsPassing end f edges_of us s t = (m : StateValue) (steps : List StepsTree) (test : ℕ → Bool) (es : List Edge) → IsContextOf f m steps → IsTest end m test
     → HasFolded f m steps es s → HasFolded f m steps (es ++ edges_of (filter test us)) t

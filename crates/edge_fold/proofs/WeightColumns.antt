@@ -49,6 +49,22 @@ entries-at i (k ∷ ks) [] d e f same l = absurd (omega (arith, same))
 entries-at zero (k ∷ ks) (w ∷ ws) d e f same l = refl
 entries-at (suc i) (k ∷ ks) (w ∷ ws) d e f same l = entries-at i ks ws d e f (omega (arith, same)) (omega (arith, l))
 
+-- those of a column alone, each with weight 1
+pub unit_at : (i : ℕ) (ks : List ℕ) (d : ℕ) (f : ℕ × ℤ) → i < length ks → (get_or ks i d, unit_weight) ≡ get_or (entries_of ks []) i f
+unit_at i [] d f l = absurd (omega (arith, l))
+unit_at zero (k ∷ ks) d f l = refl
+unit_at (suc i) (k ∷ ks) d f l = unit_at i ks d f (omega (arith, l))
+
+-- the neighbour at an index
+pub first_at : (es : List (ℕ × ℤ)) (i : ℕ) (e : ℕ × ℤ) (d : ℕ) → i < length es → (get_or es i e).0 ≡ get_or (firsts es) i d
+first_at [] i e d l = absurd (omega (arith, l))
+first_at (f ∷ es) zero e d l = refl
+first_at (f ∷ es) (suc i) e d l = first_at es i e d (omega (arith, l))
+
+pub firsts-length : (es : List (ℕ × ℤ)) → length (firsts es) ≡ length es
+firsts-length [] = refl
+firsts-length (e ∷ es) = ap suc (firsts-length es)
+
 -- what is given on an edge is the same with any weight
 pub all_weightless : (m : StateValue) (steps : List StepsTree) → AreWeightless m steps → (e : Edge) → all_given m steps e ≡ all_given m steps (unit_edge (e.0, e.1))
 all_weightless m [] are e = refl

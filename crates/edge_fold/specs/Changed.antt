@@ -23,7 +23,7 @@ abbrev pub entries_at : (new : ℕ → ℤ) → List ℕ → List EntryChange
 entries_at new [] = []
 entries_at new (v ∷ vs) = record { vertex = v; number = new v } ∷ entries_at new vs
 
--- the changes of a vector, or these where it is not there
+-- the changes of a vector, or these if it has none
 abbrev pub changes_or : (vector : ℕ) → List VectorChanges → List EntryChange → List EntryChange
 changes_or x [] rest = rest
 changes_or x (c ∷ cs) rest = if c.vector == x then c.changes.items else changes_or x cs rest
@@ -32,11 +32,11 @@ changes_or x (c ∷ cs) rest = if c.vector == x then c.changes.items else change
 abbrev pub changes_of : (vector : ℕ) → List VectorChanges → List EntryChange
 changes_of x cs = changes_or x cs []
 
--- whether the vector is there
+-- whether one of the changes is of this vector
 abbrev pub is_named : (vector : ℕ) → List VectorChanges → Bool
 is_named x cs = list_any (λ c. c.vector == x) cs
 
--- each vector is there once
+-- no two are of one vector
 abbrev pub AreApart : List VectorChanges → Type 0
 AreApart [] = Unit {0}
 AreApart (c ∷ cs) = (is_named c.vector cs ≡ false) × AreApart cs

@@ -24,7 +24,7 @@ combined start.Unit r h y = reduced r h y
 abbrev pub first_entry : ApplyContext → (vector v : ℕ) → ℤ → ℤ
 first_entry f x v h = seed f.start (entry f.vectors.now.vectors x v) h
 
--- the same of an opening
+-- the start of an opening, and its seed at a vertex
 abbrev pub start_of : InitialEntries → FoldStart
 start_of (opening.Entries old) = start.OldEntry
 start_of opening.Unit = start.Unit

@@ -40,11 +40,11 @@ pub record IsContextOf (f : ApplyContext) (m : StateValue) (steps : List StepsTr
   pub kernels : AreKernels f.first.now f.second steps
   pub weightless : f.weighted ≡ false → AreWeightless m steps
 
--- the edges that wait; where no weight counts each has weight 1, whatever stands in the column of weights
+-- the edges that wait; if no weight counts each has weight 1, whatever is in the column of weights
 abbrev pub waiting : (weighted : Bool) → Pairs → List Edge
 waiting weighted p = pairs (take p.count p.sources) (take p.count p.destinations) (if weighted then take p.count p.weights else [])
 
--- the edges that columns of pairs stand for
+-- the edges of columns of pairs
 abbrev pub edges_in : PairColumns → List Edge
 edges_in c = pairs c.sources.now c.destinations.now c.weights.now
 

@@ -23,7 +23,7 @@ pub enum FoldStart {
 
 /// One edge function, or two that are applied together, and what they read: the vectors, the sizes of the vertex sets
 /// by their indices, and how many vertices there are. `start` says what new entries begin with, and `weighted` whether
-/// the weights of edges count, as [`reads_weights`] tells.
+/// the weights of edges count, as [`reads_weights`] gives it.
 #[derive(Clone, Copy)]
 pub struct ApplyContext<'a> {
     pub first: &'a EdgeKernel,
@@ -49,10 +49,10 @@ impl<'a> ApplyContext<'a> {
     }
 }
 
-/// Whether one of the functions of an apply reads the weights of edges. What functions that do not give on an edge is the
-/// same with any weight.
+/// Whether one of the functions of an apply reads the weights of edges. If none does, what they give on an edge does not depend
+/// on its weight.
 pub fn reads_weights(first: &EdgeKernel, second: Option<&EdgeKernel>) -> bool
-    ensures told { result ≡ are_weighted first.now second.entry }
+    ensures weighted { result ≡ are_weighted first.now second.entry }
     ensures weightless { result ≡ false → (m : StateValue) (sizes : List ℤ) (steps : List StepsTree) → HasSizes sizes m
         → AreKernels first.now second.entry steps → AreWeightless m steps }
 {

@@ -9,6 +9,7 @@ ghost use Rattle.edge_fold.specs.Contributions.{column, entries_of};
 ghost use Rattle.kernels.specs.declared.columns.TheConstants.{PAIRS};
 
 use crate::apply_context::ApplyContext;
+use crate::neighbour_entries::UnitColumn;
 use crate::scratch::Scratch;
 use std::alloc::{AllocError, Global};
 
@@ -29,8 +30,10 @@ impl Scratch {
             → HasFolded context.entry m steps edges self.old → HasFolded context.entry m steps (edges ++ column destination entries) self.new) }
     {
         if let Some(sent) = context.reduced_contribution(sources) {
-            self.slots
-                .join_number(alloc, context, sent, &[destination])?;
+            let column = UnitColumn {
+                neighbours: &[destination],
+            };
+            self.slots.join_number(alloc, context, sent, &column)?;
             return Ok(());
         }
         self.gather_into(alloc, context, sources, destination)

@@ -30,7 +30,7 @@ impl ApplyContext<'_> {
         Some(given)
     }
 
-    /// The same of the first function.
+    /// What the first function gives on every edge, if it is an entry of the source with the weight.
     #[inline]
     fn entry_given_by_first(self) -> Option<EntryContribution>
         ensures { IfSome result (λ g. (m : StateValue) (steps : StepsTree) → HasSizes self.entry.sizes.now m → IsEdgeKernel self.entry.first.now steps

@@ -3,6 +3,7 @@ ghost use Rattle.std.specs.Prelude.{◌≡◌, ◌<◌, ℕ, ℤ, pos, List, IfS
 ghost use Rattle.edge_fold.specs.Contributions.{entries_of};
 ghost use Rattle.edge_fold.specs.EntryNumbers.{IsReducedOver, entry_with, number_with, reduced_over};
 
+use crate::neighbour_entries::{EntryColumns, NeighbourEntries};
 use algorithm_meaning::{arithmetic_of, reduce};
 use apply_options::Reduction;
 use typed_tree::Operator;
@@ -24,60 +25,6 @@ impl EntryWith<'_> {
     }
 }
 
-/// Sources with the weights of their edges, each at an index.
-pub trait SourceEntries {
-    ghost entries: { Self → List (ℕ × ℤ) };
-
-    /// How many there are.
-    fn len(&self) -> usize
-        ensures { result ≡ length (entries self.now) };
-
-    /// The source at an index.
-    fn source(&self, index: usize) -> u32
-        requires { index < length (entries self.now) }
-        ensures { result ≡ (get_or (entries self.now) index (0, pos 1)).0 };
-
-    /// The weight at an index.
-    fn weight(&self, index: usize) -> i64
-        requires { index < length (entries self.now) }
-        ensures { result ≡ (get_or (entries self.now) index (0, pos 1)).1 };
-}
-
-/// The edges from a source to destinations, each with its weight.
-#[derive(Clone, Copy)]
-pub(crate) struct WeightedRow<'a> {
-    pub(crate) source: u32,
-    pub(crate) destinations: &'a [u32],
-    pub(crate) weights: &'a [i64],
-}
-
-/// Sources in a column, and the weights of their edges in another.
-#[derive(Drop)]
-struct EntryColumn<'a> {
-    sources: &'a [u32],
-    weights: &'a [i64],
-    ghost same: { length weights.now ≡ length sources.now },
-}
-
-impl SourceEntries for EntryColumn<'_> {
-    ghost entries = { λ c. entries_of c.sources.now c.weights.now };
-
-    #[inline(always)]
-    fn len(&self) -> usize {
-        self.sources.len()
-    }
-
-    #[inline(always)]
-    fn source(&self, index: usize) -> u32 {
-        self.sources[index]
-    }
-
-    #[inline(always)]
-    fn weight(&self, index: usize) -> i64 {
-        self.weights[index]
-    }
-}
-
 /// A number on the left of an operator, with the weight of an edge on its right.
 #[derive(Clone, Copy)]
 pub(crate) struct NumberWith {
@@ -96,7 +43,7 @@ impl NumberWith {
 
 /// A number reduced with those of sources and weights, in their order.
 #[inline]
-pub fn reduce_entries<E: SourceEntries>(
+pub fn reduce_entries<E: NeighbourEntries>(
     reduction: Reduction,
     numbers: EntryWith<'_>,
     number: i64,
@@ -111,7 +58,7 @@ pub fn reduce_entries<E: SourceEntries>(
     }
 }
 
-/// The same, where sources and weights stand in columns.
+/// A number reduced with those of sources and weights in two columns, in their order.
 #[inline]
 pub fn reduce_columns(
     reduction: Reduction,
@@ -123,7 +70,10 @@ pub fn reduce_columns(
     requires { length weights.now ≡ length sources.now }
     ensures { result ≡ reduced_over reduction (entry_with numbers.entry) number (entries_of sources.now weights.now) }
 {
-    let columns = EntryColumn { sources, weights };
+    let columns = EntryColumns {
+        neighbours: sources,
+        weights,
+    };
     reduce_entries(reduction, numbers, number, &columns)
 }
 
@@ -146,7 +96,7 @@ pub(crate) fn reduce_all_entries(
 
 /// A loop for each operator, so that none asks which it is.
 #[inline(always)]
-fn reduce_by<E: SourceEntries>(
+fn reduce_by<E: NeighbourEntries>(
     reduction: Reduction,
     numbers: EntryWith<'_>,
     first: i64,
@@ -180,7 +130,7 @@ fn reduce_by<E: SourceEntries>(
 }
 
 #[inline(always)]
-fn reduce_each<E: SourceEntries>(
+fn reduce_each<E: NeighbourEntries>(
     reduction: Reduction,
     numbers: EntryWith<'_>,
     first: i64,
@@ -190,7 +140,7 @@ fn reduce_each<E: SourceEntries>(
 {
     let mut number = first;
     'entries: for index in 0..entries.len() {
-        let given = numbers.of(entries.source(index), entries.weight(index));
+        let given = numbers.of(entries.neighbour(index), entries.weight(index));
         number = reduce(reduction, number, given);
     }
     number

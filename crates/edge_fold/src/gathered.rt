@@ -49,7 +49,7 @@ impl Drop for Gathered {
 
 impl Scratch {
     /// What the edges that were folded give, at the vertices that an end lets through; one that is not given lets all
-    /// through. It promises so where new entries began with the unit. The numbers for a vector stand by ascending
+    /// through. It promises so where new entries began with the unit. The numbers for a vector are by ascending
     /// vertices. The next call must be `begin`. The only error is out of memory.
     pub fn gathered(
         &mut self,

@@ -14,7 +14,7 @@ use std::alloc::{AllocError, Global};
 use vectors::EntryChange;
 
 impl Gathered {
-    /// What the edges give to the vertices from `low` on up to `high`, where the numbers stand by ascending vertices. It
+    /// What the edges give to the vertices from `low` on up to `high`, if the numbers are by ascending vertices. It
     /// takes time in proportion to what it gives, and to the logarithm of all. The only error is out of memory.
     pub fn between(&self, alloc: Global, low: u32, high: u32) -> Result<Gathered, AllocError>
         ensures { IfOk result (λ g. (vertices : ℕ) (m : StateValue) (steps : List StepsTree) (edges : List Edge) → AreAscending self.now.vectors.items
@@ -30,7 +30,7 @@ impl Gathered {
 }
 
 impl GatheredIn {
-    /// The same of one vector.
+    /// What the edges give to the vertices from `low` on up to `high` in one vector.
     fn between(&self, alloc: Global, low: u32, high: u32) -> Result<GatheredIn, AllocError>
         ensures vector { IfOk result (λ g. g.vector ≡ self.now.vector) }
         ensures reduction { IfOk result (λ g. g.reduction ≡ self.now.reduction) }
@@ -57,7 +57,7 @@ fn numbers_between(numbers: &[EntryChange], low: u32, high: u32) -> &[EntryChang
     &rest[..end]
 }
 
-/// How many numbers stand by vertices below one.
+/// How many numbers are of vertices below this one.
 fn count_below(numbers: &[EntryChange], vertex: u32) -> usize
     ensures inside { result ≤ length numbers.now }
     ensures split { IsAscending numbers.now → IsPartitionPoint (λ c. c.vertex < vertex) (λ c. vertex ≤ c.vertex) numbers.now result }

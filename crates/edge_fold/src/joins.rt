@@ -3,7 +3,8 @@ ghost use Rattle.std.specs.Prelude.{◌≡◌, ℕ, ℤ, pos, ◌^◌, ◌∷◌
 ghost use Rattle.std.specs.List.Sorted.{IsNonDecreasing};
 ghost use Rattle.edge_fold.specs.Gathered.{numbers_of};
 ghost use Rattle.edge_fold.specs.EntryNumbers.{each_weighed, number_with};
-ghost use Rattle.edge_fold.specs.Contributions.{each_given, entries_of, for_vector, given_from, reduced_at};
+ghost use Rattle.edge_fold.specs.Between.{firsts};
+ghost use Rattle.edge_fold.specs.Contributions.{each_given, for_vector, given_from, reduced_at};
 ghost use Rattle.edge_fold.specs.FoldStarts.{combined, opening_seed, start_of};
 ghost use Rattle.edge_fold.specs.declared.initial_entries.InitialEntries.{InitialEntries};
 ghost use Rattle.edge_fold.specs.Held.{AreJoined, AreMarked, held, held_with, room};
@@ -13,6 +14,7 @@ ghost use Rattle.kernels.specs.ContributionColumns.{contribution_at, truth_at};
 use crate::accumulator::Accumulator;
 use crate::entry_numbers::NumberWith;
 use crate::initial_entries::InitialEntries;
+use crate::neighbour_entries::NeighbourEntries;
 use algorithm_meaning::reduce;
 use apply_options::Reduction;
 use kernels::ContributionColumn;
@@ -114,14 +116,15 @@ impl Accumulator {
 
     /// Reduces the entries at destinations with one number, each time that one comes. The only error is out of memory,
     /// after which a part was done.
-    pub(crate) fn join_number(
+    #[inline(always)]
+    pub(crate) fn join_number<E: NeighbourEntries>(
         &mut self,
         reduction: Reduction,
         opening: InitialEntries<'_>,
         number: i64,
-        destinations: &[u32],
+        destinations: &E,
     ) -> Result<(), AllocError>
-        ensures { OnOk result (AreJoined opening.entry reduction self.old self.new (each_given number destinations.now)) }
+        ensures { OnOk result (AreJoined opening.entry reduction self.old self.new (each_given number (firsts (E.entries destinations.now)))) }
     {
         match reduction {
             Reduction::Min => self.join_each(Reduction::Min, opening, number, destinations),
@@ -131,30 +134,34 @@ impl Accumulator {
     }
 
     #[inline(always)]
-    fn join_each(
+    fn join_each<E: NeighbourEntries>(
         &mut self,
         reduction: Reduction,
         opening: InitialEntries<'_>,
         number: i64,
-        destinations: &[u32],
+        destinations: &E,
     ) -> Result<(), AllocError>
-        ensures { OnOk result (AreJoined opening.entry reduction self.old self.new (each_given number destinations.now)) }
+        ensures { OnOk result (AreJoined opening.entry reduction self.old self.new (each_given number (firsts (E.entries destinations.now)))) }
     {
         let joined = self.join_filled(reduction, number, destinations);
-        let rest = &destinations[joined..];
-        'each: for vertex in rest {
-            self.join(reduction, opening, *vertex, number)?;
+        'each: for index in joined..destinations.len() {
+            self.join(reduction, opening, destinations.neighbour(index), number)?;
         }
         Ok(())
     }
 
-    /// Reduces the entries at the first destinations with one number, as long as they are filled, and says how many they are.
+    /// Reduces the entries at the first destinations with one number, as long as they are filled, and gives their number.
     #[inline(always)]
-    fn join_filled(&mut self, reduction: Reduction, number: i64, destinations: &[u32]) -> usize
-        ensures inside { result ≤ length destinations.now }
+    fn join_filled<E: NeighbourEntries>(
+        &mut self,
+        reduction: Reduction,
+        number: i64,
+        destinations: &E,
+    ) -> usize
+        ensures inside { result ≤ length (E.entries destinations.now) }
         ensures joined { (o : InitialEntries) (v : ℕ) (h : ℤ)
-            → reduced_at reduction v (held_with (combined (start_of o) reduction) self.new v (opening_seed o v h)) (each_given number (drop result destinations.now))
-            ≡ reduced_at reduction v (held_with (combined (start_of o) reduction) self.old v (opening_seed o v h)) (each_given number destinations.now) }
+            → reduced_at reduction v (held_with (combined (start_of o) reduction) self.new v (opening_seed o v h)) (each_given number (drop result (firsts (E.entries destinations.now))))
+            ≡ reduced_at reduction v (held_with (combined (start_of o) reduction) self.old v (opening_seed o v h)) (each_given number (firsts (E.entries destinations.now))) }
     {
         let filled = self.filled;
         reduce_filled(
@@ -166,92 +173,88 @@ impl Accumulator {
         )
     }
 
-    /// Reduces the entries at destinations with the numbers of these weights. The only error is out of memory, after which
-    /// a part was done.
-    pub(crate) fn join_weights(
+    /// Reduces the entries at destinations with the numbers of the weights of their edges. The only error is out of memory,
+    /// after which a part was done.
+    #[inline(always)]
+    pub(crate) fn join_weights<E: NeighbourEntries>(
         &mut self,
         reduction: Reduction,
         opening: InitialEntries<'_>,
         numbers: NumberWith,
-        destinations: &[u32],
-        weights: &[i64],
+        destinations: &E,
     ) -> Result<(), AllocError>
-        requires { length weights.now ≡ length destinations.now }
         ensures { OnOk result (AreJoined opening.entry reduction self.old self.new
-            (each_weighed (number_with numbers) (entries_of destinations.now weights.now))) }
+            (each_weighed (number_with numbers) (E.entries destinations.now))) }
     {
         match reduction {
             Reduction::Min => {
-                self.join_weights_by(Reduction::Min, opening, numbers, destinations, weights)
+                self.join_weights_by(Reduction::Min, opening, numbers, destinations)
             }
             Reduction::Max => {
-                self.join_weights_by(Reduction::Max, opening, numbers, destinations, weights)
+                self.join_weights_by(Reduction::Max, opening, numbers, destinations)
             }
             Reduction::Plus => {
-                self.join_weights_by(Reduction::Plus, opening, numbers, destinations, weights)
+                self.join_weights_by(Reduction::Plus, opening, numbers, destinations)
             }
         }
     }
 
     /// A loop for each operator, so that none asks which it is.
     #[inline(always)]
-    fn join_weights_by(
+    fn join_weights_by<E: NeighbourEntries>(
         &mut self,
         reduction: Reduction,
         opening: InitialEntries<'_>,
         numbers: NumberWith,
-        destinations: &[u32],
-        weights: &[i64],
+        destinations: &E,
     ) -> Result<(), AllocError>
-        requires { length weights.now ≡ length destinations.now }
         ensures { OnOk result (AreJoined opening.entry reduction self.old self.new
-            (each_weighed (number_with numbers) (entries_of destinations.now weights.now))) }
+            (each_weighed (number_with numbers) (E.entries destinations.now))) }
     {
         let number = numbers.number;
         match numbers.operator {
             Operator::Add => {
                 let operator = Operator::Add;
                 let sums = NumberWith { number, operator };
-                self.join_each_weight(reduction, opening, sums, destinations, weights)
+                self.join_each_weight(reduction, opening, sums, destinations)
             }
             Operator::Subtract => {
                 let operator = Operator::Subtract;
                 let differences = NumberWith { number, operator };
-                self.join_each_weight(reduction, opening, differences, destinations, weights)
+                self.join_each_weight(reduction, opening, differences, destinations)
             }
             Operator::Multiply => {
                 let operator = Operator::Multiply;
                 let products = NumberWith { number, operator };
-                self.join_each_weight(reduction, opening, products, destinations, weights)
+                self.join_each_weight(reduction, opening, products, destinations)
             }
             Operator::Divide => {
                 let operator = Operator::Divide;
                 let quotients = NumberWith { number, operator };
-                self.join_each_weight(reduction, opening, quotients, destinations, weights)
+                self.join_each_weight(reduction, opening, quotients, destinations)
             }
             Operator::Remainder => {
                 let operator = Operator::Remainder;
                 let remainders = NumberWith { number, operator };
-                self.join_each_weight(reduction, opening, remainders, destinations, weights)
+                self.join_each_weight(reduction, opening, remainders, destinations)
             }
         }
     }
 
     #[inline(always)]
-    fn join_each_weight(
+    fn join_each_weight<E: NeighbourEntries>(
         &mut self,
         reduction: Reduction,
         opening: InitialEntries<'_>,
         numbers: NumberWith,
-        destinations: &[u32],
-        weights: &[i64],
+        destinations: &E,
     ) -> Result<(), AllocError>
-        requires { length weights.now ≡ length destinations.now }
         ensures { OnOk result (AreJoined opening.entry reduction self.old self.new
-            (each_weighed (number_with numbers) (entries_of destinations.now weights.now))) }
+            (each_weighed (number_with numbers) (E.entries destinations.now))) }
     {
-        'edges: for (k, vertex) in destinations.iter().enumerate() {
-            self.join(reduction, opening, *vertex, numbers.of(weights[k]))?;
+        'edges: for index in 0..destinations.len() {
+            let number = numbers.of(destinations.weight(index));
+            self.join(reduction, opening, destinations.neighbour(index), number)?;
         }
         Ok(())
     }
@@ -289,7 +292,7 @@ impl Accumulator {
         Ok(())
     }
 
-    /// The same where there is no room yet.
+    /// Reduces the entry at a vertex with a number, if there is no room for the vertex yet.
     #[cold]
     #[inline(never)]
     fn join_beyond(
@@ -306,7 +309,7 @@ impl Accumulator {
         Ok(())
     }
 
-    /// The same where there is room.
+    /// Reduces the entry at a vertex with a number, if there is room for the vertex.
     #[inline(always)]
     fn join_inside(
         &mut self,
@@ -361,30 +364,31 @@ impl Accumulator {
     }
 }
 
-/// Reduces the numbers at the first vertices with one number, as long as they are below a count, and says how many they are.
+/// Reduces the numbers at the first neighbours with one number, as long as they are below a count, and gives their number.
 #[inline(always)]
-fn reduce_filled(
+fn reduce_filled<E: NeighbourEntries>(
     reduction: Reduction,
     number: i64,
     filled: usize,
     values: &mut [i64],
-    vertices: &[u32],
+    neighbours: &E,
 ) -> usize
     requires { filled ≤ length values.old }
-    ensures inside { result ≤ length vertices.now }
-    ensures reduced { (v : ℕ) → reduced_at reduction v (slice_index_or values.new v (pos 0)) (each_given number (drop result vertices.now))
-        ≡ reduced_at reduction v (slice_index_or values.old v (pos 0)) (each_given number vertices.now) }
-    ensures others { (v : ℕ) (h : ℤ) → filled ≤ v → reduced_at reduction v h (each_given number (drop result vertices.now))
-        ≡ reduced_at reduction v h (each_given number vertices.now) }
+    ensures inside { result ≤ length (E.entries neighbours.now) }
+    ensures reduced { (v : ℕ) → reduced_at reduction v (slice_index_or values.new v (pos 0)) (each_given number (drop result (firsts (E.entries neighbours.now))))
+        ≡ reduced_at reduction v (slice_index_or values.old v (pos 0)) (each_given number (firsts (E.entries neighbours.now))) }
+    ensures others { (v : ℕ) (h : ℤ) → filled ≤ v → reduced_at reduction v h (each_given number (drop result (firsts (E.entries neighbours.now))))
+        ≡ reduced_at reduction v h (each_given number (firsts (E.entries neighbours.now))) }
 {
-    'vertices: for (index, vertex) in vertices.iter().enumerate() {
-        let at = *vertex as usize;
+    let count = neighbours.len();
+    'vertices: for index in 0..count {
+        let at = neighbours.neighbour(index) as usize;
         if at >= filled {
             return index;
         }
         values[at] = reduce(reduction, values[at], number);
     }
-    vertices.len()
+    count
 }
 
 /// Adds zeros where there are fewer numbers than this.

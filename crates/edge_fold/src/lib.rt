@@ -5,8 +5,8 @@
 //! destinations, and [`Scratch::fold_into`] a destination with up to `PAIRS` of its sources. [`Scratch::changes`] says at
 //! the end what has changed, for each vector once, by ascending vertices.
 //!
-//! Where a function reads weights ([`reads_weights`] tells), an engine lends them too, to [`Scratch::fold_weighted`] and
-//! [`Scratch::fold_into_weighted`]. Where none does, what is given is the same with any weight: no weight is lent, kept or
+//! If a function reads weights ([`reads_weights`]), an engine lends them too, to [`Scratch::fold_weighted`] and
+//! [`Scratch::fold_into_weighted`]. If none does, what is given does not depend on weights: no weight is lent, kept or
 //! read, and what is promised holds for edges with any weights.
 //! What is an entry of the source with the weight, as `dist[src] + weight`, does not wait: a row joins its numbers to the
 //! destinations in one loop, and a column is first reduced to one number ([`reduce_entries`], [`EntryWith`]).
@@ -24,7 +24,7 @@
 //! `algorithm_meaning`), for each vector that has an entry for each vertex. The functions read the vectors that are
 //! lent, which stay as they are until the changes are written.
 //!
-//! A slot has the new entries of one vector, at vertices that are marked (`vertex_marks`). What an apply marked is let go
+//! A slot has the new entries of one vector, at vertices that are marked (`vertex_marks`). The marks of an apply are cleared
 //! when the next one begins. So an apply takes time in proportion to its edges, and to the vertices only for memory that
 //! is new. Slots keep their memory: 8 bytes and a little more than a bit a vertex for each vector that one apply writes.
 //! An apply of many edges begins with a slot that is filled with the old entries of all vertices ([`Scratch::begin_whole`]):
@@ -52,6 +52,7 @@ mod gathered;
 mod gathered_ranges;
 mod initial_entries;
 mod joins;
+mod neighbour_entries;
 mod old_entries;
 mod pairs;
 mod passing;
@@ -69,8 +70,9 @@ pub use apply_changes::has_vector;
 pub use apply_context::{ApplyContext, FoldStart, reads_weights};
 pub use changes::push_change;
 pub use compared::compared_set;
-pub use entry_numbers::{EntryWith, SourceEntries, reduce_columns, reduce_entries};
+pub use entry_numbers::{EntryWith, reduce_columns, reduce_entries};
 pub use gathered::{Gathered, GatheredIn};
+pub use neighbour_entries::NeighbourEntries;
 pub use scratch::Scratch;
 pub use source_numbers::{
     OneNumber, OwnEntry, OwnEntryPlus, OwnNumber, SourceNumbers, reduce_sources,

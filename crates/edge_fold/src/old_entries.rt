@@ -64,7 +64,7 @@ impl VectorAccumulators {
 }
 
 impl Accumulator {
-    /// The same of one vector, at n vertices.
+    /// Gives each of n vertices its old entry, if new entries begin with the old ones.
     fn fill(&mut self, opening: InitialEntries<'_>, vertices: u32)
         requires { (combine : ℤ → ℤ → ℤ) (v : ℕ) (h : ℤ) → held_with combine self.old v h ≡ h }
         ensures { (r : Reducing) → AreJoined opening.entry r self.old self.new [] }
@@ -75,7 +75,7 @@ impl Accumulator {
         }
     }
 
-    /// The same if new entries begin with these: in blocks of 64 vertices, as far as there is room.
+    /// Gives each of n vertices its entry of this vector, in blocks of 64 vertices, as far as there is room.
     fn fill_from(&mut self, old: Lane<'_>, vertices: u32)
         requires { (combine : ℤ → ℤ → ℤ) (v : ℕ) (h : ℤ) → held_with combine self.old v h ≡ h }
         ensures { (r : Reducing) → AreJoined (opening.Entries old.entry) r self.old self.new [] }
@@ -87,7 +87,7 @@ impl Accumulator {
     }
 }
 
-/// Copies the first entries, as many as this, in one go if they stand one after the other.
+/// Copies the first entries, as many as this, in one go if they are adjacent in memory.
 fn copy_entries(old: Lane<'_>, count: usize, values: &mut [i64])
     requires { count ≤ length values.old }
     ensures { (v : ℕ) → v < count → slice_index_or values.new v (pos 0) ≡ lane_entry old.entry v }

@@ -105,7 +105,7 @@ fn keep_in_parts(
     Ok(())
 }
 
-/// The same of at most a block.
+/// Those that a filter lets through, of at most a block of vertices.
 fn keep_part(
     context: ApplyContext<'_>,
     kernel: &FilterKernel,

@@ -27,7 +27,7 @@ impl ApplyContext<'_> {
         Some(sent)
     }
 
-    /// The same of the first function.
+    /// What sources give each destination together by the first function, if each gives its own number.
     #[inline]
     fn together_by_first(self, sources: &[u32]) -> Option<SourceContribution>
         ensures { IfSome result (λ s. (m : StateValue) (steps : StepsTree) → self.entry.vectors.now.vectors ≡ m.vectors → HasSizes self.entry.sizes.now m

@@ -1,8 +1,9 @@
 //! Scratch: the memory that a run keeps for its applies.
-ghost use Rattle.std.specs.Prelude.{◌≡◌, ℕ, ℤ, false, ◌<◌, ◌≤◌, ◌++◌, List, [], length, IfSome, OnOk};
+ghost use Rattle.std.specs.Prelude.{◌≡◌, ℕ, ℤ, false, ◌<◌, ◌≤◌, ◌++◌, List, [], true, length, IfOk, OnOk};
 ghost use Rattle.kernels.specs.declared.columns.TheConstants.{PAIRS};
 
 use crate::apply_context::ApplyContext;
+use crate::neighbour_entries::{NeighbourEntries, UnitColumn};
 use crate::pairs::Pairs;
 use crate::run::run_functions;
 use crate::vector_accumulator::VectorAccumulators;
@@ -54,6 +55,34 @@ impl Scratch {
         self.pairs.count = 0;
     }
 
+    /// Folds the edges from a source to destinations by index, with no block and however many they are, if what is given
+    /// on an edge depends on its source and its weight alone. It gives whether that is so: if not, nothing is changed. The only
+    /// error is out of memory.
+    #[inline(always)]
+    pub fn fold_entries<E: NeighbourEntries>(
+        &mut self,
+        alloc: Global,
+        context: ApplyContext<'_>,
+        source: u32,
+        destinations: &E,
+    ) -> Result<bool, AllocError>
+        ensures folded { IfOk result (λ done. done ≡ true → (m : StateValue) (steps : List StepsTree) (edges : List Edge)
+            → IsContextOf context.entry m steps → HasFolded context.entry m steps edges self.old
+            → HasFolded context.entry m steps (edges ++ row source (E.entries destinations.now)) self.new) }
+        ensures unchanged { IfOk result (λ done. done ≡ false → self.new ≡ self.old) }
+    {
+        if let Some(sent) = context.sent(source) {
+            self.slots.join_number(alloc, context, sent, destinations)?;
+            return Ok(true);
+        }
+        if let Some(given) = context.entry_contribution() {
+            self.slots
+                .join_weights(alloc, context, given, source, destinations)?;
+            return Ok(true);
+        }
+        Ok(false)
+    }
+
     /// Folds the edges from a source to destinations, at most `PAIRS`, with any weights, where no function reads weights.
     /// The only error is out of memory.
     pub fn fold(
@@ -69,8 +98,11 @@ impl Scratch {
             → firsts entries ≡ destinations.now → IsContextOf context.entry m steps
             → HasFolded context.entry m steps edges self.old → HasFolded context.entry m steps (edges ++ row source entries) self.new) }
     {
-        if let Some(sent) = context.sent(source) {
-            self.slots.join_number(alloc, context, sent, destinations)?;
+        let column = UnitColumn {
+            neighbours: destinations,
+        };
+        let done = self.fold_entries(alloc, context, source, &column)?;
+        if done {
             return Ok(());
         }
         self.gather(alloc, context, source, destinations)

@@ -14,7 +14,7 @@ use kernels::Shape;
 use typed_tree::Operator;
 
 impl ApplyContext<'_> {
-    /// What is given on every edge from a source, where it is the same on all.
+    /// What is given on every edge from a source, if it is the same on all.
     #[inline]
     pub(crate) fn sent(self, source: u32) -> Option<SourceContribution>
         ensures { IfSome result (λ s. (m : StateValue) (steps : List StepsTree) → IsContextOf self.entry m steps
@@ -26,7 +26,7 @@ impl ApplyContext<'_> {
         self.sent_by_first(source)
     }
 
-    /// The same of the first function.
+    /// What the first function gives on every edge from a source, if it is the same on all.
     #[inline]
     fn sent_by_first(self, source: u32) -> Option<SourceContribution>
         ensures { IfSome result (λ s. (m : StateValue) (steps : StepsTree) → self.entry.vectors.now.vectors ≡ m.vectors → HasSizes self.entry.sizes.now m

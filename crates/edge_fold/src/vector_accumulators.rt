@@ -4,7 +4,8 @@ ghost use Rattle.edge_fold.specs.Gathered.{IsGatheredBy, gathered_for, numbers_o
 ghost use Rattle.algorithm_meaning.specs.Arithmetic.{arithmetic};
 ghost use Rattle.algorithm_meaning.specs.Value.{entry};
 ghost use Rattle.edge_fold.specs.EntryNumbers.{each_weighed};
-ghost use Rattle.edge_fold.specs.Contributions.{IsBy, each_given, entries_of, given_from};
+ghost use Rattle.edge_fold.specs.Between.{firsts};
+ghost use Rattle.edge_fold.specs.Contributions.{IsBy, each_given, given_from};
 ghost use Rattle.edge_fold.specs.Held.{held_with};
 ghost use Rattle.edge_fold.specs.VectorAccumulators.{HaveJoined, active, held_in_with, index_in, reduction_in};
 ghost use Rattle.kernels.specs.declared.columns.TheConstants.{PAIRS};
@@ -14,9 +15,10 @@ ghost use Rattle.apply_options.specs.declared.reduction.Reduction.{Reduction};
 
 use crate::accumulator::Accumulator;
 use crate::apply_context::{ApplyContext, EntryContribution, SourceContribution};
-use crate::entry_numbers::{NumberWith, WeightedRow};
+use crate::entry_numbers::NumberWith;
 use crate::gathered::GatheredIn;
 use crate::joins::gives_some;
+use crate::neighbour_entries::NeighbourEntries;
 use crate::vector_accumulator::{VectorAccumulator, VectorAccumulators};
 use apply_options::Reduction;
 use kernels::{Block, ContributionColumn, EdgeKernel};
@@ -152,15 +154,16 @@ impl VectorAccumulators {
 
     /// Reduces the entries of a vector at destinations with one number. The only error is out of memory, after which
     /// a part was done.
-    pub(crate) fn join_number(
+    #[inline(always)]
+    pub(crate) fn join_number<E: NeighbourEntries>(
         &mut self,
         alloc: Global,
         context: ApplyContext<'_>,
         sent: SourceContribution,
-        destinations: &[u32],
+        destinations: &E,
     ) -> Result<(), AllocError>
         ensures { OnOk result ((x : ℕ) (r : Reduction) → (sent.vector ≡ x → sent.reduction ≡ r)
-            → HaveJoined context.entry x r self.old self.new (if sent.vector == x then each_given sent.number destinations.now else [])) }
+            → HaveJoined context.entry x r self.old self.new (if sent.vector == x then each_given sent.number (firsts (E.entries destinations.now)) else [])) }
     {
         let position = self.position(alloc, sent.vector, sent.reduction, context.vertices)?;
         let opening = context.opening(sent.vector);
@@ -169,30 +172,30 @@ impl VectorAccumulators {
         Ok(())
     }
 
-    /// Reduces the entries of a vector at destinations with what a source gives them by these weights. The only error is out
-    /// of memory, after which a part was done.
-    pub(crate) fn join_weights(
+    /// Reduces the entries of a vector at destinations with what a source gives them by the weights of its edges. The only
+    /// error is out of memory, after which a part was done.
+    #[inline(always)]
+    pub(crate) fn join_weights<E: NeighbourEntries>(
         &mut self,
         alloc: Global,
         context: ApplyContext<'_>,
         given: EntryContribution,
-        row: WeightedRow<'_>,
+        source: u32,
+        destinations: &E,
     ) -> Result<(), AllocError>
-        requires { length row.weights.now ≡ length row.destinations.now }
         ensures { OnOk result ((x : ℕ) (r : Reduction) → (given.vector ≡ x → given.reduction ≡ r)
             → HaveJoined context.entry x r self.old self.new
-            (if given.vector == x then each_weighed (arithmetic given.operator (entry context.entry.vectors.now.vectors given.from row.entry.source))
-            (entries_of row.entry.destinations.now row.entry.weights.now) else [])) }
+            (if given.vector == x then each_weighed (arithmetic given.operator (entry context.entry.vectors.now.vectors given.from source))
+            (E.entries destinations.now) else [])) }
     {
         let position = self.position(alloc, given.vector, given.reduction, context.vertices)?;
         let opening = context.opening(given.vector);
         let numbers = NumberWith {
-            number: context.vectors.lane(given.from).get(row.source as usize),
+            number: context.vectors.lane(given.from).get(source as usize),
             operator: given.operator,
         };
-        let reduction = given.reduction;
         let entries = &mut self.slots[position].entries;
-        entries.join_weights(reduction, opening, numbers, row.destinations, row.weights)?;
+        entries.join_weights(given.reduction, opening, numbers, destinations)?;
         Ok(())
     }
 
@@ -213,7 +216,7 @@ impl VectorAccumulators {
         Ok(())
     }
 
-    /// The same of one vector.
+    /// Reduces the entries of one vector with what was gathered for it.
     fn join_numbers(
         &mut self,
         alloc: Global,

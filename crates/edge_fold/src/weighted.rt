@@ -8,7 +8,7 @@ ghost use Rattle.edge_fold.specs.Contributions.{column, entries_of, row};
 ghost use Rattle.kernels.specs.declared.columns.TheConstants.{PAIRS};
 
 use crate::apply_context::ApplyContext;
-use crate::entry_numbers::WeightedRow;
+use crate::neighbour_entries::{EntryColumns, UnitColumn};
 use crate::pairs::Pairs;
 use crate::scratch::Scratch;
 use std::alloc::{AllocError, Global};
@@ -63,13 +63,12 @@ impl Scratch {
             → HasFolded context.entry m steps edges self.old
             → HasFolded context.entry m steps (edges ++ row source (entries_of destinations.now weights.now)) self.new) }
     {
-        if let Some(given) = context.entry_contribution() {
-            let row = WeightedRow {
-                source,
-                destinations,
-                weights,
-            };
-            self.slots.join_weights(alloc, context, given, row)?;
+        let columns = EntryColumns {
+            neighbours: destinations,
+            weights,
+        };
+        let done = self.fold_entries(alloc, context, source, &columns)?;
+        if done {
             return Ok(());
         }
         self.gather_weighted(alloc, context, source, destinations, weights)
@@ -122,8 +121,10 @@ impl Scratch {
             → HasFolded context.entry m steps (edges ++ column destination (entries_of sources.now weights.now)) self.new) }
     {
         if let Some(sent) = context.reduced_entries(sources, weights) {
-            self.slots
-                .join_number(alloc, context, sent, &[destination])?;
+            let column = UnitColumn {
+                neighbours: &[destination],
+            };
+            self.slots.join_number(alloc, context, sent, &column)?;
             return Ok(());
         }
         self.gather_into_weighted(alloc, context, sources, weights, destination)

@@ -32,7 +32,7 @@ pub(crate) fn whole_changes(
     Ok(changes)
 }
 
-/// Adds the changes at so many vertices from one on. If they are a whole block and the old entries stand one after the other,
+/// Adds the changes at so many vertices from one on. If they are a whole block and the old entries are adjacent in memory,
 /// those that differ are found first. The only error is out of memory.
 fn push_block(
     old: Lane<'_>,

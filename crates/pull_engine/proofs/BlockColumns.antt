@@ -37,16 +37,16 @@ first_bit from p es a (suc zero) us vs l on off more =
 first_bit from p es a (suc (suc b)) us vs l on off more = absurd (omega arith)
 
 -- the edges into the vertices of set bits are those into all that pass, where the others do not pass or have no sources
-columns_told : (from p : ℕ → Bool) (es : List Edge) (k a word : ℕ) → ((i : ℕ) → i < k → bit_at word i ≡ 1 → p (a + i) ≡ true) → ((i : ℕ) → i < k → bit_at word i ≡ 0 → (p (a + i) ≡ false) ⊎ (sources_of (a + i) es ≡ []))
+columns_of_word : (from p : ℕ → Bool) (es : List Edge) (k a word : ℕ) → ((i : ℕ) → i < k → bit_at word i ≡ 1 → p (a + i) ≡ true) → ((i : ℕ) → i < k → bit_at word i ≡ 0 → (p (a + i) ≡ false) ⊎ (sources_of (a + i) es ≡ []))
     → columns from es (bit_members k a word) ≡ columns from es (filter p (range_with_len a k))
 unfolding bit_members
-columns_told from p es zero a word on off = refl
-columns_told from p es (suc k) a word on off =
+columns_of_word from p es zero a word on off = refl
+columns_of_word from p es (suc k) a word on off =
     let here : a + 0 ≡ a = omega arith in
     first_bit from p es a (word % 2) (bit_members k (a + 1) (word / 2)) (filter p (range_with_len (a + 1) k)) (mod-lt word (zero-lt-suc 1))
     (λ is. subst (λ (u : ℕ). p u ≡ true) here (on 0 (omega arith) (bit_at_lowest word ∙ is)))
     (λ is. subst (λ (u : ℕ). (p u ≡ false) ⊎ (sources_of u es ≡ [])) here (off 0 (omega arith) (bit_at_lowest word ∙ is)))
-    (columns_told from p es k (a + 1) (word / 2)
+    (columns_of_word from p es k (a + 1) (word / 2)
     (λ i l is. let next : a + suc i ≡ a + 1 + i = omega arith in subst (λ (u : ℕ). p u ≡ true) next (on (suc i) (omega arith) (bit_at-suc word i ∙ is)))
     (λ i l is. let next : a + suc i ≡ a + 1 + i = omega arith in subst (λ (u : ℕ). (p u ≡ false) ⊎ (sources_of u es ≡ [])) next (off (suc i) (omega arith) (bit_at-suc word i ∙ is))))
 
@@ -55,7 +55,7 @@ pub columns_begun : (from : ℕ → Bool) (es : List Edge) (k word some : ℕ) (
     → ((v : ℕ) → v / 64 ≡ k → neighbours_of (v % 64) lists ≡ sources_of v es) → ((u : ℕ) → u < 64 → bit_at some u ≡ 0 → neighbours_of u lists ≡ [])
     → columns from es (bit_members 64 (64 * k) (bit_and word some)) ≡ columns from es (filter (in_word (64 * k) word) (range_with_len (64 * k) 64))
 columns_begun from es k word some lists at none =
-    columns_told from (in_word (64 * k) word) es 64 (64 * k) (bit_and word some)
+    columns_of_word from (in_word (64 * k) word) es 64 (64 * k) (bit_and word some)
     (λ i l is. bit_of_block k word i ∙ set_test word i (set_in_first word some i is))
     (λ i l is. elim (clear_in_one word some i is) [
       | inl out ↦ inl (bit_of_block k word i ∙ clear_test word i out)

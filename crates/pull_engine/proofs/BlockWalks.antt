@@ -33,23 +33,23 @@ first_bit old new end a (suc zero) us cs l on off more =
 first_bit old new end a (suc (suc b)) us cs l on off more = absurd (omega arith)
 
 -- the changes at the vertices of set bits are those of all vertices, where these have new entries and the others stay
-pub block_told : (old new end : ℕ → ℤ) (k a word : ℕ) → ((i : ℕ) → i < k → bit_at word i ≡ 1 → end (a + i) ≡ new (a + i)) → ((i : ℕ) → i < k → bit_at word i ≡ 0 → end (a + i) ≡ old (a + i))
+pub block_changed : (old new end : ℕ → ℤ) (k a word : ℕ) → ((i : ℕ) → i < k → bit_at word i ≡ 1 → end (a + i) ≡ new (a + i)) → ((i : ℕ) → i < k → bit_at word i ≡ 0 → end (a + i) ≡ old (a + i))
     → changes_at old new (bit_members k a word) ≡ changed_from old end a k
 unfolding bit_members changed_from
-block_told old new end zero a word on off = refl
-block_told old new end (suc k) a word on off =
+block_changed old new end zero a word on off = refl
+block_changed old new end (suc k) a word on off =
     let here : a + 0 ≡ a = omega arith in
     first_bit old new end a (word % 2) (bit_members k (a + 1) (word / 2)) (changed_from old end (a + 1) k) (mod-lt word (zero-lt-suc 1))
     (λ is. subst (λ (u : ℕ). end u ≡ new u) here (on 0 (omega arith) (bit_at_lowest word ∙ is)))
     (λ is. subst (λ (u : ℕ). end u ≡ old u) here (off 0 (omega arith) (bit_at_lowest word ∙ is)))
-    (block_told old new end k (a + 1) (word / 2)
+    (block_changed old new end k (a + 1) (word / 2)
     (λ i l is. let next : a + suc i ≡ a + 1 + i = omega arith in subst (λ (u : ℕ). end u ≡ new u) next (on (suc i) (omega arith) (bit_at-suc word i ∙ is)))
     (λ i l is. let next : a + suc i ≡ a + 1 + i = omega arith in subst (λ (u : ℕ). end u ≡ old u) next (off (suc i) (omega arith) (bit_at-suc word i ∙ is))))
 
 -- the vertex of the lowest bit comes next
-pub lowest_told : (old new : ℕ → ℤ) (a left : ℕ) (found more all : List EntryChange) → 0 < left → left < 2 ^ 64 → more ≡ found ++ change_at old new (a + count_trailing_zeros 64 left)
+pub lowest_changed : (old new : ℕ → ℤ) (a left : ℕ) (found more all : List EntryChange) → 0 < left → left < 2 ^ 64 → more ≡ found ++ change_at old new (a + count_trailing_zeros 64 left)
     → found ++ changes_at old new (bit_members 64 a left) ≡ all → more ++ changes_at old new (bit_members 64 a (bit_and left (left - 1))) ≡ all
-lowest_told old new a left found more all some fits is was =
+lowest_changed old new a left found more all some fits is was =
     let rest = changes_at old new (bit_members 64 a (bit_and left (left - 1))) in
     let here = change_at old new (a + count_trailing_zeros 64 left) in
     ap (λ cs. cs ++ rest) is ∙ append_assoc found here rest
@@ -80,7 +80,7 @@ pub block_begun : (r : Reduction) (number : ℕ → ℤ → ℤ) (old : ℕ → 
     → ((v : ℕ) → v / 64 ≡ k → neighbours_of (v % 64) lists ≡ sources_of v es) → ((u : ℕ) → u < 64 → bit_at some u ≡ 0 → neighbours_of u lists ≡ [])
     → changes_at old (pulled r number old from es) (bit_members 64 (64 * k) (bit_and word some)) ≡ changed_from old (pulled_to r number old from (in_word (64 * k) word) es) (64 * k) 64
 block_begun r number old from es k word some lists at none =
-    block_told old (pulled r number old from es) (pulled_to r number old from (in_word (64 * k) word) es) 64 (64 * k) (bit_and word some)
+    block_changed old (pulled r number old from es) (pulled_to r number old from (in_word (64 * k) word) es) 64 (64 * k) (bit_and word some)
     (λ i l is. ap (λ (b : Bool). cond b (pulled r number old from es (64 * k + i)) (old (64 * k + i))) (bit_of_block k word i ∙ set_test word i (set_in_first word some i is)))
     (λ i l is. elim (clear_in_one word some i is) [
       | inl out ↦ ap (λ (b : Bool). cond b (pulled r number old from es (64 * k + i)) (old (64 * k + i))) (bit_of_block k word i ∙ clear_test word i out)
@@ -91,10 +91,10 @@ block_begun r number old from es k word some lists at none =
     ])
 
 -- the change of a vertex of a block
-pub vertex_told : (r : Reduction) (number : ℕ → ℤ → ℤ) (old : ℕ → ℤ) (from : ℕ → Bool) (es : List Edge) (k u v : ℕ) (lists : List (ℕ × List (ℕ × ℤ))) (before n : ℤ) → u < 64 → v ≡ 64 * k + u
+pub vertex_changed : (r : Reduction) (number : ℕ → ℤ → ℤ) (old : ℕ → ℤ) (from : ℕ → Bool) (es : List Edge) (k u v : ℕ) (lists : List (ℕ × List (ℕ × ℤ))) (before n : ℤ) → u < 64 → v ≡ 64 * k + u
     → ((w : ℕ) → w / 64 ≡ k → neighbours_of (w % 64) lists ≡ sources_of w es) → before ≡ old v → n ≡ reduced_over r number before (passing from (neighbours_of u lists))
     → change_at (λ _. before) (λ _. n) v ≡ change_at old (pulled r number old from es) (64 * k + u)
-vertex_told r number old from es k u v lists before n l is at begins gives =
+vertex_changed r number old from es k u v lists before n l is at begins gives =
     let place : v / 64 ≡ k = omega (arith, is, l) in
     let rest : v % 64 ≡ u = omega (arith, is, l) in
     let sources : neighbours_of u lists ≡ sources_of v es = ap (λ j. neighbours_of j lists) (sym rest) ∙ at v place in

@@ -52,7 +52,7 @@ pub kept_keys : (from : ℕ → Bool) (left : List (ℕ × ℤ)) (first second :
 kept_keys from left first second count kept filled keeps =
     firsts-filter from (take count left) ∙ ap (filter from) (sym (take-map (λ (e : ℕ × ℤ). e.0) count left) ∙ sym filled) ∙ sym keeps
 
--- the same with their weights
+-- so it is with their weights
 pub kept_entries : (from : ℕ → Bool) (left : List (ℕ × ℤ)) (keys : List ℕ) (weights : List ℤ) (count : ℕ) (kept : List (ℕ × ℤ)) → take count keys ≡ take count (keys_of left) → take count weights ≡ take count (values_of left)
     → kept ≡ passing from (entries_of (take count keys) (take count weights)) → kept ≡ passing from (take count left)
 kept_entries from left keys weights count kept same weighed keeps =
@@ -60,7 +60,7 @@ kept_entries from left keys weights count kept same weighed keeps =
     ∙ ap (passing from)
     (ap (λ (ks : List ℕ). entries_of ks (take count weights)) same ∙ ap (entries_of (take count (keys_of left))) weighed ∙ entries_read count left)
 
--- a walk that has come to its end
+-- a walk at its end
 pub none_left : (left : List (ℕ × ℤ)) → length left ≤ 0 → left ≡ []
 none_left [] l = refl
 none_left (s ∷ ss) l = absurd (omega (arith, l))
@@ -126,7 +126,7 @@ agree_at : (from : ℕ → Bool) (v : ℕ) (S : List (ℕ × ℤ)) (a b : Bool) 
 agree_at from v [] a b same = sym (nothing_either a [] refl) ∙ nothing_either b [] refl
 agree_at from v (s ∷ ss) a b same = ap (λ (c : Bool). cond c (column v (passing from (s ∷ ss))) []) (same (omega arith))
 
--- the columns of the destinations that pass come to the edges between the ends
+-- to reduce with the columns of the destinations that pass is to reduce with the edges between the ends
 pub columns_are_edges : (r : Reduction) (x v : ℕ) (n : ℤ) (g : Edge → List (ℕ × Reduction × ℤ)) (from to : ℕ → Bool) (us : List ℕ) (es : List Edge) → Rises 0 us
     → ((u : ℕ) → 0 < length (sources_of u es) → is_member u us ≡ to u)
     → reduced_at r v n (given_on x g (columns from es us)) ≡ reduced_at r v n (given_on x g (edges_between from to es))

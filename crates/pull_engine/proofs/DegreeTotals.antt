@@ -1,14 +1,8 @@
 -- The edges to the vertices of a graph, by blocks and as a whole.
 use Rattle.std.proofs.Common.{◌≡◌, ℕ, zero, suc, ℤ, ◌+◌, ◌*◌, ◌/◌, ◌%◌, ◌^◌, ◌<◌, ◌≤◌, inl, inr, Bool, cond, Some, List, [], ◌∷◌, length, refl, sym, ap, ◌∙◌, subst, arith}
 use Rattle.std.specs.List.{range_with_len, sum_by}
-use Rattle.std.proofs.lemmas.Bool.{cases_eq, eq-eqb, ne_eqb}
+use Rattle.std.proofs.lemmas.Bool.{eq-eqb, ne_eqb}
 use Rattle.std.proofs.lemmas.List.FromFn.{length-range_with_len}
-use Rattle.std.proofs.lemmas.List.Sums.{sum_by-cons}
-use Rattle.ascending_lists.specs.Maps as maps
-use Rattle.ascending_lists.proofs.MapOrder.{rises_room}
-use Rattle.pages.specs.Vertices.{neighbours_of}
-use Rattle.pages.proofs.Ranks.{none_below}
-use Rattle.vertex_blocks.specs.Blocks.{Block, IsBlock, edge_total}
 use Rattle.edge_lists.specs.Edge.{Edge}
 use Rattle.tree_batch.proofs.AllEdges.{few_vertices}
 use Rattle.flat_snapshot.specs.Digraph.{Digraph, IsDigraph}
@@ -18,49 +12,11 @@ use Rattle.edge_apply.proofs.Filtered.{has_first, has_later}
 use Rattle.crew.specs.Limits.{weight}
 use Rattle.pull_engine.specs.Degrees.{in_degrees}
 use Rattle.pull_engine.proofs.Merging.{destination_within}
-use Rattle.crew.proofs.DegreeRows.{range_none, range_one_more, range_same, range_shifted, weight-map}
+use Rattle.crew.proofs.DegreeRows.{range_none, range_one_more, weight-map}
 
 -- the degree of a vertex
 abbrev pub degree : List Edge → ℕ → ℕ
 degree es v = length (sources_of v es)
-
--- the lists of a block have all its edges
-front_total : (a n : ℕ) (b : Block) → maps.Rises a (a + n) b → sum_by (λ u. length (neighbours_of u b)) (range_with_len a n) ≡ edge_total b
-front_total a zero [] s = refl
-front_total a zero (e ∷ es) s = let room = rises_room (e.0 + 1) (a + 0) es s.1 in absurd (omega (arith, s.0, room))
-front_total a (suc n) [] s = range_none (λ u. length (neighbours_of u [])) a (suc n) (λ v l. refl)
-front_total a (suc n) (e ∷ es) s =
-    let whole = sum_by-cons (λ u. length (neighbours_of u (e ∷ es))) a (range_with_len (a + 1) n) in
-    let top : a + suc n ≡ a + 1 + n = omega arith in
-    let above : maps.Rises (e.0 + 1) (a + 1 + n) es = subst (λ h. maps.Rises (e.0 + 1) h es) top s.1 in
-    elim (cases_eq e.0 a) [
-      | inl at ↦
-          let here : length (neighbours_of a (e ∷ es)) ≡ length e.1 = ap (λ (b : Bool). length (cond b e.1 (neighbours_of a es))) (eq-eqb e.0 a at) in
-          let same = range_same (λ u. length (neighbours_of u (e ∷ es))) (λ u. length (neighbours_of u es)) (a + 1) n
-          (λ v l. ap (λ (b : Bool). length (cond b e.1 (neighbours_of v es))) (ne_eqb e.0 v (omega (arith, at, l)))) in
-          let rest = front_total (a + 1) n es (subst (λ k. maps.Rises k (a + 1 + n) es) (ap (λ k. k + 1) at) above) in
-          omega (arith, whole, here, same, rest)
-      | inr other ↦
-          let later : a + 1 ≤ e.0 = omega (arith, s.0, other) in
-          let none : length (neighbours_of a es) ≡ 0 = ap length (none_below a (e.0 + 1) (a + 1 + n) es above (omega (arith, later))) in
-          let here : length (neighbours_of a (e ∷ es)) ≡ 0 = ap (λ (b : Bool). length (cond b e.1 (neighbours_of a es))) (ne_eqb e.0 a other) ∙ none in
-          let rest = front_total (a + 1) n (e ∷ es) (later, above) in
-          omega (arith, whole, here, rest)
-    ]
-
--- so have those of its vertices in the graph
-pub block_total : (es : List Edge) (k : ℕ) (b : Block) → ((v : ℕ) → v / 64 ≡ k → neighbours_of (v % 64) b ≡ sources_of v es) → IsBlock b → edge_total b ≡ sum_by (degree es) (range_with_len (64 * k) 64)
-block_total es k b lists ok =
-    sym (front_total 0 64 b ok.map)
-    ∙ range_shifted (λ u. length (neighbours_of u b)) (degree es) 0 (64 * k) 64
-    (λ i l. let place : (64 * k + i) / 64 ≡ k = omega (arith, l) in
-    let bit : 0 + i ≡ (64 * k + i) % 64 = omega (arith, l) in
-    ap (λ u. length (neighbours_of u b)) bit ∙ ap length (lists (64 * k + i) place))
-
-pub no_block_total : (es : List Edge) (k : ℕ) → ((v : ℕ) → v / 64 ≡ k → [] ≡ sources_of v es) → 0 ≡ sum_by (degree es) (range_with_len (64 * k) 64)
-no_block_total es k none =
-    sym (range_none (λ u. 0) 0 64 (λ v l. refl))
-    ∙ range_shifted (λ u. 0) (degree es) 0 (64 * k) 64 (λ i l. let place : (64 * k + i) / 64 ≡ k = omega (arith, l) in ap length (none (64 * k + i) place))
 
 -- each edge goes to one vertex
 edges_counted : (n : ℕ) (es : List Edge) → ((p : Ends) (w : ℤ) → weight_in p es ≡ Some w → IsWithin n p) → sum_by (degree es) (range_with_len 0 n) ≡ length es

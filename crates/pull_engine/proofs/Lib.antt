@@ -1,3 +1,4 @@
+mod Masking
 mod Merging
 pub mod ColumnFolds
 pub mod Deciding

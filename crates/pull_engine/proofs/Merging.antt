@@ -41,7 +41,7 @@ use Rattle.edge_apply.proofs.Told.{told_in_piece}
 use Rattle.edge_apply.proofs.Filtered.{has_first, has_later}
 use Rattle.pull_engine.proofs.ColumnFolds.{columns-append, folded_columns}
 
--- tests that agree on the sources of a graph let the same through
+-- tests that agree on the sources of a graph let the same edges through
 agree_one : (p q : ℕ → Bool) (s : ℕ × ℤ) (S : List (ℕ × ℤ)) (b : Bool) → p s.0 ≡ q s.0 → passing p S ≡ passing q S → passing p (cond b (s ∷ S) S) ≡ passing q (cond b (s ∷ S) S)
 agree_one p q s S true here more = ap (λ (c : Bool). cond c (s ∷ passing p S) (passing p S)) here ∙ ap (λ (ks : List (ℕ × ℤ)). cond (q s.0) (s ∷ ks) ks) more
 agree_one p q s S false here more = more
@@ -107,7 +107,7 @@ pub gathers_pieces : (w : PullWork) (fs : List (Found Gathered)) → shape_vecto
 gathers_pieces w [] none answers = tt
 gathers_pieces w (f ∷ fs) none answers = (subst (λ (o : Option ℕ). AnswersFor o w f.piece f.out) none answers.0.0, gathers_pieces w fs none answers.1)
 
--- the same where one is
+-- what pieces of a pull of a shape that is known give
 pub pulled_parts : (w : PullWork) (fs : List (Found Gathered)) (y : ℕ) → shape_vector w.shape ≡ Some y → AreAnswers (Answers w) fs
     → (m : StateValue) (steps : List StepsTree) (from to : ℕ → Bool) → w.apply.vectors.now.vectors ≡ m.vectors → HasSizes w.apply.sizes.now m → AreKernels w.apply.first.now w.apply.second steps → IsEndTest w.apply.from m from → IsEndTest w.apply.to m to
     → (r : Reduction) → IsReducedBy r y m steps

@@ -1,6 +1,7 @@
 pub mod Columns
 pub mod Degrees
 pub mod EarlySources
+pub mod Masked
 pub mod Words
 pub mod Ranges
 pub mod Pulls

@@ -1,4 +1,4 @@
--- Ranges of destinations, and the changes that a pull tells of one.
+-- Ranges of destinations, and the changes of a pull into one.
 use Rattle.std.specs.Prelude.{◌≡◌, ℕ, ℤ, Bool, if◌then◌else◌, Option, Some, None, List, [], ◌∷◌, ◌++◌}
 use Rattle.apply_options.specs.declared.reduction.Reduction.{Reduction}
 use Rattle.kernels.specs.StepTree.{StepsTree}
@@ -29,7 +29,7 @@ changes_at old new (v ∷ vs) = change_at old new v ++ changes_at old new vs
 abbrev pub pulled : Reduction → (number : ℕ → ℤ → ℤ) → (old : ℕ → ℤ) → (from : ℕ → Bool) → List Edge → ℕ → ℤ
 pulled r number old from es v = reduced_over r number (old v) (passing from (sources_of v es))
 
--- the same where the vertex passes, and else the entry
+-- the entry that is pulled if the vertex passes, and else the old one
 abbrev pub pulled_to : Reduction → (number : ℕ → ℤ → ℤ) → (old : ℕ → ℤ) → (from to : ℕ → Bool) → List Edge → ℕ → ℤ
 pulled_to r number old from to es v = if to v then pulled r number old from es v else old v
 

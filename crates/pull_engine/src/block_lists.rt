@@ -48,7 +48,8 @@ impl<'a> BlockLists<'a> {
         from: Option<&[u64]>,
         room: &mut SourceBlock,
     ) -> i64
-        requires { vertex < 64 }
+        requires vertex { vertex < 64 }
+        requires serves { F.serves fold.now (passes_words from) }
         ensures { result ≡ reduced_over (F.reduction fold.now) (F.number fold.now) old (passing (passes_words from.entry) (neighbours_of vertex self.now.block.now)) }
     {
         if (self.own >> vertex) % 2 == 0 {

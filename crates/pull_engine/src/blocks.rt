@@ -1,5 +1,6 @@
 //! Pulls to the vertices of a block of 64, those whose bits are set in a word.
 ghost use Rattle.std.specs.Prelude.{◌≡◌, ◌^◌, ◌<◌, ◌++◌, OnOk};
+ghost use Rattle.edge_apply.specs.Words.{passes_words};
 ghost use Rattle.pull_engine.specs.Blocks.{block_changes};
 
 use crate::block_lists::BlockLists;
@@ -28,7 +29,8 @@ pub(crate) fn pull_block<F: SourceFold>(
     room: &mut SourceBlock,
     changes: &mut Vec<EntryChange>,
 ) -> Result<(), AllocError>
-    requires { block < 2 ^ 26 }
+    requires block { block < 2 ^ 26 }
+    requires serves { F.serves fold.now (passes_words pull.from) }
     ensures { OnOk result (changes.new.items ≡ changes.old.items
         ++ block_changes pull.entry (F.reduction fold.now) (F.number fold.now) block word) }
 {

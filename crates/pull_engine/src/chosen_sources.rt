@@ -8,7 +8,7 @@ ghost use Rattle.kernels.specs.declared.columns.TheConstants.{PAIRS};
 
 use apply_options::Reduction;
 use edge_apply::passes;
-use edge_fold::{EntryWith, SourceEntries, reduce_entries};
+use edge_fold::{EntryWith, NeighbourEntries, reduce_entries};
 use kernels::PAIRS;
 use vertex_blocks::Neighbours;
 
@@ -20,7 +20,7 @@ struct ChosenSources<'a, 'b> {
     ghost inside: { All (λ i. i < length list.now) indices.now },
 }
 
-impl SourceEntries for ChosenSources<'_, '_> {
+impl NeighbourEntries for ChosenSources<'_, '_> {
     ghost entries = { λ c. map (entry_at c.list.now) c.indices.now };
 
     #[inline(always)]
@@ -29,7 +29,7 @@ impl SourceEntries for ChosenSources<'_, '_> {
     }
 
     #[inline(always)]
-    fn source(&self, index: usize) -> u32 {
+    fn neighbour(&self, index: usize) -> u32 {
         self.list.neighbour(self.indices[index] as usize)
     }
 

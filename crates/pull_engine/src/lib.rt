@@ -44,6 +44,7 @@ mod entry_tests;
 mod in_degrees;
 mod list_folds;
 mod listed;
+mod masked_sources;
 mod pieces;
 mod ranges;
 mod shapes;
@@ -53,6 +54,6 @@ mod source_words;
 mod work;
 
 pub use changes::pull;
-pub use crew_apply::pull_crew;
+pub use crew_apply::{pull_by_workers, pull_crew};
 pub use early_sources::one_source_decides;
 pub use work::PullWork;

@@ -3,7 +3,6 @@ ghost use Rattle.std.specs.Prelude.{◌≡◌, ℕ, ◌<◌, Bool, length, map, 
 ghost use Rattle.std.specs.List.{range_with_len};
 ghost use Rattle.kernels.specs.EdgeApply.{is_member};
 ghost use Rattle.kernels.specs.State.{StateValue};
-ghost use Rattle.crew.specs.Outcome.{AreWorkers};
 ghost use Rattle.edge_fold.specs.Ends.{IsEndTest};
 ghost use Rattle.crew.specs.Boundaries.{boundaries};
 ghost use Rattle.crew.specs.Partition.{AreEnds};
@@ -11,7 +10,7 @@ ghost use Rattle.flat_snapshot.specs.Neighbours.{sources_of};
 
 use crate::in_degrees::InDegrees;
 use apply_options::Parallelization;
-use crew::Partition;
+use crew::{Partition, WorkerCount};
 use flat_snapshot::Flat;
 use kernels::EndpointFilter;
 use std::alloc::{AllocError, Global};
@@ -21,10 +20,9 @@ use vertex_sets::{Form, VertexSet};
 pub(crate) fn cut_vertices(
     alloc: Global,
     parallelization: Parallelization,
-    workers: usize,
+    workers: WorkerCount,
     flat: &Flat,
 ) -> Result<Partition, AllocError>
-    requires { AreWorkers workers }
     ensures ends { IfOk result (λ c. c ≡ boundaries parallelization workers flat.now.vertices
         (map (λ v. length (sources_of v flat.now.edges)) (range_with_len 0 flat.now.vertices))) }
     ensures whole { IfOk result (λ c. AreEnds 0 flat.now.vertices c) }

@@ -1,5 +1,6 @@
 //! Pulls of a range of destinations, where one function gives each of them by its sources and the weights of their edges.
 ghost use Rattle.std.specs.Prelude.{◌≡◌, ℕ, ◌≤◌, IfOk, Some};
+ghost use Rattle.edge_apply.specs.Words.{passes_words};
 ghost use Rattle.kernels.specs.EdgeApply.{is_member};
 ghost use Rattle.pull_engine.specs.Lets.{IsInBits, lets};
 ghost use Rattle.pull_engine.specs.Pulls.{IsRangeEnd, IsRangePulled};
@@ -94,7 +95,8 @@ pub(crate) fn pull_range<F: SourceFold>(
     fold: &F,
     scratch: &mut Scratch,
 ) -> Result<Vec<EntryChange>, AllocError>
-    requires { range.low ≤ range.high }
+    requires order { range.low ≤ range.high }
+    requires serves { F.serves fold.now (passes_words range.from) }
     ensures { IfOk result (λ cs. IsRangePulled range.entry vector (F.reduction fold.now) (F.number fold.now) cs.items) }
 {
     let to = range.destinations(alloc, scratch)?;
@@ -112,6 +114,7 @@ fn pull_words<F: SourceFold>(
     requires order { range.low ≤ range.high }
     requires bits { IsInBits to.now }
     requires end { IsRangeEnd range (lets to.now) }
+    requires serves { F.serves fold.now (passes_words range.from) }
     ensures { IfOk result (λ cs. IsRangePulled range.entry vector (F.reduction fold.now) (F.number fold.now) cs.items) }
 {
     let pull = BlockPull {

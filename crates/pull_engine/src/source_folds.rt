@@ -1,5 +1,5 @@
 //! Folds of the sources of a vertex, with the weights of their edges, into its entry, by one function.
-ghost use Rattle.std.specs.Prelude.{◌≡◌, ℕ, ℤ, pos, length};
+ghost use Rattle.std.specs.Prelude.{◌≡◌, ℕ, ℤ, pos, Bool, length};
 ghost use Rattle.apply_options.specs.declared.reduction.Reduction.{Reduction as Reducing};
 ghost use Rattle.apply_options.specs.declared.reduction.Reduction.TheVariants.{Min, Max};
 ghost use Rattle.edge_apply.specs.Words.{passes_words};
@@ -24,6 +24,9 @@ pub(crate) trait SourceFold {
 
     ghost number: { Self → ℕ → ℤ → ℤ };
 
+    /// It may fold the sources that such a test lets through.
+    ghost serves: { Self → (ℕ → Bool) → Type 0 };
+
     /// The entry reduced with the numbers of those sources of a packed list whose bits are set. The block is lent.
     fn fold_packed(
         &self,
@@ -32,6 +35,7 @@ pub(crate) trait SourceFold {
         from: Option<&[u64]>,
         block: &mut SourceBlock,
     ) -> i64
+        requires { serves self.now (passes_words from) }
         ensures { result ≡ reduced_over (reduction self.now) (number self.now) old (passing (passes_words from.entry) sources.entry) };
 
     /// The entry reduced with the numbers of those sources of a set in chunks whose bits are set.
@@ -42,6 +46,7 @@ pub(crate) trait SourceFold {
         from: Option<&[u64]>,
         block: &mut SourceBlock,
     ) -> i64
+        requires { serves self.now (passes_words from) }
         ensures { result ≡ reduced_over (reduction self.now) (number self.now) old (passing (passes_words from.entry) sources.now.entries) };
 
     /// The entry reduced with the numbers of those sources whose bits are set, in either form.
@@ -52,6 +57,7 @@ pub(crate) trait SourceFold {
         from: Option<&[u64]>,
         block: &mut SourceBlock,
     ) -> i64
+        requires { serves self.now (passes_words from) }
         ensures { result ≡ reduced_over (reduction self.now) (number self.now) old (passing (passes_words from.entry) sources.entry) }
     {
         match sources.into_form() {
@@ -97,6 +103,8 @@ impl SourceFold for GreatestSource {
 
     ghost number = { λ _ s _. pos s };
 
+    ghost serves = { λ _ _. Unit {0} };
+
     #[inline(always)]
     fn fold_packed(
         &self,
@@ -128,6 +136,8 @@ impl SourceFold for LeastSource {
     ghost reduction = { λ _. Min };
 
     ghost number = { λ _ s _. pos s };
+
+    ghost serves = { λ _ _. Unit {0} };
 
     #[inline(always)]
     fn fold_packed(
@@ -161,6 +171,8 @@ impl SourceFold for OneForAny {
 
     ghost number = { λ f _ _. f.number };
 
+    ghost serves = { λ _ _. Unit {0} };
+
     #[inline(always)]
     fn fold_packed(
         &self,
@@ -190,6 +202,8 @@ impl<N: SourceNumbers> SourceFold for AllSources<N> {
     ghost reduction = { λ f. f.reduction };
 
     ghost number = { λ f s _. N.number f.numbers s };
+
+    ghost serves = { λ _ _. Unit {0} };
 
     #[inline(always)]
     fn fold_packed(
@@ -226,6 +240,8 @@ impl SourceFold for WeightedSources<'_> {
     ghost reduction = { λ f. f.reduction };
 
     ghost number = { λ f. entry_with f.numbers };
+
+    ghost serves = { λ _ _. Unit {0} };
 
     #[inline(always)]
     fn fold_packed(
@@ -275,7 +291,7 @@ fn reduce_number(reduction: Reduction, number: i64, old: i64, source: Option<u32
 
 /// The entry reduced with the numbers of all sources of a walk that pass.
 #[inline]
-fn fold_walk<N: SourceNumbers, W: NeighbourWalk + Drop>(
+pub(crate) fn fold_walk<N: SourceNumbers, W: NeighbourWalk + Drop>(
     reduction: Reduction,
     numbers: &N,
     old: i64,

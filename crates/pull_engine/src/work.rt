@@ -21,11 +21,11 @@ ghost use Rattle.pull_engine.specs.Ranges.{IsShapeOfApply};
 use crate::listed::{cut_vertices, member_bits};
 use crate::shapes::apply_shape;
 use crate::source_words::SourceWords;
-use crew::{CrewError, Partition, is_crew};
+use crew::{CrewError, Partition, WorkerCount};
 use edge_apply::Apply;
 use edge_fold::{FoldStart, Scratch};
 use kernels::Shape;
-use std::alloc::Global;
+use std::alloc::{AllocError, Global};
 use vertex_sets::VertexSet;
 
 /// An apply in pieces, which workers may do side by side: all vertices are cut as its schedule says, and a piece answers
@@ -77,13 +77,28 @@ impl<'a> PullWork<'a> {
         ensures cuts { IfOk result (λ w. w.cuts ≡ boundaries apply.now.parallelization workers apply.now.flat.now.vertices
             (map (λ v. length (sources_of v apply.now.flat.now.edges)) (range_with_len 0 apply.now.flat.now.vertices))) }
     {
-        if !is_crew(workers) {
+        let Some(count) = WorkerCount::new(workers) else {
             return Err(CrewError::BadWorkers);
-        }
+        };
+        let work = PullWork::for_workers(alloc, apply, count, scratch)?;
+        Ok(work)
+    }
+
+    /// The pieces of an apply for these workers, as [`PullWork::new`] says. The only error is out of memory.
+    pub(crate) fn for_workers(
+        alloc: Global,
+        apply: &Apply<'a>,
+        count: WorkerCount,
+        scratch: &mut Scratch,
+    ) -> Result<PullWork<'a>, AllocError>
+        ensures apply { IfOk result (λ w. w.apply ≡ apply.now) }
+        ensures cuts { IfOk result (λ w. w.cuts ≡ boundaries apply.now.parallelization count apply.now.flat.now.vertices
+            (map (λ v. length (sources_of v apply.now.flat.now.edges)) (range_with_len 0 apply.now.flat.now.vertices))) }
+    {
         let context = apply.context(FoldStart::Unit);
         let sources = SourceWords::of(alloc, apply.from, context, scratch)?;
         let members = member_bits(alloc, apply.to)?;
-        let cuts = cut_vertices(alloc, apply.parallelization, workers, apply.flat)?;
+        let cuts = cut_vertices(alloc, apply.parallelization, count, apply.flat)?;
         Ok(PullWork {
             apply: *apply,
             sources,

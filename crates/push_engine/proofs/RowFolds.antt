@@ -90,7 +90,7 @@ passing_first r x v g e n line kept true more =
     more (reduced_at r v n here) ∙ sym (reduced_at-append r v n here (given_on x g kept))
 passing_first r x v g e n line kept false more = more n
 
--- the rows of the sources that pass come to the edges from them
+-- to reduce with the rows of the sources that pass is to reduce with the edges from them
 pub rows_are_edges : (r : Reduction) (x v : ℕ) (g : Edge → List (ℕ × Reduction × ℤ)) (from : ℕ → Bool) (us : List ℕ) → Rises 0 us → (es : List Edge) → Agree from us es → (n : ℤ)
     → reduced_at r v n (given_on x g (rows es us)) ≡ reduced_at r v n (given_on x g (filter (λ e. from e.0) es))
 rows_are_edges r x v g from us up [] agree n = ap (λ (ks : List Edge). reduced_at r v n (given_on x g ks)) (no_rows us)
@@ -147,7 +147,7 @@ pub filter_row : (to : ℕ → Bool) (u : ℕ) (ds : List (ℕ × ℤ)) → filt
 filter_row to u [] = refl
 filter_row to u (d ∷ ds) = filter_one to u d ds (to d.0) (filter_row to u ds)
 
--- the rows of the sources that pass, to the destinations that pass, come to the edges between the ends
+-- to reduce with the rows of the sources that pass, to the destinations that pass, is to reduce with the edges between the ends
 pub rows_to_are_edges : (r : Reduction) (x v : ℕ) (g : Edge → List (ℕ × Reduction × ℤ)) (from to : ℕ → Bool) (us : List ℕ) → Rises 0 us → (es : List Edge) → Agree from us es → (n : ℤ)
     → reduced_at r v n (given_on x g (rows_to to es us)) ≡ reduced_at r v n (given_on x g (edges_between from to es))
 rows_to_are_edges r x v g from to us up es agree n =

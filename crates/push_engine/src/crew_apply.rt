@@ -5,12 +5,11 @@ ghost use Rattle.crew.specs.Outcome.{AreWorkers};
 ghost use Rattle.edge_fold.specs.Changed.{AreApart};
 ghost use Rattle.edge_apply.specs.Applied.{AreChangesOf};
 
-use crate::pieces::Workers;
 use crate::work::PushWork;
-use crew::{CrewError, Gate, PieceAssignment, run_pieces};
+use crew::{CrewError, Gate, PieceAssignment, WorkerCount, Workers};
 use edge_apply::Apply;
 use edge_fold::Scratch;
-use std::alloc::Global;
+use std::alloc::{AllocError, Global};
 use std::thread::Threads;
 use vectors::Changes;
 
@@ -40,15 +39,33 @@ pub fn push_crew<R: Threads + Sync, G: Gate + Sync>(
     ensures once { IfOk result (λ c. AreApart c.vectors.items) }
     ensures changes { IfOk result (λ c. AreChangesOf apply.now c.vectors.items) }
 {
-    let work = PushWork::new(alloc, apply, workers, scratch)?;
+    let Some(count) = WorkerCount::new(workers) else {
+        return Err(CrewError::BadWorkers);
+    };
+    let workers = Workers { rt, gate, count };
+    let changes = push_by_workers(&workers, alloc, apply, scratch, states)?;
+    Ok(changes)
+}
+
+/// What an apply of edge functions changes, as [`push_crew`] says, by these workers. The only error is out of memory.
+pub fn push_by_workers<R: Threads + Sync, G: Gate + Sync>(
+    workers: &Workers<'_, R, G>,
+    alloc: Global,
+    apply: &Apply<'_>,
+    scratch: &mut Scratch,
+    states: &mut Vec<Scratch>,
+) -> Result<Changes, AllocError>
+    ensures once { IfOk result (λ c. AreApart c.vectors.items) }
+    ensures changes { IfOk result (λ c. AreChangesOf apply.now c.vectors.items) }
+{
+    let work = PushWork::for_workers(alloc, apply, workers.count, scratch)?;
     let pieces = work.pieces();
     // A graph has fewer vertices.
     if pieces > u32::MAX as usize {
-        return Err(CrewError::NoMemory);
+        return Err(AllocError);
     }
     let assignment = PieceAssignment::of(apply.parallelization);
-    let found = run_pieces(rt, alloc, pieces, workers, assignment, gate, &work, states)?;
-    let crew = Workers { rt, count: workers };
-    let changes = work.merge_by_crew(crew, alloc, &found, scratch, states)?;
+    let found = workers.run_pieces(alloc, pieces, assignment, &work, states)?;
+    let changes = work.merge_by_workers(workers, alloc, &found, scratch, states)?;
     Ok(changes)
 }

@@ -21,6 +21,7 @@
 
 mod changes;
 mod crew_apply;
+mod list_entries;
 mod listed;
 mod neighbour_block;
 mod pieces;
@@ -30,5 +31,5 @@ mod sources;
 mod work;
 
 pub use changes::{is_work_above, push};
-pub use crew_apply::push_crew;
+pub use crew_apply::{push_by_workers, push_crew};
 pub use work::PushWork;

@@ -5,7 +5,6 @@ ghost use Rattle.kernels.specs.EdgeApply.{is_member};
 ghost use Rattle.kernels.specs.State.{StateValue};
 ghost use Rattle.apply_options.specs.declared.apply_schedule.Parallelization.TheVariants.{EdgeAwareDynamicVertex};
 ghost use Rattle.kernels.specs.Registers.{HasSizes};
-ghost use Rattle.crew.specs.Outcome.{AreWorkers};
 ghost use Rattle.edge_fold.specs.Ends.{IsEndTest, IsTest};
 ghost use Rattle.crew.specs.Boundaries.{boundaries};
 ghost use Rattle.crew.specs.Partition.{AreEnds};
@@ -20,7 +19,7 @@ ghost use Rattle.push_engine.specs.Work.{is_kept_as_bits, makes_bits};
 use crate::changes::is_tested_first;
 use crate::source_degrees::SourceDegrees;
 use apply_options::{Direction, Parallelization};
-use crew::Partition;
+use crew::{Partition, WorkerCount};
 use edge_apply::{Apply, all_vertices, passing_set};
 use edge_fold::{FoldStart, Scratch};
 use kernels::EndpointFilter;
@@ -63,7 +62,7 @@ pub(crate) fn list_sources(
     }
 }
 
-/// The same where only some pass.
+/// Lists the sources of an apply if only some vertices pass.
 fn list_from(
     alloc: Global,
     apply: &Apply<'_>,
@@ -137,10 +136,9 @@ fn members_of(alloc: Global, set: &VertexSet) -> Result<Vec<u32>, AllocError>
 pub(crate) fn cut_sources(
     alloc: Global,
     apply: &Apply<'_>,
-    workers: usize,
+    workers: WorkerCount,
     sources: &[u32],
 ) -> Result<Partition, AllocError>
-    requires { AreWorkers workers }
     ensures ends { IfOk result (λ c. c ≡ boundaries apply.now.parallelization workers (length sources.now)
         (map (λ u. length (destinations_of u apply.now.flat.now.edges)) sources.now)) }
     ensures whole { IfOk result (λ c. AreEnds 0 (length sources.now) c) }
@@ -180,7 +178,7 @@ pub(crate) fn destination_bits(
     bits_of_end(alloc, apply, end, scratch)
 }
 
-/// The same of an end, whenever they are tested.
+/// The destinations that an end lets through, as bits, whether they are tested first or last.
 fn bits_of_end(
     alloc: Global,
     apply: &Apply<'_>,
@@ -219,7 +217,7 @@ pub(crate) fn words_of_end<'a>(end: Option<EndpointFilter<'a>>) -> Option<&'a [u
     }
 }
 
-/// The same of an end that is given.
+/// The words of the set of an end that is given, if it is kept as bits.
 fn words_of<'a>(to: EndpointFilter<'a>) -> Option<&'a [u64]>
     ensures { IfSome result (λ words. (m : StateValue) (test : ℕ → Bool) → IsTest to.entry m test → (v : ℕ) → is_set words.now v ≡ test v) }
 {

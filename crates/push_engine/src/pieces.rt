@@ -2,7 +2,6 @@
 ghost use Rattle.std.specs.Prelude.{◌≡◌, ℕ, ◌<◌, ◌≤◌, Bool, List, [], length, IfOk, IfSome, OnOk};
 ghost use Rattle.std.specs.List.{filter, flat_map, range_with_len};
 ghost use Rattle.std.specs.List.Sorted.{IsPermutation};
-ghost use Rattle.crew.specs.Outcome.{AreWorkers};
 ghost use Rattle.crew.specs.Pieces.{AreAnswers, pieces_of};
 ghost use Rattle.kernels.specs.StepTree.{StepsTree};
 ghost use Rattle.kernels.specs.State.{StateValue};
@@ -23,19 +22,13 @@ use crate::listed::words_of_end;
 use crate::neighbour_block::NeighbourBlock;
 use crate::sources::{RowInput, fold_rows};
 use crate::work::PushWork;
-use crew::{Found, Work};
+use crew::{Found, Work, Workers};
 use edge_apply::{Apply, is_worth_workers, join_all, merge_by_ranges, part_between};
 use edge_fold::{ApplyContext, FoldStart, Gathered, Scratch};
 use kernels::EndpointFilter;
 use std::alloc::{AllocError, Global};
 use std::thread::Threads;
 use vectors::Changes;
-
-/// So many workers, and who starts their threads.
-pub(crate) struct Workers<'a, R> {
-    pub(crate) rt: &'a R,
-    pub(crate) count: usize,
-}
 
 impl PushWork<'_> {
     /// How many pieces there are: none where the list that is cut is empty.
@@ -68,25 +61,23 @@ impl PushWork<'_> {
         Ok(changes)
     }
 
-    /// The same by these workers, each for its own ranges of destinations, where the pieces have found much. It takes their
-    /// scratches from `states`, where they are again after it.
-    pub(crate) fn merge_by_crew<R: Threads + Sync>(
+    /// What the apply changes, merged by these workers, each for its own ranges of destinations, if the pieces have found much.
+    /// It takes their scratches from `states`, and puts them back.
+    pub(crate) fn merge_by_workers<R: Threads + Sync, G>(
         &self,
-        crew: Workers<'_, R>,
+        workers: &Workers<'_, R, G>,
         alloc: Global,
         found: &[Found<Gathered>],
         scratch: &mut Scratch,
         states: &mut Vec<Scratch>,
     ) -> Result<Changes, AllocError>
-        requires { AreWorkers crew.count }
         ensures once { IfOk result (λ c. AreApart c.vectors.items) }
         ensures changes { IfOk result (λ c. AreAnswers (Answers self.now) found.now
             → IsPermutation (pieces_of found.now) (range_with_len 1 (length self.now.cuts))
             → AreChangesOf self.now.apply c.vectors.items) }
     {
-        let Workers { rt, count } = crew;
-        if count > 1 && is_worth_workers(found) {
-            return merge_by_ranges(rt, count, alloc, &self.apply, found, states);
+        if workers.count.get() > 1 && is_worth_workers(found) {
+            return merge_by_ranges(workers.rt, workers.count, alloc, &self.apply, found, states);
         }
         self.merge(alloc, found, scratch)
     }

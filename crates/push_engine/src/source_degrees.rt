@@ -90,7 +90,7 @@ fn weight_of(flat: &Flat, run: &[u32]) -> usize
     }
 }
 
-/// The same by a look at each source.
+/// The number of sources in a run, and of the edges from them, by a look at each source.
 fn weight_of_each(flat: &Flat, run: &[u32]) -> usize
     requires { length run.now ≤ 64 }
     ensures weight { result ≡ weight (out_degrees flat.now run.now) }

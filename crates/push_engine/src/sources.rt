@@ -1,5 +1,5 @@
 //! Going over the sources of an apply.
-ghost use Rattle.std.specs.Prelude.{◌≡◌, ℕ, ◌+◌, ◌*◌, ◌%◌, ◌^◌, ◌<◌, ◌≤◌, ◌==◌, ◌++◌, Bool, false, true, List, [], drop, length, take, OnOk};
+ghost use Rattle.std.specs.Prelude.{◌≡◌, ℕ, ◌+◌, ◌*◌, ◌%◌, ◌^◌, ◌<◌, ◌≤◌, ◌==◌, ◌++◌, Bool, false, true, List, [], drop, length, take, IfOk, OnOk};
 ghost use Rattle.std.specs.Int.{bit_at};
 ghost use Rattle.std.specs.List.{filter, range_with_len};
 ghost use Rattle.std.specs.Map.{keys_of};
@@ -19,6 +19,7 @@ ghost use Rattle.vertex_blocks.specs.Blocks.{vertices_at};
 ghost use Rattle.push_engine.specs.PushEnds.{AreTests, IsInBits};
 ghost use Rattle.push_engine.specs.Rows.{rows_to};
 
+use crate::list_entries::ListEntries;
 use crate::neighbour_block::NeighbourBlock;
 use crate::push_end::PushEnd;
 use edge_apply::{keep_members, keep_members_weighted, passes, take_part};
@@ -92,7 +93,7 @@ fn fold_words(
     Ok(())
 }
 
-/// The same from the sources of a block. Only vertices that have edges are gone over.
+/// Folds the edges from those sources of a block of 64 whose bits are set. Only vertices that have edges are gone over.
 fn fold_block(
     alloc: Global,
     input: RowInput<'_>,
@@ -130,7 +131,7 @@ fn word_at(words: Option<&[u64]>, number: u32) -> u64
     }
 }
 
-/// The same of words that are given: 0 after the last one.
+/// The word of a block among words that are given, and 0 after the last of them.
 #[inline(always)]
 fn given_word(words: &[u64], number: u32) -> u64
     ensures { (i : ℕ) → i < 64 → (bit_at result i == 1) ≡ is_set words.now (64 * number + i) }
@@ -171,7 +172,7 @@ fn fold_members(
     Ok(())
 }
 
-/// The same from the sources that an end lets through. Each vertex with an edge is tested once.
+/// Folds the edges from the sources that an end lets through. Each vertex with an edge is tested once.
 fn fold_passing(
     alloc: Global,
     input: RowInput<'_>,
@@ -198,7 +199,7 @@ fn fold_passing(
     }
 }
 
-/// The same from these sources.
+/// Folds the edges from listed sources.
 pub(crate) fn fold_rows(
     alloc: Global,
     input: RowInput<'_>,
@@ -217,7 +218,7 @@ pub(crate) fn fold_rows(
     Ok(())
 }
 
-/// The same from a source, whose list is read from its block.
+/// Folds the edges from one source, whose list is read from its block.
 #[inline(always)]
 fn fold_row(
     alloc: Global,
@@ -250,7 +251,7 @@ fn fold_row(
     )
 }
 
-/// The same to the neighbours of a packed list, by a loop for each width.
+/// Folds the edges from a source to the neighbours of a packed list, in a loop for each width.
 #[inline]
 fn fold_list(
     alloc: Global,
@@ -268,14 +269,58 @@ fn fold_list(
         return fold_weighted(alloc, input, source, list.ascending(), block, scratch);
     }
     match list.by_width() {
-        ByWidth::One(narrow) => fold_parts(alloc, input, source, &narrow, block, scratch),
-        ByWidth::Two(narrow) => fold_parts(alloc, input, source, &narrow, block, scratch),
-        ByWidth::Three(narrow) => fold_parts(alloc, input, source, &narrow, block, scratch),
-        ByWidth::Four(narrow) => fold_parts(alloc, input, source, &narrow, block, scratch),
+        ByWidth::One(narrow) => fold_narrow(alloc, input, source, &narrow, block, scratch),
+        ByWidth::Two(narrow) => fold_narrow(alloc, input, source, &narrow, block, scratch),
+        ByWidth::Three(narrow) => fold_narrow(alloc, input, source, &narrow, block, scratch),
+        ByWidth::Four(narrow) => fold_narrow(alloc, input, source, &narrow, block, scratch),
     }
 }
 
-/// The same of one width, if no function reads weights.
+/// Folds the edges from a source to the neighbours of a packed list of one width, if no function reads weights: by index if no
+/// destination is tested, and else in blocks.
+#[inline(always)]
+fn fold_narrow(
+    alloc: Global,
+    input: RowInput<'_>,
+    source: u32,
+    list: &Neighbours<'_>,
+    block: &mut NeighbourBlock,
+    scratch: &mut Scratch,
+) -> Result<(), AllocError>
+    requires { input.context.weighted ≡ false }
+    ensures { OnOk result ((m : StateValue) (steps : List StepsTree) (edges : List Edge) → IsContextOf input.entry.context m steps
+        → HasFolded input.entry.context m steps edges scratch.old → HasFolded input.entry.context m steps (edges
+        ++ row source (filter (λ e. passes_words input.entry.to e.0) list.now)) scratch.new) }
+{
+    let done = fold_untested(alloc, input, source, list, scratch)?;
+    if done {
+        return Ok(());
+    }
+    fold_parts(alloc, input, source, list, block, scratch)
+}
+
+/// Folds the edges from a source to the neighbours of a packed list by index, if no destination is tested and what is given on an
+/// edge depends on its source and its weight alone. It gives whether that is so: if not, nothing is changed.
+#[inline(always)]
+fn fold_untested(
+    alloc: Global,
+    input: RowInput<'_>,
+    source: u32,
+    list: &Neighbours<'_>,
+    scratch: &mut Scratch,
+) -> Result<bool, AllocError>
+    ensures folded { IfOk result (λ done. done ≡ true → (m : StateValue) (steps : List StepsTree) (edges : List Edge) → IsContextOf input.entry.context m steps
+        → HasFolded input.entry.context m steps edges scratch.old → HasFolded input.entry.context m steps (edges
+        ++ row source (filter (λ e. passes_words input.entry.to e.0) list.now)) scratch.new) }
+    ensures unchanged { IfOk result (λ done. done ≡ false → scratch.new ≡ scratch.old) }
+{
+    if input.to.is_some() {
+        return Ok(false);
+    }
+    scratch.fold_entries(alloc, input.context, source, &ListEntries { list })
+}
+
+/// Folds the edges from a source to the neighbours of a packed list of one width, in blocks, if no function reads weights.
 #[inline(always)]
 fn fold_parts(
     alloc: Global,
@@ -327,7 +372,7 @@ fn read_passing(
     kept
 }
 
-/// The same to the neighbours of a set, as they stand.
+/// Folds the edges from a source to the neighbours of a set, in the form in which they are stored.
 #[inline(never)]
 fn fold_set(
     alloc: Global,
@@ -342,16 +387,14 @@ fn fold_set(
         ++ row source (filter (λ e. passes_words input.entry.to e.0) neighbours.entry)) scratch.new) }
 {
     match neighbours.into_form() {
-        NeighbourForm::Packed(list) => {
-            fold_walk(alloc, input, source, list.ascending(), block, scratch)
-        }
+        NeighbourForm::Packed(list) => fold_list(alloc, input, source, list, block, scratch),
         NeighbourForm::Chunked(set) => {
             fold_walk(alloc, input, source, SetWalk::new(set), block, scratch)
         }
     }
 }
 
-/// The same to the destinations of a walk, whose weights are read if a function reads them.
+/// Folds the edges from a source to the destinations of a walk. Weights are read if a function reads them.
 #[inline]
 fn fold_walk<W: NeighbourWalk + Drop>(
     alloc: Global,
@@ -376,7 +419,7 @@ fn fold_walk<W: NeighbourWalk + Drop>(
     Ok(())
 }
 
-/// The same if a function reads weights.
+/// Folds the edges from a source to the destinations of a walk, with their weights.
 #[inline]
 fn fold_weighted<W: NeighbourWalk + Drop>(
     alloc: Global,

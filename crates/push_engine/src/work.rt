@@ -17,10 +17,10 @@ ghost use Rattle.push_engine.specs.Sources.{AreSources, cut_list};
 ghost use Rattle.push_engine.specs.Work.{makes_bits};
 
 use crate::listed::{cut_sources, destination_bits, list_sources};
-use crew::{CrewError, Partition, is_crew};
+use crew::{CrewError, Partition, WorkerCount};
 use edge_apply::Apply;
 use edge_fold::Scratch;
-use std::alloc::Global;
+use std::alloc::{AllocError, Global};
 use vertex_sets::VertexSet;
 
 /// An apply in pieces, which workers may do side by side: the sources are cut as its schedule says, and a piece answers
@@ -78,11 +78,30 @@ impl<'a> PushWork<'a> {
             (map (λ u. length (destinations_of u apply.now.flat.now.edges)) w.sources.items)) }
         ensures bits { IfOk result (λ w. IsSome w.bits ↔ (makes_bits apply.now.flat.now apply.now.from apply.now.to ≡ true)) }
     {
-        if !is_crew(workers) {
+        let Some(count) = WorkerCount::new(workers) else {
             return Err(CrewError::BadWorkers);
-        }
+        };
+        let work = PushWork::for_workers(alloc, apply, count, scratch)?;
+        Ok(work)
+    }
+
+    /// The pieces of an apply for these workers, as [`PushWork::new`] says. The only error is out of memory.
+    pub(crate) fn for_workers(
+        alloc: Global,
+        apply: &Apply<'a>,
+        count: WorkerCount,
+        scratch: &mut Scratch,
+    ) -> Result<PushWork<'a>, AllocError>
+        ensures apply { IfOk result (λ w. w.apply ≡ apply.now) }
+        ensures list { IfOk result (λ w. (m : StateValue) (from : ℕ → Bool) → apply.now.vectors.now.vectors ≡ m.vectors
+            → HasSizes apply.now.sizes.now m → IsEndTest apply.now.from m from
+            → IsEndOf apply.now.flat.now.vertices apply.now.from → w.sources.items ≡ cut_list apply.now.direction apply.now.flat.now.vertices from) }
+        ensures cuts { IfOk result (λ w. w.cuts ≡ boundaries apply.now.parallelization count (vec_len w.sources)
+            (map (λ u. length (destinations_of u apply.now.flat.now.edges)) w.sources.items)) }
+        ensures bits { IfOk result (λ w. IsSome w.bits ↔ (makes_bits apply.now.flat.now apply.now.from apply.now.to ≡ true)) }
+    {
         let listed = list_sources(alloc, apply, scratch)?;
-        let cuts = cut_sources(alloc, apply, workers, &listed.sources)?;
+        let cuts = cut_sources(alloc, apply, count, &listed.sources)?;
         let bits = destination_bits(alloc, apply, scratch)?;
         Ok(PushWork {
             apply: *apply,

@@ -1,12 +1,11 @@
 //! Employment: how many of a run's workers do an edge apply.
-ghost use Rattle.std.specs.Prelude.{◌≡◌, ◌<◌, ◌^◌, min, IfSome};
-ghost use Rattle.crew.specs.Outcome.{AreWorkers};
+ghost use Rattle.std.specs.Prelude.{◌≡◌, ◌<◌, ◌^◌, min};
 ghost use Rattle.push_engine.specs.Work.{work_from_end};
 ghost use Rattle.runner.specs.Employment.{employed_of, work_into_end, work_of};
 
 use crate::direction::Traversal;
 use apply_options::Parallelization;
-use crew::workers_for;
+use crew::WorkerCount;
 use edge_apply::Apply;
 use flat_snapshot::Flat;
 use kernels::EndpointFilter;
@@ -16,13 +15,11 @@ use kernels::EndpointFilter;
 /// second worker.
 pub(crate) fn employed(
     is_watched: bool,
-    workers: usize,
+    workers: WorkerCount,
     parallelization: Parallelization,
     edges: usize,
-) -> Option<usize>
-    requires { AreWorkers workers }
-    ensures employed { result ≡ employed_of is_watched parallelization workers edges }
-    ensures workers { IfSome result AreWorkers }
+) -> Option<WorkerCount>
+    ensures { result ≡ employed_of is_watched parallelization workers edges }
 {
     if is_watched {
         return Some(workers);
@@ -30,10 +27,8 @@ pub(crate) fn employed(
     if parallelization == Parallelization::Serial {
         return None;
     }
-    match workers_for(edges, workers) {
-        Ok(few) if few > 1 => Some(few),
-        _ => None,
-    }
+    let worth = workers.worth(edges);
+    if worth.get() > 1 { Some(worth) } else { None }
 }
 
 /// The number of vertices and edges that an apply goes over: those of its sources by a push, and of its destinations by a

@@ -36,7 +36,7 @@ mod printing;
 mod run_error;
 mod sets;
 mod steps;
-mod team;
+mod traverse;
 mod variables;
 mod whole_run;
 
@@ -45,4 +45,4 @@ pub use edge_applier::{EdgeApplier, ParallelApplier, SerialApplier};
 pub use edge_maps::{EdgeMap, edge_map};
 pub use job::{Job, Stand};
 pub use run_error::RunError;
-pub use whole_run::{run, run_alone, run_by};
+pub use whole_run::{run, run_alone, run_by, run_by_workers};

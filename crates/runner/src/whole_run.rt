@@ -17,9 +17,9 @@ use crate::direction::Traversal;
 use crate::edge_applier::{EdgeApplier, ParallelApplier, SerialApplier};
 use crate::plan_run::PlanRun;
 use crate::run_error::RunError;
-use crate::team::Team;
+use crate::traverse::traverse;
 use algorithm_meaning::Outcome;
-use crew::Gate;
+use crew::{Gate, WorkerCount, Workers};
 use edge_apply::Apply;
 use edge_fold::Scratch;
 use flat_snapshot::Flat;
@@ -101,7 +101,25 @@ pub fn run<R: Threads + Sync, G: Gate + Sync>(
     ensures means { IfOk result (λ o. (p : ProgramTree) (s : ScheduleTree) → IsPlan plan.now p s → AppliesReduce p (plan_of p s)
         → o ≡ meaning p (graph_value graph.now) turns) }
 {
-    let team = Team::new(rt, gate, workers)?;
+    let Some(count) = WorkerCount::new(workers) else {
+        return Err(RunError::BadWorkers);
+    };
+    let workers = Workers { rt, gate, count };
+    let outcome = run_by_workers(&workers, alloc, plan, graph, turns)?;
+    Ok(outcome)
+}
+
+/// What a run of a plan shows, as [`run`] says, by these workers. The only error is out of memory.
+pub fn run_by_workers<R: Threads + Sync, G: Gate + Sync>(
+    workers: &Workers<'_, R, G>,
+    alloc: Global,
+    plan: &Plan,
+    graph: &Flat,
+    turns: u64,
+) -> Result<Outcome, AllocError>
+    ensures { IfOk result (λ o. (p : ProgramTree) (s : ScheduleTree) → IsPlan plan.now p s → AppliesReduce p (plan_of p s)
+        → o ≡ meaning p (graph_value graph.now) turns) }
+{
     let mut crew = ParallelApplier::new(
         alloc,
         |alloc: Global, apply: Apply<
@@ -113,8 +131,7 @@ pub fn run<R: Threads + Sync, G: Gate + Sync>(
             requires { traversal ≡ traversal_of apply }
             ensures once { IfOk result (λ c. AreApart c.vectors.items) }
             ensures changes { IfOk result (λ c. AreChangesOf apply.entry c.vectors.items) }
-        { team.traverse(alloc, &apply, traversal, scratch, states) },
+        { traverse(workers, alloc, &apply, traversal, scratch, states) },
     );
-    let outcome = run_by(alloc, plan, graph, turns, &mut crew)?;
-    Ok(outcome)
+    run_by(alloc, plan, graph, turns, &mut crew)
 }

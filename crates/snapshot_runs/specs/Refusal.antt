@@ -1,7 +1,5 @@
 -- The numbers by which refusals of runs on the newest version are known.
 use Rattle.std.specs.Prelude.{ℕ}
-use Rattle.runner.specs.declared.run_error.RunError.{RunError}
-use Rattle.runner.specs.declared.run_error.RunError.TheVariants as run
 use Rattle.shared_graph.specs.declared.error.LatestError.{LatestError}
 use Rattle.shared_graph.specs.declared.error.LatestError.TheVariants as latest
 use Rattle.snapshot_runs.specs.declared.error.LatestRunError.{LatestRunError}
@@ -12,11 +10,6 @@ abbrev pub number_of : LatestRunError → ℕ
 number_of BadWorkers = 411
 number_of Closed = 125
 number_of NoMemory = 900
-
--- a refusal of a run, as one of a run on the newest version
-abbrev pub of_run : RunError → LatestRunError
-of_run run.BadWorkers = BadWorkers
-of_run run.NoMemory = NoMemory
 
 -- a refusal of the newest version, as one of a run on it
 abbrev pub of_latest : LatestError → LatestRunError

@@ -1,10 +1,11 @@
 //! Refusals of runs on the newest version.
 ghost use Rattle.std.specs.Prelude.{◌≡◌};
-ghost use Rattle.snapshot_runs.specs.Refusal.{number_of, of_latest, of_run};
+ghost use Rattle.snapshot_runs.specs.declared.error.LatestRunError.TheVariants.{NoMemory};
+ghost use Rattle.snapshot_runs.specs.Refusal.{number_of, of_latest};
 
 use refusal_numbers::{BAD_WORKERS, CLOSED, NO_MEMORY};
-use runner::RunError;
 use shared_graph::LatestError;
+use std::alloc::AllocError;
 use thiserror::Error;
 
 /// Why a run on the newest version gave nothing.
@@ -42,13 +43,10 @@ impl From<LatestError> for LatestRunError {
     }
 }
 
-impl From<RunError> for LatestRunError {
-    ghost from_gives = { λ error e. e ≡ of_run error };
+impl From<AllocError> for LatestRunError {
+    ghost from_gives = { λ _ e. e ≡ NoMemory };
 
-    fn from(error: RunError) -> LatestRunError {
-        match error {
-            RunError::BadWorkers => LatestRunError::BadWorkers,
-            RunError::NoMemory => LatestRunError::NoMemory,
-        }
+    fn from(_error: AllocError) -> LatestRunError {
+        LatestRunError::NoMemory
     }
 }

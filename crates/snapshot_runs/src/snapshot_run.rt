@@ -10,22 +10,14 @@ ghost use Rattle.version_list.specs.Machine.{opened};
 
 use crate::error::LatestRunError;
 use algorithm_meaning::Outcome;
-use crew::{Gate, is_crew};
+use crew::{Gate, WorkerCount, Workers};
 use flat_snapshot::Flat;
 use plans::Plan;
-use runner::{RunError, run};
+use runner::{RunError, run_by_workers};
 use shared_graph::{Held, Naming, Reader};
-use std::alloc::Global;
+use std::alloc::{AllocError, Global};
 use std::thread::Threads;
 use tree_batch::Graph;
-
-/// A plan, and how it is run: by so many workers, for at most so many turns.
-#[derive(Clone, Copy)]
-struct PlannedRun<'a> {
-    plan: &'a Plan,
-    workers: usize,
-    turns: u64,
-}
 
 /// Takes the newest version as [`Reader::latest`] does, runs a plan on it by n workers, 1 to 64, for at most so many
 /// turns, and gives the version's number with what the run shows.
@@ -58,16 +50,12 @@ pub fn run_latest<J: Naming, R: Threads + Sync, G: Gate + Sync>(
     ensures bad_workers { (result ≡ Err BadWorkers) ↔ (¬ AreWorkers workers) }
     ensures refused { IfErr result (λ e. Leaves (opened J.vertices J.room) e reader.old reader.new) }
 {
-    if !is_crew(workers) {
+    let Some(count) = WorkerCount::new(workers) else {
         return Err(LatestRunError::BadWorkers);
-    }
-    let planned = PlannedRun {
-        plan,
-        workers,
-        turns,
     };
+    let workers = Workers { rt, gate, count };
     let snapshot = reader.latest()?;
-    let outcome = run_on(rt, alloc, planned, &snapshot.graph, gate)?;
+    let outcome = run_on(&workers, alloc, plan, &snapshot.graph, turns)?;
     Ok((snapshot.number, outcome))
 }
 
@@ -95,35 +83,24 @@ pub fn run_held<J: Naming, R: Threads + Sync, G: Gate + Sync>(
     ensures workers { IfOk result (λ _. AreWorkers workers) }
     ensures bad_workers { (result ≡ Err run.BadWorkers) ↔ (¬ AreWorkers workers) }
 {
-    let planned = PlannedRun {
-        plan,
-        workers,
-        turns,
+    let Some(count) = WorkerCount::new(workers) else {
+        return Err(RunError::BadWorkers);
     };
+    let workers = Workers { rt, gate, count };
     let snapshot = held.snapshot();
-    run_on(rt, alloc, planned, &snapshot.graph, gate)
+    Ok(run_on(&workers, alloc, plan, &snapshot.graph, turns)?)
 }
 
 // Runs a plan on a graph.
 fn run_on<R: Threads + Sync, G: Gate + Sync>(
-    rt: &R,
+    workers: &Workers<'_, R, G>,
     alloc: Global,
-    planned: PlannedRun<'_>,
+    plan: &Plan,
     graph: &Graph,
-    gate: &G,
-) -> Result<Outcome, RunError>
-    ensures outcome { IfOk result (IsOutcomeOn planned.entry.plan.now graph.now planned.entry.turns) }
-    ensures workers { IfOk result (λ _. AreWorkers planned.entry.workers) }
-    ensures bad_workers { (result ≡ Err run.BadWorkers) ↔ (¬ AreWorkers planned.entry.workers) }
+    turns: u64,
+) -> Result<Outcome, AllocError>
+    ensures { IfOk result (IsOutcomeOn plan.now graph.now turns) }
 {
-    let PlannedRun {
-        plan,
-        workers,
-        turns,
-    } = planned;
-    if !is_crew(workers) {
-        return Err(RunError::BadWorkers);
-    }
     let flat = Flat::of(alloc, graph)?;
-    run(rt, alloc, plan, &flat, workers, turns, gate)
+    run_by_workers(workers, alloc, plan, &flat, turns)
 }

@@ -16,19 +16,19 @@ use Rattle.edge_apply.proofs.merging.merge_by_ranges.Goals as goal
 pub run_pieces-requires-sync-W : goal.run_pieces-requires-sync-W
 run_pieces-requires-sync-W g c κs within = search (sendable, crosses, merge_sync) depth 14
 
-pub returns-in-Ok-clause-changes : goal.returns-in-Ok-clause-changes
-returns-in-Ok-clause-changes g c =
+pub returns-clause-changes : goal.returns-clause-changes
+returns-clause-changes g c =
     let n = c.args.apply.now.flat.now.vertices in
     let ranges = c.in_ok-ranges.ranges in
-    let ends = subst (λ (k : ℕ). AreEnds 0 k ranges) c.vertices-count.ensures.count c.in_ok-ranges.ensures.whole in
-    let found = c.in-Ok.ensures.found.1 in
+    let ends = subst (λ (k : ℕ). AreEnds 0 k ranges) c.vertices-vertices.ensures.count c.in_ok-ranges.ensures.whole in
+    let found = c.in_ok-parts.ensures.found in
     IfOk-weaker c.append_changes.result _ _
     (λ cs told m steps edges_of vectors sizes kernels up each x r by long.
     let old = entry m.vectors x in
     let new = entry (after_edges steps m.sets m.vectors (flat_map edges_of (pieces_of c.args.found.now)) m.vectors) x in
     told x
     ∙ ap (changes_in_parts x) c.deref.ensures.value
-    ∙ parts_in_order x c.pieces-pieces.result (told_in_piece old new ranges) c.in-Ok.parts.items found.0
+    ∙ parts_in_order x c.pieces-pieces.result (told_in_piece old new ranges) c.in_ok-parts.parts.items found.0
     (λ j l. let at = found.1 j l in (at.0, at.1, at.3 m steps edges_of vectors sizes kernels up each x r by long))
     ∙ ap (λ (p : ℕ). flat_map (told_in_piece old new ranges) (range_with_len 1 p)) c.pieces-pieces.ensures
     ∙ told_in_pieces old new ranges n ends)

@@ -8,7 +8,7 @@ pub entries-preserved : goal.entries-preserved
 entries-preserved g c =
     let a = c.args in
     let k = c.entries.index in
-    let es = g.E.SourceEntries.entries a.entries.now in
+    let es = g.E.NeighbourEntries.entries a.entries.now in
     let f = entry_with a.numbers in
     let inside : k < length es = search rules in
     let n = to_z w64 c.entries.number-bits in

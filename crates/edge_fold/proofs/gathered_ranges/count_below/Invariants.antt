@@ -3,7 +3,7 @@ use Rattle.vectors.specs.declared.changes.EntryChange.{EntryChange}
 use Rattle.edge_fold.specs.Gathered.{IsAscending}
 use Rattle.edge_fold.proofs.gathered_ranges.count_below.Given as goal
 
--- the numbers before the lower end stand by vertices below, and those from the upper end on do not
+-- the numbers before the lower end are of vertices below, and those from the upper end on are not
 abbrev pub invariant-halves : goal.invariant-halves
 invariant-halves l = record {
   order : l.low ≤ l.high;

@@ -17,5 +17,5 @@ indices-preserved c =
     ] in
     let test = λ (i : ℕ). not (int_equal (get_or c.args.old.now i (pos 0)) (get_or c.args.new.now i (pos 0))) in
     let now : b ≡ test l.index = search rules in
-    let all = differs_more test l.index l.word c.if-compare.word b low next now l.invariant.told l.invariant.others in
-    record { told = all.0; others = all.1 }
+    let all = differs_more test l.index l.word c.if-compare.word b low next now l.invariant.compared l.invariant.others in
+    record { compared = all.0; others = all.1 }

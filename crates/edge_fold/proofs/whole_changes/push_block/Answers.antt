@@ -3,7 +3,7 @@ use Rattle.std.proofs.lemmas.Result.{on_ok_weaker}
 use Rattle.algorithm_meaning.specs.Arithmetic.{int_equal}
 use Rattle.vectors.specs.Lanes.{lane_entry}
 use Rattle.edge_fold.specs.Changed.{changed_from}
-use Rattle.edge_fold.proofs.ChangedWords.{part_at, word_told}
+use Rattle.edge_fold.proofs.ChangedWords.{part_at, word_changed}
 use Rattle.edge_fold.proofs.whole_changes.push_block.Goals as goal
 
 pub returns-then-low-numbers : goal.returns-then-low-numbers
@@ -14,7 +14,7 @@ returns-then-low-numbers c =
     let count = a.first + 64 - a.first in
     on_ok_weaker c.push_word.result
     (λ pushed. pushed ∙ ap (λ cs. a.changes.now.items ++ cs)
-    (word_told old new 64 a.first c.differing-word.result
+    (word_changed old new 64 a.first c.differing-word.result
     (λ i l.
     c.differing-word.ensures i l
     ∙ ap₂ (λ (x y : ℤ). not (int_equal x y))

@@ -7,7 +7,7 @@ use Rattle.vectors.specs.Lanes.{lane_entry}
 use Rattle.edge_apply.specs.Words.{passes_words}
 use Rattle.pull_engine.specs.Ranges.{pulled}
 use Rattle.pull_engine.specs.Words.{in_word}
-use Rattle.pull_engine.proofs.BlockWalks.{block_begun, lowest_told, no_block, none_left, vertex_told}
+use Rattle.pull_engine.proofs.BlockWalks.{block_begun, lowest_changed, no_block, none_left, vertex_changed}
 use Rattle.pull_engine.proofs.blocks.pull_block.Goals as goal
 
 pub returns-in_default : goal.returns-in_default
@@ -38,10 +38,10 @@ vertices-preserved g c =
     let came = c.fold-number.result in
     let before_fits : FitsSigned w64 before = search rules in
     let came_fits : FitsSigned w64 came = search rules in
-    lowest_told old (pulled r number old from edges) (64 * a.block) c.vertices.left found c.push_change.new.changes.items _ (omega arith) (search rules)
+    lowest_changed old (pulled r number old from edges) (64 * a.block) c.vertices.left found c.push_change.new.changes.items _ (omega arith) (search rules)
     (c.in_ok-push_change.ensures
     ∙ ap (λ cs. found ++ cs)
-    (vertex_told r number old from edges a.block bit (a.block * 64 + bit) c.of-lists.result.block.now (to_z w64 (of_z w64 before)) (to_z w64 (of_z w64 came)) (search rules) (omega arith)
+    (vertex_changed r number old from edges a.block bit (a.block * 64 + bit) c.of-lists.result.block.now (to_z w64 (of_z w64 before)) (to_z w64 (of_z w64 came)) (search rules) (omega arith)
     (λ v at. ap (neighbours_of (v % 64)) c.of-lists.ensures ∙ c.in-Some.ensures v at) (to_z-of_z w64 before before_fits ∙ c.get-before.ensures) (to_z-of_z w64 came came_fits ∙ c.fold-number.ensures)))
     c.vertices.invariant
 

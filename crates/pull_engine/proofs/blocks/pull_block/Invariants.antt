@@ -6,7 +6,7 @@ use Rattle.pull_engine.specs.Blocks.{block_changes}
 use Rattle.pull_engine.specs.Ranges.{changes_at, pulled}
 use Rattle.pull_engine.proofs.blocks.pull_block.Given as goal
 
--- what is told, with what the vertices of the bits that are left tell, is the whole
+-- the changes so far, with those at the vertices of the bits that are left, are the whole
 abbrev pub invariant-vertices : goal.invariant-vertices
 invariant-vertices g l =
     let r = g.F.SourceFold.reduction l.fold in

@@ -5,7 +5,7 @@ use Rattle.edge_fold.specs.EntryNumbers.{entry_with, reduced_over}
 use Rattle.pull_engine.specs.Columns.{passing}
 use Rattle.pull_engine.proofs.chosen_sources.fold_chosen.Given as goal
 
--- the numbers of those that are left, with the number so far, come to the whole
+-- the number so far, reduced with those of the sources that are left, is the whole
 abbrev pub invariant-rounds : goal.invariant-rounds
 invariant-rounds l = record {
   room : length l.block ≡ PAIRS;

@@ -7,7 +7,7 @@ use Rattle.pull_engine.specs.Ranges.{pulled_to}
 use Rattle.pull_engine.proofs.RangeCuts.{within}
 use Rattle.pull_engine.proofs.ranges.pull_words.Given as goal
 
--- the changes in the blocks so far are told
+-- the changes so far are those of the blocks so far
 abbrev pub invariant-rounds : goal.invariant-rounds
 invariant-rounds g l =
     let old = lane_entry l.pull.old in

@@ -4,7 +4,7 @@ use Rattle.edge_fold.specs.EntryNumbers.{entry_with, reduced_over}
 use Rattle.pull_engine.specs.Columns.{passing}
 use Rattle.pull_engine.proofs.source_folds.fold_weighted_walk.Given as goal
 
--- the numbers of those that are left, with the number so far, come to the whole
+-- the number so far, reduced with those of the sources that are left, is the whole
 abbrev pub invariant-rounds : goal.invariant-rounds
 invariant-rounds g l =
     reduced_over l.reduction (entry_with l.numbers) l.number (passing (passes_words l.from) (g.W.NeighbourWalk.coming l.sources))

@@ -1,6 +1,7 @@
 use Rattle.std.proofs.Common.{ℕ, ◌∙◌, arith}
 use Rattle.flat_snapshot.specs.Neighbours.{destinations_of}
-use Rattle.push_engine.proofs.SourceTotals.{block_few, block_total, no_block_total}
+use Rattle.edge_apply.proofs.BlockTotals.{block_total, no_block_total}
+use Rattle.push_engine.proofs.SourceTotals.{block_few}
 use Rattle.push_engine.proofs.source_degrees.edges_from.Goals as goal
 
 pub returns-in-Some-clause-total : goal.returns-in-Some-clause-total

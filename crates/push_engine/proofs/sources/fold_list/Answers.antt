@@ -17,23 +17,23 @@ returns-then-input c =
 pub returns-in-One : goal.returns-in-One
 returns-in-One c =
     let a = c.args in
-    subst (λ (es : List (ℕ × ℤ)). OnOk c.fold_parts.result ((m : StateValue) → (steps : List StepsTree) → (edges : List Edge) → IsContextOf a.input.context m steps → HasFolded a.input.context m steps edges a.scratch.now
-    → HasFolded a.input.context m steps (edges ++ row a.source (filter (λ e. passes_words a.input.to e.0) es)) c.fold_parts.new.scratch)) c.in-One.ensures c.fold_parts.ensures
+    subst (λ (es : List (ℕ × ℤ)). OnOk c.fold_narrow.result ((m : StateValue) → (steps : List StepsTree) → (edges : List Edge) → IsContextOf a.input.context m steps → HasFolded a.input.context m steps edges a.scratch.now
+    → HasFolded a.input.context m steps (edges ++ row a.source (filter (λ e. passes_words a.input.to e.0) es)) c.fold_narrow.new.scratch)) c.in-One.ensures c.fold_narrow.ensures
 
 pub returns-in-Two : goal.returns-in-Two
 returns-in-Two c =
     let a = c.args in
-    subst (λ (es : List (ℕ × ℤ)). OnOk c.fold_parts-in-Two.result ((m : StateValue) → (steps : List StepsTree) → (edges : List Edge) → IsContextOf a.input.context m steps → HasFolded a.input.context m steps edges a.scratch.now
-    → HasFolded a.input.context m steps (edges ++ row a.source (filter (λ e. passes_words a.input.to e.0) es)) c.fold_parts-in-Two.new.scratch)) c.in-Two.ensures c.fold_parts-in-Two.ensures
+    subst (λ (es : List (ℕ × ℤ)). OnOk c.fold_narrow-in-Two.result ((m : StateValue) → (steps : List StepsTree) → (edges : List Edge) → IsContextOf a.input.context m steps → HasFolded a.input.context m steps edges a.scratch.now
+    → HasFolded a.input.context m steps (edges ++ row a.source (filter (λ e. passes_words a.input.to e.0) es)) c.fold_narrow-in-Two.new.scratch)) c.in-Two.ensures c.fold_narrow-in-Two.ensures
 
 pub returns-in-Three : goal.returns-in-Three
 returns-in-Three c =
     let a = c.args in
-    subst (λ (es : List (ℕ × ℤ)). OnOk c.fold_parts-in-Three.result ((m : StateValue) → (steps : List StepsTree) → (edges : List Edge) → IsContextOf a.input.context m steps → HasFolded a.input.context m steps edges a.scratch.now
-    → HasFolded a.input.context m steps (edges ++ row a.source (filter (λ e. passes_words a.input.to e.0) es)) c.fold_parts-in-Three.new.scratch)) c.in-Three.ensures c.fold_parts-in-Three.ensures
+    subst (λ (es : List (ℕ × ℤ)). OnOk c.fold_narrow-in-Three.result ((m : StateValue) → (steps : List StepsTree) → (edges : List Edge) → IsContextOf a.input.context m steps → HasFolded a.input.context m steps edges a.scratch.now
+    → HasFolded a.input.context m steps (edges ++ row a.source (filter (λ e. passes_words a.input.to e.0) es)) c.fold_narrow-in-Three.new.scratch)) c.in-Three.ensures c.fold_narrow-in-Three.ensures
 
 pub returns-in-Four : goal.returns-in-Four
 returns-in-Four c =
     let a = c.args in
-    subst (λ (es : List (ℕ × ℤ)). OnOk c.fold_parts-in-Four.result ((m : StateValue) → (steps : List StepsTree) → (edges : List Edge) → IsContextOf a.input.context m steps → HasFolded a.input.context m steps edges a.scratch.now
-    → HasFolded a.input.context m steps (edges ++ row a.source (filter (λ e. passes_words a.input.to e.0) es)) c.fold_parts-in-Four.new.scratch)) c.in-Four.ensures c.fold_parts-in-Four.ensures
+    subst (λ (es : List (ℕ × ℤ)). OnOk c.fold_narrow-in-Four.result ((m : StateValue) → (steps : List StepsTree) → (edges : List Edge) → IsContextOf a.input.context m steps → HasFolded a.input.context m steps edges a.scratch.now
+    → HasFolded a.input.context m steps (edges ++ row a.source (filter (λ e. passes_words a.input.to e.0) es)) c.fold_narrow-in-Four.new.scratch)) c.in-Four.ensures c.fold_narrow-in-Four.ensures

@@ -15,5 +15,5 @@ pub returns-clause-outcome : goal.returns-clause-outcome
 returns-clause-outcome g c =
     let plan = c.args.plan.now in
     let newest = newest_is g.J.Naming.vertices g.J.Naming.room c.latest.new.self.shown c.in_ok-snapshot.snapshot.number (arc_value c.in_ok-snapshot.snapshot.graph) c.latest.ensures.legal c.in_ok-snapshot.ensures.newest in
-    λ (of : IsCompiled plan). c.in_ok-outcome.ensures.outcome of
+    λ (of : IsCompiled plan). c.in_ok-outcome.ensures of
     ∙ ap (λ (d : Digraph). meaning (program_of plan) (graph_value d) c.args.turns) (c.deref.ensures ∙ newest.1)

@@ -6,8 +6,8 @@ use Rattle.flat_snapshot.specs.Digraph.{Digraph}
 use Rattle.run_state.specs.State.{graph_value}
 use Rattle.snapshot_runs.proofs.snapshot_run.run_on.Goals as goal
 
-pub returns-clause-outcome : goal.returns-clause-outcome
-returns-clause-outcome g c =
-    let plan = c.args.planned.plan.now in
-    IfOk-weaker c.run.result _ _ (λ o means (of : IsCompiled plan). means (program_of plan) of.schedule of.planned of.reducing
-    ∙ ap (λ (d : Digraph). meaning (program_of plan) (graph_value d) c.args.planned.turns) c.in_ok-flat.ensures) c.run.ensures.means
+pub returns : goal.returns
+returns g c =
+    let plan = c.args.plan.now in
+    IfOk-weaker c.run_by_workers.result _ _ (λ o means (of : IsCompiled plan). means (program_of plan) of.schedule of.planned of.reducing
+    ∙ ap (λ (d : Digraph). meaning (program_of plan) (graph_value d) c.args.turns) c.in_ok-flat.ensures) c.run_by_workers.ensures

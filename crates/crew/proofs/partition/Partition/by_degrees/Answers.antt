@@ -9,9 +9,11 @@ pub returns-clause-ends : goal.returns-clause-ends
 returns-clause-ends g c =
     let p = c.args.parallelization in
     let ds = g.D.DegreeList.degrees c.args.degrees.now in
+    let same = c.get-workers.ensures.value in
     elim c.if-count-gt0.branch [
       | then-count-gt0+in_ok-push_ends w ↦ ap (λ v. v.items) w.ends-is ∙ w.in_ok-push_ends.ensures
-          ∙ ap (λ (es : List ℕ). es ++ boundaries p c.args.workers c.args.count ds) c.new-ends.ensures.items
+          ∙ ap (λ (es : List ℕ). es ++ boundaries p c.get-workers.result c.args.count ds) c.new-ends.ensures.items
+          ∙ ap (λ (n : ℕ). boundaries p n c.args.count ds) same
       | else-count-gt0 w ↦
           let none : c.args.count ≡ 0 = omega (arith, w.if-count-gt0.false) in
           ap (λ v. v.items) w.ends-is ∙ c.new-ends.ensures.items
@@ -21,6 +23,7 @@ returns-clause-ends g c =
 
 pub returns-clause-whole : goal.returns-clause-whole
 returns-clause-whole g c =
-    let some = c.requires.workers.0 in
+    let some = c.get-workers.ensures.valid.0 in
+    let same = c.get-workers.ensures.value in
     subst (AreEnds 0 c.args.count) (sym (returns-clause-ends g c))
-    (all_are_ends c.args.parallelization c.args.workers c.args.count (g.D.DegreeList.degrees c.args.degrees.now) (omega (arith, some)) c.requires.degrees)
+    (all_are_ends c.args.parallelization c.args.workers c.args.count (g.D.DegreeList.degrees c.args.degrees.now) (omega (arith, some, same)) c.requires.degrees)

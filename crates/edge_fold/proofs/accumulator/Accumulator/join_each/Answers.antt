@@ -1,22 +1,38 @@
-use Rattle.std.proofs.Common.{rules, ◌≡◌, ◌≤◌, ℕ, ℤ, ◌-◌, [], drop, length, take, List, sym, ap, ◌∙◌, FitsSigned, to_z, of_z, w64}
+use Rattle.std.proofs.Common.{rules, ◌≡◌, ◌≤◌, ◌<◌, ℕ, ℤ, pos, [], drop, length, List, sym, ap, ◌∙◌, FitsSigned, to_z, of_z, w64, arith}
 use Rattle.std.proofs.lemmas.Int.{to_z-of_z}
 use Rattle.std.proofs.lemmas.List.{drop_all}
+use Rattle.edge_fold.specs.Between.{firsts}
 use Rattle.edge_fold.specs.Contributions.{each_given, reduced_at}
 use Rattle.edge_fold.specs.Held.{held_with}
 use Rattle.edge_fold.specs.FoldStarts.{combined, opening_seed, start_of}
+use Rattle.edge_fold.proofs.Filled.{given_first}
+use Rattle.edge_fold.proofs.WeightColumns.{first_at, firsts-length}
 use Rattle.edge_fold.proofs.accumulator.Accumulator.join_each.Goals as goal
 
+pub each-preserved : goal.each-preserved
+each-preserved g c = λ v h.
+    let a = c.args in
+    let es = g.E.NeighbourEntries.entries a.destinations.now in
+    let k = c.each.index in
+    let number = to_z w64 (of_z w64 a.number) in
+    let now = held_with (combined (start_of a.opening) a.reduction) c.each.self v (opening_seed a.opening v h) in
+    let within : k < length es = omega (arith, c.each-test.true, c.len-index-end.ensures) in
+    let count = firsts-length es in
+    let more : k < length (firsts es) = omega (arith, within, count) in
+    given_first a.reduction number (firsts es) k c.neighbour.result v now _ more (c.neighbour.ensures ∙ first_at es k (0, pos 1) 0 within) (c.in_ok-join.ensures v h)
+    ∙ c.each.invariant v h
+
 pub returns : goal.returns
-returns c v h =
+returns g c v h =
     let a = c.args in
     let fits : FitsSigned w64 a.number = search rules in
-    let ds = a.destinations.now in
+    let es = g.E.NeighbourEntries.entries a.destinations.now in
+    let ds = firsts es in
     let combine = combined (start_of a.opening) a.reduction in
     let o = opening_seed a.opening v h in
-    let joined = c.join_filled-joined.result in
-    let rest = take (length ds - joined) (drop joined ds) in
-    let past : length rest ≤ c.each.vertex-index = c.each-test.false in
-    let done : drop c.each.vertex-index rest ≡ [] = drop_all c.each.vertex-index rest past in
+    let count = firsts-length es in
+    let past : length ds ≤ c.each.index = omega (arith, c.each-test.false, c.len-index-end.ensures, count) in
+    let done : drop c.each.index ds ≡ [] = drop_all c.each.index ds past in
     sym (ap (λ (left : List ℕ). reduced_at a.reduction v (held_with combine c.each.self v o) (each_given (to_z w64 (of_z w64 a.number)) left)) done)
     ∙ c.each.invariant v h
     ∙ ap (λ (n : ℤ). reduced_at a.reduction v (held_with combine a.self.now v o) (each_given n ds)) (to_z-of_z w64 a.number fits)

@@ -1,11 +1,13 @@
-use Rattle.std.proofs.Common.{◌≡◌, ℕ, ℤ, drop}
+use Rattle.std.proofs.Common.{◌≡◌, ◌≤◌, ℕ, ℤ, drop, length}
+use Rattle.edge_fold.specs.Between.{firsts}
 use Rattle.edge_fold.specs.Contributions.{each_given, reduced_at}
 use Rattle.edge_fold.specs.Held.{held_with}
 use Rattle.edge_fold.specs.FoldStarts.{combined, opening_seed, start_of}
 use Rattle.edge_fold.proofs.accumulator.Accumulator.join_each.Given as goal
 
--- what is left to join, with what is held, comes to the whole
+-- the entries that are held, reduced with what is left to join, are the whole
 abbrev pub invariant-each : goal.invariant-each
-invariant-each l = (v : ℕ) (h : ℤ)
-    → reduced_at l.reduction v (held_with (combined (start_of l.opening) l.reduction) l.self v (opening_seed l.opening v h)) (each_given l.number (drop l.vertex-index l.rest))
-    ≡ reduced_at l.reduction v (held_with (combined (start_of l.opening) l.reduction) l.fn.self v (opening_seed l.opening v h)) (each_given l.number l.destinations)
+invariant-each g l =
+    let ds = firsts (g.E.NeighbourEntries.entries l.destinations) in
+    (v : ℕ) (h : ℤ) → reduced_at l.reduction v (held_with (combined (start_of l.opening) l.reduction) l.self v (opening_seed l.opening v h)) (each_given l.number (drop l.index ds))
+    ≡ reduced_at l.reduction v (held_with (combined (start_of l.opening) l.reduction) l.fn.self v (opening_seed l.opening v h)) (each_given l.number ds)

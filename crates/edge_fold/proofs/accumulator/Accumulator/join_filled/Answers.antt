@@ -2,20 +2,21 @@ use Rattle.std.proofs.Common.{rules, ◌≡◌, ◌++◌, List, ℤ, pos, length
 use Rattle.std.proofs.lemmas.Bool.{cases_lt, false≢true}
 use Rattle.std.proofs.lemmas.Int.{to_z-of_z}
 use Rattle.vertex_marks.specs.Marks.{is_marked}
+use Rattle.edge_fold.specs.Between.{firsts}
 use Rattle.edge_fold.specs.Contributions.{each_given, reduced_at}
 use Rattle.edge_fold.specs.FoldStarts.{opening_seed, start_of}
 use Rattle.edge_fold.proofs.Filled.{joined_either, written_back}
 use Rattle.edge_fold.proofs.accumulator.Accumulator.join_filled.Goals as goal
 
 pub returns-clause-joined : goal.returns-clause-joined
-returns-clause-joined c o v h =
+returns-clause-joined g c o v h =
     let self = c.args.self.now in
     let r = c.args.reduction in
     let new = c.reduce_filled.new.values in
     let old = self.values.items in
     let back : take self.values.len (new ++ drop (length new) old) ≡ new = written_back self.values.len old new (search rules) (search rules) in
     let fits : FitsSigned w64 c.args.number = search rules in
-    let ds = c.args.destinations.now in
+    let ds = firsts (g.E.NeighbourEntries.entries c.args.destinations.now) in
     let rest = drop c.reduce_filled.result ds in
     let number = to_z-of_z w64 c.args.number fits in
     let o' = opening_seed o v h in

@@ -1,6 +1,7 @@
 use Rattle.std.proofs.Common.{rules, ◌≤◌, ◌==◌, ℕ, ℤ, Bool, [], cond, length, FitsSigned, w64, refl, sym, ap, ◌∙◌}
 use Rattle.std.proofs.lemmas.Int.{to_z-of_z}
 use Rattle.edge_fold.specs.declared.vector_accumulator.VectorAccumulator.{VectorAccumulator}
+use Rattle.edge_fold.specs.Between.{firsts}
 use Rattle.edge_fold.specs.Contributions.{each_given, reduced_at}
 use Rattle.edge_fold.specs.Held.{held_with}
 use Rattle.edge_fold.specs.FoldStarts.{combined, first_entry, opening_seed, start_of}
@@ -8,11 +9,11 @@ use Rattle.edge_fold.proofs.JoinedSlots.{along, equal, joined_slot}
 use Rattle.edge_fold.proofs.vector_accumulator.VectorAccumulators.join_number.Goals as goal
 
 pub returns : goal.returns
-returns c x r own =
+returns g c x r own =
     let now = c.position.new.self in
     let sent = c.args.sent in
     let p = c.in_ok-position.position in
-    let ds = c.args.destinations.now in
+    let ds = firsts (g.E.NeighbourEntries.entries c.args.destinations.now) in
     let f = c.args.context in
     let number = sent.number in
     let fits : FitsSigned w64 number = search rules in

@@ -4,20 +4,20 @@ use Rattle.algorithm_meaning.specs.Arithmetic.{arithmetic}
 use Rattle.algorithm_meaning.specs.Value.{entry}
 use Rattle.edge_fold.specs.declared.vector_accumulator.VectorAccumulator.{VectorAccumulator}
 use Rattle.edge_fold.specs.EntryNumbers.{each_weighed}
-use Rattle.edge_fold.specs.Contributions.{entries_of, reduced_at}
+use Rattle.edge_fold.specs.Contributions.{reduced_at}
 use Rattle.edge_fold.specs.Held.{held_with}
 use Rattle.edge_fold.specs.FoldStarts.{combined, first_entry, opening_seed, start_of}
 use Rattle.edge_fold.proofs.JoinedSlots.{along, equal, joined_slot}
 use Rattle.edge_fold.proofs.vector_accumulator.VectorAccumulators.join_weights.Goals as goal
 
 pub returns : goal.returns
-returns c x r own =
+returns g c x r own =
     let now = c.position.new.self in
     let of = c.args.given in
     let p = c.in_ok-position.position in
-    let es = entries_of c.args.row.destinations.now c.args.row.weights.now in
+    let es = g.E.NeighbourEntries.entries c.args.destinations.now in
     let f = c.args.context in
-    let source = c.args.row.source in
+    let source = c.args.source in
     let got_fits : FitsSigned w64 c.get.result = search rules in
     let number = to_z-of_z w64 c.get.result got_fits ∙ c.get.ensures ∙ c.lane.ensures source in
     let was : VectorAccumulator = c.index_mut.result.now in

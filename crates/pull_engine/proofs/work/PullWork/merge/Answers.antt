@@ -21,9 +21,9 @@ returns-in_ok-changes-in-Some-clause-changes c =
     let n = w.apply.flat.now.vertices in
     let count = c.pieces.ensures in
     IfOk-weaker c.changes_in.result _ _
-    (λ cs told answers order m steps from to vectors sizes kernels is_from is_to.
+    (λ cs each answers order m steps from to vectors sizes kernels is_from is_to.
     let es = edges_between from to w.apply.flat.now.edges in
-    whole_changes y n es m steps c.in_ok-changes-in-Some.changes.items cs.vectors.items told
+    whole_changes y n es m steps c.in_ok-changes-in-Some.changes.items cs.vectors.items each
     (λ e. shape_gives_only w.shape y m e (all_given m steps e) at (w.shaped m w.apply.sizes.now steps sizes kernels e))
     (λ r by.
     let old = entry m.vectors y in

@@ -1,0 +1,3 @@
+pub mod Unnamed
+mod Indices
+mod Naming

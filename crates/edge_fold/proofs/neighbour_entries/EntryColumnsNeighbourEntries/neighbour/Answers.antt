@@ -1,0 +1,23 @@
+use Rattle.std.proofs.Common.{rules, ◌<◌, ℕ, ℤ, pos, length, ap, arith}
+use Rattle.edge_fold.proofs.WeightColumns.{entries-at, entries-length}
+use Rattle.edge_fold.proofs.neighbour_entries.EntryColumnsNeighbourEntries.neighbour.Goals as goal
+
+pub offset_bounds-self-index : goal.offset_bounds-self-index
+offset_bounds-self-index c =
+    let column = c.args.self.now in
+    let all = entries-length column.neighbours.now column.weights.now in
+    let inside : c.args.index < length column.neighbours.now = omega (arith, all, column.same, c.requires) in
+    search rules
+
+pub bounds-self-index : goal.bounds-self-index
+bounds-self-index c =
+    let column = c.args.self.now in
+    let all = entries-length column.neighbours.now column.weights.now in
+    omega (arith, all, column.same, c.requires)
+
+pub returns : goal.returns
+returns c =
+    let column = c.args.self.now in
+    let all = entries-length column.neighbours.now column.weights.now in
+    let inside : c.args.index < length column.neighbours.now = omega (arith, all, c.requires) in
+    ap (λ (e : ℕ × ℤ). e.0) (entries-at c.args.index column.neighbours.now column.weights.now 0 (pos 0) (0, pos 1) column.same inside)

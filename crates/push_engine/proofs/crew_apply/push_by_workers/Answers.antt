@@ -1,0 +1,23 @@
+use denote.Param.Send.{sendable}
+use Rattle.std.proofs.Crossing.{crosses}
+use Rattle.std.proofs.Common.{length, sym, subst}
+use Rattle.crew.specs.Pieces.{AreFound}
+use Rattle.crew.proofs.FoundPieces.{found_answers, found_once}
+use Rattle.push_engine.proofs.Crossing.{work_sync}
+use Rattle.edge_apply.specs.declared.apply.Apply.{Apply}
+use Rattle.edge_apply.specs.Applied.{AreChangesOf}
+use Rattle.push_engine.specs.Pieces.{Answers}
+use Rattle.push_engine.proofs.crew_apply.push_by_workers.Goals as goal
+
+pub run_pieces-requires-sync-W : goal.run_pieces-requires-sync-W
+run_pieces-requires-sync-W g c κs within = search (sendable, crosses, work_sync) depth 14
+
+pub returns-clause-changes : goal.returns-clause-changes
+returns-clause-changes g c =
+    let work = c.in_ok-work.work in
+    let cs = c.in_ok-changes.changes.vectors.items in
+    let lent = c.deref.ensures.value in
+    let found = subst (λ n. AreFound (Answers work) n c.in_ok-found.found.items) c.pieces-pieces.ensures c.in_ok-found.ensures.found in
+    let listed = subst (λ fs. AreFound (Answers work) (length work.cuts) fs) (sym lent) found in
+    let whole = c.in_ok-changes.ensures.changes (found_answers (Answers work) (length work.cuts) _ listed) (found_once (Answers work) (length work.cuts) _ listed) in
+    subst (λ (a : Apply). AreChangesOf a cs) c.in_ok-work.ensures.apply whole
