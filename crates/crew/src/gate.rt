@@ -1,6 +1,6 @@
-//! Gate: who is told of the pieces that begin.
+//! Gate: what is called before each piece.
 
-/// Told of each piece before it is done.
+/// Called with each piece before it is done.
 pub trait Gate {
     /// Called by a worker before it does a piece. Workers and pieces are numbered from 1; `pieces` is
     /// the number of all.

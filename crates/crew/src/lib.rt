@@ -14,7 +14,7 @@
 //!
 //! The starts go by halves, each half on a thread of its own, and where no thread can be started its half
 //! is done by the thread that wanted it. What the workers found is put into the slots of the pieces
-//! afterwards, in time `O(n)`. A [`Gate`] is told of each piece before it is done. [`WorkerCount`] is a number
+//! afterwards, in time `O(n)`. A [`Gate`] is called with each piece before it is done. [`WorkerCount`] is a number
 //! of 1 to 64, and [`WorkerCount::worth`] says how many of them are worth their threads, if nobody watches the gate.
 //!
 //! [`Partition`] cuts a list of vertices into pieces, which are runs of it, one after the other, as a schedule says: one piece, one

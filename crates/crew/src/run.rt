@@ -16,7 +16,7 @@ use std::thread::Threads;
 
 /// What the work answers for each of its pieces 1 to `pieces`, in the order of the pieces, found by so
 /// many workers, 1 to 64, of whom the caller is worker 1. The answer is the same however the pieces
-/// fall to the workers. `gate` is told of each piece before it is done.
+/// fall to the workers. `gate` is called with each piece before it is done.
 ///
 /// A worker takes its state from the end of `states`, or asks the work for a new one where there is
 /// none left; after the run the states of all workers are in `states`, after those that were not

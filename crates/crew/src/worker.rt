@@ -5,7 +5,7 @@ ghost use Rattle.std.specs.Prelude.{◌≡◌, [], ◌∷◌, ◌++◌, IfOk, If
 use crate::piece_results::Found;
 use std::alloc::AllocError;
 
-/// What the workers of a run do: so many pieces of a work, of each of which the gate is told first.
+/// What the workers of a run do: so many pieces of a work, before each of which the gate is called.
 pub(crate) struct Run<'a, G, W> {
     pub gate: &'a G,
     pub work: &'a W,

@@ -1,4 +1,4 @@
-//! Workers: how many, who starts their threads, and who is told of their pieces.
+//! Workers: how many, who starts their threads, and what is called with their pieces.
 
 ghost use Rattle.std.specs.Prelude.{◌≡◌, ◌^◌, ◌<◌, ◌≤◌, length, max, min, IfOk};
 ghost use Rattle.std.specs.List.{All};
@@ -17,7 +17,7 @@ use crate::worker_count::WorkerCount;
 use std::alloc::{AllocError, Global};
 use std::thread::Threads;
 
-/// So many workers, who starts their threads, and the gate that is told of their pieces. No thread is started yet. The
+/// So many workers, who starts their threads, and the gate that is called with their pieces. No thread is started yet. The
 /// caller is worker 1.
 pub struct Workers<'a, R, G> {
     pub rt: &'a R,

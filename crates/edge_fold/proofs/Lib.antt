@@ -4,6 +4,7 @@ pub mod Entries
 pub mod Filled
 pub mod Folds
 pub mod Rows
+pub mod ShapePairs
 pub mod SlotRows
 pub mod JoinedSlots
 pub mod WeightColumns

@@ -36,6 +36,10 @@ impl Scratch {
             self.slots.join_number(alloc, context, sent, &column)?;
             return Ok(());
         }
+        let done = self.fold_pair_into(alloc, context, sources, &[], destination)?;
+        if done {
+            return Ok(());
+        }
         self.gather_into(alloc, context, sources, destination)
     }
 

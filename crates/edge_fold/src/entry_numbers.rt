@@ -3,7 +3,7 @@ ghost use Rattle.std.specs.Prelude.{◌≡◌, ◌<◌, ℕ, ℤ, pos, List, IfS
 ghost use Rattle.edge_fold.specs.Contributions.{entries_of};
 ghost use Rattle.edge_fold.specs.EntryNumbers.{IsReducedOver, entry_with, number_with, reduced_over};
 
-use crate::neighbour_entries::{EntryColumns, NeighbourEntries};
+use crate::neighbour_entries::{NeighbourEntries, WeightedColumns};
 use algorithm_meaning::{arithmetic_of, reduce};
 use apply_options::Reduction;
 use typed_tree::Operator;
@@ -70,7 +70,7 @@ pub fn reduce_columns(
     requires { length weights.now ≡ length sources.now }
     ensures { result ≡ reduced_over reduction (entry_with numbers.entry) number (entries_of sources.now weights.now) }
 {
-    let columns = EntryColumns {
+    let columns = WeightedColumns {
         neighbours: sources,
         weights,
     };

@@ -61,6 +61,7 @@ mod run;
 mod scratch;
 mod source_contributions;
 mod source_numbers;
+mod statements;
 mod vector_accumulator;
 mod vector_accumulators;
 mod weighted;

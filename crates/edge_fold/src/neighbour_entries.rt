@@ -23,7 +23,7 @@ pub trait NeighbourEntries {
 
 /// Neighbours in a column, and the weights of their edges in another.
 #[derive(Drop)]
-pub(crate) struct EntryColumns<'a> {
+pub(crate) struct WeightedColumns<'a> {
     pub(crate) neighbours: &'a [u32],
     pub(crate) weights: &'a [i64],
     ghost same: { length weights.now ≡ length neighbours.now },
@@ -35,7 +35,7 @@ pub(crate) struct UnitColumn<'a> {
     pub(crate) neighbours: &'a [u32],
 }
 
-impl NeighbourEntries for EntryColumns<'_> {
+impl NeighbourEntries for WeightedColumns<'_> {
     ghost entries = { λ c. entries_of c.neighbours.now c.weights.now };
 
     #[inline(always)]

@@ -2,10 +2,8 @@
 ghost use Rattle.std.specs.Prelude.{◌≡◌, List, IfSome};
 ghost use Rattle.typed_tree.specs.StepTree.{StepsTree};
 ghost use Rattle.algorithm_meaning.specs.State.{StateValue};
-ghost use Rattle.kernels.specs.Registers.{HasSizes};
-ghost use Rattle.kernels.specs.Kernels.{IsEdgeKernel};
+ghost use Rattle.kernels.specs.ShapePairs.{shape_given};
 ghost use Rattle.edge_fold.specs.Folded.{IsContextOf};
-ghost use Rattle.kernels.specs.Meaning.{given_in};
 ghost use Rattle.edge_fold.specs.Contributions.{all_given};
 ghost use Rattle.edge_fold.specs.ReducedContributions.{IsReducedContribution};
 
@@ -23,17 +21,17 @@ impl ApplyContext<'_> {
         if self.second.is_some() {
             return None;
         }
-        let sent = self.together_by_first(sources)?;
+        let sent = self.together_by(self.first.shape(), sources)?;
         Some(sent)
     }
 
-    /// What sources give each destination together by the first function, if each gives its own number.
+    /// What sources give each destination together by a statement of a shape, if each gives its own number.
     #[inline]
-    fn together_by_first(self, sources: &[u32]) -> Option<SourceContribution>
-        ensures { IfSome result (λ s. (m : StateValue) (steps : StepsTree) → self.entry.vectors.now.vectors ≡ m.vectors → HasSizes self.entry.sizes.now m
-            → IsEdgeKernel self.entry.first.now steps → IsReducedContribution s (given_in m steps) sources.now) }
+    pub(crate) fn together_by(self, shape: Shape, sources: &[u32]) -> Option<SourceContribution>
+        ensures { IfSome result (λ s. (m : StateValue) → self.entry.vectors.now.vectors ≡ m.vectors
+            → IsReducedContribution s (shape_given shape m) sources.now) }
     {
-        match self.first.shape() {
+        match shape {
             Shape::Other | Shape::EntryWith(_, _, _, _) => None,
             Shape::Source(vector, reduction) => Some(SourceContribution {
                 vector,

@@ -80,7 +80,7 @@ impl Scratch {
                 .join_weights(alloc, context, given, source, destinations)?;
             return Ok(true);
         }
-        Ok(false)
+        self.fold_pair(alloc, context, source, destinations)
     }
 
     /// Folds the edges from a source to destinations, at most `PAIRS`, with any weights, where no function reads weights.

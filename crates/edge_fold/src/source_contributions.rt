@@ -1,12 +1,11 @@
 //! Contributions of an edge function that depends on the source alone.
-ghost use Rattle.std.specs.Prelude.{◌≡◌, ℕ, ℤ, ◌∷◌, [], List, IfSome};
+ghost use Rattle.std.specs.Prelude.{◌≡◌, ℕ, ℤ, ◌∷◌, [], List, None, IfSome};
 ghost use Rattle.typed_tree.specs.StepTree.{StepsTree};
 ghost use Rattle.algorithm_meaning.specs.State.{StateValue};
-ghost use Rattle.kernels.specs.Registers.{HasSizes};
-ghost use Rattle.kernels.specs.Kernels.{IsEdgeKernel};
+ghost use Rattle.kernels.specs.ShapePairs.{shape_given};
 ghost use Rattle.edge_fold.specs.Folded.{IsContextOf};
-ghost use Rattle.kernels.specs.Meaning.{given_in};
 ghost use Rattle.edge_fold.specs.Contributions.{all_given};
+ghost use Rattle.edge_fold.specs.Statements.{IsSourceless};
 
 use crate::apply_context::{ApplyContext, SourceContribution};
 use algorithm_meaning::arithmetic_of;
@@ -23,16 +22,17 @@ impl ApplyContext<'_> {
         if self.second.is_some() {
             return None;
         }
-        self.sent_by_first(source)
+        self.sent_by(self.first.shape(), source)
     }
 
-    /// What the first function gives on every edge from a source, if it is the same on all.
-    #[inline]
-    fn sent_by_first(self, source: u32) -> Option<SourceContribution>
-        ensures { IfSome result (λ s. (m : StateValue) (steps : StepsTree) → self.entry.vectors.now.vectors ≡ m.vectors → HasSizes self.entry.sizes.now m
-            → IsEdgeKernel self.entry.first.now steps → (d : ℕ) (w : ℤ) → given_in m steps (source, d, w) ≡ (s.vector, s.reduction, s.number) ∷ []) }
+    /// What a statement of a shape gives on every edge from a source, if it is the same on all.
+    #[inline(always)]
+    pub(crate) fn sent_by(self, shape: Shape, source: u32) -> Option<SourceContribution>
+        ensures given { IfSome result (λ s. (m : StateValue) → self.entry.vectors.now.vectors ≡ m.vectors
+            → (d : ℕ) (w : ℤ) → shape_given shape m (source, d, w) ≡ (s.vector, s.reduction, s.number) ∷ []) }
+        ensures none { result ≡ None → IsSourceless shape }
     {
-        match self.first.shape() {
+        match shape {
             Shape::Other | Shape::EntryWith(_, _, _, _) => None,
             Shape::Source(vector, reduction) => Some(SourceContribution {
                 vector,

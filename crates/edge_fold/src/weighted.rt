@@ -8,7 +8,7 @@ ghost use Rattle.edge_fold.specs.Contributions.{column, entries_of, row};
 ghost use Rattle.kernels.specs.declared.columns.TheConstants.{PAIRS};
 
 use crate::apply_context::ApplyContext;
-use crate::neighbour_entries::{EntryColumns, UnitColumn};
+use crate::neighbour_entries::{UnitColumn, WeightedColumns};
 use crate::pairs::Pairs;
 use crate::scratch::Scratch;
 use std::alloc::{AllocError, Global};
@@ -63,7 +63,7 @@ impl Scratch {
             → HasFolded context.entry m steps edges self.old
             → HasFolded context.entry m steps (edges ++ row source (entries_of destinations.now weights.now)) self.new) }
     {
-        let columns = EntryColumns {
+        let columns = WeightedColumns {
             neighbours: destinations,
             weights,
         };
@@ -125,6 +125,10 @@ impl Scratch {
                 neighbours: &[destination],
             };
             self.slots.join_number(alloc, context, sent, &column)?;
+            return Ok(());
+        }
+        let done = self.fold_pair_into(alloc, context, sources, weights, destination)?;
+        if done {
             return Ok(());
         }
         self.gather_into_weighted(alloc, context, sources, weights, destination)

@@ -4,6 +4,7 @@ pub mod ContributionColumns
 pub mod Expressions
 pub mod Columns
 pub mod Shapes
+pub mod ShapePairs
 pub use Rattle.algorithm_meaning.specs.Arithmetic
 pub use Rattle.algorithm_meaning.specs.EdgeApply
 pub use Rattle.algorithm_meaning.specs.Laws

@@ -148,7 +148,7 @@ fn fold_masked<N: SourceNumbers>(
     }
 }
 
-/// The same in a loop for each width.
+/// The entry reduced so in a loop for each width of a list.
 #[inline(always)]
 fn fold_by_width<N: SourceNumbers>(
     reduction: Reduction,
@@ -169,7 +169,7 @@ fn fold_by_width<N: SourceNumbers>(
     }
 }
 
-/// The same in one loop.
+/// The entry reduced so in one loop over a list.
 #[inline(always)]
 fn fold_each<N: SourceNumbers>(
     reduction: Reduction,

@@ -13,11 +13,11 @@ use std::alloc::{AllocError, Global};
 use std::thread::Threads;
 use vectors::Changes;
 
-/// What an apply of edge functions changes, as [`crate::push`] tells it, done in pieces by n workers, 1 to 64, of whom
+/// What an apply of edge functions changes, as [`crate::push`] says, done in pieces by n workers, 1 to 64, of whom
 /// the caller is worker 1: however the pieces fall to them, the changes are the same. The pieces are those of
-/// [`PushWork`]: static ones are fixed to their workers, and others are claimed. `gate` is told of each piece before it is
-/// done. Where the pieces have found much, the workers put it together too, each for its own ranges of destinations, of which
-/// the gate is told nothing.
+/// [`PushWork`]: static ones are fixed to their workers, and others are claimed. `gate` is called with each piece before it is
+/// done. Where the pieces have found much, the workers put it together too, each for its own ranges of destinations, for
+/// which the gate is not called.
 ///
 /// A worker takes its scratch from `states`, and after the apply the scratches of all workers are there, for the next one.
 /// `scratch` is that of the caller's own work, before and after the pieces, and serves any apply after this one, whatever

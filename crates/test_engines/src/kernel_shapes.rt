@@ -1,7 +1,7 @@
 //! Shapes of kernels. That a shape gives what its function means is a contract's; that the common functions have one
 //! is not.
 
-use kernels::{EdgeKernel, Shape};
+use kernels::{EdgeKernel, Shape, ShapePair};
 use run_comparison::checked;
 use std::alloc::{AllocError, Global};
 use std::test::Fail;
@@ -50,6 +50,46 @@ const ROWS: [(&str, Kind); 22] = [
     ("y[d] min= x[s] + w; y[d] min= w;", Kind::Other),
 ];
 
+// The body of a function, and the shapes of its two statements.
+const PAIRS: [(&str, Option<(Kind, Kind)>); 12] = [
+    (
+        "x[d] max= x[s] + 1; y[d] += y[s];",
+        Some((Kind::Sum(1), Kind::Entry)),
+    ),
+    (
+        "y[d] += y[s]; x[d] max= x[s] + 1;",
+        Some((Kind::Entry, Kind::Sum(1))),
+    ),
+    (
+        "x[d] += 1; y[d] min= s;",
+        Some((Kind::Number(1), Kind::Source)),
+    ),
+    (
+        "y[d] min= s; x[d] += -3;",
+        Some((Kind::Source, Kind::Number(-3))),
+    ),
+    (
+        "x[d] += x[s] - k; y[d] min= x[s] + w;",
+        Some((Kind::Sum(3), Kind::Weighted(Operator::Add))),
+    ),
+    (
+        "x[d] += x[s] - k; y[d] min= w + x[s];",
+        Some((Kind::Sum(3), Kind::Weighted(Operator::Add))),
+    ),
+    (
+        "y[d] += w * x[s]; x[d] max= x[s];",
+        Some((Kind::Weighted(Operator::Multiply), Kind::Entry)),
+    ),
+    (
+        "x[d] += 1; x[d] += x[s];",
+        Some((Kind::Number(1), Kind::Entry)),
+    ),
+    ("x[d] += 1; y[d] min= d;", None),
+    ("x[d] += 1; if s < d y[d] += 1; end", None),
+    ("x[d] += 1; y[d] += 1; y[d] += 1;", None),
+    ("x[d] += 1;", None),
+];
+
 // What is looked at of a shape.
 fn kind_of(shape: Shape) -> Kind {
     match shape {
@@ -62,13 +102,23 @@ fn kind_of(shape: Shape) -> Kind {
     }
 }
 
-// The shape of the first edge function of a program, or none if the text is no program.
-fn shape_of(alloc: Global, text: &str) -> Result<Option<Kind>, AllocError> {
-    let Some(program) = checked(alloc, text.as_bytes()) else {
+fn kinds_of(pair: Option<ShapePair>) -> Option<(Kind, Kind)> {
+    match pair {
+        Some(pair) => Some((kind_of(pair.first), kind_of(pair.second))),
+        None => None,
+    }
+}
+
+// The kernel of an edge function with this body, or none if it makes no program.
+fn kernel_of(alloc: Global, body: &str) -> Result<Option<EdgeKernel>, AllocError> {
+    let text = format!(in alloc;
+        "{HEAD}func f(s : Vertex, d : Vertex, w : int)\n  {body}\nend\nfunc main()\nend\n"
+    )?;
+    let Some(program) = checked(alloc, text.as_str().as_bytes()) else {
         return Ok(None);
     };
     match program.edge_functions.first() {
-        Some(function) => Ok(Some(kind_of(EdgeKernel::of_function(alloc, function)?.shape()))),
+        Some(function) => Ok(Some(EdgeKernel::of_function(alloc, function)?)),
         None => Ok(None),
     }
 }
@@ -76,11 +126,23 @@ fn shape_of(alloc: Global, text: &str) -> Result<Option<Kind>, AllocError> {
 #[test]
 fn edge_functions_have_their_shape(rt: HostRuntime) -> Result<(), Fail> {
     for (body, kind) in &ROWS {
-        let text = format!(in rt.alloc();
-            "{HEAD}func f(s : Vertex, d : Vertex, w : int)\n  {body}\nend\nfunc main()\nend\n"
-        )?;
-        let found = shape_of(rt.alloc(), text.as_str())?;
+        let found = match kernel_of(rt.alloc(), body)? {
+            Some(kernel) => Some(kind_of(kernel.shape())),
+            None => None,
+        };
         assert!(rt; found == Some(*kind), "{body}");
+    }
+    Ok(())
+}
+
+#[test]
+fn edge_functions_of_two_statements_have_their_shapes(rt: HostRuntime) -> Result<(), Fail> {
+    for (body, kinds) in &PAIRS {
+        let found = match kernel_of(rt.alloc(), body)? {
+            Some(kernel) => Some(kinds_of(kernel.shape_pair())),
+            None => None,
+        };
+        assert!(rt; found == Some(*kinds), "{body}");
     }
     Ok(())
 }

@@ -1,4 +1,4 @@
-use Rattle.std.proofs.Common.{◌≡◌, ◌≤◌, ℕ, ℤ, drop, length}
+use Rattle.std.proofs.Common.{◌≡◌, ℕ, ℤ, drop}
 use Rattle.edge_fold.specs.Between.{firsts}
 use Rattle.edge_fold.specs.Contributions.{each_given, reduced_at}
 use Rattle.edge_fold.specs.Held.{held_with}

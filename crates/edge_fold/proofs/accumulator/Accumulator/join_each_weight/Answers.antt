@@ -1,4 +1,4 @@
-use Rattle.std.proofs.Common.{rules, ◌≡◌, ◌<◌, ℤ, pos, length, get_or, to_z, of_z, w64, ◌∙◌, arith}
+use Rattle.std.proofs.Common.{rules, ◌≡◌, ◌<◌, pos, length, get_or, to_z, of_z, w64, ◌∙◌, arith}
 use Rattle.edge_fold.specs.EntryNumbers.{number_with}
 use Rattle.edge_fold.specs.Held.{held_with}
 use Rattle.edge_fold.specs.FoldStarts.{combined, opening_seed, start_of}

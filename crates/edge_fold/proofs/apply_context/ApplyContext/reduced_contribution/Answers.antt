@@ -1,19 +1,19 @@
-use Rattle.std.proofs.Common.{rules, ◌≡◌, None, List, ap, ◌∙◌}
-use Rattle.std.proofs.lemmas.List.{append-nil}
-use Rattle.typed_tree.specs.StepTree.{StepsTree}
+use Rattle.std.proofs.Common.{rules, ◌≡◌, ℕ, ℤ, None, [], ◌∷◌}
+use Rattle.apply_options.specs.declared.reduction.Reduction.{Reduction}
 use Rattle.kernels.specs.Meaning.{given_in}
-use Rattle.edge_fold.specs.Contributions.{all_given}
-use Rattle.edge_fold.proofs.Edges.{one_function}
+use Rattle.edge_fold.proofs.ShapePairs.{one_given, shaped_given}
 use Rattle.edge_fold.proofs.apply_context.ApplyContext.reduced_contribution.Goals as goal
 
 pub returns : goal.returns
 returns c m steps are =
     let f = c.args.self in
     let alone : f.second ≡ None = search rules in
-    let one = one_function f.first.now f.second steps alone are.kernels in
-    let is = c.in_ok-sent.ensures m one.a are.vectors are.sizes one.kernel in
+    let sent = c.in_ok-sent.sent in
+    let is = c.in_ok-sent.ensures m are.vectors in
+    let given = λ (s : ℕ). (let g : ℕ × Reduction × ℤ = (sent.vector, sent.reduction, is.number s) in g) in
     record {
       number = is.number;
-      each = λ s d w. ap (λ (ss : List StepsTree). all_given m ss (s, d, w)) one.alone ∙ append-nil (given_in m one.a (s, d, w)) ∙ is.each s d w;
+      each = λ s d w. one_given f m steps (s, d, w) (given s ∷ []) are alone
+          (λ a kernel. shaped_given c.shape.result m (s, d, w) (given_in m a (s, d, w)) (given s) (c.shape.ensures a m f.sizes.now (s, d, w) kernel are.sizes) (is.each s d w));
       all = is.all;
     }

@@ -1,20 +1,6 @@
-use Rattle.std.proofs.Common.{rules, ◌∷◌, [], ℤ, List, FitsSigned, w64, ap, sym, ◌∙◌}
-use Rattle.std.proofs.lemmas.Int.{to_z-of_z}
-use Rattle.algorithm_meaning.specs.Arithmetic.{arithmetic}
-use Rattle.algorithm_meaning.specs.Value.{entry}
-use Rattle.vectors.specs.Lanes.{lane_entry}
-use Rattle.edge_fold.specs.Contributions.{reduced_at}
+use Rattle.std.proofs.lemmas.Option.{IfSome_then}
+use Rattle.edge_fold.specs.Contributions.{all_given}
 use Rattle.edge_fold.proofs.apply_context.ApplyContext.reduced_entries.Goals as goal
 
 pub returns : goal.returns
-returns c m steps are =
-    let given = c.in_ok-given.given in
-    let lane = c.lane.result in
-    let n = c.in_ok-number.number in
-    let fits : FitsSigned w64 n = search rules in
-    record {
-      number = λ s w. arithmetic given.operator (lane_entry lane s) w;
-      each = λ s d w. c.in_ok-given.ensures m steps are (s, d, w)
-          ∙ ap (λ (k : ℤ). (given.vector, given.reduction, arithmetic given.operator k w) ∷ []) (sym (c.lane.ensures s ∙ ap (λ (vs : List (List ℤ)). entry vs given.from s) are.vectors));
-      all = λ d v h. ap (λ (k : ℤ). reduced_at given.reduction v h ((d, k) ∷ [])) (to_z-of_z w64 n fits) ∙ c.in_ok-number.ensures d v h;
-    }
+returns c = IfSome_then c.weighed_by.result c.weighed_by.ensures (λ s is m steps are. is m (all_given m steps) are.vectors (c.in_ok-given.ensures m steps are))

@@ -1,5 +1,8 @@
-use Rattle.std.proofs.Common.{◌==◌, pos, ℕ, ℤ, List, [], ◌∷◌, cond, refl, subst}
+use Rattle.std.proofs.Common.{◌==◌, pos, ℕ, ℤ, List, [], ◌∷◌, cond, refl, sym, subst}
 use Rattle.apply_options.specs.declared.reduction.Reduction.{Reduction}
+use Rattle.std.proofs.lemmas.Result.{on_ok_weaker}
+use Rattle.edge_fold.specs.declared.scratch.Scratch.{Scratch}
+use Rattle.edge_fold.specs.Folded.{HasFolded}
 use Rattle.edge_fold.specs.Contributions.{IsBy, all_given, column, each_given, entries_of, given_on}
 use Rattle.edge_fold.proofs.EntryRows.{weighed_together}
 use Rattle.edge_fold.proofs.JoinedSlots.{folded_before, joined_alike}
@@ -20,3 +23,13 @@ returns-in-Some c m steps edges are has x r by =
     (λ v n. weighed_together r x d v n sent g es is own.0)
     (c.in_ok-join_number.ensures x r own.0))
     (has x r by)
+
+pub returns-then-done : goal.returns-then-done
+returns-then-done c = c.in_ok-done.ensures.folded c.if-done.true
+
+pub returns : goal.returns
+returns c =
+    let same = sym (c.in_ok-done.ensures.unchanged c.if-done.false) in
+    on_ok_weaker c.gather_into_weighted.result
+    (λ done m steps edges are has. done m steps edges are (subst (λ (t : Scratch). HasFolded c.args.context m steps edges t) same has))
+    c.gather_into_weighted.ensures

@@ -1,6 +1,6 @@
 use Rattle.std.proofs.Common.{rules, ◌<◌, ℕ, ℤ, pos, length, ap, arith}
 use Rattle.edge_fold.proofs.WeightColumns.{entries-at, entries-length}
-use Rattle.edge_fold.proofs.neighbour_entries.EntryColumnsNeighbourEntries.neighbour.Goals as goal
+use Rattle.edge_fold.proofs.neighbour_entries.WeightedColumnsNeighbourEntries.neighbour.Goals as goal
 
 pub offset_bounds-self-index : goal.offset_bounds-self-index
 offset_bounds-self-index c =

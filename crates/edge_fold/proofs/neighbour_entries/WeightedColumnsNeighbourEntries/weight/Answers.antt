@@ -1,7 +1,7 @@
 use Rattle.std.proofs.Common.{rules, ◌<◌, ℕ, ℤ, pos, length, get_or, FitsSigned, w64, ap, ◌∙◌, arith}
 use Rattle.std.proofs.lemmas.Int.{to_z-of_z}
 use Rattle.edge_fold.proofs.WeightColumns.{entries-at, entries-length}
-use Rattle.edge_fold.proofs.neighbour_entries.EntryColumnsNeighbourEntries.weight.Goals as goal
+use Rattle.edge_fold.proofs.neighbour_entries.WeightedColumnsNeighbourEntries.weight.Goals as goal
 
 pub offset_bounds-self-index : goal.offset_bounds-self-index
 offset_bounds-self-index c =

@@ -1,6 +1,6 @@
 use Rattle.std.proofs.Common.{sym}
 use Rattle.edge_fold.proofs.WeightColumns.{entries-length}
-use Rattle.edge_fold.proofs.neighbour_entries.EntryColumnsNeighbourEntries.len.Goals as goal
+use Rattle.edge_fold.proofs.neighbour_entries.WeightedColumnsNeighbourEntries.len.Goals as goal
 
 pub returns : goal.returns
 returns c = sym (entries-length c.args.self.now.neighbours.now c.args.self.now.weights.now)

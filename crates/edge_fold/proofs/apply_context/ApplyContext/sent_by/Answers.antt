@@ -3,28 +3,30 @@ use Rattle.std.proofs.lemmas.Int.{to_z-of_z}
 use Rattle.typed_tree.specs.declared.expression.Operator.TheVariants as operator
 use Rattle.algorithm_meaning.specs.Arithmetic.{arithmetic}
 use Rattle.algorithm_meaning.specs.Value.{entry}
-use Rattle.edge_fold.proofs.apply_context.ApplyContext.sent_by_first.Goals as goal
+use Rattle.kernels.specs.declared.shape.Shape.{Shape}
+use Rattle.kernels.specs.ShapePairs.{shape_given}
+use Rattle.edge_fold.proofs.apply_context.ApplyContext.sent_by.Goals as goal
 
-pub returns-in-Source : goal.returns-in-Source
-returns-in-Source c m steps vectors sizes kernel d w =
+pub returns-in-Source-clause-given : goal.returns-in-Source-clause-given
+returns-in-Source-clause-given c m vectors d w =
     let x = c.in-Source.vector in
     let r = c.in-Source.reduction in
     let fits : FitsSigned w64 c.from.result = search rules in
-    c.in-Source.ensures steps m c.args.self.sizes.now (c.args.source, d, w) kernel sizes
+    ap (λ (t : Shape). shape_given t m (c.args.source, d, w)) c.in-Source.is
     ∙ ap (λ (n : ℤ). (x, r, n) ∷ []) (sym (to_z-of_z w64 c.from.result fits ∙ c.from.ensures))
 
-pub returns-in-Entry : goal.returns-in-Entry
-returns-in-Entry c m steps vectors sizes kernel d w =
+pub returns-in-Entry-clause-given : goal.returns-in-Entry-clause-given
+returns-in-Entry-clause-given c m vectors d w =
     let x = c.in-Entry.vector in
     let r = c.in-Entry.reduction in
     let y = c.in-Entry.from in
     let s = c.args.source in
     let fits : FitsSigned w64 c.get.result = search rules in
     let number = to_z-of_z w64 c.get.result fits ∙ c.get.ensures ∙ c.lane.ensures s ∙ ap (λ (vs : List (List ℤ)). entry vs y s) vectors in
-    c.in-Entry.ensures steps m c.args.self.sizes.now (s, d, w) kernel sizes ∙ ap (λ (n : ℤ). (x, r, n) ∷ []) (sym number)
+    ap (λ (t : Shape). shape_given t m (s, d, w)) c.in-Entry.is ∙ ap (λ (n : ℤ). (x, r, n) ∷ []) (sym number)
 
-pub returns-in-EntryPlus : goal.returns-in-EntryPlus
-returns-in-EntryPlus c m steps vectors sizes kernel d w =
+pub returns-in-EntryPlus-clause-given : goal.returns-in-EntryPlus-clause-given
+returns-in-EntryPlus-clause-given c m vectors d w =
     let x = c.in-EntryPlus.vector in
     let r = c.in-EntryPlus.reduction in
     let y = c.in-EntryPlus.from in
@@ -37,4 +39,4 @@ returns-in-EntryPlus c m steps vectors sizes kernel d w =
     let number = to_z-of_z w64 c.arithmetic_of.result fits ∙ c.arithmetic_of.ensures
     ∙ ap (λ (n : ℤ). arithmetic operator.Add n (to_z w64 (of_z w64 plus))) got
     ∙ ap (λ (n : ℤ). arithmetic operator.Add (entry m.vectors y s) n) (to_z-of_z w64 plus plus_fits) in
-    c.in-EntryPlus.ensures steps m c.args.self.sizes.now (s, d, w) kernel sizes ∙ ap (λ (n : ℤ). (x, r, n) ∷ []) (sym number)
+    ap (λ (t : Shape). shape_given t m (s, d, w)) c.in-EntryPlus.is ∙ ap (λ (n : ℤ). (x, r, n) ∷ []) (sym number)

@@ -1,0 +1,157 @@
+//! Statements: contributions of an edge function of two statements, each of a shape, of which one is folded after the other.
+ghost use Rattle.std.specs.Prelude.{◌≡◌, ◌++◌, ℕ, true, false, List, None, IfSome, IfOk, OnOk};
+ghost use Rattle.apply_options.specs.declared.reduction.Reduction.{Reduction};
+ghost use Rattle.edge_lists.specs.Edge.{Edge};
+ghost use Rattle.typed_tree.specs.StepTree.{StepsTree};
+ghost use Rattle.algorithm_meaning.specs.State.{StateValue};
+ghost use Rattle.kernels.specs.ShapePairs.{shape_given};
+ghost use Rattle.edge_fold.specs.Folded.{IsContextOf, HasFolded};
+ghost use Rattle.edge_fold.specs.Contributions.{IsBy, all_given, column, entries_of, given_on, row};
+ghost use Rattle.edge_fold.specs.EntryNumbers.{IsEntryContribution};
+ghost use Rattle.edge_fold.specs.Statements.{ArePairContributions, IsPairOf};
+ghost use Rattle.edge_fold.specs.VectorAccumulators.{HaveJoined};
+
+use crate::apply_context::{ApplyContext, SourceContribution};
+use crate::entry_contributions::entry_of;
+use crate::neighbour_entries::{NeighbourEntries, UnitColumn};
+use crate::scratch::Scratch;
+use crate::vector_accumulator::VectorAccumulators;
+use kernels::{Shape, ShapePair};
+use std::alloc::{AllocError, Global};
+
+/// What two statements give a destination.
+#[derive(Clone, Copy)]
+pub(crate) struct ContributionPair {
+    pub(crate) first: SourceContribution,
+    pub(crate) second: SourceContribution,
+}
+
+impl ApplyContext<'_> {
+    /// The shapes of the two statements, if the function has two and no other function is applied with it.
+    #[inline]
+    fn shape_pair(self) -> Option<ShapePair>
+        ensures { IfSome result (λ p. (m : StateValue) (steps : List StepsTree) → IsContextOf self.entry m steps
+            → IsPairOf m p (all_given m steps)) }
+    {
+        if self.second.is_some() {
+            return None;
+        }
+        let pair = self.first.shape_pair()?;
+        Some(pair)
+    }
+
+    /// What sources give each destination together by two statements, with these weights or none, if each statement gives a number
+    /// of its own source, and there is a source.
+    fn reduced_pair(self, sources: &[u32], weights: &[i64]) -> Option<ContributionPair>
+        ensures { IfSome result (λ p. (m : StateValue) (steps : List StepsTree) → IsContextOf self.entry m steps
+            → ArePairContributions p (all_given m steps) (entries_of sources.now weights.now)) }
+    {
+        let pair = self.shape_pair()?;
+        let first = self.reduced_statement(pair.first, sources, weights)?;
+        let second = self.reduced_statement(pair.second, sources, weights)?;
+        Some(ContributionPair { first, second })
+    }
+
+    /// What sources give each destination together by a statement of a shape, with these weights or none.
+    fn reduced_statement(
+        self,
+        shape: Shape,
+        sources: &[u32],
+        weights: &[i64],
+    ) -> Option<SourceContribution>
+        ensures { IfSome result (λ s. (m : StateValue) → self.entry.vectors.now.vectors ≡ m.vectors
+            → IsEntryContribution s (shape_given shape m) (entries_of sources.now weights.now)) }
+    {
+        if let Some(sent) = self.together_by(shape, sources) {
+            return Some(sent);
+        }
+        if weights.len() != sources.len() {
+            return None;
+        }
+        let given = entry_of(shape)?;
+        self.weighed_by(given, sources, weights)
+    }
+}
+
+impl VectorAccumulators {
+    /// Reduces the entries of a vector at destinations with what a statement of a shape gives them from a source. `Other` gives
+    /// nothing. The only error is out of memory, after which a part was done.
+    fn join_statement<E: NeighbourEntries>(
+        &mut self,
+        alloc: Global,
+        context: ApplyContext<'_>,
+        shape: Shape,
+        source: u32,
+        destinations: &E,
+    ) -> Result<(), AllocError>
+        ensures { OnOk result ((m : StateValue) → context.entry.vectors.now.vectors ≡ m.vectors → (x : ℕ) (r : Reduction)
+            → ((edge : Edge) → IsBy r x (shape_given shape m edge))
+            → HaveJoined context.entry x r self.old self.new (given_on x (shape_given shape m) (row source (E.entries destinations.now)))) }
+    {
+        if let Some(given) = entry_of(shape) {
+            self.join_weights(alloc, context, given, source, destinations)?;
+            return Ok(());
+        }
+        if let Some(sent) = context.sent_by(shape, source) {
+            self.join_number(alloc, context, sent, destinations)?;
+            return Ok(());
+        }
+        Ok(())
+    }
+}
+
+impl Scratch {
+    /// Folds the edges from a source to destinations by index, with no block and however many they are, if what is given on an edge
+    /// is what two statements of a shape give. It gives whether that is so: if not, nothing is changed. The only error is out of
+    /// memory.
+    #[inline(never)]
+    pub(crate) fn fold_pair<E: NeighbourEntries>(
+        &mut self,
+        alloc: Global,
+        context: ApplyContext<'_>,
+        source: u32,
+        destinations: &E,
+    ) -> Result<bool, AllocError>
+        ensures folded { IfOk result (λ done. done ≡ true → (m : StateValue) (steps : List StepsTree) (edges : List Edge)
+            → IsContextOf context.entry m steps → HasFolded context.entry m steps edges self.old
+            → HasFolded context.entry m steps (edges ++ row source (E.entries destinations.now)) self.new) }
+        ensures unchanged { IfOk result (λ done. done ≡ false → self.new ≡ self.old) }
+    {
+        let Some(pair) = context.shape_pair() else {
+            return Ok(false);
+        };
+        self.slots
+            .join_statement(alloc, context, pair.first, source, destinations)?;
+        self.slots
+            .join_statement(alloc, context, pair.second, source, destinations)?;
+        Ok(true)
+    }
+
+    /// Folds the edges from sources to a destination, with these weights or with any where none are given, if what is given on an
+    /// edge is what two statements of a shape give. It gives whether that is so: if not, nothing is changed. The only error is out
+    /// of memory.
+    pub(crate) fn fold_pair_into(
+        &mut self,
+        alloc: Global,
+        context: ApplyContext<'_>,
+        sources: &[u32],
+        weights: &[i64],
+        destination: u32,
+    ) -> Result<bool, AllocError>
+        ensures folded { IfOk result (λ done. done ≡ true → (m : StateValue) (steps : List StepsTree) (edges : List Edge)
+            → IsContextOf context.entry m steps → HasFolded context.entry m steps edges self.old
+            → HasFolded context.entry m steps (edges ++ column destination (entries_of sources.now weights.now)) self.new) }
+        ensures unchanged { IfOk result (λ done. done ≡ false → self.new ≡ self.old) }
+    {
+        let Some(pair) = context.reduced_pair(sources, weights) else {
+            return Ok(false);
+        };
+        let column = UnitColumn {
+            neighbours: &[destination],
+        };
+        self.slots.join_number(alloc, context, pair.first, &column)?;
+        self.slots
+            .join_number(alloc, context, pair.second, &column)?;
+        Ok(true)
+    }
+}
