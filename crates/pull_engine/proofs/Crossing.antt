@@ -16,7 +16,7 @@ work_sync lft = declared_sync (work.the_type lft) (
     search (sendable, crosses, set_sync) depth 12,
     (
       search (sendable, crosses, set_sync) depth 12,
-      (search (sendable, crosses, partition_sync) depth 12, (search (sendable, crosses, shape_sync) depth 12, tt)),
+      (search (sendable, crosses, partition_sync) depth 12, (search (sendable, crosses, shape_sync) depth 12, (search (sendable, crosses) depth 12, tt))),
     ),
   ),
 )

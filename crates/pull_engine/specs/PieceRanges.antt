@@ -25,3 +25,4 @@ pub record IsRangeOfPiece (w : PullWork) (start : FoldStart) (piece : ℕ) (p : 
   pub high : p.high ≡ end_of w.cuts piece
   pub order : p.low ≤ p.high
   pub within : p.high ≤ w.apply.flat.now.vertices
+  pub masked : p.masked.now ≡ w.masked.items

@@ -12,6 +12,7 @@ ghost use Rattle.edge_apply.specs.Words.{passes_words};
 ghost use Rattle.flat_snapshot.specs.Digraph.{IsDigraph};
 
 use crate::destinations::fold_range;
+use crate::masks::mask_of;
 use crate::ranges::PullRange;
 use crate::shapes::{apply_shape, pull_shape, shape_target};
 use crate::source_words::SourceWords;
@@ -38,15 +39,18 @@ pub fn pull(alloc: Global, apply: &Apply<'_>, scratch: &mut Scratch) -> Result<C
 {
     let context = apply.context(FoldStart::OldEntry);
     let sources = SourceWords::of(alloc, apply.from, context, scratch)?;
+    let shape = apply_shape(context.first, context.second);
+    let from = sources.words();
+    let masked = mask_of(alloc, shape, apply, from)?;
     let range = PullRange {
         flat: apply.flat,
         context,
-        from: sources.words(),
+        from,
         to: apply.to,
         low: 0,
         high: apply.flat.vertices(),
+        masked: &masked,
     };
-    let shape = apply_shape(context.first, context.second);
     let Some(target) = shape_target(shape) else {
         return pull_folded(alloc, range, scratch);
     };

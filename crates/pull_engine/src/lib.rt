@@ -45,6 +45,7 @@ mod in_degrees;
 mod list_folds;
 mod listed;
 mod masked_sources;
+mod masks;
 mod pieces;
 mod ranges;
 mod shapes;

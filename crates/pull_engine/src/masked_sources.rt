@@ -7,7 +7,6 @@ ghost use Rattle.edge_fold.specs.EntryNumbers.{reduced_over};
 ghost use Rattle.pull_engine.specs.Columns.{passing};
 ghost use Rattle.pull_engine.specs.Masked.{AreMasked, number_or_unit};
 
-use crate::ranges::PullRange;
 use crate::source_block::SourceBlock;
 use crate::source_folds::{SourceFold, fold_walk};
 use algorithm_meaning::reduce;
@@ -69,17 +68,6 @@ impl<N: SourceNumbers> SourceFold for MaskedSources<'_, N> {
             &mut block.sources,
         )
     }
-}
-
-/// Whether a list of the numbers of all vertices is worth its making: the range is all vertices, with four edges or more to each,
-/// and the sources are tested. No result depends on it.
-pub(crate) fn is_worth_masking(range: PullRange<'_>) -> bool {
-    let vertices = range.flat.vertices();
-    range.from.is_some()
-        && range.to.is_none()
-        && range.low == 0
-        && range.high == vertices
-        && range.flat.edge_count() / 4 >= vertices as usize
 }
 
 /// The numbers of so many vertices that pass, with the unit of a reduction for others. The only error is out of memory.

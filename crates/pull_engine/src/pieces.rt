@@ -115,6 +115,7 @@ impl PullWork<'_> {
             to: self.destinations(),
             low,
             high,
+            masked: &self.masked,
         }
     }
 

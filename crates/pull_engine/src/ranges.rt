@@ -29,6 +29,8 @@ pub(crate) struct PullRange<'a> {
     pub(crate) to: Option<EndpointFilter<'a>>,
     pub(crate) low: u32,
     pub(crate) high: u32,
+    /// The numbers of vertices that pass, for a function of a shape, or nothing: see [`crate::masks`].
+    pub(crate) masked: &'a [i64],
 }
 
 impl<'a> PullRange<'a> {

@@ -14,11 +14,13 @@ ghost use Rattle.edge_apply.specs.inside.Propositions.{AreEnds-prop};
 ghost use Rattle.flat_snapshot.specs.Neighbours.{sources_of};
 ghost use Rattle.vertex_sets.specs.declared.form.Form.TheVariants as Form;
 ghost use Rattle.pull_engine.specs.Sources.{AreInBits, is_source};
-ghost use Rattle.pull_engine.specs.inside.Propositions.{AreInBits-prop};
+ghost use Rattle.pull_engine.specs.inside.Propositions.{AreInBits-prop, IsMaskOf-prop};
+ghost use Rattle.pull_engine.specs.Masked.{IsMaskOf};
 ghost use Rattle.kernels.specs.inside.Propositions.{HasShape-prop};
 ghost use Rattle.pull_engine.specs.Ranges.{IsShapeOfApply};
 
 use crate::listed::{cut_vertices, member_bits};
+use crate::masks::mask_of;
 use crate::shapes::apply_shape;
 use crate::source_words::SourceWords;
 use crew::{CrewError, Partition, WorkerCount};
@@ -36,6 +38,8 @@ pub struct PullWork<'a> {
     pub(crate) members: Option<VertexSet>,
     pub(crate) cuts: Partition,
     pub(crate) shape: Shape,
+    /// What sources give by the shape, or nothing.
+    pub(crate) masked: Vec<i64>,
     ghost whole: { AreEnds 0 apply.flat.now.vertices cuts } by { AreEnds-prop 0 apply.flat.now.vertices cuts },
     ghost form: { AreInBits sources } by { AreInBits-prop sources },
     ghost passing: { (m : StateValue) (from : ℕ → Bool) → apply.vectors.now.vectors ≡ m.vectors → HasSizes apply.sizes.now m → IsEndTest apply.from m from
@@ -43,6 +47,7 @@ pub struct PullWork<'a> {
     ghost member_bits: { IfSome members (λ s. (m : StateValue) (test : ℕ → Bool) → IsEndTest apply.to m test
         → (v : ℕ) → test v ≡ is_member v s.members) } by { Prim.hlevel (props) },
     ghost shaped: { IsShapeOfApply shape apply.first.now apply.second } by { Prim.hlevel (HasShape-prop, props) },
+    ghost mask: { IsMaskOf shape apply.vectors.now.vectors (is_source sources) masked.items } by { IsMaskOf-prop shape apply.vectors.now.vectors (is_source sources) masked.items },
 }
 
 impl Drop for PullWork<'_> {
@@ -53,6 +58,7 @@ impl Drop for PullWork<'_> {
             members: _,
             cuts: _,
             shape: _,
+            masked: _,
         } = self;
     }
 }
@@ -60,8 +66,10 @@ impl Drop for PullWork<'_> {
 impl<'a> PullWork<'a> {
     /// The pieces of an apply for n workers, 1 to 64. All vertices are cut, and are tested in their pieces. If the schedule
     /// cuts by edges, the edges of each block of 64 vertices are read, and degrees only in blocks in which a piece ends. The
-    /// sources that pass are put into bits, and so are destinations that are a set, if they are not kept so. It takes time in proportion to the graph's
-    /// vertices if an end has to be put into bits, and else to its blocks. The scratch serves any apply after this one.
+    /// sources that pass are put into bits, and so are destinations that are a set, if they are not kept so. If sources are tested,
+    /// all vertices are destinations and there are four edges or more to a vertex, what each source gives is put into a list once
+    /// for all pieces. It takes time in proportion to the graph's vertices if there is such a list or an end has to be put into
+    /// bits, and else to its blocks. The scratch serves any apply after this one.
     ///
     /// Errors: `BadWorkers` where the number of workers is not 1 to 64, else `NoMemory`.
     pub fn new(
@@ -99,12 +107,15 @@ impl<'a> PullWork<'a> {
         let sources = SourceWords::of(alloc, apply.from, context, scratch)?;
         let members = member_bits(alloc, apply.to)?;
         let cuts = cut_vertices(alloc, apply.parallelization, count, apply.flat)?;
+        let shape = apply_shape(apply.first, apply.second);
+        let masked = mask_of(alloc, shape, apply, sources.words())?;
         Ok(PullWork {
             apply: *apply,
             sources,
             members,
             cuts,
-            shape: apply_shape(apply.first, apply.second),
+            shape,
+            masked,
         })
     }
 }

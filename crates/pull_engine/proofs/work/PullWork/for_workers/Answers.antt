@@ -1,4 +1,7 @@
 use Rattle.std.proofs.Common.{rules}
+use Rattle.edge_apply.specs.Words.{passes_words}
+use Rattle.pull_engine.specs.Sources.{is_source}
+use Rattle.pull_engine.proofs.Masking.{mask_alike}
 use Rattle.pull_engine.proofs.work.PullWork.for_workers.Goals as goal
 
 pub invariant_of-result : goal.invariant_of-result
@@ -8,4 +11,5 @@ invariant_of-result c = record {
   passing = search rules;
   member_bits = c.in_ok-members.ensures;
   shaped = search rules;
+  mask = mask_alike c.apply_shape-shape.result c.args.apply.now.vectors.now.vectors (passes_words c.words.result) (is_source c.in_ok-sources.sources) c.in_ok-masked.masked.items c.words.ensures c.in_ok-masked.ensures;
 }

@@ -1,4 +1,4 @@
-use Rattle.std.proofs.Common.{◌-◌, ℕ, List, sym, ap, ◌∙◌, subst}
+use Rattle.std.proofs.Common.{◌-◌, ℕ, ℤ, List, sym, ap, ◌∙◌, subst}
 use Rattle.std.proofs.lemmas.Result.{IfOk-weaker}
 use Rattle.edge_lists.specs.Edge.{Edge}
 use Rattle.flat_snapshot.specs.Digraph.{Digraph}
@@ -8,6 +8,9 @@ use Rattle.edge_fold.specs.Between.{edges_between}
 use Rattle.edge_apply.specs.Words.{passes_words}
 use Rattle.pull_engine.specs.Ranges.{AreChangesFrom, IsShapeOfApply, shape_vector}
 use Rattle.edge_fold.specs.declared.apply_context.ApplyContext.{ApplyContext}
+use Rattle.pull_engine.specs.Masked.{IsMaskOf}
+use Rattle.pull_engine.specs.Sources.{is_source}
+use Rattle.pull_engine.proofs.Masking.{mask_alike}
 use Rattle.pull_engine.proofs.Shaped.{some_weaker}
 use Rattle.pull_engine.proofs.work.PullWork.pull_piece.Goals as goal
 
@@ -15,6 +18,16 @@ pub pull_shape-requires-clause-shape : goal.pull_shape-requires-clause-shape
 pull_shape-requires-clause-shape c =
     let w = c.args.self.now in
     subst (λ (f : ApplyContext). IsShapeOfApply w.shape f.first.now f.second) (sym c.range-range.ensures.context) w.shaped
+
+pub pull_shape-requires-clause-mask : goal.pull_shape-requires-clause-mask
+pull_shape-requires-clause-mask c =
+    let w = c.args.self.now in
+    let p = c.range-range.result in
+    let of_piece = c.range-range.ensures in
+    let vs = w.apply.vectors.now.vectors in
+    let ours = mask_alike w.shape vs (is_source w.sources) (passes_words p.from) w.masked.items (λ v. sym (of_piece.from v)) w.mask in
+    subst (λ (f : ApplyContext). IsMaskOf w.shape f.vectors.now.vectors (passes_words p.from) p.masked.now) (sym of_piece.context)
+    (subst (λ (xs : List ℤ). IsMaskOf w.shape vs (passes_words p.from) xs) (sym of_piece.masked) ours)
 
 pub returns : goal.returns
 returns c =

@@ -13,4 +13,5 @@ returns c = record {
   high = c.vertices_of-low.ensures.high;
   order = c.vertices_of-low.ensures.order;
   within = c.vertices_of-low.ensures.within;
+  masked = c.deref.ensures.value;
 }
