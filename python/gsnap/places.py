@@ -2,7 +2,7 @@
 from __future__ import annotations
 
 import re
-from collections.abc import Iterator
+from collections.abc import Iterator, Sequence
 
 from .refusals import row_of
 
@@ -73,10 +73,16 @@ def meaning(number: int, cure: str | None = None) -> list[str]:
     return lines + [f" = {cure}"] if cure else lines
 
 
-def refusal_text(name: str, text: str | bytes, number: int, offset: int) -> str:
-    """Returns lines that explain the refusal of a program: its place, what the number means, and what to do."""
-    guess = cause(text, offset) if number == 211 else None
-    return "\n".join(shown(name, text, offset) + meaning(number, guess))
+def refusal_text(name: str, text: str | bytes, number: int, offset: int, told: Sequence[str] = ()) -> str:
+    """Returns lines that explain the refusal of a program: its place, what the number means, and what to do.
+
+    `told` is what gsnap said after the place, a line each; if it is empty, the table and a guess stand in its place.
+    """
+    if told:
+        meant = [f" = {number}: {told[0]}", *(f" = {it}" for it in told[1:])]
+    else:
+        meant = meaning(number, cause(text, offset) if number == 211 else None)
+    return "\n".join(shown(name, text, offset) + meant)
 
 
 def tokens_of_main(text: str) -> Iterator[tuple[int, str]]:

@@ -61,8 +61,8 @@ class Program:
       |
     3 | func main() print 1 + true; end
       |             ^
-     = 223: a type or a kind of thing is wrong there
-     = `docs/LANGUAGE.md` lists what each place takes
+     = 223: the type or the kind is wrong there
+     = what is printed is an int or a bool; `+` and `<` take ints, `and` and `not` bools
     """
 
     def __init__(self, text_or_path: str | os.PathLike[str], constants: Mapping[str, int] | None = None) -> None:
@@ -92,8 +92,10 @@ class Program:
             raise GsnapError(f"gsnap check ended with status {found.returncode}: {said.strip()}")
         number = int(refusal["number"])
         offset = int(refusal["offset"]) if refusal["offset"] else None
-        shown = f"{self.name}: refused {number}" if offset is None else refusal_text(self.name, self.text, number, offset)
-        raise ProgramRefused(shown, number, offset)
+        if offset is None:
+            raise ProgramRefused(f"{self.name}: refused {number}", number, offset)
+        told = [it.removeprefix(" = ") for it in said.splitlines() if it.startswith(" = ")]
+        raise ProgramRefused(refusal_text(self.name, self.text, number, offset, told), number, offset)
 
     def __eq__(self, other: object) -> bool:
         return isinstance(other, Program) and self.text == other.text

@@ -71,9 +71,12 @@ impl fmt::Display for ServeError<'_> {
                 None => write!(f, "{file}: refused {}", self.number()),
             },
             ServeError::RaceRefused { file, .. } => write!(f, "{file}: refused {}", self.number()),
+            ServeError::FileFailed { file, kind } => match kind {
+                ErrorKind::NotFound => write!(f, "refused {}: {file}: no such file", self.number()),
+                _ => write!(f, "refused {}: {file}: {kind}", self.number()),
+            },
             ServeError::NoMemory
             | ServeError::ReadFailed
-            | ServeError::FileFailed { .. }
             | ServeError::WriteFailed
             | ServeError::Closed => write!(f, "refused {}", self.number()),
         }

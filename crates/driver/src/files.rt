@@ -6,6 +6,8 @@ ghost use Rattle.driver.specs.Reading.{AnswersRead, ReadsWhole};
 
 use crate::error::{ServeError, of_file_read};
 use std::alloc::Global;
+use std::cell::OnceCell;
+use std::io::Read;
 use std::{fs, io, rt};
 
 /// Files that are read whole, by name.
@@ -23,17 +25,41 @@ pub trait Files {
         ensures { AnswersRead (may_hold self.now name.now) (may_fail self.now name.now) result };
 }
 
-/// The files of the system. No contract knows what they hold.
-#[derive(Drop)]
-pub struct Disk<R>(pub R);
+/// The name of the file that is the standard input.
+pub(crate) const STREAM: &str = "-";
 
-impl<R: rt::Files + AllocGlobal> Files for Disk<R> {
+/// The files of the system. The file `-` is the standard input, which is read once and then kept. No contract knows what they hold.
+#[derive(Drop)]
+pub struct Disk<R> {
+    rt: R,
+    input: OnceCell<Vec<u8>>,
+}
+
+impl<R> Disk<R> {
+    /// The files of this runtime.
+    pub fn new(rt: R) -> Disk<R> {
+        Disk {
+            rt,
+            input: OnceCell::new(),
+        }
+    }
+}
+
+impl<R: rt::Files + Input + AllocGlobal> Files for Disk<R> {
     ghost may_hold = { λ _ _ _. Unit {0} };
 
     ghost may_fail = { λ _ _ _. Unit {0} };
 
-    fn read(&self, _alloc: Global, name: &str) -> io::Result<Vec<u8>> {
-        fs::read(&self.0, name)
+    fn read(&self, alloc: Global, name: &str) -> io::Result<Vec<u8>> {
+        if name != STREAM {
+            return fs::read(&self.rt, name);
+        }
+        let text = self.input.get_or_try_init(|| -> io::Result<Vec<u8>> {
+            let mut text = Vec::new(alloc);
+            self.rt.reader().read_to_end(&mut text)?;
+            Ok(text)
+        })?;
+        Ok(text.clone()?)
     }
 }
 

@@ -1,5 +1,6 @@
 //! The first of a request's runs that ended by a fault, and where it was.
 
+use crate::refused_lines::RefusedLines;
 use algorithm_meaning::End;
 use std::cell::Cell;
 
@@ -40,9 +41,11 @@ impl FirstFault {
     }
 }
 
-/// The names of the files of a request's programs, and where the first fault of their runs is kept.
+/// The names of the files of a request's programs, and where the first fault of their runs and the refused lines of the script are
+/// kept.
 #[derive(Clone, Copy)]
 pub(crate) struct ProgramFiles<'p, 'a> {
     pub(crate) names: &'p [&'a str],
     pub(crate) first_fault: &'p FirstFault,
+    pub(crate) refused: &'p RefusedLines,
 }

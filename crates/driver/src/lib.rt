@@ -21,6 +21,7 @@ mod files;
 mod first_fault;
 mod programs;
 mod racing;
+mod refused_lines;
 mod running;
 mod serving;
 mod status;

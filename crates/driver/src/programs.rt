@@ -5,6 +5,7 @@ ghost use Rattle.driver.specs.Programs.{tree_of, ShowsMeaning};
 
 use crate::compiled_plan::CompiledPlan;
 use crate::first_fault::FirstFault;
+use crate::refused_lines::RefusedLines;
 use algorithm_meaning::Outcome;
 use crew::Open;
 use flat_snapshot::Flat;
@@ -54,28 +55,39 @@ pub(crate) fn run_by_workers<T: Threads + Sync>(
     }
 }
 
-/// The programs of a command line, in its order, and the closure that runs them: a method of a trait may start no threads.
-pub(crate) struct CompiledPrograms<F> {
+/// The programs of a command line, in its order, the closure that runs them, as a method of a trait may start no threads, and
+/// where refused lines of the script are kept.
+pub(crate) struct CompiledPrograms<'a, F> {
     plans: Vec<CompiledPlan>,
+    refused: &'a RefusedLines,
     by: F,
 }
 
-impl<F: Drop> Drop for CompiledPrograms<F> {
+impl<F: Drop> Drop for CompiledPrograms<'_, F> {
     fn drop(self) {
-        let CompiledPrograms { plans: _, by: _ } = self;
+        let CompiledPrograms {
+            plans: _,
+            refused: _,
+            by: _,
+        } = self;
     }
 }
 
-impl<F> CompiledPrograms<F> {
-    pub(crate) fn new(plans: Vec<CompiledPlan>, by: F) -> CompiledPrograms<F>
+impl<'a, F> CompiledPrograms<'a, F> {
+    pub(crate) fn new(
+        plans: Vec<CompiledPlan>,
+        refused: &'a RefusedLines,
+        by: F,
+    ) -> CompiledPrograms<'a, F>
         ensures plans { result.plans ≡ plans }
         ensures by { result.by ≡ by }
     {
-        CompiledPrograms { plans, by }
+        CompiledPrograms { plans, refused, by }
     }
 }
 
-impl<F: Fn(Global, RunOrder<'_>) -> Result<Outcome, AllocError>> Programs for CompiledPrograms<F> {
+impl<F: Fn(Global, RunOrder<'_>) -> Result<Outcome, AllocError>> Programs
+    for CompiledPrograms<'_, F> {
     ghost trees = { λ p. map tree_of p.plans.items };
 
     // The closure may be called for 1 to 64 workers, and tells what the plan's program means.
@@ -102,5 +114,13 @@ impl<F: Fn(Global, RunOrder<'_>) -> Result<Outcome, AllocError>> Programs for Co
             workers: workers as usize,
         };
         (self.by)(alloc, order)
+    }
+
+    fn begin_line(&self) {
+        self.refused.begin_line();
+    }
+
+    fn see_refusal(&self, number: u16) {
+        self.refused.see(number);
     }
 }

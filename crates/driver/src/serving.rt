@@ -9,11 +9,12 @@ ghost use Rattle.driver.specs.Serving.{end_of, ChecksFile, PrintsPlan, RunsFiles
 
 use crate::compiled_plan::CompiledPlan;
 use crate::error::ServeError;
-use crate::files::{Files, read_file};
+use crate::files::{Files, STREAM, read_file};
 use crate::first_fault::{FirstFault, ProgramFiles};
 use crate::programs::{CompiledPrograms, RunOrder, run_by_workers};
 use crate::racing::{RaceBounds, RaceFiles, race_files};
-use crate::telling::told;
+use crate::refused_lines::RefusedLines;
+use crate::telling::{told, told_of_script};
 use algorithm_meaning::Outcome;
 use compiler::{CompileError, compile};
 use devices::{Drain, Feed, write_all};
@@ -26,9 +27,6 @@ use std::thread::Threads;
 
 // What is told of a program that compiles.
 const OK_LINE: &[u8] = b"ok\n";
-
-// The name of a script that stands for the standard input.
-const STREAM: &str = "-";
 
 /// Does a request, and answers the exit status: 0 where all was done, or 3 where some run ended by a fault. `out` has then
 /// taken the line `ok` of a check, the text of a plan, the replies of a script, or the text of a race. With it comes what a
@@ -59,6 +57,7 @@ pub fn serve<T: Threads + Wait + Sync, F: Files, R: Feed, W: Drain, E: Drain>(
         (bytes_written_by (W.bytes_written out.new) (W.failures out.new)) result.0 }
 {
     let first_fault = &FirstFault::new();
+    let refused = &RefusedLines::new();
     match request {
         Request::Input => {
             let (ended, state) = run_input(rt, alloc, input, out);
@@ -76,13 +75,18 @@ pub fn serve<T: Threads + Wait + Sync, F: Files, R: Feed, W: Drain, E: Drain>(
             script,
             programs: names,
         } => {
-            let programs = ProgramFiles { names, first_fault };
+            let programs = ProgramFiles {
+                names,
+                first_fault,
+                refused,
+            };
             let (ended, state) = if *script == STREAM {
                 run_stream(rt, alloc, programs, files, input, out)
             } else {
                 run_files(rt, alloc, script, programs, files, out)
             };
-            (told(alloc, ended, Some(programs), files, err), state)
+            let status = told_of_script(alloc, ended, script, programs, files, err);
+            (status, state)
         }
         Request::Race {
             script,
@@ -90,7 +94,11 @@ pub fn serve<T: Threads + Wait + Sync, F: Files, R: Feed, W: Drain, E: Drain>(
             workers,
             turns,
         } => {
-            let programs = ProgramFiles { names, first_fault };
+            let programs = ProgramFiles {
+                names,
+                first_fault,
+                refused,
+            };
             let bounds = RaceBounds {
                 workers: *workers,
                 turns: *turns,
@@ -116,8 +124,10 @@ fn run_input<'a, T: Threads + Sync, R: Feed, W: Drain>(
         (bytes_written_by (W.bytes_written out.new) (W.failures out.new)) result.0 }
 {
     let first_fault = &FirstFault::new();
+    let refused = &RefusedLines::new();
     let programs = CompiledPrograms::new(
         Vec::new(alloc),
+        refused,
         |alloc: Global, order: RunOrder<'_>| -> Result<Outcome, AllocError>
             requires { AreWorkers order.workers }
             ensures { IfOk result (ShowsMeaning order.entry) }
@@ -196,8 +206,10 @@ fn run_files<'a, T: Threads + Sync, F: Files, W: Drain>(
         Err(error) => return (Err(error), None),
     };
     let first_fault = programs.first_fault;
+    let refused = programs.refused;
     let programs = CompiledPrograms::new(
         plans,
+        refused,
         |alloc: Global, order: RunOrder<'_>| -> Result<Outcome, AllocError>
             requires { AreWorkers order.workers }
             ensures { IfOk result (ShowsMeaning order.entry) }
@@ -227,8 +239,10 @@ fn run_stream<'a, T: Threads + Sync, F: Files, R: Feed, W: Drain>(
         Err(error) => return (Err(error), None),
     };
     let first_fault = programs.first_fault;
+    let refused = programs.refused;
     let programs = CompiledPrograms::new(
         compiled,
+        refused,
         |alloc: Global, order: RunOrder<'_>| -> Result<Outcome, AllocError>
             requires { AreWorkers order.workers }
             ensures { IfOk result (ShowsMeaning order.entry) }

@@ -4,11 +4,12 @@ ghost use Rattle.std.specs.Prelude.{◌≡◌, ◌++◌};
 ghost use Rattle.driver.specs.Endings.{status_of_end};
 
 use crate::error::ServeError;
-use crate::files::Files;
+use crate::files::{Files, STREAM};
 use crate::first_fault::ProgramFiles;
+use crate::refused_lines::RefusedLines;
 use crate::status;
 use devices::{Drain, write_all};
-use refusal_text::{explanation, fault_explanation};
+use refusal_text::{explanation, fault_explanation, refused_lines};
 use std::alloc::{AllocError, Global};
 use std::fmt;
 use std::fmt::Write;
@@ -40,19 +41,56 @@ pub(crate) fn told<F: Files, E: Drain>(
     }
 }
 
-// Shows which file cannot be read, and why; or where a program's text is refused, what that means and what to do. The file is read
-// once more for it; nothing is shown where that fails, or where memory runs out.
+/// Reports how a script in the file of this name ended, as `told` does, and after it which of its lines were refused, if it was run
+/// to its end and is not the standard input.
+pub(crate) fn told_of_script<F: Files, E: Drain>(
+    alloc: Global,
+    ended: Result<bool, ServeError<'_>>,
+    script: &str,
+    programs: ProgramFiles<'_, '_>,
+    files: &F,
+    err: &mut E,
+) -> u8
+    ensures { result ≡ status_of_end ended.entry }
+{
+    let is_shown = ended.is_ok() && script != STREAM;
+    let status = told(alloc, ended, Some(programs), files, err);
+    if is_shown {
+        report_refused(alloc, script, programs.refused, files, err);
+    }
+    status
+}
+
+// Shows the first refused lines of the script in the file of this name, and how many there were. The file is read once more for it;
+// nothing is shown if that fails, or if memory runs out.
+fn report_refused<F: Files, E: Drain>(
+    alloc: Global,
+    script: &str,
+    refused: &RefusedLines,
+    files: &F,
+    err: &mut E,
+) {
+    let count = refused.count();
+    if count == 0 {
+        return;
+    }
+    if let Ok(text) = files.read(alloc, script) {
+        let kept = refused.kept();
+        let shown = kept.len().min(usize::try_from(count).unwrap_or(kept.len()));
+        show(
+            refused_lines(alloc, script, &text, &kept[..shown], count),
+            err,
+        );
+    }
+}
+
+// Shows where a program's text is refused, what that means and what to do. The file is read once more for it; nothing is shown if
+// that fails, or if memory runs out.
 fn explain<F: Files, E: Drain>(alloc: Global, error: ServeError<'_>, files: &F, err: &mut E) {
-    match error {
-        ServeError::FileFailed { file, kind } => {
-            let _ = writeln!(TextWriter(err), " = {file}: {kind}");
-        }
-        ServeError::Refused { file, error } => {
-            if let (Some(at), Ok(text)) = (error.at(), files.read(alloc, file)) {
-                show(explanation(alloc, file, &text, at, error.number()), err);
-            }
-        }
-        _ => {}
+    if let ServeError::Refused { file, error } = error
+        && let (Some(at), Ok(text)) = (error.at(), files.read(alloc, file))
+    {
+        show(explanation(alloc, file, &text, at, error.number()), err);
     }
 }
 

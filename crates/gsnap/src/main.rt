@@ -52,5 +52,12 @@ fn serve(
     let mut input = Device::new(rt.stdin());
     let mut out = Device::new(rt.stdout());
     let mut err = Device::new(rt.stderr());
-    run(threads, &words, &Disk(rt), &mut input, &mut out, &mut err)
+    run(
+        threads,
+        &words,
+        &Disk::new(rt),
+        &mut input,
+        &mut out,
+        &mut err,
+    )
 }

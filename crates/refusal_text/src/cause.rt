@@ -5,9 +5,6 @@ use crate::words::{begins_with, ends_with};
 /// A guess at the cause of the fault 211 that stands between these two parts of a text.
 pub(crate) fn cause_of(before: &[u8], behind: &[u8]) -> Option<&'static str> {
     let shown = without_white_end(before);
-    if is_white(behind) {
-        return Some("the text ends here: an `end` or a `;` is missing");
-    }
     if shown.is_empty() && begins_script(behind) {
         return Some("this is a script: `gsnap script` takes it before the programs");
     }
@@ -25,8 +22,22 @@ pub(crate) fn cause_of(before: &[u8], behind: &[u8]) -> Option<&'static str> {
     if ends_with(shown, b"elif") {
         return Some("there is no `elif`: write `else if ..`, and an `end` more");
     }
-    if ends_statement(before, shown) {
-        return Some("a `;` may be missing at the end of the line before");
+    None
+}
+
+/// A guess at the cause of the fault 201 at the byte that begins this part of a text.
+pub(crate) fn cause_of_byte(behind: &[u8]) -> Option<&'static str> {
+    if begins_with(behind, b"#") {
+        return Some("a comment begins with `//`; a label is `#name#`, with nothing between");
+    }
+    if begins_with(behind, b"&") {
+        return Some("write `and` between two conditions");
+    }
+    if begins_with(behind, b"|") {
+        return Some("write `or` between two conditions");
+    }
+    if begins_with(behind, b"!") {
+        return Some("write `not` before a condition in parentheses; `!=` compares");
     }
     None
 }
@@ -62,29 +73,11 @@ fn begins_script(text: &[u8]) -> bool {
         || begins_with(text, b"commit")
 }
 
-// Whether the text ends in a line feed, perhaps with white bytes, after what may end a statement without its `;`.
-fn ends_statement(before: &[u8], shown: &[u8]) -> bool {
-    let may_end = match shown.last() {
-        Some(byte) => byte.is_ascii_alphanumeric() || *byte == b')' || *byte == b']',
-        None => false,
-    };
-    may_end
-        && before
-            .iter()
-            .rev()
-            .take_while(|byte| is_white_byte(**byte))
-            .any(|byte| *byte == b'\n')
-}
-
 fn ends_in_digit(text: &[u8]) -> bool {
     match text.last() {
         Some(byte) => byte.is_ascii_digit(),
         None => false,
     }
-}
-
-fn is_white(text: &[u8]) -> bool {
-    text.iter().all(|byte| is_white_byte(*byte))
 }
 
 fn is_white_byte(byte: u8) -> bool {

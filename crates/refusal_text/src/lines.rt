@@ -1,13 +1,17 @@
 //! The lines that are told after a refusal.
 
 use crate::calls::call_form;
-use crate::cause::cause_of;
+use crate::cause::cause_of_byte;
+use crate::indexes::index_rule;
 use crate::kinds::kind_rule;
 use crate::meaning::meaning_of;
 use crate::place::{line_at, place_of};
+use crate::spot::{spot_at, tokens_of};
 use crate::statements::statement_at;
+use crate::told::push_told;
+use crate::unexpected::push_unexpected;
 use decimal::push_number;
-use refusal_numbers::{UNEXPECTED, WRONG_TYPE};
+use refusal_numbers::{BAD_BYTE, UNEXPECTED, WRONG_INDEX, WRONG_TYPE};
 use std::alloc::{AllocError, Global};
 
 // How many bytes of a line are shown before a place, and in all.
@@ -27,20 +31,39 @@ pub fn explanation(
 ) -> Result<Vec<u8>, AllocError> {
     let mut lines = Vec::new(alloc);
     push_place(&mut lines, file, text, at)?;
-    if let Some(meaning) = meaning_of(number) {
-        let (before, behind) = text.split_at(at.min(text.len()));
-        let guess = match number {
-            UNEXPECTED => cause_of(before, behind),
-            WRONG_TYPE => Some(kind_rule(behind)),
-            _ => None,
-        };
-        push_told(&mut lines, meaning.means)?;
-        push_told(&mut lines, guess.unwrap_or(meaning.cure))?;
-        if let Some(form) = call_form(behind) {
-            push_told(&mut lines, form)?;
-        }
+    if number == UNEXPECTED {
+        push_unexpected(&mut lines, alloc, text, at)?;
+        return Ok(lines);
+    }
+    let Some(meaning) = meaning_of(number) else {
+        return Ok(lines);
+    };
+    push_told(&mut lines, meaning.means)?;
+    let rule = rule_of(alloc, text, at, number)?;
+    push_told(&mut lines, rule.unwrap_or(meaning.cure))?;
+    if let Some(form) = call_form(text.get(at..).unwrap_or(&[])) {
+        push_told(&mut lines, form)?;
     }
     Ok(lines)
+}
+
+// What a text has to keep at the place of a refusal by this number, or the likely cause of it.
+fn rule_of(
+    alloc: Global,
+    text: &[u8],
+    at: usize,
+    number: u16,
+) -> Result<Option<&'static str>, AllocError> {
+    let behind = text.get(at..).unwrap_or(&[]);
+    match number {
+        BAD_BYTE => Ok(cause_of_byte(behind)),
+        WRONG_TYPE => Ok(Some(kind_rule(behind))),
+        WRONG_INDEX => {
+            let all = tokens_of(alloc, text)?;
+            Ok(Some(index_rule(spot_at(text, &all, at))))
+        }
+        _ => Ok(None),
+    }
 }
 
 /// The lines that show where in the program's text of the file of this name the statement of `main` with this number stands, and
@@ -92,11 +115,4 @@ fn shown_part(line: &[u8], before: usize) -> (&[u8], usize) {
     let start = before.saturating_sub(MOST_BEFORE).min(line.len());
     let end = start.saturating_add(MOST_SHOWN).min(line.len());
     (&line[start..end], before.saturating_sub(start))
-}
-
-fn push_told(lines: &mut Vec<u8>, told: &str) -> Result<(), AllocError> {
-    lines.extend_from_slice(b" = ")?;
-    lines.extend_from_slice(told.as_bytes())?;
-    lines.push(b'\n')?;
-    Ok(())
 }

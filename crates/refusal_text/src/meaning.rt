@@ -3,8 +3,8 @@
 use refusal_numbers::{
     BAD_ARGUMENT, BAD_BYTE, BAD_FIELDS, BAD_LABEL, DIFFERENT_SETS, GIVEN_TWICE, MIXED_REDUCTIONS,
     NO_APPLY, NO_MAIN, NOT_ADJACENT, NOT_INDEPENDENT, NOT_REDUCTION, NUMBER_TOO_LARGE,
-    PRINT_OUTSIDE_MAIN, REDECLARED, TOO_DEEP, UNEXPECTED, UNFINISHED_TEXT, UNKNOWN_LABEL,
-    UNKNOWN_NAME, WRONG_INDEX, WRONG_TYPE,
+    PRINT_OUTSIDE_MAIN, REDECLARED, TOO_DEEP, UNFINISHED_TEXT, UNKNOWN_LABEL, UNKNOWN_NAME,
+    WRONG_INDEX, WRONG_TYPE,
 };
 
 /// What a number means, and what to do.
@@ -39,10 +39,6 @@ fn of_tokens(number: u16) -> Option<(&'static str, &'static str)> {
             "a text in quotes is not closed on its line, or holds a byte outside 0x20 to 0x7E",
             "close it; there are no escapes",
         )),
-        UNEXPECTED => Some((
-            "no program goes on like this",
-            "look before this place too: a `;` or an `end` may be missing",
-        )),
         TOO_DEEP => Some((
             "blocks and brackets nest deeper than 64",
             "use variables for parts of the expression",
@@ -62,7 +58,7 @@ fn of_types(number: u16) -> Option<(&'static str, &'static str)> {
             "take another name",
         )),
         WRONG_TYPE => Some((
-            "a type or a kind of thing is wrong there",
+            "the type or the kind is wrong there",
             "docs/LANGUAGE.md lists what each place takes",
         )),
         NOT_REDUCTION => Some((
@@ -74,7 +70,7 @@ fn of_types(number: u16) -> Option<(&'static str, &'static str)> {
             "use a second vector",
         )),
         WRONG_INDEX => Some((
-            "a vector is read or written at another vertex than may stand there, or an index in `main` holds an entry",
+            "an entry is read or written at a vertex that is not allowed there",
             "write at the second parameter; in `main` take the entry into a variable first",
         )),
         PRINT_OUTSIDE_MAIN => Some((

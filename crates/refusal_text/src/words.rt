@@ -16,3 +16,22 @@ pub(crate) fn begins_word(text: &[u8], word: &[u8]) -> bool {
             None => true,
         }
 }
+
+/// The word of this index, from 0, in a text of words with one space between two.
+pub(crate) fn word(text: &[u8], index: usize) -> Option<&[u8]> {
+    let (mut start, mut spaces) = (0, 0usize);
+    'bytes: for i in 0..text.len() {
+        if text[i] == b' ' {
+            if spaces == index {
+                return text.get(start..i);
+            }
+            spaces = spaces.saturating_add(1);
+            start = i + 1;
+        }
+    }
+    if spaces == index {
+        text.get(start..)
+    } else {
+        None
+    }
+}

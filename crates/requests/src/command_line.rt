@@ -53,14 +53,14 @@ const HELP: &str =
 const CHECK_ABOUT: &str = "Compiles the program in a file, and prints `ok`";
 
 const CHECK_HELP: &str =
-    "Where the text is refused, the number and the place of the first fault are told, then line and column, what the number means\n\
-    and what to do. The exit status is 0 where the program compiles, 1 where its text is refused, and 5 where the file cannot be read.\n\
+    "If the text is refused, the number and the place of the first fault are reported, then line and column, what the number means\n\
+    and what to do. The exit status is 0 if the program compiles, 1 if its text is refused, and 5 if the file cannot be read.\n\
     \n\
     201 to 203  a byte, a number or a text in quotes is no token\n\
     211         the text is outside the grammar\n\
     212         blocks and brackets nest deeper than 64\n\
     221, 222    a name is not visible, or is so already\n\
-    223         a type or a kind of thing is wrong there\n\
+    223         the type or the kind is wrong there\n\
     224 to 226  an edge function assigns an entry, reduces one vector in two ways, or uses another vertex than it may\n\
     227 to 229  `print` outside `main`, no `main`, a label twice\n\
     301 to 308  a call of the schedule names a label, a value or a vector that it may not\n\
@@ -82,17 +82,18 @@ const SCRIPT_HELP: &str =
     "A SCRIPT of the name - is the standard input, whose lines are answered as they come.\n\
     \n\
     vertices N [B]   opens a graph of N vertices, as the first line\n\
-    add U V          adds an edge to the pending batch\n\
-    del U V          takes one away\n\
-    grow N           makes it N vertices\n\
+    add U V [W]      adds an edge to the pending batch, of weight W or 1\n\
+    del U V          removes an edge\n\
+    grow N           raises the number of vertices to N\n\
     commit           makes the batch a version\n\
     hold [at K]      keeps the newest version, or that of number K, under a ticket\n\
-    release T        gives the ticket back\n\
+    release T        closes the ticket\n\
     edges [T]        lists the edges of the newest version, or of the ticket's\n\
-    run P B W [T]    runs the P-th PROGRAM for at most B turns by W workers, 1 to 64\n\
+    run P TURNS WORKERS [T]   runs the P-th PROGRAM for at most TURNS turns by WORKERS workers, 1 to 64\n\
     \n\
-    A line that is refused is answered `refused N` and changes nothing. The exit status is 0, also where lines were refused; 1 where a\n\
-    program's text is refused; 3 where a run ended by a fault; 4 out of memory; 5 where reading or writing fails.\n\
+    A line that is refused is answered `refused N` and changes nothing; of a SCRIPT that is a file, standard error names the first ten\n\
+    such lines with their causes. The exit status is 0, also if lines were refused; 1 if a program's text is refused; 3 if a run ended\n\
+    by a fault; 4 out of memory; 5 if reading or writing fails.\n\
     docs/SCRIPTS.md says more.\n\
     Example: gsnap script examples/squares.script examples/squares.program";
 
@@ -221,7 +222,7 @@ fn one_file<'a>(alloc: Global) -> Arg<'a>
 {
     Arg::new(alloc, FILE)
         .required(true)
-        .help("The file with the program")
+        .help("The file with the program, or - for the standard input")
 }
 
 // The names of the script's file and of its programs'.

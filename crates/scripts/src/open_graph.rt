@@ -105,7 +105,7 @@ impl OpenGraph {
             (self.new ≡ (on_open (P.trees host.now.programs.now) self.old command).state) }
     {
         match command {
-            Command::Vertices { .. } => replies.send_line(LineReply::Refused(BAD_LINE)),
+            Command::Vertices { .. } => host.refuse(BAD_LINE, replies),
             Command::Add {
                 source,
                 destination,
@@ -116,11 +116,11 @@ impl OpenGraph {
                 destination,
             } => self.join(Entry::Remove(source, destination)),
             Command::Grow { vertices } => self.join(Entry::Grow(vertices)),
-            Command::Commit => send_reply(self.commit(host.alloc), replies),
-            Command::Hold { version } => send_reply(self.hold(version), replies),
-            Command::Release { ticket } => send_reply(self.release(ticket), replies),
-            Command::Edges => self.list(None, replies),
-            Command::EdgesOf { ticket } => self.list(Some(ticket), replies),
+            Command::Commit => host.reply(self.commit(host.alloc), replies),
+            Command::Hold { version } => host.reply(self.hold(version), replies),
+            Command::Release { ticket } => host.reply(self.release(ticket), replies),
+            Command::Edges => self.list(host, None, replies),
+            Command::EdgesOf { ticket } => self.list(host, Some(ticket), replies),
             Command::Run {
                 program,
                 turns,
@@ -195,8 +195,9 @@ impl OpenGraph {
     }
 
     /// Sends the edges of the newest version, or of the one that a ticket holds.
-    fn list<W: Drain>(
+    fn list<P: Programs, W: Drain>(
         &self,
+        host: &Host<'_, P>,
         ticket: Option<u64>,
         replies: &mut ReplyWriter<'_, W>,
     ) -> Result<(), SendError>
@@ -205,7 +206,7 @@ impl OpenGraph {
     {
         match version_of(&self.versions, ticket) {
             Some((_, graph)) => replies.send_edges(graph),
-            None => replies.send_line(LineReply::Refused(VersionError::NotHeld.number())),
+            None => host.refuse(VersionError::NotHeld.number(), replies),
         }
     }
 
@@ -225,7 +226,7 @@ impl OpenGraph {
             → OnOk result (replies.new.kept ≡ []) }
     {
         let Some(index) = index_of(host.programs, line.program) else {
-            return replies.send_line(LineReply::Refused(NO_PROGRAM));
+            return host.refuse(NO_PROGRAM, replies);
         };
         self.run(host, index, line, replies)
     }
@@ -272,27 +273,16 @@ impl OpenGraph {
             ..
         } = line;
         let Some((version, graph)) = version_of(&self.versions, ticket) else {
-            return replies.send_line(LineReply::Refused(VersionError::NotHeld.number()));
+            return host.refuse(VersionError::NotHeld.number(), replies);
         };
         if workers == 0 || workers > MAX_WORKERS as u64 {
-            return replies.send_line(LineReply::Refused(BAD_WORKERS));
+            return host.refuse(BAD_WORKERS, replies);
         }
         let flat = self.flats.flat(host.alloc, version, graph)?;
         let outcome = host.programs.run(host.alloc, index, &flat, turns, workers)?;
         self.faulted = self.faulted || is_fault(outcome.end);
         replies.send_outcome(&outcome)
     }
-}
-
-/// Sends the reply to a step. One that was out of memory has none: then nothing is sent.
-fn send_reply<W: Drain>(
-    reply: Result<LineReply, AllocError>,
-    replies: &mut ReplyWriter<'_, W>,
-) -> Result<(), SendError>
-    ensures sent { IfOk reply (λ line. Emits replies.old replies.new (line_text line) result) }
-    ensures unsent { IfErr reply (λ e. (replies.new ≡ replies.old) × (result ≡ Err NoMemory)) }
-{
-    replies.send_line(reply?)
 }
 
 /// The newest version, or the one that a ticket holds, where it is open: its number and its graph.

@@ -34,4 +34,10 @@ pub trait Programs {
         requires index { index < length (trees self.now) }
         requires workers { is_worker_count workers ≡ true }
         ensures { IfOk result (λ o. (program : ProgramTree) → slice_get (trees self.now) index ≡ Some program → o ≡ meaning_on graph.now program turns) };
+
+    /// Is called when a line of the script begins, an empty one too.
+    fn begin_line(&self) {}
+
+    /// Is called when the line is refused, with the number of the refusal.
+    fn see_refusal(&self, _number: u16) {}
 }

@@ -144,21 +144,22 @@ fn answer_line<P: Programs, W: Drain>(
     ensures state { OnOk result
         (graph.new ≡ (answer (P.trees host.now.programs.now) graph.old line.now).state) }
 {
+    host.programs.begin_line();
     if line.is_empty() {
         return Ok(());
     }
     let Some(command) = command(line) else {
-        return replies.send_line(LineReply::Refused(BAD_LINE));
+        return host.refuse(BAD_LINE, replies);
     };
     match graph {
         Some(open) => open.answer(host, command, replies),
-        None => open(host.alloc, graph, command, replies),
+        None => open(host, graph, command, replies),
     }
 }
 
 /// Does a command while no graph is open: only `vertices` may stand there, and it opens one.
-fn open<W: Drain>(
-    alloc: Global,
+fn open<P: Programs, W: Drain>(
+    host: &Host<'_, P>,
     graph: &mut Option<OpenGraph>,
     command: Command,
     replies: &mut ReplyWriter<'_, W>,
@@ -172,16 +173,16 @@ fn open<W: Drain>(
         chunk_size,
     } = command
     else {
-        return replies.send_line(LineReply::Refused(BAD_LINE));
+        return host.refuse(BAD_LINE, replies);
     };
-    match Versions::new(alloc, vertices, chunk_size) {
+    match Versions::new(host.alloc, vertices, chunk_size) {
         Ok(versions) => {
-            *graph = Some(OpenGraph::new(alloc, versions));
-            replies.send_line(LineReply::Open(vertices))
+            *graph = Some(OpenGraph::new(host.alloc, versions));
+            host.send(LineReply::Open(vertices), replies)
         }
         Err(error) => {
             let reply = refusal(error)?;
-            replies.send_line(reply)
+            host.send(reply, replies)
         }
     }
 }

@@ -12,7 +12,7 @@ returns-in_default-clause-emits g c =
     let some : 0 < length c.args.line.now = grind (arith, common_steps) in
     let is = answer_command (g.P.Programs.trees c.args.host.now.programs.now) c.args.graph.now c.args.line.now some in
     let text : (answer (g.P.Programs.trees c.args.host.now.programs.now) c.args.graph.now c.args.line.now).text ≡ line_text (line_reply.Refused 801) = grind (arith, common_steps) in
-    emits_as _ _ _ _ _ c.send_line.ensures text
+    emits_as _ _ _ _ _ c.refuse.ensures text
 
 pub returns-in-Some-graph-clause-emits : goal.returns-in-Some-graph-clause-emits
 returns-in-Some-graph-clause-emits g c =

@@ -12,9 +12,9 @@ returns-in_err-reply-in-Err-clause-emits g c = emits_none _ _ _ c.from_residual.
 pub returns-in-Ok-clause-emits : goal.returns-in-Ok-clause-emits
 returns-in-Ok-clause-emits g c =
     let text : (unopened c.args.command).text ≡ line_text (line_reply.Open c.in-Vertices.vertices) = grind (arith, common_steps) in
-    emits_as _ _ _ _ _ c.send_line-in-Ok.ensures text
+    emits_as _ _ _ _ _ c.send.ensures text
 
 pub returns-in_ok-reply-in-Err-clause-emits : goal.returns-in_ok-reply-in-Err-clause-emits
 returns-in_ok-reply-in-Err-clause-emits g c =
     let text : (unopened c.args.command).text ≡ line_text c.in_ok-reply-in-Err.reply = grind (arith, common_steps) in
-    emits_as _ _ _ _ _ c.send_line-in-Err.ensures text
+    emits_as _ _ _ _ _ c.send-in-Err.ensures text

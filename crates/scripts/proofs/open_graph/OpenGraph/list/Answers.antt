@@ -15,4 +15,4 @@ returns-in-Some g c =
 pub returns-in-None : goal.returns-in-None
 returns-in-None g c =
     let text : listing_text (graph_of c.args.self.now.versions c.args.ticket) ≡ line_text (line_reply.Refused c.number.result) = grind (arith, common_steps) in
-    emits_as _ _ _ _ _ c.send_line.ensures text
+    emits_as _ _ _ _ _ c.refuse.ensures text
