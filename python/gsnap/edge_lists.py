@@ -104,6 +104,20 @@ def lines_of(words: tuple[bytes, ...], separator: bytes) -> re.Pattern[bytes]:
     return re.compile(rb"(?:" + line + rb")*")
 
 
+class Numbers(dict[bytes, int]):
+    """The numbers of names; one that is asked for and new gets the next number. `cut` has those that are cut texts in quotes."""
+
+    def __init__(self, known: Mapping[bytes, int]) -> None:
+        super().__init__(known)
+        self.cut: list[bytes] = []
+
+    def __missing__(self, name: bytes) -> int:
+        if name[:1] == b'"' and name[-1:] != b'"':
+            self.cut.append(name)
+        number = self[name] = len(self)
+        return number
+
+
 class Edges:
     """The edges of an edge list, as `read` has found them so far.
 
@@ -129,7 +143,7 @@ class Edges:
         self.weights = array.array("q") if form.weights else None
         self.removals = None if form.known is None else bytearray()
         self.scale = form.scale
-        self.numbers: dict[bytes, int] | None = dict(form.known or {}) if form.names else None
+        self.numbers = Numbers(form.known or {}) if form.names else None
         self.first = 1 if form.one_based else 0
         self.last: int | None = MOST_VERTICES - 1 + self.first
         self.is_both_ways = form.both_ways
@@ -286,18 +300,16 @@ class Edges:
             self.fail(self.no_vertex(ends[at]), self.line + 1 + at // 2)
         return [it - 1 for it in vertices] if first else vertices
 
-    def renamed(self, ends: list[bytes], numbers: dict[bytes, int]) -> list[int]:
+    def renamed(self, ends: list[bytes], numbers: Numbers) -> list[int]:
         """Returns the numbers of names; a name that is new gets the next one."""
-        fresh = [name for name in dict.fromkeys(ends) if name not in numbers]
-        for name in fresh:
-            if name.startswith(b'"') and not name.endswith(b'"'):
-                at = ends.index(name) // 2
-                self.fail(f"{shown(name)} begins a text in quotes; {self.options.by_separator} says what parts words", self.line + 1 + at)
-        numbers.update(zip(fresh, range(len(numbers), len(numbers) + len(fresh))))
+        found = list(map(numbers.__getitem__, ends))
+        for name in numbers.cut:
+            at = ends.index(name) // 2
+            self.fail(f"{shown(name)} begins a text in quotes; {self.options.by_separator} says what parts words", self.line + 1 + at)
         if len(numbers) > MOST_VERTICES:
-            at = next(i for i, it in enumerate(ends) if numbers[it] >= MOST_VERTICES)
+            at = next(i for i, it in enumerate(found) if it >= MOST_VERTICES)
             self.fail(f"{shown(ends[at])} is one more than {MOST_VERTICES} vertices", self.line + 1 + at // 2)
-        return list(map(numbers.__getitem__, ends))
+        return found
 
     def finish(self) -> int:
         """Returns the number of vertices, when all is read."""

@@ -106,7 +106,7 @@ def write_script(out: IO[bytes], edges: Edges, count: int, note: Callable[[int],
 
 def write_names(out: IO[bytes], edges: Edges) -> None:
     """Writes a line for each vertex: its number, and its name."""
-    out.writelines(b"%d %s\n" % (number, name) for name, number in (edges.numbers or {}).items())
+    out.writelines(map(b"%d %s\n".__mod__, enumerate(edges.numbers or ())))
 
 
 def several_weights(edges: Edges) -> tuple[int, tuple[int, int, int, int]] | None:
