@@ -7,7 +7,7 @@ import re
 import zlib
 from collections.abc import Iterator
 
-from .comma_lists import Commas, is_by_commas
+from .comma_lists import Commas, first_line, is_by_commas
 from .edge_lists import MOST_VERTICES, NATURAL, REAL, Edges, Form, blocks, shown, texts
 from .errors import Mistake
 from .progress import Progress, Reading
@@ -179,6 +179,8 @@ def is_of_paths(block: bytes) -> bool:
 def read_edges(name: str, found: Iterator[bytes], form: Form) -> tuple[Edges, int]:
     """Returns the edges in blocks of whole lines, and the number of vertices. `name` is what messages call the file."""
     block = next(found, b"")
+    while not first_line(block)[1] and (more := next(found, b"")):
+        block += more
     words = block.partition(b"\n")[0].split()
     edges: Edges
     if words and words[0].lower() == BANNER:
