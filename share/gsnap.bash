@@ -1,7 +1,7 @@
 # Completes the words of gsnap in bash. share/make wrote this file.
 
-# The kinds of the words of a command: a program or a script is a file of that ending, a number is one of a refusal, and a command is
-# one of gsnap. A `*` means that there may be several.
+# The kinds of the words of a command: a program or a script is a file of that ending, a number is one of a refusal, and a command
+# is one of gsnap. A `*` means that there may be several.
 _gsnap() {
     local word=${COMP_WORDS[COMP_CWORD]} words='' kinds='' kind='' count=0 at
     COMPREPLY=()

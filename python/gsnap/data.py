@@ -57,7 +57,7 @@ def version() -> str:
 
 @functools.lru_cache(maxsize=None)
 def launched() -> Path:
-    """Returns the path of the program that the launcher of the clone runs: what was built there of its sources, else the release."""
+    """Returns the path of the program that the launcher runs: what was built in the clone of its sources, else the release."""
     ran = subprocess.run(["/bin/bash", "-c", LAUNCHED, "bash", CLONE], capture_output=True, text=True, check=False)
     built = Path(ran.stdout.strip(), "gsnap")
     return built if built.is_absolute() else files()["gsnap"]

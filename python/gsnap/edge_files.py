@@ -8,7 +8,7 @@ import zlib
 from collections.abc import Iterator
 
 from .comma_lists import Commas, first_line, is_by_commas
-from .edge_lists import MOST_VERTICES, NATURAL, REAL, Edges, Form, blocks, shown, texts
+from .edge_lists import MOST_VERTICES, NATURAL, REAL, Edges, Form, Source, blocks, shown, texts
 from .errors import Mistake
 from .progress import Progress, Reading
 
@@ -198,15 +198,16 @@ def read_edges(name: str, found: Iterator[bytes], form: Form) -> tuple[Edges, in
 
 
 def read_file(path: str, form: Form, progress: Progress | None = None) -> tuple[Edges, int]:
-    """Returns the edges in a file, or in standard input if the path is `-`, and the number of vertices. `progress` shows how far it is.
+    """Returns the edges in a file, or in standard input if the path is `-`, and the number of vertices.
 
-    Raises Mistake if the file cannot be read, or is not in its form; the text names the file, and the line and the word.
+    `progress` shows how much of the file is read. Raises Mistake if the file cannot be read, or is not in its form; the text names the file, and the line and the word.
     """
     is_input = path == "-"
     name = "standard input" if is_input else path
     try:
-        with open(0 if is_input else path, "rb", closefd=not is_input) as source:
-            return read_edges(name, blocks(texts(Reading(source, progress) if progress else source)), form)
+        with open(0 if is_input else path, "rb", closefd=not is_input) as file:
+            source: Source = Reading(file, progress) if progress else file
+            return read_edges(name, blocks(texts(source)), form)
     except OSError as error:
         raise Mistake(f"{name}: {error.strerror}") from None
     except EOFError:

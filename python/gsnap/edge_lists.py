@@ -37,10 +37,11 @@ class Form:
     """How a file is read.
 
     With `weights` each edge has one, a whole number after it was multiplied by `scale`. With `names` any words are vertices; else
-    they are numbers from 0, or from 1 if the file is `one_based`. With `both_ways` each edge is there reversed too. `separator` is
-    `comma` or `space`, or empty if the first line decides; `columns` names the columns of a file with commas that are taken.
-    `known` has the names of an earlier file, with their numbers; then a line that begins with the word `-` removes its edge. What
-    begins with `by_` is what a message says for how to ask for something.
+    they are numbers from 0, or from 1 if the file is `one_based`. With `both_ways` each edge is there reversed too.
+
+    `separator` is `comma` or `space`, or empty if the first line decides. `columns` names the columns of a file with commas that
+    are taken. `known` has the names of an earlier file, with their numbers; then a line that begins with the word `-` removes its
+    edge. A field that begins with `by_` is what a message says for how to ask for something.
     """
 
     weights: bool = False
@@ -122,9 +123,9 @@ class Edges:
     """The edges of an edge list, as `read` has found them so far.
 
     `ends` has the source and the destination of each edge, and `weights` their weights, or is None if the edges have none.
-    `removals` has for each edge 1 if it is to be removed and else 0, or is None if no line can remove one. `numbers` has the number
-    of each name, in the order in which they came, or is None if the vertices are numbers. Each mistake raises Mistake, which names
-    the file and the line.
+    `removals` has for each edge 1 if it is to be removed and else 0, or is None if no line can remove one. `numbers` has the
+    number of each name, in the order in which they came, or is None if the vertices are numbers. Each mistake raises Mistake,
+    which names the file and the line.
     """
 
     comments: bytes | tuple[bytes, ...] = (b"#", b"%")
@@ -245,7 +246,8 @@ class Edges:
     def form(self, words: list[bytes]) -> tuple[bytes, ...]:
         """Returns an expression for each word of an edge's line, as many as this line has."""
         if len(words) < 2:
-            self.fail(f"{shown(words[0])} is only one word; an edge needs two vertices, separated by spaces or tabs", self.line + 1)
+            wanted = "an edge needs two vertices, separated by spaces or tabs"
+            self.fail(f"{shown(words[0])} is only one word; {wanted}", self.line + 1)
         ends = (NATURAL, NATURAL) if self.numbers is None else (rb"(?!-\s)[^\s#%]\S*", rb"\S+")
         if self.weights is None:
             return ends + (rb"\S+",) * (len(words) - 2)
@@ -304,8 +306,8 @@ class Edges:
         """Returns the numbers of names; a name that is new gets the next one."""
         found = list(map(numbers.__getitem__, ends))
         for name in numbers.cut:
-            at = ends.index(name) // 2
-            self.fail(f"{shown(name)} begins a text in quotes; {self.options.by_separator} says what parts words", self.line + 1 + at)
+            line = self.line + 1 + ends.index(name) // 2
+            self.fail(f"{shown(name)} begins a text in quotes; {self.options.by_separator} says what parts words", line)
         if len(numbers) > MOST_VERTICES:
             at = next(i for i, it in enumerate(found) if it >= MOST_VERTICES)
             self.fail(f"{shown(ends[at])} is one more than {MOST_VERTICES} vertices", self.line + 1 + at // 2)

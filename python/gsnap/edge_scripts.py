@@ -90,8 +90,7 @@ def removals_of(edges: Edges, done: int) -> list[int]:
 def write_script(out: IO[bytes], edges: Edges, count: int, note: Callable[[int], None] = lambda done: None) -> None:
     """Writes a script that commits the edges of a file; `note` is called with the number of edges that are written.
 
-    It opens a graph with `count` vertices, unless the edges name vertices that were known before: then it gives the graph that has
-    these the new ones.
+    It opens a graph with `count` vertices. If there are names of an earlier file, it adds the new vertices to that file's graph.
     """
     known = edges.options.known
     if known is None:

@@ -97,7 +97,11 @@ def begins_with_names(path: str, form: Form) -> bool:
     if not words or words[0].lower() == b"%%matrixmarket" or words[0] in (b"c", b"p"):
         return False
     if is_by_commas(path, lines[0], form):
-        return not form.columns and not are_numbers(fields_of(lines[-1].decode(errors="replace")))
+        heading, *rows = [fields_of(it.decode(errors="replace")) for it in lines]
+        row = (rows or [heading])[0]
+        if set(form.columns) <= set(heading):
+            row = [it for name in form.columns for it in row[heading.index(name) :][:1]] or row
+        return not are_numbers(row)
     return len(words) > 1 and not are_numbers([it.decode(errors="replace") for it in words])
 
 

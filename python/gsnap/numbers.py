@@ -57,8 +57,8 @@ def kinds_of_bytes() -> Any:
 def rows_in(text: bytes, by_comma: bool, is_weighted: bool) -> Any:
     """Returns the numbers of whole lines as the rows of a NumPy array, or None.
 
-    It is None without NumPy, and if a line has a word that is no number of at most 17 digits, or fewer words than two, or three if
-    edges are weighted, or more words than another line. Only the third number may have a `-`.
+    It is None without NumPy, and if a line has a word that is no number of at most 17 digits, or fewer words than two, or three
+    if edges are weighted, or more words than another line. Only the third number may have a `-`.
     """
     if numpy is None:
         return None
