@@ -206,7 +206,9 @@ def read_file(path: str, form: Form, progress: Progress | None = None) -> tuple[
     name = "standard input" if is_input else path
     try:
         with open(0 if is_input else path, "rb", closefd=not is_input) as file:
-            source: Source = Reading(file, progress) if progress else file
+            source: Source = file
+            if progress:
+                source = Reading(file, progress)
             return read_edges(name, blocks(texts(source)), form)
     except OSError as error:
         raise Mistake(f"{name}: {error.strerror}") from None
