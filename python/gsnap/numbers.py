@@ -126,8 +126,11 @@ def columns_of(lines: list[bytes]) -> tuple[Integers, Integers, Integers]:
 def spelled(word: bytes, columns: Sequence[Any]) -> bytes:
     """Returns the lines of `lines_of` by Python alone."""
     form = word + b" %d" * len(columns) + b"\n"
-    rows = [number for row in zip(*columns) for number in row]
-    return form * (len(rows) // len(columns)) % tuple(rows)
+    count = min(map(len, columns))
+    rows = [0] * (len(columns) * count)
+    for at, column in enumerate(columns):
+        rows[at :: len(columns)] = column[:count]
+    return form * count % tuple(rows)
 
 
 @functools.cache
