@@ -105,12 +105,12 @@ class Commas(Edges):
 
     def take_rows(self, block: bytes) -> None:
         """Takes lines one by one."""
-        for line in block.splitlines():
+        for line in block.removesuffix(b"\n").split(b"\n"):
             if self.passes(line.split()[:1]):
                 self.line += 1
                 continue
             row = self.fields(line, self.line + 1)
-            is_removal = self.removals is not None and row[0].encode() == REMOVAL
+            is_removal = self.removals is not None and row[:1] == [REMOVAL.decode()]
             self.take_row(line, row[is_removal:], is_removal)
 
     def take_row(self, line: bytes, row: list[str], is_removal: bool) -> None:
@@ -122,8 +122,9 @@ class Commas(Edges):
             self.fail(f"{shown(line)} has too few words; an edge needs {wanted}, separated by commas", self.line + 1)
         words = [row[at].encode("utf-8", "surrogateescape") for at in columns[:count]]
         for word in words[:2]:
-            if not word or b"\n" in word:
-                self.fail(f"{shown(line)} has an empty word for a vertex", self.line + 1)
+            if not word or b"\r" in word:
+                what = "a carriage return in a word" if word else "an empty word"
+                self.fail(f"{shown(line)} has {what} for a vertex", self.line + 1)
             if self.numbers is None and not re.fullmatch(NATURAL, word):
                 self.fail(self.no_vertex(word), self.line + 1)
         if count == 3 and not re.fullmatch(REAL, words[2]):
