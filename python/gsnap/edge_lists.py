@@ -56,6 +56,7 @@ class Form:
     by_scale: str = "--scale N"
     by_separator: str = "--separator comma or --separator space"
     by_columns: str = "--columns A,B"
+    by_removal: str = "--append edits a graph that exists"
 
 
 def shown(word: bytes) -> str:
@@ -194,23 +195,19 @@ class Edges:
         """Takes the line of these words at a place, with those after it that have its form. Returns how many bytes they are."""
         is_removal = words[0] == REMOVAL and self.begins_with_ends
         if is_removal and self.removals is None:
-            self.fail("'-' before an edge removes it, and a new graph has none; --append edits one that is there", self.line + 1)
+            self.fail(f"'-' before an edge removes it, and here each line adds one; {self.options.by_removal}", self.line + 1)
         form = (REMOVAL, *self.form_of_removal(words)) if is_removal else self.form(words)
         found = lines_of(form, self.separator).match(block, at)
         lines = found.group() if found else b""
         if not lines:
             self.refuse(words[is_removal:])
-        self.take(self.words_of(lines), len(words), is_removal)
+        self.take(lines.split(), len(words), is_removal)
         return len(lines)
-
-    def words_of(self, lines: bytes) -> list[bytes]:
-        """Returns the words of lines that have the same form."""
-        return lines.split()
 
     def form_of_removal(self, words: list[bytes]) -> tuple[bytes, ...]:
         """Returns an expression for each word after the `-` of a line that removes an edge."""
         if len(words) < 3:
-            self.fail(f"{shown(b' '.join(words))} has no two vertices behind the '-'", self.line + 1)
+            self.fail(f"{shown(b' '.join(words))} has no two vertices after the '-'", self.line + 1)
         return (rb"\S+",) * (len(words) - 1)
 
     def take(self, found: list[bytes], width: int, is_removal: bool = False) -> None:

@@ -85,6 +85,7 @@ def form_of(path: str, words: Sequence[str], is_named: bool) -> Form:
         by_scale=f"`load {path} scale N`",
         by_separator=f"`load {path} commas` or `spaces`",
         by_columns=f"`load {path} columns A,B`",
+        by_removal="`del U V` removes an edge",
     )
     names = is_named or "names" in rest or ("one-based" not in rest and begins_with_names(path, form))
     return replace(form, names=names, one_based="one-based" in rest and not names)

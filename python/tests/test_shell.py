@@ -296,6 +296,9 @@ def test_load_of_columns(tmp_path: Path, text: str, words: str, edges: list[str]
 
 def test_load_of_commas_and_spaces(tmp_path: Path) -> None:
     (tmp_path / "it.txt").write_text("ann lee,bob\n")
+    (tmp_path / "removal.txt").write_text("0 1\n- 0 1\n")
+    wanted = "removal.txt:2: '-' before an edge removes it, and here each line adds one; `del U V` removes an edge"
+    assert done(tmp_path, "load removal.txt") == (1, [wanted])
     failures, said = done(tmp_path, "load it.txt", "load it.txt spaces", "edges", "close", "load it.txt commas", "edges")
     assert failures == 1 and "it.txt:1: 'ann lee,bob' may have commas or spaces between its words" in said[0], said
     assert [" ".join(line.split()) for line in (said[4], said[-1])] == ["ann lee,bob 1", "ann lee bob 1"]
