@@ -3,6 +3,8 @@ from __future__ import annotations
 
 import signal
 import sys
+from collections.abc import Iterator
+from contextlib import contextmanager
 from typing import NoReturn
 
 # A closed terminal, and a request to end.
@@ -19,6 +21,20 @@ def end(number: int, _frame: object) -> NoReturn:
     """Ends in order; a second signal does not cut that off."""
     ignore_endings()
     sys.exit(128 + number)
+
+
+@contextmanager
+def delayed() -> Iterator[None]:
+    """Keeps signals that come in the body of a `with` until it ends, and then lets them raise SystemExit."""
+    came: list[int] = []
+    for number in ENDINGS:
+        signal.signal(number, lambda it, _frame: came.append(it))
+    try:
+        yield
+    finally:
+        end_in_order()
+    if came:
+        end(came[0], None)
 
 
 def end_in_order() -> None:
