@@ -25,10 +25,15 @@ def end(number: int, _frame: object) -> NoReturn:
 
 @contextmanager
 def delayed() -> Iterator[None]:
-    """Keeps signals that come in the body of a `with` until it ends, and then lets them raise SystemExit."""
+    """Keeps a signal that comes in the body of a `with`, and raises SystemExit after it. A second signal raises it at once."""
     came: list[int] = []
+
+    def keep(number: int, _frame: object) -> None:
+        came.append(number)
+        end_in_order()
+
     for number in ENDINGS:
-        signal.signal(number, lambda it, _frame: came.append(it))
+        signal.signal(number, keep)
     try:
         yield
     finally:
