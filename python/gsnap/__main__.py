@@ -3,16 +3,12 @@ from __future__ import annotations
 
 import argparse
 import os
-import signal
 import sys
 from pathlib import Path
-from typing import NoReturn
 
 from .data import version
+from .endings import end_in_order, ignore_endings
 from .shell import Shell
-
-# A closed terminal, and a request to end.
-ENDINGS = (signal.SIGHUP, signal.SIGTERM)
 
 # How many lines of history are kept.
 MOST_HISTORY = 1000
@@ -77,17 +73,6 @@ def talk_on(shell: Shell) -> None:
         ignore_endings()
 
 
-def ignore_endings() -> None:
-    for number in ENDINGS:
-        signal.signal(number, signal.SIG_IGN)
-
-
-def end(number: int, _frame: object) -> NoReturn:
-    """Ends the shell in order if its terminal is closed or it is asked to end."""
-    ignore_endings()
-    sys.exit(128 + number)
-
-
 def main() -> int:
     """Runs the shell. The status is 1 if input is no terminal and a line could not be done, 130 after Ctrl-C there, else 0."""
     parser = argparse.ArgumentParser(
@@ -96,8 +81,7 @@ def main() -> int:
     parser.add_argument("file", metavar="FILE", nargs="?", help="a file that is loaded first, as by `load FILE`")
     parser.add_argument("--version", action="version", version=f"gsnap {version()}")
     options = parser.parse_args()
-    for number in ENDINGS:
-        signal.signal(number, end)
+    end_in_order()
     shell = Shell(sys.stdin.isatty() and sys.stdout.isatty())
     try:
         if options.file:

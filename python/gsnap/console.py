@@ -13,6 +13,7 @@ from . import ready
 from .data import version
 from .errors import Closed, Ended, GsnapError, OutOfStep
 from .graph import Graph, Held
+from .loading import WORDS
 from .program import Program
 from .refusals import rows
 from .script_check import LineRefused, command
@@ -235,5 +236,5 @@ class Console(cmd.Cmd):
         elif before == ["run"]:
             found = [str(it) for it in range(1, len(self.programs) + 1)]
         elif before[0] == "load":
-            found = ["both-ways", "names", "one-based", "scale", "weights"]
+            found = sorted([*WORDS, "columns", "scale"])
         return [f"{it} " for it in found if it.startswith(text)]

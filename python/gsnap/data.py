@@ -8,6 +8,7 @@ from __future__ import annotations
 import functools
 import os
 import shutil
+import subprocess
 from pathlib import Path
 
 from .errors import NoProgram
@@ -15,6 +16,8 @@ from .errors import NoProgram
 HERE = Path(__file__).resolve().parent
 COPIES = HERE / "files"
 CLONE = HERE.parent.parent
+# Prints the folder with the program that the launcher of the clone $1 runs.
+LAUNCHED = 'root=$1; source "$root/release/sources"; folder_to_run "$(sum_of_sources gsnap)"'
 SOURCES = (
     "docs/REFUSALS.md",
     "examples/*.program",
@@ -52,9 +55,19 @@ def version() -> str:
     raise ValueError("the file SOURCES does not name the version of gsnap")
 
 
+@functools.lru_cache(maxsize=None)
+def launched() -> Path:
+    """Returns the path of the program that the launcher runs: what was built in the clone of its sources, else the release."""
+    ran = subprocess.run(["/bin/bash", "-c", LAUNCHED, "bash", CLONE], capture_output=True, text=True, check=False)
+    built = Path(ran.stdout.strip(), "gsnap")
+    return built if built.is_absolute() else files()["gsnap"]
+
+
 def own_program() -> Path:
-    """Returns the path of the program gsnap that belongs to the package; NoProgram is raised if it is missing."""
+    """Returns the path of the program gsnap of the clone or of the package; NoProgram is raised if it is missing."""
     path = files().get("gsnap")
+    if path is not None and path.is_relative_to(CLONE / "release"):
+        path = launched()
     if path is None or not os.access(path, os.X_OK):
         raise NoProgram(f"the package has no program gsnap: {path or COPIES / 'gsnap'} is missing or cannot be run")
     return path
@@ -63,8 +76,8 @@ def own_program() -> Path:
 def program() -> Path:
     """Returns the path of the program gsnap to run.
 
-    It is the program that the environment variable GSNAP names, else `gsnap` on the path, else the package's own.
-    NoProgram is raised if GSNAP names a program that does not exist or cannot be run.
+    It is the program that the environment variable GSNAP names, else `gsnap` on the path, else the one that the launcher of the
+    clone runs, or the package's own. NoProgram is raised if GSNAP names a program that does not exist or cannot be run.
     """
     named = os.environ.get("GSNAP")
     found = shutil.which(named or "gsnap")

@@ -6,10 +6,11 @@ import operator
 import re
 import zlib
 from collections.abc import Iterator
-from typing import IO
 
-from .edge_lists import MOST_VERTICES, NATURAL, PIECE, REAL, Edges, Form, blocks, shown, texts
+from .comma_lists import Commas, first_line, is_by_commas
+from .edge_lists import MOST_VERTICES, NATURAL, REAL, Edges, Form, Source, blocks, shown, texts
 from .errors import Mistake
+from .progress import Progress, Reading
 
 BANNER = b"%%matrixmarket"
 INTEGER = rb"[+-]?[0-9]+"
@@ -26,6 +27,7 @@ class Matrix(Edges):
     """The edges of a matrix in coordinates."""
 
     comments = b"%"
+    begins_with_ends = False
 
     def __init__(self, name: str, form: Form, banner: list[bytes]) -> None:
         super().__init__(name, form)
@@ -101,7 +103,7 @@ class Matrix(Edges):
             at = next(i for i in range(0, len(ends), 2) if vertices[i] == vertices[i + 1])
             reason = f"{shown(ends[at])} is row and column of an entry that is skew-symmetric"
             self.fail(reason, self.line + 1 + at // 2)
-        self.ends.extend(vertices if self.numbers is None else self.renamed([it + 1 for it in vertices], self.numbers))
+        self.ends.extend(vertices if self.numbers is None else self.renamed([b"%d" % (it + 1) for it in vertices], self.numbers))
 
     def finish(self) -> int:
         if self.announced is None:
@@ -127,6 +129,7 @@ class Paths(Edges):
 
     comments = b"c"
     source = 1
+    begins_with_ends = False
 
     def __init__(self, name: str, form: Form) -> None:
         super().__init__(name, form)
@@ -176,12 +179,16 @@ def is_of_paths(block: bytes) -> bool:
 def read_edges(name: str, found: Iterator[bytes], form: Form) -> tuple[Edges, int]:
     """Returns the edges in blocks of whole lines, and the number of vertices. `name` is what messages call the file."""
     block = next(found, b"")
+    while not first_line(block)[1] and (more := next(found, b"")):
+        block += more
     words = block.partition(b"\n")[0].split()
     edges: Edges
     if words and words[0].lower() == BANNER:
         edges = Matrix(name, form, words)
     elif is_of_paths(block):
         edges = Paths(name, form)
+    elif is_by_commas(name, block, form):
+        edges = Commas(name, form)
     else:
         edges = Edges(name, form)
     while block:
@@ -190,15 +197,18 @@ def read_edges(name: str, found: Iterator[bytes], form: Form) -> tuple[Edges, in
     return edges, edges.finish()
 
 
-def read_file(path: str, form: Form) -> tuple[Edges, int]:
+def read_file(path: str, form: Form, progress: Progress | None = None) -> tuple[Edges, int]:
     """Returns the edges in a file, or in standard input if the path is `-`, and the number of vertices.
 
-    Raises Mistake if the file cannot be read, or is not in its form; the text names the file, and the line and the word.
+    `progress` shows how much of the file is read. Raises Mistake if the file cannot be read, or is not in its form; the text names the file, and the line and the word.
     """
     is_input = path == "-"
     name = "standard input" if is_input else path
     try:
-        with open(0 if is_input else path, "rb", closefd=not is_input) as source:
+        with open(0 if is_input else path, "rb", closefd=not is_input) as file:
+            source: Source = file
+            if progress:
+                source = Reading(file, progress)
             return read_edges(name, blocks(texts(source)), form)
     except OSError as error:
         raise Mistake(f"{name}: {error.strerror}") from None
@@ -206,58 +216,3 @@ def read_file(path: str, form: Form) -> tuple[Edges, int]:
         raise Mistake(f"{name}: what gzip packed is cut") from None
     except zlib.error:
         raise Mistake(f"{name}: what gzip packed is damaged") from None
-
-
-def rows_of(edges: Edges) -> Iterator[tuple[list[int], list[int] | None]]:
-    """Yields some edges at a time: their ends, source and destination by turns, and their weights, or None if they have none.
-
-    If the edges go both ways, the reversed ones are among them. Of two edges with the same ends the later one counts.
-    """
-    for at in range(0, len(edges.ends), PIECE):
-        ends = edges.ends[at : at + PIECE].tolist()
-        if edges.weights is not None:
-            weights = edges.weights[at // 2 : (at + PIECE) // 2].tolist()
-            yield both_ways(edges, ends, weights) if edges.is_both_ways else (ends, weights)
-        else:
-            yield ends + reversed_ends(ends) if edges.is_both_ways else ends, None
-
-
-def reversed_ends(ends: list[int]) -> list[int]:
-    """Returns the ends of the reversed edges; a self-loop has none."""
-    back: list[int] = []
-    for source, destination in zip(ends[0::2], ends[1::2]):
-        if source != destination:
-            back += (destination, source)
-    return back
-
-
-def both_ways(edges: Edges, ends: list[int], weights: list[int]) -> tuple[list[int], list[int]]:
-    """Returns the ends and weights of edges, each but a self-loop with the reversed one after it."""
-    both: list[int] = []
-    weights_of_both: list[int] = []
-    for source, destination, weight in zip(ends[0::2], ends[1::2], weights):
-        both += (source, destination)
-        weights_of_both.append(weight)
-        if source != destination:
-            both += (destination, source)
-            weights_of_both.append(edges.back(weight))
-    return both, weights_of_both
-
-
-def write_script(out: IO[bytes], edges: Edges, count: int) -> None:
-    """Writes the script that opens a graph with `count` vertices and commits the edges as version 1."""
-    out.write(b"vertices %d\n" % count)
-    for ends, weights in rows_of(edges):
-        if weights is None:
-            out.write(b"add %d %d\n" * (len(ends) // 2) % tuple(ends))
-        else:
-            words = [0] * (3 * len(weights))
-            words[0::3], words[1::3], words[2::3] = ends[0::2], ends[1::2], weights
-            out.write(b"add %d %d %d\n" * len(weights) % tuple(words))
-    out.write(b"commit\n")
-
-
-def write_names(out: IO[bytes], edges: Edges) -> None:
-    """Writes a line for each vertex: its number, and its name."""
-    for name, number in (edges.numbers or {}).items():
-        out.write(b"%d %s\n" % (number, name if isinstance(name, bytes) else b"%d" % name))

@@ -5,17 +5,22 @@ import gzip
 import re
 from array import array
 from collections.abc import Iterator, Sequence
-from dataclasses import dataclass, field
+from dataclasses import dataclass, field, replace
 from typing import IO, Any
 
-from .edge_files import read_file, rows_of
-from .edge_lists import Edges, Form
+from .comma_lists import fields_of, is_by_commas
+from .edge_files import read_file
+from .edge_lists import BYTE_ORDER_MARK, Edges, Form
+from .edge_scripts import columns_of
 from .errors import Mistake
 from .graph import Graph
 from .numbers import Integers, integers_of
 
 # How many bytes are read to see what a file holds.
 LOOK = 1 << 16
+
+# The words that may follow a file with edges, beside `scale N` and `columns A,B`.
+WORDS = ("weights", "names", "one-based", "both-ways", "commas", "spaces")
 
 # A line of a script that adds an edge, and how many of them are taken at a time.
 ADD = re.compile(rb"add ([0-9]{1,7}) ([0-9]{1,7})(?: (-?[0-9]{1,18}))?\n")
@@ -29,76 +34,99 @@ def opened(path: str) -> IO[bytes]:
     return gzip.open(path) if is_packed else open(path, "rb")  # type: ignore[return-value]
 
 
-def first_words(path: str) -> list[bytes]:
-    """Returns the words of the first line of a file that is neither empty nor a comment of an edge list."""
+def first_lines(path: str) -> list[bytes]:
+    """Returns the first lines of a file that are neither empty nor comments of an edge list."""
     try:
         with opened(path) as file:
-            for line in file.read(LOOK).splitlines():
-                if line.split() and (line.startswith(b"%%") or not line.startswith((b"#", b"%"))):
-                    return line.split()
+            lines = file.read(LOOK).removeprefix(BYTE_ORDER_MARK).splitlines()
     except EOFError:
-        pass
-    return []
+        return []
+    return [it for it in lines if it.split() and (it.startswith(b"%%") or not it.startswith(Edges.comments))]
 
 
 def is_script(path: str) -> bool:
     """Says whether a file is a script: its first line is `vertices N`."""
-    return first_words(path)[:1] == [b"vertices"]
+    return b"".join(first_lines(path)[:1]).split()[:1] == [b"vertices"]
+
+
+def taken(rest: list[str], word: str) -> str | None:
+    """Removes a word and the one after it, and returns that, or None if the word is not there."""
+    if word not in rest:
+        return None
+    at = rest.index(word)
+    if at + 1 == len(rest):
+        raise ValueError(f"a word has to follow `{word}`")
+    found = rest[at + 1]
+    del rest[at : at + 2]
+    return found
 
 
 def form_of(path: str, words: Sequence[str], is_named: bool) -> Form:
-    """Returns how a file with edges is read, by the words after its name: weights, scale N, names, one-based, both-ways.
+    """Returns how a file with edges is read, by the words after its name, which `WORDS` lists.
 
     Vertices are names if this is asked for, or `is_named`, or if the first edge of a list has a word that is no number. Raises
     ValueError for another word.
     """
     rest = list(words)
-    scale = 1
-    if "scale" in rest:
-        at = rest.index("scale")
-        if at + 1 == len(rest) or not rest[at + 1].isdecimal() or int(rest[at + 1]) < 1:
-            raise ValueError("a number from 1 on has to follow `scale`")
-        scale = int(rest[at + 1])
-        del rest[at : at + 2]
-    known = {"weights", "names", "one-based", "both-ways"}
+    scale, columns = taken(rest, "scale"), taken(rest, "columns")
+    if scale is not None and (not scale.isdecimal() or int(scale) < 1):
+        raise ValueError("a number from 1 on has to follow `scale`")
     for word in rest:
-        if word not in known:
-            raise ValueError(f"{word!r} is none of weights, scale N, names, one-based and both-ways")
-    names = is_named or "names" in rest or ("one-based" not in rest and begins_with_names(path))
-    return Form(
-        "weights" in rest or scale > 1,
-        scale,
-        names,
-        "one-based" in rest and not names,
-        "both-ways" in rest,
-        f"`load {path} names`",
-        f"`load {path} scale N`",
+        if word not in WORDS:
+            raise ValueError(f"{word!r} is none of {', '.join(WORDS)}")
+    separator = "comma" if "commas" in rest else "space" if "spaces" in rest else ""
+    form = Form(
+        "weights" in rest or int(scale or 1) > 1,
+        int(scale or 1),
+        both_ways="both-ways" in rest,
+        separator=separator,
+        columns=tuple(columns.split(",")) if columns else (),
+        by_names=f"`load {path} names`",
+        by_scale=f"`load {path} scale N`",
+        by_separator=f"`load {path} commas` or `spaces`",
+        by_columns=f"`load {path} columns A,B`",
+        by_removal="`del U V` removes an edge",
     )
+    names = is_named or "names" in rest or ("one-based" not in rest and begins_with_names(path, form))
+    return replace(form, names=names, one_based="one-based" in rest and not names)
 
 
-def begins_with_names(path: str) -> bool:
+def begins_with_names(path: str, form: Form) -> bool:
     """Says whether the first edge in a file is of words that are no numbers."""
-    words = first_words(path)
-    if len(words) < 2 or words[0].lower() == b"%%matrixmarket" or words[0] in (b"c", b"p"):
+    lines = first_lines(path)[:2]
+    words = b"".join(lines[:1]).split()
+    if not words or words[0].lower() == b"%%matrixmarket" or words[0] in (b"c", b"p"):
         return False
-    return not all(word.lstrip(b"+-").isdigit() for word in words[:2])
+    if is_by_commas(path, lines[0], form):
+        heading, *rows = [fields_of(it.decode(errors="replace")) for it in lines]
+        row = (rows or [heading])[0]
+        if set(form.columns) <= set(heading):
+            row = [it for name in form.columns for it in row[heading.index(name) :][:1]] or row
+        return not are_numbers(row)
+    return len(words) > 1 and not are_numbers([it.decode(errors="replace") for it in words])
 
 
-def spelled(name: bytes | int) -> str:
+def are_numbers(words: Sequence[str]) -> bool:
+    """Says whether the first two words are numbers."""
+    return all(word.lstrip("+-").isdigit() for word in words[:2])
+
+
+def spelled(name: bytes) -> str:
     """Returns a name in a file as text."""
-    return name.decode(errors="backslashreplace") if isinstance(name, bytes) else str(name)
+    return name.decode(errors="backslashreplace")
 
 
 def add_edges(graph: Graph, edges: Edges, count: int) -> None:
     """Adds the edges that a file has to the pending batch of a graph; vertices that it does not have come with them."""
-    ends, weights = array("I"), array("q")
-    for some_ends, some_weights in rows_of(edges):
-        ends.extend(some_ends)
-        weights.extend(some_weights or ())
-    columns: list[Any] = [integers_of(ends[0::2]), integers_of(ends[1::2])]
+    sources, destinations, weights = array("q"), array("q"), array("q")
+    for u, v, w in columns_of(edges):
+        sources.extend(u)
+        destinations.extend(v)
+        weights.extend(() if w is None else w)
+    columns: list[Any] = [integers_of(sources), integers_of(destinations)]
     if edges.numbers is not None:
         names = [spelled(it) for it in edges.numbers]
-        columns = [[names[v] for v in ends[at::2]] for at in (0, 1)]
+        columns = [[names[v] for v in column] for column in (sources, destinations)]
     graph.add_edges(columns[0], columns[1], integers_of(weights) if weights else None)
     if edges.numbers is None and count > graph.vertices:
         graph.grow(count)

@@ -74,3 +74,20 @@ def read_table(path: str | os.PathLike[str]) -> dict[int, str]:
                 raise Mistake(f"{os.fspath(path)}:{at}: {line.rstrip()[:60]!r} is no number and a name, as in '0 ann'")
             names[int(number)] = word
     return names
+
+
+def read_numbers(path: str | os.PathLike[str]) -> dict[bytes, int]:
+    """Returns the numbers in a file of names, by name, of which each has one: the first line has 0, the next 1, and so on.
+
+    Raises Mistake for another file, and OSError if it cannot be read.
+    """
+    numbers: dict[bytes, int] = {}
+    with open(path, "rb") as lines:
+        for at, line in enumerate(lines):
+            number, _, word = line.rstrip(b"\n").partition(b" ")
+            if number != b"%d" % at or not word or word in numbers:
+                shown = line.rstrip()[:60].decode(errors="replace")
+                reason = "has a name that an earlier line has" if number == b"%d" % at and word else f"is not {at} and a name"
+                raise Mistake(f"{os.fspath(path)}:{at + 1}: {shown!r} {reason}")
+            numbers[word] = at
+    return numbers

@@ -39,6 +39,67 @@ def numbers_in(text: bytes, count: int) -> Integers:
     return found
 
 
+# Kinds of bytes: a byte of a number, a space, the end of a line, a comma; 0 is any other.
+DIGIT, BLANK, FEED, COMMA = 1, 2, 3, 4
+MOST_DIGITS = 17
+
+
+@functools.cache
+def kinds_of_bytes() -> Any:
+    """Returns the kind of each byte, as an array."""
+    assert numpy is not None
+    kinds = numpy.zeros(256, numpy.uint8)
+    for kind, found in ((DIGIT, b"0123456789-"), (BLANK, b" \t\r\f\v"), (FEED, b"\n"), (COMMA, b",")):
+        kinds[list(found)] = kind
+    return kinds
+
+
+def rows_in(text: bytes, by_comma: bool, is_weighted: bool) -> Any:
+    """Returns the numbers of whole lines as the rows of a NumPy array, or None.
+
+    It is None without NumPy, and if a line has a word that is no number of at most 17 digits, or fewer words than two, or three
+    if edges are weighted, or more words than another line. Only the third number may have a `-`.
+    """
+    if numpy is None:
+        return None
+    kinds = kinds_of_bytes()[numpy.frombuffer(text, numpy.uint8)]
+    is_digit = numpy.zeros(len(text) + 2, bool)
+    numpy.equal(kinds, DIGIT, out=is_digit[1:-1])
+    edges = numpy.flatnonzero(is_digit[1:] != is_digit[:-1])
+    feeds = numpy.flatnonzero(kinds == FEED)
+    width, rest = divmod(len(edges) // 2, len(feeds))
+    if rest or width < 2 + is_weighted or not kinds.all() or (edges[1::2] - edges[0::2]).max() > MOST_DIGITS:
+        return None
+    starts = edges[0::2].reshape(-1, width)
+    if (starts[:, -1] >= feeds).any() or (starts[1:, 0] <= feeds[:-1]).any():
+        return None
+    if not are_parted(starts, numpy.flatnonzero(kinds == COMMA), by_comma) or not are_signed(text, starts, is_weighted):
+        return None
+    return numbers_in(text.replace(b",", b" ") if by_comma else text, starts.size).reshape(-1, width)
+
+
+def are_parted(starts: Any, commas: Any, by_comma: bool) -> bool:
+    """Says whether there is one comma between the numbers of a line, and no other; or none at all, unless `by_comma`."""
+    if not by_comma:
+        return len(commas) == 0
+    if len(commas) != len(starts) * (starts.shape[1] - 1):
+        return False
+    commas = commas.reshape(len(starts), -1)
+    return bool((starts[:, :-1] < commas).all() and (commas < starts[:, 1:]).all())
+
+
+def are_signed(text: bytes, starts: Any, is_weighted: bool) -> bool:
+    """Says whether each `-` is the first byte of a third number, and a digit follows."""
+    assert numpy is not None
+    if b"-" not in text:
+        return True
+    found = numpy.frombuffer(text, numpy.uint8)
+    signs = numpy.flatnonzero(found == ord("-"))
+    if not is_weighted or not numpy.isin(signs, starts[:, 2]).all():
+        return False
+    return bool((kinds_of_bytes()[found[signs + 1]] == DIGIT).all())
+
+
 def integers_of(numbers: Sequence[int]) -> Integers:
     """Returns whole numbers as an array."""
     if numpy is not None:
@@ -65,8 +126,11 @@ def columns_of(lines: list[bytes]) -> tuple[Integers, Integers, Integers]:
 def spelled(word: bytes, columns: Sequence[Any]) -> bytes:
     """Returns the lines of `lines_of` by Python alone."""
     form = word + b" %d" * len(columns) + b"\n"
-    rows = [number for row in zip(*columns) for number in row]
-    return form * (len(rows) // len(columns)) % tuple(rows)
+    count = min(map(len, columns))
+    rows = [0] * (len(columns) * count)
+    for at, column in enumerate(columns):
+        rows[at :: len(columns)] = column[:count]
+    return form * count % tuple(rows)
 
 
 @functools.cache

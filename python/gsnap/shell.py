@@ -147,6 +147,9 @@ class Shell(Console):
           names        vertices are any words; that is so without this word if the first edge has words that are no numbers
           one-based    vertices are numbered from 1
           both-ways    each edge is added reversed too
+          commas       commas separate words; that is so without this word for a file .csv, and if the first line has commas alone
+          spaces       spaces or tabs separate words
+          columns A,B  of a file with commas: the columns with these headings have the sources and the destinations
         """
         path, *more = words.split() or [""]
         if not path:

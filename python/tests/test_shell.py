@@ -259,6 +259,10 @@ def test_names(tmp_path: Path) -> None:
         ("friends.list", "", 4, "4000000000 ann 1;ann bob 1;bob eve 1;eve eve 1"),
         ("friends.list", "weights", 0, "'eve eve' has no weight behind the two vertices"),
         ("capitals.mtx", "names", 4, "1 2 1;2 1 1;2 3 1;3 2 1;4 4 1"),
+        ("heading.csv", "weights", 3, "0 1 7;1 2 9;2 0 -3"),
+        ("heading.csv", "columns to,from", 3, "0 2 1;1 0 1;2 1 1"),
+        ("heading.csv", "columns to,lost", 0, "no column has the heading 'lost'; there are: id, from, to, weight"),
+        ("snap.txt", "commas", 0, "has too few words; an edge needs two vertices, separated by commas"),
     ],
 )
 def test_load_of_edges(tmp_path: Path, name: str, words: str, vertices: int, edges: str) -> None:
@@ -271,6 +275,33 @@ def test_load_of_edges(tmp_path: Path, name: str, words: str, vertices: int, edg
             continue
         assert said[0].startswith(f"version 1: {vertices} vertices"), said
         assert sorted(" ".join(line.split()) for line in said[3:]) == sorted(edges.split(";"))
+
+
+@pytest.mark.parametrize(
+    ("text", "words", "edges"),
+    [
+        ("from,to\nann lee,bob\n", "", ["ann lee bob 1"]),
+        ("ann,bob\n", "", ["ann bob 1"]),
+        ("who,whom\nann,bob\n", "columns who,whom", ["ann bob 1"]),
+        ("at,who,whom\n7,ann,bob\n", "columns whom,who", ["bob ann 1"]),
+        ("from,to\n0,1\n", "", ["0 1 1"]),
+        ("0,1\n1,0\n", "names", ["0 1 1", "1 0 1"]),
+    ],
+)
+def test_load_of_columns(tmp_path: Path, text: str, words: str, edges: list[str]) -> None:
+    (tmp_path / "it.csv").write_text(text)
+    failures, said = done(tmp_path, f"load it.csv {words}", "edges")
+    assert not failures and [" ".join(line.split()) for line in said[3:]] == edges, said
+
+
+def test_load_of_commas_and_spaces(tmp_path: Path) -> None:
+    (tmp_path / "it.txt").write_text("ann lee,bob\n")
+    (tmp_path / "removal.txt").write_text("0 1\n- 0 1\n")
+    wanted = "removal.txt:2: '-' before an edge removes it, and here each line adds one; `del U V` removes an edge"
+    assert done(tmp_path, "load removal.txt") == (1, [wanted])
+    failures, said = done(tmp_path, "load it.txt", "load it.txt spaces", "edges", "close", "load it.txt commas", "edges")
+    assert failures == 1 and "it.txt:1: 'ann lee,bob' may have commas or spaces between its words" in said[0], said
+    assert [" ".join(line.split()) for line in (said[4], said[-1])] == ["ann lee,bob 1", "ann lee bob 1"]
 
 
 def test_load_of_a_script(tmp_path: Path) -> None:
