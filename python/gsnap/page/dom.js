@@ -1,0 +1,81 @@
+// How the page makes its elements. Every text goes through `text`, which no markup can get out of.
+
+const SVG = "http://www.w3.org/2000/svg";
+const MOST_ROWS = 2000;
+
+const text = (node, string) => {
+  node.textContent = String(string);
+  return node;
+};
+
+const byId = (id) => document.getElementById(id);
+
+const filled = (node, attributes, children) => {
+  for (const [name, value] of Object.entries(attributes)) {
+    if (value !== null && value !== undefined) node.setAttribute(name, String(value));
+  }
+  for (const child of children) {
+    if (child === null || child === undefined) continue;
+    node.append(child instanceof Node ? child : text(document.createTextNode(""), child));
+  }
+  return node;
+};
+
+const element = (name, attributes = {}, ...children) => filled(document.createElement(name), attributes, children);
+
+const drawn = (name, attributes = {}, ...children) => filled(document.createElementNS(SVG, name), attributes, children);
+
+const put = (id, ...children) => {
+  const node = byId(id);
+  node.replaceChildren();
+  return filled(node, {}, children);
+};
+
+const hide = (id, isHidden) => {
+  byId(id).hidden = isHidden;
+};
+
+const grouped = (number) => String(number).replace(/\B(?=(\d{3})+(?!\d))/g, ",");
+
+const counted = (number, one, more) => `${grouped(number)} ${number === 1 ? one : more || `${one}s`}`;
+
+// A table of rows, each a list of texts or nodes. Texts that are numbers are aligned to the right.
+const table = (caption, heads, rows) => {
+  const isNumber = heads.map((_, at) => rows.length > 0 && rows.every((row) => /^-?[\d,]*$/.test(String(row[at]))));
+  const cell = (it, at) => element("td", { class: isNumber[at] ? "number" : null }, it);
+  return element(
+    "table",
+    {},
+    element("caption", {}, caption),
+    element("thead", {}, element("tr", {}, ...heads.map((it, at) => element("th", { scope: "col", class: isNumber[at] ? "number" : null }, it)))),
+    element("tbody", {}, ...rows.map((row) => element("tr", {}, ...row.map(cell)))),
+  );
+};
+
+// Puts a table into a `details` that is opened, and takes it away when it is closed. There are never more than MOST_ROWS rows.
+const unfold = (id, make) => {
+  const details = byId(id);
+  const fill = () => {
+    const summary = details.querySelector("summary");
+    details.replaceChildren(summary);
+    if (details.open) details.append(element("div", { class: "scrolled", tabindex: 0 }, make()));
+  };
+  details.addEventListener("toggle", fill);
+  return () => {
+    if (details.open) fill();
+  };
+};
+
+// The rows about the place `at` of a long list, and whether some are left out.
+const windowed = (list, at) => {
+  if (list.length <= MOST_ROWS) return list;
+  const first = Math.max(0, Math.min(list.length - MOST_ROWS, at - MOST_ROWS / 2));
+  return list.slice(first, first + MOST_ROWS);
+};
+
+const choose = (id, options, chosen) => {
+  const select = byId(id);
+  const same = select.options.length === options.length && options.every(([value], at) => select.options[at].value === String(value));
+  if (!same) put(id, ...options.map(([value, label]) => element("option", { value }, label)));
+  select.value = String(chosen);
+};
