@@ -91,8 +91,8 @@ def differing(reply: RunReply, before: RunReply | None) -> int | None:
     """Returns how many entries of vectors differ from those of a run before, of the vertices that both have."""
     if before is None:
         return None
-    pairs = ((it, before.vectors[name]) for name, it in reply.vectors.items() if name in before.vectors)
-    return sum(old != new for new_entries, old_entries in pairs for new, old in zip(new_entries, old_entries))
+    pairs = [zip(it, before.vectors[name]) for name, it in reply.vectors.items() if name in before.vectors]
+    return sum(int(new != old) for it in pairs for new, old in it)
 
 
 def component_sizes(vertices: int, listing: Listing) -> Json:

@@ -1,7 +1,12 @@
 // How the page makes its elements. Every text goes through `text`, which no markup can get out of.
 
 const SVG = "http://www.w3.org/2000/svg";
-const MOST_ROWS = 2000;
+
+// How many rows each of the page's tables has at most, so that all of them together have fewer than 2,000; how many columns the line
+// of versions has, and how many choices a list.
+const MOST_ROWS = 250;
+const MOST_COLUMNS = 2000;
+const MOST_OPTIONS = 2000;
 
 const text = (node, string) => {
   node.textContent = String(string);
@@ -52,7 +57,7 @@ const table = (caption, heads, rows) => {
   );
 };
 
-// Puts a table into a `details` that is opened, and takes it away when it is closed. There are never more than MOST_ROWS rows.
+// Puts a table into a `details` that is opened, and takes it away when it is closed.
 const unfold = (id, make) => {
   const details = byId(id);
   const fill = () => {
@@ -66,11 +71,18 @@ const unfold = (id, make) => {
   };
 };
 
-// The rows about the place `at` of a long list, and whether some are left out.
-const windowed = (list, at) => {
-  if (list.length <= MOST_ROWS) return list;
-  const first = Math.max(0, Math.min(list.length - MOST_ROWS, at - MOST_ROWS / 2));
-  return list.slice(first, first + MOST_ROWS);
+// The part of a long list that is about the place `at`.
+const windowed = (list, at, most) => {
+  const first = Math.max(0, Math.min(list.length - most, at - Math.floor(most / 2)));
+  return list.slice(first, first + most);
+};
+
+// A table of a list, of which only the rows about the place `at` are shown if it is long.
+const tableOf = (caption, heads, list, at, rowOf) => {
+  const shown = windowed(list, at, MOST_ROWS);
+  const rows = table(caption, heads, shown.map(rowOf));
+  if (shown.length === list.length) return rows;
+  return element("div", {}, element("p", { class: "facts" }, `${grouped(shown.length)} of ${grouped(list.length)} rows`), rows);
 };
 
 const choose = (id, options, chosen) => {

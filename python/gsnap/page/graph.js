@@ -1,7 +1,7 @@
 // The drawing of one version: edges that came and went, vertices coloured by a vector, a set outlined; zoom and drag.
 
 const zoom = { scale: 1, x: 0, y: 0 };
-const picture = { places: null, box: null, size: 1, radius: 10, edges: null, svg: null, inner: null };
+const picture = { places: null, box: null, radius: 10, looks: [], version: null, svg: null, inner: null, lines: null, vertices: null };
 
 const radiusFor = (count) => (count <= 20 ? 17 : count <= 60 ? 13 : count <= 150 ? 9 : 6);
 
@@ -16,8 +16,7 @@ const widened = (box) => {
 // Computes the places once, so far apart that circles of the radius do not touch.
 const place = () => {
   const count = data.versions[lastVersion].vertices;
-  picture.edges = allEdges();
-  const [xs, ys] = placed(count, picture.edges);
+  const [xs, ys] = placed(count, allEdges());
   picture.radius = radiusFor(count);
   const unit = picture.radius * (count <= 20 ? 6 : 5);
   picture.places = xs.map((x, at) => ({ x: x * unit, y: ys[at] * unit }));
@@ -95,7 +94,7 @@ const edgeNodes = (look) => {
   return [line, look.label ? drawn("text", { x: path.x, y: path.y + 4, class: `weight ${look.name}` }, look.label) : null];
 };
 
-const vertexNode = (vertex, entries, members) => {
+const vertexNode = (vertex, entries, members, words) => {
   const { x, y } = picture.places[vertex];
   const entry = entries ? entries[vertex] : undefined;
   const colour = entry === undefined ? "var(--unset)" : scaleOf(view.program, view.by, view.scale).colourOf(entry);
@@ -106,7 +105,7 @@ const vertexNode = (vertex, entries, members) => {
   return drawn(
     "g",
     { class: names, "data-vertex": vertex, "data-entry": inside, transform: `translate(${x},${y})` },
-    drawn("title", {}, vertexWords(vertex)),
+    drawn("title", {}, words(vertex)),
     members.has(vertex) ? drawn("circle", { r: picture.radius + 4, class: "outline" }) : null,
     drawn("circle", { r: picture.radius, style: `fill: ${colour}` }),
     fits ? drawn("text", { class: "entry", dy: "0.35em", style: `fill: ${inkOn(colour)}` }, inside) : null,
@@ -114,12 +113,14 @@ const vertexNode = (vertex, entries, members) => {
   );
 };
 
-const vertexWords = (vertex) => {
-  const state = shownState();
-  if (!state) return nameOf(vertex);
-  const entries = [...state.vectors].map(([name, it]) => `${name} ${it[vertex]}`);
-  const sets = [...state.sets].filter(([, it]) => it.includes(vertex)).map(([name]) => `in ${name}`);
-  return [nameOf(vertex), ...entries, ...sets].join(", ");
+// Makes the words that say all of a vertex in a state.
+const vertexWordsOf = (state) => {
+  const vectors = state ? [...state.vectors] : [];
+  const sets = state ? [...state.sets].map(([name, it]) => [name, new Set(it)]) : [];
+  return (vertex) => {
+    const entries = vectors.map(([name, it]) => `${name} ${it[vertex]}`);
+    return [nameOf(vertex), ...entries, ...sets.filter(([, it]) => it.has(vertex)).map(([name]) => `in ${name}`)].join(", ");
+  };
 };
 
 const zoomed = () => `translate(${zoom.x},${zoom.y}) scale(${zoom.scale})`;
@@ -128,7 +129,43 @@ const showZoom = () => {
   if (picture.inner) picture.inner.setAttribute("transform", zoomed());
 };
 
-// Draws anew: the edges of the version, and the vertices as they are after the turn.
+// Makes the drawing without anything in it.
+const prepareDrawing = () => {
+  place();
+  const { left, top, width, height } = picture.box;
+  picture.lines = drawn("g");
+  picture.vertices = drawn("g");
+  picture.inner = drawn("g", { transform: zoomed() }, picture.lines, picture.vertices);
+  picture.svg = drawn(
+    "svg",
+    { viewBox: `${left} ${top} ${width} ${height}`, preserveAspectRatio: "xMidYMid meet", role: "img", tabindex: 0 },
+    drawn("defs", {}, ...["stays", "came", "went", "reweighted"].map(arrow)),
+    picture.inner,
+  );
+  put("drawing", picture.svg);
+};
+
+// Draws the edges of the version and those that went, if they are not drawn already.
+const drawEdges = () => {
+  if (picture.version === view.version) return;
+  picture.version = view.version;
+  picture.looks = edgeLooks();
+  picture.lines.replaceChildren();
+  filled(picture.lines, {}, linesOf(picture.looks).flatMap(edgeNodes));
+};
+
+// Draws the vertices as they are after the turn.
+const drawVertices = () => {
+  const state = shownState();
+  const entries = state ? state.vectors.get(view.by) : null;
+  const members = new Set((state && state.sets.get(view.set)) || []);
+  const words = vertexWordsOf(state);
+  const count = data.versions[view.version].vertices;
+  picture.vertices.replaceChildren();
+  filled(picture.vertices, {}, [...Array(count).keys()].map((it) => vertexNode(it, entries, members, words)));
+  picture.svg.setAttribute("aria-label", graphWords(picture.looks, entries, members));
+};
+
 const drawGraph = () => {
   drawChoices();
   if (!data.drawn) {
@@ -136,22 +173,12 @@ const drawGraph = () => {
     ["graph-tools", "edge-key", "changes-table"].forEach((id) => hide(id, true));
     return;
   }
-  if (!picture.places) place();
-  const looks = edgeLooks();
-  const state = shownState();
-  const entries = state ? state.vectors.get(view.by) : null;
-  const members = new Set((state && state.sets.get(view.set)) || []);
-  const { left, top, width, height } = picture.box;
-  const vertices = [...Array(data.versions[view.version].vertices).keys()];
-  picture.inner = drawn("g", { transform: zoomed() }, ...linesOf(looks).flatMap(edgeNodes), ...vertices.map((it) => vertexNode(it, entries, members)));
-  picture.svg = drawn(
-    "svg",
-    { viewBox: `${left} ${top} ${width} ${height}`, preserveAspectRatio: "xMidYMid meet", role: "img", tabindex: 0, "aria-label": graphWords(looks, entries, members) },
-    drawn("defs", {}, ...["stays", "came", "went", "reweighted"].map(arrow)),
-    picture.inner,
-  );
-  put("drawing", picture.svg);
-  put("edge-key", ...keyWords(["line came", "came"], ["line went", "went"], ["line reweighted", "other weight"], ["line stays", "stays"]), `since version ${Math.max(0, view.version - 1)}`);
+  if (!picture.svg) prepareDrawing();
+  drawEdges();
+  drawVertices();
+  const since = `since version ${Math.max(0, view.version - 1)}`;
+  const key = [["line came", "came"], ["line went", "went"], ["line reweighted", "other weight"], ["line stays", "stays"]];
+  put("edge-key", ...keyWords(...key), since);
 };
 
 const graphWords = (looks, entries, members) => {
@@ -167,8 +194,8 @@ const drawChoices = () => {
   choose("set", [["-", "none"], ...setsOf(view.program).map((it) => [it, it])], view.set || "-");
   byId("scale").value = view.scale;
   const vertices = data.versions[view.version].vertices;
-  hide("vertex-label", vertices > MOST_ROWS);
-  if (vertices <= MOST_ROWS) choose("vertex", [["", "none"], ...[...Array(vertices).keys()].map((it) => [it, nameOf(it)])], view.vertex === null ? "" : view.vertex);
+  hide("vertex-label", vertices > MOST_OPTIONS);
+  if (vertices <= MOST_OPTIONS) choose("vertex", [["", "none"], ...[...Array(vertices).keys()].map((it) => [it, nameOf(it)])], view.vertex === null ? "" : view.vertex);
   const legend = view.by && shownState() ? scaleOf(view.program, view.by, view.scale).legend() : [];
   put("legend", ...legend.flatMap(([colour, label]) => [element("span", { class: "swatch", style: `background: ${colour}` }), `${label} `]));
   hide("legend", legend.length === 0);
@@ -178,8 +205,9 @@ const edgesTable = () => {
   const words = { came: "came", went: "went", reweighted: "other weight", stays: "" };
   const order = ["came", "went", "reweighted", "stays"];
   const looks = edgeLooks().sort((a, b) => order.indexOf(a.name) - order.indexOf(b.name));
-  const rows = looks.slice(0, MOST_ROWS).map((it) => [nameOf(it.u), nameOf(it.v), it.label || "1", words[it.name]]);
-  return table(`Edges of version ${view.version}, and those that went since the version before`, ["from", "to", "weight", "change"], rows);
+  const caption = `Edges of version ${view.version}, and those that went since the version before`;
+  const rowOf = (it) => [nameOf(it.u), nameOf(it.v), it.label || "1", words[it.name]];
+  return tableOf(caption, ["from", "to", "weight", "change"], looks, 0, rowOf);
 };
 
 // Zoom and drag
@@ -214,11 +242,13 @@ const pan = (dx, dy) => {
   showZoom();
 };
 
-// Moves a vertex, in all versions.
+// Moves a vertex, in all versions. What follows at once is drawn together.
 const moveVertex = (vertex, dx, dy) => {
   picture.places[vertex].x += dx;
   picture.places[vertex].y += dy;
-  drawGraph();
+  if (picture.version === null) return;
+  picture.version = null;
+  requestAnimationFrame(drawGraph);
 };
 
 const drag = { vertex: null, last: null, isMoved: false };

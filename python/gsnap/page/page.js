@@ -132,18 +132,24 @@ const listen = () => {
 };
 
 const asked = () =>
-  table(
-    "Runs that the script asks for",
-    ["line", "program", "version", "bound on turns", "workers", "end", "turns"],
-    data.asked.slice(0, MOST_ROWS).map((it) => [it.line, data.programs[it.program - 1].name, versionButton(it.version), it.bound, it.workers, it.end, it.turns]),
-  );
+  tableOf("Runs that the script asks for", ["line", "program", "version", "bound on turns", "workers", "end", "turns"], data.asked, 0, (it) => [
+    it.line,
+    data.programs[it.program - 1].name,
+    versionButton(it.version),
+    it.bound,
+    it.workers,
+    it.end,
+    it.turns,
+  ]);
 
 const refused = () =>
-  table(
-    "Refused lines",
-    ["line", "text", "number", "what it means", "what to do"],
-    data.refused.slice(0, MOST_ROWS).map((it) => [it.line, it.text, it.number, it.means, it.cure]),
-  );
+  tableOf("Refused lines", ["line", "text", "number", "what it means", "what to do"], data.refused, 0, (it) => [
+    it.line,
+    it.text,
+    it.number,
+    it.means,
+    it.cure,
+  ]);
 
 const prepare = () => {
   text(document.querySelector("title"), `${data.title}, gsnap`);

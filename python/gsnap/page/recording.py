@@ -35,7 +35,8 @@ MOST_REFUSED = 1000
 class Line:
     """A line of a script that is due a reply: its number, its words, and what is known of it before it is done.
 
-    `refusal` is the number of the refusal that it is due, or 0. `version` is the one that it makes, holds, lists or runs on.
+    `refusal` is the number of the refusal that it is due, or 0. `version` is the one that it makes, holds, lists or runs on. `edits`
+    are the lines right before it that are due no reply.
     """
 
     at: int
@@ -44,6 +45,7 @@ class Line:
     numbers: list[int]
     refusal: int
     version: int
+    edits: list[bytes] = field(default_factory=list)
 
 
 @dataclass
@@ -112,6 +114,11 @@ class Recording:
         return [found[place] for place in sorted(found)]
 
 
+def joined(lines: list[bytes]) -> bytes:
+    """Returns lines as the text of a script."""
+    return b"".join(it + b"\n" for it in lines)
+
+
 class Outline:
     """What the lines of a script will do: those that are due a reply, and the edits of each version.
 
@@ -124,7 +131,8 @@ class Outline:
         self.vertices: list[int] = []
         self.added: list[int] = []
         self._state = Script(programs)
-        self._pending: list[bytes] = []
+        self._batch: list[bytes] = []
+        self._unsent: list[bytes] = []
         self._adds = 0
         for at, line in enumerate(text.split(b"\n"), 1):
             if line:
@@ -138,7 +146,8 @@ class Outline:
             self._state.edit(at, [int(end) for end in edit.groups() if end])
             self._keep(line)
             return
-        word, numbers, refusal = "", [], 0
+        word, refusal = "", 0
+        numbers: list[int] = []
         try:
             name, numbers = command(line)
             word = name.decode()
@@ -148,12 +157,14 @@ class Outline:
         if word in ("add", "del", "grow") and not refusal:
             self._keep(line)
             return
-        self.lines.append(Line(at, line, word, numbers, refusal, self._version_of(word, numbers, refusal)))
+        self.lines.append(Line(at, line, word, numbers, refusal, self._version_of(word, numbers, refusal), self._unsent))
+        self._unsent = []
         self._note(word, line, refusal)
 
     def _keep(self, line: bytes) -> None:
         """Notes an edit, which is due no reply."""
-        self._pending.append(line)
+        self._batch.append(line)
+        self._unsent.append(line)
         self._adds += line.startswith(b"add")
 
     def _version_of(self, word: str, numbers: list[int], refusal: int) -> int:
@@ -166,10 +177,10 @@ class Outline:
     def _note(self, word: str, line: bytes, refusal: int) -> None:
         """Notes the edits and the size of the version that a line makes."""
         if word == "commit" and refusal:
-            self._pending = []
+            self._batch = []
         elif word in ("vertices", "commit") and not refusal:
-            self.edits.append(b"".join(it + b"\n" for it in [*self._pending, line]))
-            self._pending = []
+            self.edits.append(joined([*self._batch, line]))
+            self._batch = []
             assert self._state.vertices is not None
             self.vertices.append(self._state.vertices)
             self.added.append(self._adds)
@@ -225,19 +236,13 @@ class Recorder:
     def _write(self) -> None:
         """Writes the script that is done: the script's own lines, and behind each version what the recorder asks."""
         bounds, wanted = self._bounds(), self._wanted()
-        version = 0
         for line in self.outline.lines:
+            self._ask(line)
             if line.word in ("vertices", "commit") and not line.refusal:
-                edits = self.outline.edits[version]
-                self._script.append(edits[: edits.rindex(line.text)])
-                self._ask(line)
-                self._ask_of_version(version, bounds, wanted)
-                version += 1
-            else:
-                self._ask(line)
+                self._ask_of_version(line.version, bounds, wanted)
 
     def _ask(self, line: Line) -> None:
-        self._script.append(line.text + b"\n")
+        self._script.append(joined([*line.edits, line.text]))
         self._asked.append(line)
 
     def _ask_of_version(self, version: int, bounds: dict[int, int], wanted: set[tuple[int, int]]) -> None:

@@ -40,9 +40,9 @@ def statement_at(text: str, tokens: Sequence[tuple[int, str]], at: int, starts: 
     if word not in ("while", "for", "if"):
         end = next((offset + 1 for offset, token in tokens[at:] if token == ";"), len(text))
         return Statement(start, end, word)
-    after = tokens[at + 1 :]
-    body = next((offset for offset, token in after if offset in starts or token in ("end", "else")), len(text))
-    return Statement(start, start + len(text[start:body].rstrip()), word, body)
+    body = next(it for it in range(at + 1, len(tokens)) if tokens[it][0] in starts or tokens[it][1] in ("end", "else"))
+    offset, token = tokens[body - 1]
+    return Statement(start, offset + len(token), word, tokens[body][0])
 
 
 def marked(text: str) -> str:

@@ -63,8 +63,10 @@ const drawVertex = () => {
   }
   const name = nameOf(view.vertex);
   const history = hasTurns(run) ? historyOf(run, view.by, view.vertex) : [];
-  const rows = history.slice(-MOST_ROWS).map(([turn, it]) => [turn === 0 ? "before turn 1" : `in turn ${turn}`, it]);
-  put("vertex-facts", `${view.by} of ${name} is ${shownState().vectors.get(view.by)[view.vertex]}.`, rows.length ? table(`When ${view.by} of ${name} changed`, ["turn", view.by], rows) : "");
+  const rowOf = ([turn, it]) => [turn === 0 ? "before turn 1" : `in turn ${turn}`, it];
+  const rows = tableOf(`When ${view.by} of ${name} changed`, ["turn", view.by], history, 0, rowOf);
+  const now = shownState().vectors.get(view.by)[view.vertex];
+  put("vertex-facts", `${view.by} of ${name} is ${now}.`, history.length ? rows : null);
 };
 
 const drawPrinted = (run, state) => {

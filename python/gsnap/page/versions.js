@@ -17,7 +17,7 @@ const factsOf = (version) => {
   return `${line}, ${changeWords(version)}${parts}.`;
 };
 
-const shownVersions = () => windowed(data.versions, view.version);
+const shownVersions = () => windowed(data.versions, view.version, MOST_COLUMNS);
 
 // Where the versions of the line are: a function from a version's number to x, and back.
 const lineScale = (width, versions) => {
@@ -153,17 +153,21 @@ const versionButton = (number) => {
   return button;
 };
 
-const versionsTable = () => {
-  const rows = shownVersions().map((it) => [versionButton(it.number), ...[it.vertices, it.edges, it.added, it.removed, it.reweighted].map(countOrNone), it.components ? grouped(it.components.count) : ""]);
-  return table("Versions", ["version", "vertices", "edges", "added", "removed", "other weight", "components"], rows);
-};
+const versionsTable = () =>
+  tableOf("Versions", ["version", "vertices", "edges", "added", "removed", "other weight", "components"], data.versions, view.version, (it) => [
+    versionButton(it.number),
+    ...[it.vertices, it.edges, it.added, it.removed, it.reweighted, it.components && it.components.count].map(countOrNone),
+  ]);
 
 const countOrNone = (it) => (it === null || it === undefined ? "" : grouped(it));
 
-const ticketsTable = () => {
-  const rows = data.tickets.slice(0, MOST_ROWS).map((it) => [it.ticket, versionButton(it.version), it.first, it.last === null ? "open" : it.last]);
-  return table("Tickets", ["ticket", "holds version", "given at version", "closed at version"], rows);
-};
+const ticketsTable = () =>
+  tableOf("Tickets", ["ticket", "holds version", "given at version", "closed at version"], data.tickets, 0, (it) => [
+    it.ticket,
+    versionButton(it.version),
+    it.first,
+    it.last === null ? "open" : it.last,
+  ]);
 
 // Charts
 
@@ -253,7 +257,8 @@ const chart = (series) => {
 
 const drawCharts = () => put("charts", ...allSeries().map(chart));
 
-const countsTable = () => {
-  const rows = shownVersions().map((it) => [versionButton(it.number), ...allSeries().map((series) => countOrNone(series.values.get(it.number)))]);
-  return table("Counts over the versions", ["version", ...allSeries().map((it) => it.name)], rows);
-};
+const countsTable = () =>
+  tableOf("Counts over the versions", ["version", ...allSeries().map((it) => it.name)], data.versions, view.version, (it) => [
+    versionButton(it.number),
+    ...allSeries().map((series) => countOrNone(series.values.get(it.number))),
+  ]);
