@@ -115,7 +115,13 @@ class Browser:
         code = "const it = document.querySelector(arguments[0]); it.value = arguments[1];"
         self.run(code + " for (const name of ['input', 'change']) it.dispatchEvent(new Event(name, {bubbles: true}));", selector, str(value))
 
+    def click_on(self, selector):
+        """Clicks what is seen in the middle of an element."""
+        self.run("document.querySelector(arguments[0]).scrollIntoView({block: 'center'})", selector)
+        ActionChains(self.driver).move_to_element(self.find(selector)).click().perform()
+
     def drag(self, selector, dx, dy):
+        self.run("document.querySelector(arguments[0]).scrollIntoView({block: 'center'})", selector)
         ActionChains(self.driver).move_to_element(self.find(selector)).click_and_hold().move_by_offset(dx, dy).release().perform()
 
     def click_at(self, selector, part):

@@ -1,6 +1,9 @@
 // The drawing of one version: edges that came and went, vertices coloured by a vector, a set outlined; zoom and drag.
 
 const zoom = { scale: 1, x: 0, y: 0 };
+
+// From this zoom on each vertex has its name beside it, however many there are.
+const NAMES_FROM = 2.5;
 const picture = { places: null, box: null, radius: 10, looks: [], version: null, svg: null, inner: null, lines: null, vertices: null };
 
 const radiusFor = (count) => (count <= 20 ? 17 : count <= 60 ? 13 : count <= 150 ? 9 : 6);
@@ -101,7 +104,7 @@ const vertexNode = (vertex, entries, members, words) => {
   const inside = entry === undefined ? "" : String(entry);
   const fits = picture.radius >= 13 && inside.length <= 4;
   const names = ["vertex", members.has(vertex) ? "member" : "", view.vertex === vertex ? "looked-at" : ""].filter(Boolean).join(" ");
-  const shownName = picture.radius >= 13 || view.vertex === vertex || zoom.scale >= 2.5;
+  const shownName = picture.radius >= 13 || view.vertex === vertex || zoom.scale >= NAMES_FROM;
   return drawn(
     "g",
     { class: names, "data-vertex": vertex, "data-entry": inside, transform: `translate(${x},${y})` },
@@ -171,6 +174,7 @@ const drawGraph = () => {
   if (!data.drawn) {
     put("drawing", element("p", { class: "facts" }, data.whyNotDrawn));
     ["graph-tools", "edge-key", "changes-table"].forEach((id) => hide(id, true));
+    document.querySelector(".pair").classList.add("undrawn");
     return;
   }
   if (!picture.svg) prepareDrawing();
@@ -226,13 +230,13 @@ const zoomBy = (factor, about = centre()) => {
   const ratio = zoom.scale / before;
   zoom.x = about.x - (about.x - zoom.x) * ratio;
   zoom.y = about.y - (about.y - zoom.y) * ratio;
-  const namesChange = before >= 2.5 !== zoom.scale >= 2.5;
-  if (namesChange) drawGraph();
-  else showZoom();
+  showZoom();
+  if (before >= NAMES_FROM !== zoom.scale >= NAMES_FROM) drawGraph();
 };
 
 const fit = () => {
   Object.assign(zoom, { scale: 1, x: 0, y: 0 });
+  showZoom();
   if (data.drawn) drawGraph();
 };
 
@@ -255,6 +259,7 @@ const drag = { vertex: null, last: null, isMoved: false };
 
 const beginDrag = (event) => {
   if (!picture.svg || event.button > 0) return;
+  document.activeElement.blur();
   const node = event.target.closest("[data-vertex]");
   Object.assign(drag, { vertex: node ? Number(node.dataset.vertex) : null, last: pointOf(event), isMoved: false });
 };
@@ -278,6 +283,7 @@ const endDrag = () => {
 const listenToGraph = () => {
   const box = byId("drawing");
   box.addEventListener("pointerdown", beginDrag);
+  box.addEventListener("mousedown", (event) => event.preventDefault());
   window.addEventListener("pointermove", continueDrag);
   window.addEventListener("pointerup", endDrag);
   box.addEventListener(
