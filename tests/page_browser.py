@@ -15,7 +15,14 @@ try:
 except ImportError:
     end_without("there is no module selenium of Debian's python3-selenium")
 
-WORDS = ["--headless=new", "--no-sandbox", "--disable-gpu", "--disable-dev-shm-usage", "--hide-scrollbars", "--window-size=1400,1600"]
+WORDS = [
+    "--headless=new",
+    "--no-sandbox",
+    "--disable-gpu",
+    "--disable-dev-shm-usage",
+    "--hide-scrollbars",
+    "--window-size=1400,1600",
+]
 TICKS = os.sysconf("SC_CLK_TCK")
 
 # Reads all that a page shows.
@@ -23,8 +30,10 @@ READ = """
 const all = (selector, within = document) => [...within.querySelectorAll(selector)];
 const one = (selector) => document.querySelector(selector);
 const said = (selector) => one(selector).textContent;
-const cells = (selector) => all(`${selector} tr`).map((row) => all("th, td", row).map((it) => it.textContent.replace(/ [▲▼]$/, "")));
-const edges = all(".edge").flatMap((it) => [it.dataset.edge, it.dataset.back].filter(Boolean).map((ends) => [ends, it.classList[1]]));
+const cell = (it) => it.textContent.replace(/ [▲▼]$/, "");
+const cells = (selector) => all(`${selector} tr`).map((row) => all("th, td", row).map(cell));
+const ends = (line) => [line.dataset.edge, line.dataset.back].filter(Boolean);
+const edges = all(".edge").flatMap((line) => ends(line).map((it) => [it, line.classList[1]]));
 return {
   title: document.title,
   heading: said("#title"),
@@ -113,7 +122,11 @@ class Browser:
     def choose(self, selector, value):
         """Chooses in a list, or types into a field, as a user does."""
         code = "const it = document.querySelector(arguments[0]); it.value = arguments[1];"
-        self.run(code + " for (const name of ['input', 'change']) it.dispatchEvent(new Event(name, {bubbles: true}));", selector, str(value))
+        self.run(
+            code + " for (const name of ['input', 'change']) it.dispatchEvent(new Event(name, {bubbles: true}));",
+            selector,
+            str(value),
+        )
 
     def click_on(self, selector):
         """Clicks what is seen in the middle of an element."""
@@ -128,7 +141,8 @@ class Browser:
         """Clicks an element at a part of its width from the left."""
         code = (
             "const it = document.querySelector(arguments[0]); const box = it.getBoundingClientRect();"
-            "it.dispatchEvent(new MouseEvent('click', {bubbles: true, clientX: box.left + arguments[1] * box.width, clientY: box.top + 20}))"
+            "const place = {bubbles: true, clientX: box.left + arguments[1] * box.width, clientY: box.top + 20};"
+            "it.dispatchEvent(new MouseEvent('click', place));"
         )
         self.run(code, selector, part)
 

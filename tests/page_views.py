@@ -1,4 +1,5 @@
 """What a page has to show of a version, a program and a turn, by the replies of gsnap, beside what it shows."""
+import functools
 import re
 from collections import Counter
 
@@ -28,6 +29,31 @@ def component_sizes(vertices, edges):
         seen |= reached
         sizes[len(reached)] += 1
     return sizes
+
+
+@functools.cache
+def series(oracle):
+    """Returns each count of an oracle's versions, by version."""
+    versions = range(oracle.versions)
+    found = {
+        "edges": [len(it) for it in oracle.edges],
+        "vertices": [oracle.vertices(it) for it in versions],
+        "components": [sum(component_sizes(oracle.vertices(it), oracle.edges[it]).values()) for it in versions],
+    }
+    for program, name in enumerate(oracle.names, 1):
+        runs = [oracle.run(program, it) for it in versions]
+        if any(it.printed for it in runs):
+            found[f"{name}: last number printed"] = [int(it.printed[-1]) for it in runs]
+        found[f"{name}: turns"] = [it.turns for it in runs]
+        found[f"{name}: entries that differ"] = [None, *map(differing, runs, runs[1:])]
+        for it in runs[-1].sets:
+            found[f"{name}: size of {it}"] = [len(run.sets[it]) for run in runs]
+    return found
+
+
+def differing(former, run):
+    """Returns how many entries of vectors differ between two runs."""
+    return sum(old != new for it in run.vectors for old, new in zip(former.vectors[it], run.vectors[it]))
 
 
 class View:
@@ -67,7 +93,10 @@ class View:
     def rows(self):
         sets = [set(it) for it in self.state.sets.values()]
         head = ["vertex", *self.state.vectors, *self.state.sets]
-        rows = [[self.name(v), *(str(it[v]) for it in self.state.vectors.values()), *("yes" if v in it else "no" for it in sets)] for v in range(min(100, self.count))]
+        rows = [
+            [self.name(v), *(str(it[v]) for it in self.state.vectors.values()), *("yes" if v in it else "no" for it in sets)]
+            for v in range(min(100, self.count))
+        ]
         return [head, *rows]
 
     def greatest(self):
@@ -91,11 +120,17 @@ class View:
         added, removed = self.now.keys() - self.before.keys(), self.before.keys() - self.now.keys()
         other = [it for it in self.now.keys() & self.before.keys() if self.now[it] != self.before[it]]
         words = [counted(self.count, "vertex", "vertices"), counted(len(self.now), "edge")]
-        words += [f"{len(it):,} {name}" for it, name in ((added, "added"), (removed, "removed"), (other, "with another weight")) if it]
+        words += [
+            f"{len(it):,} {name}" for it, name in ((added, "added"), (removed, "removed"), (other, "with another weight")) if it
+        ]
         words.append(counted(sum(component_sizes(self.count, self.now).values()), "component"))
         ended = {"finished": "it finished after", "turns-over": "it ended by its bound after"}[self.run.end]
         end = f"On version {self.version} {ended} {counted(self.run.turns, 'turn')}"
-        return [f"{name}: {shown[name]!r} does not have {it!r}" for name, it in (("facts", ", ".join(words)), ("run", end)) if it not in shown[name]]
+        return [
+            f"{name}: {shown[name]!r} does not have {it!r}"
+            for name, it in (("facts", ", ".join(words)), ("run", end))
+            if it not in shown[name]
+        ]
 
     def wrong_next(self, shown):
         wanted = [self.loop] if self.loop and self.turn < self.run.turns else []
@@ -105,13 +140,21 @@ class View:
         looks, rows = [], []
         for edge in sorted(self.now.keys() | self.before.keys()):
             now, old = self.now.get(edge), self.before.get(edge)
-            look = "went" if now is None else "stays" if not self.version or now == old else "came" if old is None else "reweighted"
+            look = (
+                "went" if now is None else "stays" if not self.version or now == old else "came" if old is None else "reweighted"
+            )
             looks.append([f"{edge[0]} {edge[1]}", look])
             weight = f"{old} → {now}" if look == "reweighted" else str(old if now is None else now)
             change = {"reweighted": "other weight", "stays": ""}.get(look, look)
             rows.append([self.name(edge[0]), self.name(edge[1]), weight, change])
-        found = [] if sorted(shown["edges"]) == sorted(looks) else [f"edges: shown {sorted(shown['edges'])}, wanted {sorted(looks)}"]
-        return found if len(rows) > 250 or sorted(shown["edgeRows"]) == sorted(rows) else [*found, f"edge rows: shown {shown['edgeRows']}, wanted {rows}"]
+        found = (
+            [] if sorted(shown["edges"]) == sorted(looks) else [f"edges: shown {sorted(shown['edges'])}, wanted {sorted(looks)}"]
+        )
+        return (
+            found
+            if len(rows) > 250 or sorted(shown["edgeRows"]) == sorted(rows)
+            else [*found, f"edge rows: shown {shown['edgeRows']}, wanted {rows}"]
+        )
 
     def wrong_vertices(self, shown):
         members = set(self.state.sets.get(shown["chosen"]["set"], []))
@@ -122,7 +165,10 @@ class View:
             wanted = (str(self.entries[v]), v in members, self.colour(shown["legend"], self.entries[v]))
             if (it["entry"], it["isMember"], it["fill"]) != wanted:
                 found.append(f"vertex {v}: shown {it}, wanted {wanted}")
-            if not it["title"].startswith(f"{self.name(v)}, {self.by} {self.entries[v]}") or not set(it["texts"]) <= {self.name(v), str(self.entries[v])}:
+            if not it["title"].startswith(f"{self.name(v)}, {self.by} {self.entries[v]}") or not set(it["texts"]) <= {
+                self.name(v),
+                str(self.entries[v]),
+            }:
                 found.append(f"vertex {v} is called {it['title']!r}, with {it['texts']!r}")
         return found
 
@@ -143,43 +189,31 @@ class View:
     def wrong_legend(self, legend):
         """Says what is wrong with a legend: its bins have to hold each entry of all versions and turns, and to ascend."""
         initial = INITIAL[self.by]
-        entries = {
-            it
-            for version in range(self.oracle.versions)
-            for turn in range(self.oracle.run(self.program, version).turns + 1)
-            for it in self.oracle.state(self.program, version, turn).vectors[self.by]
-        }
+        entries = self.oracle.entries(self.program, self.by)
         bins = [it for it in self.bins(legend)[1:]]
         ends = [end for least, greatest, _ in bins for end in ([least] if least == greatest else [least, greatest])]
         inner = {it for it in entries if it != initial}
-        is_right = legend[0][1] == f"{initial}, as it began" and ends == sorted(set(ends)) and len({it[2] for it in bins}) == len(bins)
+        is_right = (
+            legend[0][1] == f"{initial}, as it began" and ends == sorted(set(ends)) and len({it[2] for it in bins}) == len(bins)
+        )
         is_right = is_right and ends[:1] + ends[-1:] == [min(inner), max(inner)] and set(ends) <= inner
         return [] if is_right else [f"the legend {legend} is not of the entries {sorted(entries)}"]
 
-    def series(self):
-        """Returns each count by version."""
-        versions = range(self.oracle.versions)
-        found = {
-            "edges": [len(it) for it in self.oracle.edges],
-            "vertices": [self.oracle.vertices(it) for it in versions],
-            "components": [sum(component_sizes(self.oracle.vertices(it), self.oracle.edges[it]).values()) for it in versions],
-        }
-        for program, name in enumerate(self.oracle.names, 1):
-            runs = [self.oracle.run(program, it) for it in versions]
-            if any(it.printed for it in runs):
-                found[f"{name}: last number printed"] = [int(it.printed[-1]) for it in runs]
-            found[f"{name}: turns"] = [it.turns for it in runs]
-            pairs = zip(runs, runs[1:])
-            found[f"{name}: entries that differ"] = [None, *(sum(old != new for it in b.vectors for old, new in zip(a.vectors[it], b.vectors[it])) for a, b in pairs)]
-            for it in runs[-1].sets:
-                found[f"{name}: size of {it}"] = [len(run.sets[it]) for run in runs]
-        return found
-
     def wrong_charts(self, shown):
         wanted = []
-        for name, values in self.series().items():
+        for name, values in series(self.oracle).items():
             now = values[self.version]
             others = [at for at in range(self.version) if values[at] not in (now, None)]
-            words = f"{now:,}, and {values[others[-1]]:,} on version {others[-1]}" if others and now is not None else f"{now}, and no other before"
-            wanted.append([name, f"none on version {self.version}" if now is None else words if others else f"{now:,}, and no other before"])
-        return [] if sorted(shown["charts"]) == sorted(wanted) else [f"charts: shown {sorted(shown['charts'])}, wanted {sorted(wanted)}"]
+            words = (
+                f"{now:,}, and {values[others[-1]]:,} on version {others[-1]}"
+                if others and now is not None
+                else f"{now}, and no other before"
+            )
+            wanted.append(
+                [name, f"none on version {self.version}" if now is None else words if others else f"{now:,}, and no other before"]
+            )
+        return (
+            []
+            if sorted(shown["charts"]) == sorted(wanted)
+            else [f"charts: shown {sorted(shown['charts'])}, wanted {sorted(wanted)}"]
+        )

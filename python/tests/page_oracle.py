@@ -1,6 +1,7 @@
-"""What a page has to show: the replies of gsnap itself, on each version by a ticket of its own, and what a page holds, read by Python."""
+"""What a page has to show: gsnap's replies, on each version by its own ticket; and what a page holds, as Python reads it."""
 from __future__ import annotations
 
+import functools
 import json
 import re
 import subprocess
@@ -64,6 +65,13 @@ class Oracle:
         self.read([(program, version, it) for it in range(self.run(program, version).turns)])
         return self._states[program, version, turn]
 
+    @functools.cache
+    def entries(self, program: int, name: str) -> set[int]:
+        """Returns each entry that a vector has in some version and turn."""
+        places = [(version, turn) for version in range(self.versions) for turn in range(self.run(program, version).turns + 1)]
+        self.read([(program, version, turn) for version, turn in places if turn < self.run(program, version).turns])
+        return {it for version, turn in places for it in self.state(program, version, turn).vectors[name]}
+
     def vertices(self, version: int) -> int:
         """Returns how many vertices a version has, by a vector of a run on it."""
         return len(next(iter(self.run(1, version).vectors.values())))
@@ -108,7 +116,7 @@ def state(encoded: dict, before: dict | None) -> dict:
 
 
 def states(values: dict) -> dict[tuple[int, int], list[dict]]:
-    """Returns the states of each run at each turn, by program and version, the end last; a run without turns has its end alone."""
+    """Returns the states of each run at each turn, by program and version, the end last; without turns there is the end alone."""
     found: dict[tuple[int, int], list[dict]] = {}
     before: dict | None = None
     for run in values["runs"]:

@@ -62,19 +62,29 @@ def test_states_and_edges_are_the_replies(seed: int) -> None:
         assert len(row) == oracle.run(program, version).turns + 1
         for turn, state in enumerate(row):
             wanted = oracle.state(program, version, turn)
-            assert state == {"printed": len(wanted.printed), "vectors": wanted.vectors, "sets": wanted.sets}, (program, version, turn)
+            assert state == {"printed": len(wanted.printed), "vectors": wanted.vectors, "sets": wanted.sets}, (
+                program,
+                version,
+                turn,
+            )
 
 
 def test_counts_of_a_run() -> None:
     script = "vertices 4\nadd 0 1\nadd 1 0\ncommit\nadd 1 2\nadd 2 1\ncommit\nrun 1 100 1\n"
     found = values(script, COMPONENTS)
-    assert [(it["version"], it["line"], it["lines"], it["differ"]) for it in found["runs"]] == [(0, 0, ["4"], None), (1, 0, ["3"], 1), (2, 8, ["2"], 1)]
+    assert [(it["version"], it["line"], it["lines"], it["differ"]) for it in found["runs"]] == [
+        (0, 0, ["4"], None),
+        (1, 0, ["3"], 1),
+        (2, 8, ["2"], 1),
+    ]
     assert [it["components"]["count"] for it in found["versions"]] == [4, 3, 2]
     assert found["versions"][2]["components"]["sizes"] == [[3, 1], [1, 1]]
 
 
 def test_tickets_and_refusals() -> None:
-    script = "vertices 3\nhold\nadd 0 1\ncommit\nhold\nadd 0 9\ncommit\nadd 0  2\nrelease 7\nadd 1 2\ncommit\nrelease 1\nrun 2 1 1\n"
+    script = (
+        "vertices 3\nhold\nadd 0 1\ncommit\nhold\nadd 0 9\ncommit\nadd 0  2\nrelease 7\nadd 1 2\ncommit\nrelease 1\nrun 2 1 1\n"
+    )
     found = values(script, DISTANCES)
     assert found["tickets"] == [
         {"ticket": 1, "version": 0, "first": 0, "last": 2},
@@ -103,7 +113,9 @@ def test_great_numbers_are_exact() -> None:
     assert page_oracle.states(found)[1, 1][-1]["vectors"] == oracle.run(1, 1).vectors
 
 
-LOOPS = HEAD + """const x : vector{Vertex}(int) = 0;
+LOOPS = (
+    HEAD
+    + """const x : vector{Vertex}(int) = 0;
 func main()
   for i in 0:2
     print i;
@@ -118,6 +130,7 @@ func main()
   while t < 3 #grow# t += 1; print x[0]; end
 end
 """
+)
 
 
 def test_the_next_statement() -> None:
@@ -126,13 +139,22 @@ def test_the_next_statement() -> None:
     assert words[0] == "for i in 0:2" and words[3] == "while j < i" and words[5] == "if i == 1" and words[7] == "#last# print 7;"
     run = values("vertices 1\n", LOOPS)["runs"][0]
     assert (run["turns"], run["end"]) == (6, "finished")
-    assert [words[it - 1] for it in run["next"]] == ["print i;", "print i;", "j += 1;", "for k in 0:1", "#grow# t += 1;", "#grow# t += 1;"]
+    assert [words[it - 1] for it in run["next"]] == [
+        "print i;",
+        "print i;",
+        "j += 1;",
+        "for k in 0:1",
+        "#grow# t += 1;",
+        "#grow# t += 1;",
+    ]
 
 
 def test_the_next_statement_of_a_run_that_its_bound_ended() -> None:
     run = values("vertices 1\nrun 1 2 1\n", LOOPS)["runs"][0]
     assert (run["turns"], run["end"], len(run["next"])) == (2, "turns-over", 3)
-    run = values("vertices 1\n", HEAD + "const x : vector{Vertex}(int) = 0;\nfunc main() var i : int = 9; while true x[i] = 1; end end\n")["runs"][0]
+    run = values(
+        "vertices 1\n", HEAD + "const x : vector{Vertex}(int) = 0;\nfunc main() var i : int = 9; while true x[i] = 1; end end\n"
+    )["runs"][0]
     assert (run["turns"], run["end"], run["statement"], run["next"]) == (1, "fault", 3, [3])
 
 
@@ -141,7 +163,12 @@ def test_the_marked_text_is_the_same_program(path: Path) -> None:
     text = path.read_text()
     script = "vertices 5\nadd 0 1\nadd 1 0\nadd 1 2\nadd 2 1\nadd 2 3 4\nadd 4 0\ncommit\n"
     plain, with_marks = (page_oracle.replies([*script.splitlines(), "run 1 1000 1"], [it])[-1] for it in (text, marked(text)))
-    assert (plain.vectors, plain.sets, plain.end, plain.turns) == (with_marks.vectors, with_marks.sets, with_marks.end, with_marks.turns)
+    assert (plain.vectors, plain.sets, plain.end, plain.turns) == (
+        with_marks.vectors,
+        with_marks.sets,
+        with_marks.end,
+        with_marks.turns,
+    )
     assert len([it for it in turns.loops_entered(with_marks.printed) if it]) == plain.turns
     assert "".join(piece for piece, _ in pieces_of(text)) == text
 
@@ -164,7 +191,18 @@ def test_no_text_ends_the_data() -> None:
 def test_the_page_has_one_way_for_texts() -> None:
     code = "".join((HERE / name).read_text() for name in SCRIPTS)
     assert code.count("textContent = ") == 1
-    for word in ("innerHTML", "outerHTML", "insertAdjacent", "document.write", "eval(", "Function(", "import(", "fetch(", "http:", "https:"):
+    for word in (
+        "innerHTML",
+        "outerHTML",
+        "insertAdjacent",
+        "document.write",
+        "eval(",
+        "Function(",
+        "import(",
+        "fetch(",
+        "http:",
+        "https:",
+    ):
         assert word not in code.replace("http://www.w3.org/2000/svg", ""), word
 
 

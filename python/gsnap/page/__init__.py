@@ -14,7 +14,8 @@ from .recording import record
 
 # Where the page's own text is, in the order in which it stands in a page.
 HERE = Path(__file__).resolve().parent
-SCRIPTS = ("dom.js", "states.js", "view.js", "colours.js", "layout.js", "versions.js", "graph.js", "turns.js", "entries.js", "page.js")
+PARTS = ("dom", "states", "view", "colours", "layout", "versions", "graph", "turns", "entries", "page")
+SCRIPTS = tuple(f"{it}.js" for it in PARTS)
 
 # How high a page is in a notebook.
 HEIGHT = 900
@@ -45,7 +46,8 @@ def assembled(values: object) -> str:
     """Returns the text of a page with these values of JSON."""
     texts = {name: (HERE / name).read_text(encoding="utf-8") for name in ("page.html", "page.css", *SCRIPTS)}
     data = json.dumps(values, separators=(",", ":")).replace("<", "\\u003c")
-    page, parts = texts["page.html"], {"STYLE": texts["page.css"], "SCRIPT": "".join(texts[name] for name in SCRIPTS), "DATA": data}
+    parts = {"STYLE": texts["page.css"], "SCRIPT": "".join(texts[name] for name in SCRIPTS), "DATA": data}
+    page = texts["page.html"]
     for name, part in parts.items():
         before, mark, after = page.partition(f"<!-- {name} -->")
         assert mark, name

@@ -31,7 +31,7 @@ const entriesOfProgram = (program, vector) => {
   for (const run of data.runs) {
     if (run.program !== program) continue;
     for (const state of [run.state, ...(run.states || [])]) {
-      const [, encoded] = state.vectors.find(([name]) => name === vector) || [null, { all: [] }];
+      const [, encoded] = state.vectors.find(([name]) => name === vector) || [null, {all: []}];
       for (const it of encoded.all || encoded.to) found.add(number(it));
     }
   }
@@ -50,7 +50,7 @@ class Scale {
       const part = entries.slice(Math.floor((at * entries.length) / count), Math.floor(((at + 1) * entries.length) / count));
       const place = count > 1 ? at / (count - 1) : 0;
       const colour = kind === "apart" ? APART[at % APART.length] : between(ORDERED, place);
-      this.bins.push({ least: part[0], greatest: part[part.length - 1], colour });
+      this.bins.push({least: part[0], greatest: part[part.length - 1], colour});
     }
   }
 
@@ -61,7 +61,8 @@ class Scale {
   }
 
   legend() {
-    const rows = this.bins.map((it) => [it.colour, it.least === it.greatest ? String(it.least) : `${it.least} to ${it.greatest}`]);
+    const rows =
+        this.bins.map((it) => [it.colour, it.least === it.greatest ? String(it.least) : `${it.least} to ${it.greatest}`]);
     return this.initial === null ? rows : [[UNSET, `${this.initial}, as it began`], ...rows];
   }
 }

@@ -77,7 +77,10 @@ def set_since(members: Sequence[int], before: Sequence[int] | None) -> Json:
 
 
 def state_since(reply: RunReply, before: RunReply | None) -> Json:
-    """Returns the vectors and sets of a reply, as what changed since another one if that is shorter, and how many lines it printed."""
+    """Returns the vectors and sets of a reply, as what changed since another one if that is shorter.
+
+    It has how many lines were printed, too.
+    """
     vectors: Mapping[str, Any] = before.vectors if before else {}
     sets: Mapping[str, Any] = before.sets if before else {}
     return {
@@ -213,7 +216,7 @@ class Contents:
         return found
 
     def _run(self, run: RecordedRun, former: RunReply | None) -> Json:
-        """Returns a run; its vectors and sets are what changed since the same program's run on an earlier version, if there is one."""
+        """Returns a run; its vectors and sets are what changed since the program's run on an earlier version, if there is one."""
         turns = self._turns.get((run.program, run.version))
         return {
             **self._asked(run),

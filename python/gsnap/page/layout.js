@@ -68,7 +68,8 @@ const middleLength = (pairs, xs, ys) => {
 const placed = (count, edges) => {
   const [xs, ys] = spiral(count);
   const joined = new Map();
-  for (const { u, v } of edges.values()) if (u !== v) joined.set(edgeKey(Math.min(u, v), Math.max(u, v)), [u, v]);
+  for (const {u, v} of edges.values())
+    if (u !== v) joined.set(edgeKey(Math.min(u, v), Math.max(u, v)), [u, v]);
   const pairs = [...joined.values()];
   for (let round = 0; round < ROUNDS; round += 1) {
     const dx = new Float64Array(count);

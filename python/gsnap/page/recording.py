@@ -35,8 +35,8 @@ MOST_REFUSED = 1000
 class Line:
     """A line of a script that is due a reply: its number, its words, and what is known of it before it is done.
 
-    `refusal` is the number of the refusal that it is due, or 0. `version` is the one that it makes, holds, lists or runs on. `edits`
-    are the lines right before it that are due no reply.
+    `refusal` is the number of the refusal that it is due, or 0. `version` is the one that it makes, holds, lists or runs on.
+    `edits` are the lines right before it that are due no reply.
     """
 
     at: int
@@ -328,7 +328,9 @@ class Recorder:
 
     @staticmethod
     def _misfit(line: Line, reply: Reply) -> Mistake:
-        return Mistake(f"`{line.text.decode(errors='replace')[:60]}`, line {line.at} of the script, was answered by {str(reply)[:80]}")
+        return Mistake(
+            f"`{line.text.decode(errors='replace')[:60]}`, line {line.at} of the script, was answered by {str(reply)[:80]}"
+        )
 
 
 def record(text: bytes, programs: Sequence[Program]) -> Recording:

@@ -46,8 +46,9 @@ def statement_at(text: str, tokens: Sequence[tuple[int, str]], at: int, starts: 
 
 
 def marked(text: str) -> str:
-    """Returns a text of the same program that prints the number of a loop whenever a turn enters it, and 0 before each number that
-    the program prints itself.
+    """Returns a text of the same program that prints the number of a loop whenever a turn enters it.
+
+    It prints 0 before each number that the program prints itself.
 
     >>> marked("func main() while true print 7; end end")
     'func main() while true print 1; print 0; print 7; end end'

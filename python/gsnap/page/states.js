@@ -33,23 +33,23 @@ const edgeMaps = new Kept(MOST_KEPT);
 
 const applyChanges = (edges, changes) => {
   for (const [u, v] of changes.removed) edges.delete(edgeKey(u, v));
-  for (const [u, v, weight] of [...changes.added, ...changes.reweighted]) edges.set(edgeKey(u, v), { u, v, weight: number(weight) });
+  for (const [u, v, weight] of [...changes.added, ...changes.reweighted])
+    edges.set(edgeKey(u, v), {u, v, weight: number(weight)});
 };
 
 // The edges of a version by their keys, in a graph that is drawn.
-const edgesAt = (version) =>
-  edgeMaps.get(version, () => {
-    let from = version - 1;
-    while (from >= 0 && !edgeMaps.values.has(from)) from -= 1;
-    const edges = new Map(from >= 0 ? edgeMaps.values.get(from) : []);
-    for (let it = from + 1; it <= version; it += 1) applyChanges(edges, data.versions[it].changes);
-    return edges;
-  });
+const edgesAt = (version) => edgeMaps.get(version, () => {
+  let from = version - 1;
+  while (from >= 0 && !edgeMaps.values.has(from)) from -= 1;
+  const edges = new Map(from >= 0 ? edgeMaps.values.get(from) : []);
+  for (let it = from + 1; it <= version; it += 1) applyChanges(edges, data.versions[it].changes);
+  return edges;
+});
 
 const allEdges = () => {
   const edges = new Map();
   for (const version of data.versions) {
-    for (const [u, v] of version.changes.added) edges.set(edgeKey(u, v), { u, v });
+    for (const [u, v] of version.changes.added) edges.set(edgeKey(u, v), {u, v});
   }
   return edges;
 };
@@ -102,26 +102,26 @@ const ends = new Kept(MOST_KEPT);
 const states = new Kept(MOST_KEPT);
 
 // The state of a run at its end. A long row of runs is gone through from the first that is kept.
-const endOf = (run) =>
-  ends.get(runPlace(run.program, run.version), () => {
-    const row = [run];
-    while (row[0].former && !ends.values.has(runPlace(row[0].former.program, row[0].former.version))) row.unshift(row[0].former);
-    let state = row[0].former ? ends.values.get(runPlace(row[0].former.program, row[0].former.version)) : null;
-    for (const it of row) state = stateSince(it.state, state);
-    return state;
-  });
+const endOf = (run) => ends.get(runPlace(run.program, run.version), () => {
+  const row = [run];
+  while (row[0].former && !ends.values.has(runPlace(row[0].former.program, row[0].former.version))) row.unshift(row[0].former);
+  let state = row[0].former ? ends.values.get(runPlace(row[0].former.program, row[0].former.version)) : null;
+  for (const it of row) state = stateSince(it.state, state);
+  return state;
+});
 
 const hasTurns = (run) => run !== null && run.states !== null;
+
+const turnPlace = (run, turn) => `${runPlace(run.program, run.version)} ${turn}`;
 
 // The state of a run after so many turns.
 const stateAt = (run, turn) => {
   if (!hasTurns(run) || turn >= run.turns) return endOf(run);
-  return states.get(`${runPlace(run.program, run.version)} ${turn}`, () => {
-    let state = null;
-    for (let it = 0; it <= turn; it += 1) {
-      const place = `${runPlace(run.program, run.version)} ${it}`;
-      state = states.values.get(place) || stateSince(run.states[it], state);
-    }
+  return states.get(turnPlace(run, turn), () => {
+    let from = turn - 1;
+    while (from >= 0 && !states.values.has(turnPlace(run, from))) from -= 1;
+    let state = from >= 0 ? states.values.get(turnPlace(run, from)) : null;
+    for (let it = from + 1; it <= turn; it += 1) state = stateSince(run.states[it], state);
     return state;
   });
 };

@@ -13,8 +13,11 @@ const endWords = (run) => {
 
 const runWords = (run) => {
   const asked = run.line ? `asked for by line ${run.line} of the script` : "run for this page";
-  const printed = run.lines.length ? `; it printed ${run.lines.slice(0, 8).join(", ")}${run.lines.length > 8 ? " .." : ""}` : "";
-  const differ = run.differ === null ? "" : ` ${counted(run.differ, "entry differs", "entries differ")} from its run on version ${run.former.version}.`;
+  const printed =
+      run.lines.length ? `; it printed ${run.lines.slice(0, 8).join(", ")}${run.lines.length > 8 ? " .." : ""}` : "";
+  const differ = run.differ === null ?
+      "" :
+      ` ${counted(run.differ, "entry differs", "entries differ")} from its run on version ${run.former.version}.`;
   return `On version ${run.version} it ${endWords(run)}${printed}. It was ${asked}.${differ}`;
 };
 
@@ -40,11 +43,10 @@ const turnWords = (run, turn) => {
   return [begun, sets.length ? `${sets.join(", ")}.` : "", nextWords(run, turn)].filter(Boolean).join(" ");
 };
 
-const textNodes = (pieces, next) =>
-  pieces.map(([piece, number]) => {
-    if (!number) return piece;
-    return number === next ? element("mark", { title: "comes next" }, piece) : element("span", {}, piece);
-  });
+const textNodes = (pieces, next) => pieces.map(([piece, number]) => {
+  if (!number) return piece;
+  return number === next ? element("mark", {title: "comes next"}, piece) : element("span", {}, piece);
+});
 
 // The program's text, of which the statement that comes next is marked, and where it is.
 const drawText = (next) => {
@@ -72,17 +74,21 @@ const drawVertex = () => {
 const drawPrinted = (run, state) => {
   const lines = run.lines.slice(0, state.printed);
   const left = lines.length - MOST_PRINTED;
-  put("printed", lines.length ? lines.slice(-MOST_PRINTED).join("\n") : "nothing", left > 0 ? `\n${left} lines before these` : "");
+  put("printed",
+      lines.length ? lines.slice(-MOST_PRINTED).join("\n") : "nothing",
+      left > 0 ? `\n${left} lines before these` : "");
 };
 
-const noRunWords = () => (data.programs.length ? `There is no run of this program on version ${view.version}.` : "The page was made without a program.");
+const noRunWords = () => (data.programs.length ? `There is no run of this program on version ${view.version}.` :
+                                                 "The page was made without a program.");
 
-const noTurnsWords = (run) => (run.turns ? "The turns of this run were left out; what is shown is its end." : "The run has no turns.");
+const noTurnsWords = (run) =>
+    (run.turns ? "The turns of this run were left out; what is shown is its end." : "The run has no turns.");
 
 const drawSlider = (run, turn) => {
   const last = hasTurns(run) ? run.turns : 0;
   hide("turn-tools", last === 0);
-  Object.assign(byId("turn"), { max: last, value: turn });
+  Object.assign(byId("turn"), {max: last, value: turn});
   byId("turn").setAttribute("aria-valuetext", `turn ${turn} of ${last}`);
   put("turn-count", `turn ${turn} of ${last}`);
   byId("turn-back").disabled = turn === 0;
@@ -116,7 +122,7 @@ const pause = () => {
 
 const stepTurn = (by) => {
   const run = shownRun();
-  if (hasTurns(run)) go({ turn: Math.max(0, shownTurn(run) + by) });
+  if (hasTurns(run)) go({turn: Math.max(0, shownTurn(run) + by)});
 };
 
 // Goes on by a turn at a time, from the first if it is at the last.
@@ -126,7 +132,7 @@ const play = () => {
     pause();
     return;
   }
-  if (shownTurn(run) >= run.turns) go({ turn: 0 });
+  if (shownTurn(run) >= run.turns) go({turn: 0});
   text(byId("play"), "Pause").setAttribute("aria-pressed", "true");
   player = setInterval(() => {
     stepTurn(1);

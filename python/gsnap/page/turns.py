@@ -39,7 +39,8 @@ def with_turns(recording: Recording) -> list[RecordedRun]:
     left_out = len(order) - len(found)
     if left_out:
         recording.notes.append(
-            f"The turns of {left_out:,} runs were left out, since all states together would have more than {MOST_TURN_ENTRIES:,} entries."
+            f"The turns of {left_out:,} runs were left out, since all states together would have more than "
+            f"{MOST_TURN_ENTRIES:,} entries."
         )
     return found
 
@@ -77,12 +78,14 @@ def checked(reply: Reply | None, run: RecordedRun, bound: int) -> RunReply:
     printed = run.reply.printed
     is_state = isinstance(reply, RunReply) and (reply.end, reply.turns) == ("turns-over", bound)
     if not isinstance(reply, RunReply) or not is_state or reply.printed != printed[: len(reply.printed)]:
-        raise Mistake(f"the run of program {run.program} on version {run.version} with {bound} turns was answered by {str(reply)[:80]}")
+        raise Mistake(
+            f"the run of program {run.program} on version {run.version} with {bound} turns was answered by {str(reply)[:80]}"
+        )
     return reply
 
 
 def read_turns(recording: Recording, take: Callable[[RecordedRun, int, RunReply], None]) -> list[Turns]:
-    """Looks at the turns of runs: calls `take` with each run, each bound below the turns that it used, and the state at that turn.
+    """Calls `take` with each run, each bound below the turns that it used, and the state at that turn; returns the turns.
 
     The runs come ascending by version, and in the order of their programs on one version.
     """
@@ -96,7 +99,10 @@ def read_turns(recording: Recording, take: Callable[[RecordedRun, int, RunReply]
             programs.append(program)
             marks[number] = len(programs)
     replies = replies_to(script_of(recording, runs, marks), programs)
-    return list(turns_of(recording, runs, marks, replies, take))
+    turns = list(turns_of(recording, runs, marks, replies, take))
+    if next(replies, None) is not None:
+        raise Mistake("gsnap gave more replies than the runs with each bound are due")
+    return turns
 
 
 def turns_of(

@@ -3,13 +3,13 @@
 const view = {
   version: lastVersion,
   program: data.programs.length ? 1 : 0,
-  turn: null, // null is the end of the run
+  turn: null,  // null is the end of the run
   by: "",
   set: "",
   scale: "order",
   vertex: null,
   filter: "",
-  order: null, // null is the order of the vertices' numbers
+  order: null,  // null is the order of the vertices' numbers
   isDown: false,
   row: 0,
 };
@@ -27,28 +27,32 @@ const shownState = () => {
 
 const runsOfProgram = (program) => data.runs.filter((run) => run.program === program);
 
-const vectorsOf = (program) => [...new Set(runsOfProgram(program).flatMap((run) => run.state.vectors.map(([name]) => name)))];
+const vectorsOf = (program) => defaultsOf(program).vectors;
 
-const setsOf = (program) =>
-  [...new Set(runsOfProgram(program).flatMap((run) => [run.state, ...(run.states || [])].flatMap((it) => it.sets.map(([name]) => name))))];
+const setsOf = (program) => defaultsOf(program).sets;
 
 // The set that is outlined if none is chosen: the first that changes during the last run that has turns.
-const changingSet = (program) => {
+const changingSet = (program, sets) => {
   const run = runsOfProgram(program).filter(hasTurns).reverse().find((it) => it.turns > 0);
   if (!run) return "";
   const changes = (name) => {
     const members = new Set();
-    for (let turn = 0; turn <= Math.min(run.turns, 20); turn += 1) members.add((stateAt(run, turn).sets.get(name) || []).join());
+    for (let turn = 0; turn <= Math.min(run.turns, 20); turn += 1)
+      members.add((stateAt(run, turn).sets.get(name) || []).join());
     return members.size > 1;
   };
-  return setsOf(program).find(changes) || "";
+  return sets.find(changes) || "";
 };
 
 const defaults = new Map();
 
-// The vector and the set that are shown of a program if none is chosen.
+// The vectors and sets of a program, those that are there at some turns alone too; and those that are shown if none is chosen.
 const defaultsOf = (program) => {
-  if (!defaults.has(program)) defaults.set(program, { by: vectorsOf(program)[0] || "", set: changingSet(program) });
+  if (defaults.has(program)) return defaults.get(program);
+  const states = runsOfProgram(program).flatMap((run) => [run.state, ...(run.states || [])]);
+  const vectors = [...new Set(states.flatMap((it) => it.vectors.map(([name]) => name)))];
+  const sets = [...new Set(states.flatMap((it) => it.sets.map(([name]) => name)))];
+  defaults.set(program, {vectors, sets, by: vectors[0] || "", set: changingSet(program, sets)});
   return defaults.get(program);
 };
 
@@ -67,7 +71,7 @@ const settle = () => {
 const linkOf = () => {
   const run = shownRun();
   const usual = defaultsOf(view.program);
-  const words = new URLSearchParams({ version: view.version });
+  const words = new URLSearchParams({version: view.version});
   if (run) words.set("turn", shownTurn(run));
   if (view.program > 1) words.set("program", view.program);
   if (view.by !== usual.by) words.set("by", view.by);
