@@ -212,7 +212,7 @@ def test_the_page_is_small_beside_its_data() -> None:
 
 def test_limits_are_said(monkeypatch: pytest.MonkeyPatch) -> None:
     script = "vertices 4\nadd 0 1\ncommit\nadd 1 2\ncommit\nrun 1 9 1\n"
-    monkeypatch.setattr(turns, "MOST_TURN_ENTRIES", 30)
+    monkeypatch.setattr(turns, "MOST_TURN_ENTRIES", 15)
     found = values(script, DISTANCES)
     assert [it["states"] is None for it in found["runs"]] == [True, True, False]
     assert "The turns of 2 runs were left out" in found["notes"][0]

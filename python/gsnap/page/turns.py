@@ -10,7 +10,7 @@ from ..replies import Committed, Opened, Reply, RunReply
 from .recording import RecordedRun, Recording, replies_to
 from .statements import loops_entered, marked
 
-# How many entries of vectors and sets all states have at most; a run whose states would have more is shown without turns.
+# How many entries of vectors all states have at most; a run whose states would have more is shown without turns.
 MOST_TURN_ENTRIES = 3_000_000
 
 
@@ -23,8 +23,8 @@ class Turns:
 
 
 def entries_of_turns(run: RecordedRun, vertices: int) -> int:
-    """Returns how many entries the states of a run have at most."""
-    return run.reply.turns * vertices * max(1, len(run.reply.vectors) + len(run.reply.sets))
+    """Returns how many entries of vectors the states of a run have before its end."""
+    return run.reply.turns * vertices * max(1, len(run.reply.vectors))
 
 
 def with_turns(recording: Recording) -> list[RecordedRun]:
