@@ -240,8 +240,8 @@ const drawChoices = () => {
         [["", "none"], ...[...Array(vertices).keys()].map((it) => [it, nameOf(it)])],
         view.vertex === null ? "" : view.vertex);
   const legend = view.by && shownState() ? scaleOf(view.program, view.by, view.scale).legend() : [];
-  put("legend", ...legend.flatMap(([colour,
-    label]) => [element("span", {class: "swatch", style: `background: ${colour}`}), `${label} `]));
+  const patch = (colour) => ({class: "swatch", style: `background: ${colour}`});
+  put("legend", ...legend.flatMap(([colour, label]) => [keyWord(patch(colour), label), " "]));
   hide("legend", legend.length === 0);
 };
 

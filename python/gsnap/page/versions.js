@@ -169,7 +169,10 @@ const drawLine = () => {
   });
 };
 
-const keyWords = (...pairs) => pairs.flatMap(([name, label]) => [element("span", {class: `swatch ${name}`}), `${label} `]);
+// A patch of a colour, given by its class or its style, with what it stands for.
+const keyWord = (look, label) => element("span", {class: "key-word"}, element("span", look), label);
+
+const keyWords = (...pairs) => pairs.flatMap(([name, label]) => [keyWord({class: `swatch ${name}`}, label), " "]);
 
 const drawVersions = () => {
   const version = data.versions[view.version];
