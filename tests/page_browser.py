@@ -1,7 +1,6 @@
 """A headless Chromium, and what a page of `python3 -m gsnap page` shows in it."""
 import json
 import os
-import tempfile
 import time
 from pathlib import Path
 
@@ -23,6 +22,7 @@ WORDS = [
     "--hide-scrollbars",
     "--window-size=1400,1600",
 ]
+CHROMIUM, DRIVER = "/usr/bin/chromium", "/usr/bin/chromedriver"
 TICKS = os.sysconf("SC_CLK_TCK")
 
 # Reads all that a page shows.
@@ -76,6 +76,11 @@ return {
 """
 
 
+for path in (CHROMIUM, DRIVER):
+    if not os.access(path, os.X_OK):
+        end_without(f"there is no {path} of Debian's chromium and chromium-driver")
+
+
 class Browser:
     """A headless Chromium. Files that a page saves go to `folder`."""
 
@@ -86,8 +91,8 @@ class Browser:
             options.add_argument(word)
         options.set_capability("goog:loggingPrefs", {"browser": "ALL"})
         options.add_experimental_option("prefs", {"download.default_directory": str(folder)})
-        options.binary_location = "/usr/bin/chromium"
-        self.driver = webdriver.Chrome(service=Service("/usr/bin/chromedriver"), options=options)
+        options.binary_location = CHROMIUM
+        self.driver = webdriver.Chrome(service=Service(DRIVER), options=options)
         self.driver.set_script_timeout(PATIENCE)
 
     def open(self, path, link=""):
@@ -196,8 +201,3 @@ class Browser:
 
     def close(self):
         self.driver.quit()
-
-
-def opened():
-    """Returns a browser with a folder of its own."""
-    return Browser(tempfile.mkdtemp(prefix="gsnap-page-"))

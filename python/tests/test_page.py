@@ -216,6 +216,10 @@ def test_limits_are_said(monkeypatch: pytest.MonkeyPatch) -> None:
     found = values(script, DISTANCES)
     assert [it["states"] is None for it in found["runs"]] == [True, True, False]
     assert "The turns of 2 runs were left out" in found["notes"][0]
+    monkeypatch.setattr(turns, "MOST_TURN_ENTRIES", 10_000)
+    monkeypatch.setattr(turns, "MOST_TURNS_RUN", 3)
+    assert [it["states"] is None for it in values(script, DISTANCES)["runs"]] == [True, False, True]
+    monkeypatch.setattr(turns, "MOST_TURNS_RUN", 10_000)
     monkeypatch.setattr(recording, "MOST_ADDED_ENTRIES", 5)
     found = values(script, DISTANCES)
     assert [it["version"] for it in found["runs"]] == [1, 2] and found["notes"][0].startswith("1 runs that the script does not")
@@ -223,6 +227,11 @@ def test_limits_are_said(monkeypatch: pytest.MonkeyPatch) -> None:
     found = values(script, DISTANCES)
     assert [it["edges"] for it in found["versions"]] == [None, None, 2] and not found["drawn"]
     assert "edges of the newest version are counted alone" in "".join(found["notes"])
+
+
+def test_a_run_of_a_million_turns_has_no_states() -> None:
+    run = values("vertices 1\n", HEAD + "func main() while true end end\n")["runs"][0]
+    assert (run["turns"], run["states"]) == (1_000_000, None)
 
 
 def test_more_than_300_vertices_are_not_drawn() -> None:

@@ -10,8 +10,10 @@ from ..replies import Committed, Opened, Reply, RunReply
 from .recording import RecordedRun, Recording, replies_to
 from .statements import loops_entered, marked
 
-# How many entries of vectors all states have at most; a run whose states would have more is shown without turns.
+# How many entries of vectors all states have at most, and how many turns all runs with each bound take together; a run with which
+# there would be more is shown without turns.
 MOST_TURN_ENTRIES = 3_000_000
+MOST_TURNS_RUN = 4_000_000
 
 
 @dataclass
@@ -30,17 +32,18 @@ def entries_of_turns(run: RecordedRun, vertices: int) -> int:
 def with_turns(recording: Recording) -> list[RecordedRun]:
     """Returns the runs whose turns are looked at: first those that the script asks for, of them the newest versions first."""
     order = sorted(recording.main_runs(), key=lambda it: (it.line == 0, -it.version, it.program))
-    found, entries = [], 0
+    found, entries, turns = [], 0, 0
     for it in order:
-        more = entries_of_turns(it, recording.versions[it.version].vertices)
-        if entries + more <= MOST_TURN_ENTRIES:
-            entries += more
+        more_entries = entries_of_turns(it, recording.versions[it.version].vertices)
+        more_turns = it.reply.turns * (it.reply.turns + 1) // 2
+        if entries + more_entries <= MOST_TURN_ENTRIES and turns + more_turns <= MOST_TURNS_RUN:
+            entries, turns = entries + more_entries, turns + more_turns
             found.append(it)
     left_out = len(order) - len(found)
     if left_out:
         recording.notes.append(
-            f"The turns of {left_out:,} runs were left out, since all states together would have more than "
-            f"{MOST_TURN_ENTRIES:,} entries."
+            f"The turns of {left_out:,} runs were left out: all states together would have more than {MOST_TURN_ENTRIES:,} "
+            f"entries, or runs with each bound would take more than {MOST_TURNS_RUN:,} turns."
         )
     return found
 
