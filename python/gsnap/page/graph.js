@@ -22,6 +22,9 @@ const picture = {
 
 const radiusFor = (count) => (count <= 20 ? 17 : count <= 60 ? 13 : count <= 150 ? 9 : 6);
 
+// If there are more lines, those that stay are thin, and their weights are in the table alone.
+const MOST_STRONG_LINES = 400;
+
 const LEAST_BOX = {
   width: 480,
   height: 340
@@ -186,8 +189,11 @@ const drawEdges = () => {
   if (picture.version === view.version) return;
   picture.version = view.version;
   picture.looks = edgeLooks();
+  const lines = linesOf(picture.looks);
+  const isStaying = (it) => it.name === "stays";
   picture.lines.replaceChildren();
-  filled(picture.lines, {}, linesOf(picture.looks).flatMap(edgeNodes));
+  picture.lines.setAttribute("class", lines.length > MOST_STRONG_LINES ? "crowded" : "");
+  filled(picture.lines, {}, [...lines.filter(isStaying), ...lines.filter((it) => !isStaying(it))].flatMap(edgeNodes));
 };
 
 // Draws the vertices as they are after the turn.

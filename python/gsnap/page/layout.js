@@ -58,13 +58,27 @@ const moved = (xs, ys, dx, dy, most) => {
   }
 };
 
+const middleOf = (lengths) => lengths.sort((a, b) => a - b)[lengths.length >> 1];
+
 // The length in the middle of the lengths of all edges.
-const middleLength = (pairs, xs, ys) => {
-  const lengths = pairs.map(([a, b]) => Math.hypot(xs[a] - xs[b], ys[a] - ys[b])).sort((a, b) => a - b);
-  return lengths.length ? lengths[lengths.length >> 1] : 1;
+const middleLength = (pairs, xs, ys) =>
+    pairs.length ? middleOf(pairs.map(([a, b]) => Math.hypot(xs[a] - xs[b], ys[a] - ys[b]))) : 1;
+
+// How far the nearest other vertex is from a vertex in the middle.
+const middleNearest = (xs, ys) => {
+  const nearest = new Float64Array(xs.length).fill(Infinity);
+  for (let a = 0; a < xs.length; a += 1) {
+    for (let b = a + 1; b < xs.length; b += 1) {
+      const length = Math.hypot(xs[a] - xs[b], ys[a] - ys[b]);
+      nearest[a] = Math.min(nearest[a], length);
+      nearest[b] = Math.min(nearest[b], length);
+    }
+  }
+  return middleOf(nearest);
 };
 
-// The place of each vertex, as lists of x and y, by a unit that half of the edges are not longer than.
+// The place of each vertex, as lists of x and y, by a unit that half of the edges are not longer than. In a graph with many edges
+// the unit is twice as long as it is far to the nearest vertex.
 const placed = (count, edges) => {
   const [xs, ys] = spiral(count);
   const joined = new Map();
@@ -78,6 +92,6 @@ const placed = (count, edges) => {
     pullTogether(pairs, xs, ys, dx, dy);
     moved(xs, ys, dx, dy, 0.6 * (1 - round / ROUNDS) + 0.01);
   }
-  const unit = middleLength(pairs, xs, ys);
+  const unit = Math.min(middleLength(pairs, xs, ys), 2 * middleNearest(xs, ys));
   return [Array.from(xs, (it) => it / unit), Array.from(ys, (it) => it / unit)];
 };
