@@ -23,6 +23,8 @@ from gsnap import data
 
 HERE = Path(__file__).resolve().parent
 TAG = "py3-none-linux_x86_64"
+# The package's own files: its modules, and the parts of the page.
+OWN_FILES = ("*.py", "py.typed", "page/*.py", "page/*.html", "page/*.css", "page/*.js")
 # The modules of a source archive that are no part of the package.
 OWN = ("pyproject.toml", "build_backend.py")
 OLDEST = (1980, 1, 1, 0, 0, 0)
@@ -30,8 +32,8 @@ OLDEST = (1980, 1, 1, 0, 0, 0)
 
 def package_files() -> list[tuple[Path, str, int]]:
     """Returns each file of the package: its path, its place below the folder of packages, and its mode."""
-    modules = [*sorted((HERE / "gsnap").glob("*.py")), HERE / "gsnap" / "py.typed"]
-    found = [(path, f"gsnap/{path.name}", 0o644) for path in modules]
+    own = [path for pattern in OWN_FILES for path in sorted((HERE / "gsnap").glob(pattern))]
+    found = [(path, f"gsnap/{path.relative_to(HERE / 'gsnap')}", 0o644) for path in own]
     for name, path in data.files().items():
         found.append((path, f"gsnap/files/{name}", 0o755 if name == "gsnap" else 0o644))
     return found

@@ -1,4 +1,4 @@
-"""The command `python3 -m gsnap`: the shell."""
+"""The command `python3 -m gsnap`: the shell, and `python3 -m gsnap page`, which writes a page."""
 from __future__ import annotations
 
 import argparse
@@ -8,6 +8,7 @@ from pathlib import Path
 
 from .data import version
 from .endings import end_in_order, ignore_endings
+from .page.command import write_page
 from .shell import Shell
 
 # How many lines of history are kept.
@@ -15,7 +16,9 @@ MOST_HISTORY = 1000
 
 ABOUT = """\
 A shell for a graph with versions: edits and questions, line by line. `help` lists the words. On a terminal there are a
-history and completion by the tab key, and Ctrl-C ends a run, not the graph."""
+history and completion by the tab key, and Ctrl-C ends a run, not the graph.
+
+`python3 -m gsnap page SCRIPT PROGRAM ..` writes a page of a script's versions; its --help says more."""
 
 
 def history_path() -> Path:
@@ -74,6 +77,17 @@ def talk_on(shell: Shell) -> None:
 
 
 def main() -> int:
+    """Writes a page if the first word is `page`, else runs the shell."""
+    if sys.argv[1:2] != ["page"]:
+        return run_shell()
+    end_in_order()
+    try:
+        return write_page(sys.argv[2:])
+    except KeyboardInterrupt:
+        return 130
+
+
+def run_shell() -> int:
     """Runs the shell. The status is 1 if input is no terminal and a line could not be done, 130 after Ctrl-C there, else 0."""
     parser = argparse.ArgumentParser(
         prog="python3 -m gsnap", description=ABOUT, formatter_class=argparse.RawDescriptionHelpFormatter

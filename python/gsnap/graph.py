@@ -8,7 +8,7 @@ from collections.abc import Hashable, Iterable, Iterator, Sequence, Sized
 from contextlib import contextmanager
 from itertools import islice
 from types import TracebackType
-from typing import Any, Union
+from typing import TYPE_CHECKING, Any, Union
 
 from . import checks
 from .counts import Counts
@@ -20,6 +20,9 @@ from .program import Program
 from .ready import Ready
 from .run import Run
 from .session import Session
+
+if TYPE_CHECKING:
+    from .page import Page
 
 # What a run takes for a program: one that is compiled, one of the ready ones, or a text or a path.
 AnyProgram = Union[Program, Ready, str, "os.PathLike[str]"]
@@ -365,7 +368,30 @@ class Graph:
         with self._lock:
             self._counts = [it for it in self._counts if it is not counts]
 
-    # To other libraries, and to a file
+    # To a page, to other libraries, and to a file
+
+    def page(self, *programs: AnyProgram, out: str | os.PathLike[str] | None = None) -> Page:
+        """Makes a page of all versions and of runs of the programs on each of them; `out` is the path of a file to write it to.
+
+        A notebook shows the page; `save(path)` writes it, one HTML file that a browser opens without a network.
+
+        >>> from gsnap import components
+        >>> with Graph(3) as graph:
+        ...     graph.add_edges_from([(0, 1), (1, 0)])
+        ...     graph.commit()
+        ...     graph.page(components())
+        1
+        <gsnap.Page: 2 versions, 2 runs, 5 states of turns>
+        """
+        from .page import make_page
+
+        with self._lock:
+            given = [self._program(it) for it in programs]
+            names = {} if self._names is None else {number: str(it) for number, it in enumerate(self._names.first(len(self._names)))}
+            found = make_page(self._session.script(), given, "Graph", names)
+        if out is not None:
+            found.save(out)
+        return found
 
     def to_networkx(self, held: Held | None = None) -> Any:
         """Returns a networkx.DiGraph of the newest version, or of one that is held; each edge has its `weight`.

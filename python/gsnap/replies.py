@@ -134,9 +134,9 @@ def take_vector(run: RunReply, line: bytes, read: ReadNumbers, only: frozenset[s
 def belongs(last: Reply | None, line: bytes, read: ReadNumbers) -> bool:
     """Adds a line to the reply that it continues, and says whether there is one."""
     if isinstance(last, Listed) and len(last.edges) < last.count:
-        source, destination, *weight = list_of(line)
-        last.edges.append((source, destination))
-        last.weights.append(weight[0] if weight else 1)
+        source, destination, *weight = line.split()
+        last.edges.append((int(source), int(destination)))
+        last.weights.append(int(weight[0]) if weight else 1)
         return True
     return isinstance(last, RunReply) and take_vector(last, line, read)
 

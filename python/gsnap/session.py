@@ -260,6 +260,11 @@ class Session:
             self._want(len(entries) == vertices, line, f"{vertices} entries of {name}", f"{len(entries)} entries")
         return reply
 
+    def script(self) -> bytes:
+        """Returns the lines of the script so far."""
+        self.want_open()
+        return b"".join(self._journal.pieces())
+
     def kept(self) -> list[Kept]:
         """Returns the versions that are kept, ascending: those that a ticket holds, and the newest."""
         by_version: dict[int, Kept] = {}

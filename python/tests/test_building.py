@@ -20,13 +20,14 @@ PACKAGE = Path(__file__).resolve().parents[1]
 CLONE = PACKAGE.parent
 PYTHONS = sorted({"/usr/bin/python3", shutil.which("python3") or "/usr/bin/python3"})
 USE = """
-import importlib.metadata, gsnap, gsnap.data
+import importlib.metadata, gsnap, gsnap.data, gsnap.page
 with gsnap.Graph(3) as graph:
     graph.add_edge(0, 2)
     print(graph.commit(), list(map(int, graph.run(gsnap.distances(0)).distance)))
 print(gsnap.data.program())
 print(gsnap.__file__)
 print(importlib.metadata.version("gsnap"))
+print(len(gsnap.page.make_page(b"vertices 2\\n", [], "test", {}).html) > 10000)
 """
 
 
@@ -60,7 +61,7 @@ def test_pip_installs_it_and_takes_it_back(python: str, tmp_path: Path) -> None:
     assert (place / "files/gsnap").read_bytes() == (CLONE / "release/gsnap").read_bytes()
     assert (place / "files/REFUSALS.md").read_bytes() == (CLONE / "docs/REFUSALS.md").read_bytes()
     assert {it.name for it in place.glob("*.py")} == {it.name for it in (PACKAGE / "gsnap").glob("*.py")} and (place / "py.typed").exists()
-    assert said[3] == data.version()
+    assert said[3:] == [data.version(), "True"]
     run(tmp_path, *pip, "uninstall", "-y", "gsnap")
     assert not place.exists()
 
@@ -71,7 +72,7 @@ def test_pip_installs_it_where_it_is(tmp_path: Path) -> None:
     pip = ("/usr/bin/python3", "-m", "pip", "--python", inside)
     run(tmp_path, *pip, "install", "--no-build-isolation", "--editable", PACKAGE)
     said = run(tmp_path, inside, "-c", USE).splitlines()
-    assert said == ["1 [0, -1, 1]", str(CLONE / "release/gsnap"), str(PACKAGE / "gsnap/__init__.py"), data.version()]
+    assert said == ["1 [0, -1, 1]", str(CLONE / "release/gsnap"), str(PACKAGE / "gsnap/__init__.py"), data.version(), "True"]
 
 
 def test_wheel(tmp_path: Path) -> None:
