@@ -72,7 +72,7 @@ def test_pip_installs_it_where_it_is(tmp_path: Path) -> None:
     pip = ("/usr/bin/python3", "-m", "pip", "--python", inside)
     run(tmp_path, *pip, "install", "--no-build-isolation", "--editable", PACKAGE)
     said = run(tmp_path, inside, "-c", USE).splitlines()
-    assert said == ["1 [0, -1, 1]", str(CLONE / "release/gsnap"), str(PACKAGE / "gsnap/__init__.py"), data.version(), "True"]
+    assert said == ["1 [0, -1, 1]", str(data.launched()), str(PACKAGE / "gsnap/__init__.py"), data.version(), "True"]
 
 
 def test_wheel(tmp_path: Path) -> None:
