@@ -7,7 +7,7 @@ use Rattle.std.specs.List.{All, fold}
 use Rattle.std.specs.List.Sorted.{IsPermutation}
 use Rattle.edge_lists.specs.Edge.{Edge}
 use Rattle.apply_options.specs.declared.reduction.Reduction.{Reduction}
-use Rattle.typed_tree.specs.StepTree.{StepsTree}
+use Rattle.typed_tree.specs.FunctionStatementTree.{FunctionStatementsTree}
 use Rattle.algorithm_meaning.specs.declared.contribution.Contribution.{Contribution}
 use Rattle.algorithm_meaning.specs.declared.state.SetBinding.{SetBinding}
 use Rattle.algorithm_meaning.specs.Arithmetic.{reduced}
@@ -67,7 +67,7 @@ after_given u cs vectors vector v true e h =
     ap (λ (x : ℕ). entry (with_given x cs vectors) vector v) (same_number u v e) ∙ given_here v cs vectors vector h
 after_given u cs vectors vector v false e h = given_elsewhere u cs vectors vector v e
 
-pub entry_after_edges : (functions : List StepsTree) (sets : List SetBinding) (before : List (List ℤ)) (edges : List Edge) (vectors : List (List ℤ)) (vector v : ℕ)
+pub entry_after_edges : (functions : List FunctionStatementsTree) (sets : List SetBinding) (before : List (List ℤ)) (edges : List Edge) (vectors : List (List ℤ)) (vector v : ℕ)
     → v < length (slice_index_or vectors vector [])
     → entry (after_edges functions sets before edges vectors) vector v ≡ reduced_all (entry vectors vector v) (given_to vector v functions sets before edges)
 entry_after_edges functions sets before [] vectors vector v h = refl
@@ -81,7 +81,7 @@ entry_after_edges functions sets before (edge ∷ edges) vectors vector v h =
     ∙ ap (λ (n : ℤ). reduced_all n more) (after_given edge.1 given vectors vector v (edge.1 == v) refl h)
     ∙ sym (reduced_all-append (entry vectors vector v) here more)
 
-length_after_edges : (functions : List StepsTree) (sets : List SetBinding) (before : List (List ℤ)) (edges : List Edge) (vectors : List (List ℤ)) (vector : ℕ)
+length_after_edges : (functions : List FunctionStatementsTree) (sets : List SetBinding) (before : List (List ℤ)) (edges : List Edge) (vectors : List (List ℤ)) (vector : ℕ)
     → length (slice_index_or (after_edges functions sets before edges vectors) vector []) ≡ length (slice_index_or vectors vector [])
 length_after_edges functions sets before [] vectors vector = refl
 length_after_edges functions sets before (edge ∷ edges) vectors vector =
@@ -89,21 +89,21 @@ length_after_edges functions sets before (edge ∷ edges) vectors vector =
     ∙ length_after_given edge.1 (all_give functions sets before edge) vectors vector
 
 -- where there is no such entry, it reads as 0 after an apply as well
-entry_outside : (functions : List StepsTree) (sets : List SetBinding) (before : List (List ℤ)) (edges : List Edge) (vectors : List (List ℤ)) (vector v : ℕ)
+entry_outside : (functions : List FunctionStatementsTree) (sets : List SetBinding) (before : List (List ℤ)) (edges : List Edge) (vectors : List (List ℤ)) (vector v : ℕ)
     → length (slice_index_or vectors vector []) ≤ v → entry (after_edges functions sets before edges vectors) vector v ≡ pos 0
 entry_outside functions sets before edges vectors vector v h =
     let long = length_after_edges functions sets before edges vectors vector in
     get_or_past (slice_index_or (after_edges functions sets before edges vectors) vector []) v (pos 0) (omega (arith, long, h))
 
 -- what an edge gives a vertex for one vector
-abbrev edge_gives : (vector v : ℕ) → List StepsTree → List SetBinding → (before : List (List ℤ)) → Edge → List Contribution
+abbrev edge_gives : (vector v : ℕ) → List FunctionStatementsTree → List SetBinding → (before : List (List ℤ)) → Edge → List Contribution
 edge_gives vector v functions sets before edge = cond (edge.1 == v) (for_vector vector (all_give functions sets before edge)) []
 
 -- a number reduced with what an edge gives
-abbrev reduced_by_edge : (vector v : ℕ) → List StepsTree → List SetBinding → (before : List (List ℤ)) → ℤ → Edge → ℤ
+abbrev reduced_by_edge : (vector v : ℕ) → List FunctionStatementsTree → List SetBinding → (before : List (List ℤ)) → ℤ → Edge → ℤ
 reduced_by_edge vector v functions sets before n edge = reduced_all n (edge_gives vector v functions sets before edge)
 
-edge_by_edge : (vector v : ℕ) (functions : List StepsTree) (sets : List SetBinding) (before : List (List ℤ)) (edges : List Edge) (n : ℤ)
+edge_by_edge : (vector v : ℕ) (functions : List FunctionStatementsTree) (sets : List SetBinding) (before : List (List ℤ)) (edges : List Edge) (n : ℤ)
     → reduced_all n (given_to vector v functions sets before edges) ≡ fold (reduced_by_edge vector v functions sets before) n edges
 edge_by_edge vector v functions sets before [] n = refl
 edge_by_edge vector v functions sets before (edge ∷ edges) n =
@@ -114,14 +114,14 @@ all_or_none : (r : Reduction) (b : Bool) (cs : List Contribution) → All (λ c.
 all_or_none r true cs h = h
 all_or_none r false cs h = All-nil (λ (c : Contribution). c.reduction ≡ r)
 
-edges_commute : (r : Reduction) (vector v : ℕ) (functions : List StepsTree) (sets : List SetBinding) (before : List (List ℤ)) → IsGivenBy r vector functions sets before
+edges_commute : (r : Reduction) (vector v : ℕ) (functions : List FunctionStatementsTree) (sets : List SetBinding) (before : List (List ℤ)) → IsGivenBy r vector functions sets before
     → Commutes (reduced_by_edge vector v functions sets before)
 edges_commute r vector v functions sets before by_one n first second =
     lists_swapped r n (edge_gives vector v functions sets before first) (edge_gives vector v functions sets before second)
     (all_or_none r (first.1 == v) (for_vector vector (all_give functions sets before first)) (by_one first))
     (all_or_none r (second.1 == v) (for_vector vector (all_give functions sets before second)) (by_one second))
 
-either_order : (r : Reduction) (functions : List StepsTree) (sets : List SetBinding) (before : List (List ℤ)) (edges others : List Edge) (vectors : List (List ℤ)) (vector v : ℕ) (b : Bool)
+either_order : (r : Reduction) (functions : List FunctionStatementsTree) (sets : List SetBinding) (before : List (List ℤ)) (edges others : List Edge) (vectors : List (List ℤ)) (vector v : ℕ) (b : Bool)
     → nat_lt v (length (slice_index_or vectors vector [])) ≡ b → IsGivenBy r vector functions sets before → IsPermutation edges others
     → entry (after_edges functions sets before edges vectors) vector v ≡ entry (after_edges functions sets before others vectors) vector v
 either_order r functions sets before edges others vectors vector v true is by_one same =
@@ -137,7 +137,7 @@ either_order r functions sets before edges others vectors vector v false is by_o
     let outside : length (slice_index_or vectors vector []) ≤ v = grind (arith, nat_tests) in
     entry_outside functions sets before edges vectors vector v outside ∙ sym (entry_outside functions sets before others vectors vector v outside)
 
-pub entry_in_any_order : (r : Reduction) (functions : List StepsTree) (sets : List SetBinding) (before : List (List ℤ)) (edges others : List Edge) (vectors : List (List ℤ)) (vector v : ℕ)
+pub entry_in_any_order : (r : Reduction) (functions : List FunctionStatementsTree) (sets : List SetBinding) (before : List (List ℤ)) (edges others : List Edge) (vectors : List (List ℤ)) (vector v : ℕ)
     → IsGivenBy r vector functions sets before → IsPermutation edges others
     → entry (after_edges functions sets before edges vectors) vector v ≡ entry (after_edges functions sets before others vectors) vector v
 entry_in_any_order r functions sets before edges others vectors vector v by_one same =

@@ -1,7 +1,7 @@
 -- Vertex applies leave other vertices alone.
 use Rattle.std.proofs.Common.{◌≡◌, ℕ, ◌==◌, ℤ, Bool, true, false, cond, ◌||◌, List, [], ◌∷◌, ap, sym, ◌∙◌, refl}
 use Rattle.std.proofs.lemmas.Bool.{false≢true}
-use Rattle.typed_tree.specs.StepTree.{StepTree, DeclareInteger, DeclareCondition, SetInteger, SetCondition, ReduceInteger, SetEntry, ReduceEntry, If, IfElse, StepsTree, NoStep, StepThen}
+use Rattle.typed_tree.specs.FunctionStatementTree.{FunctionStatementTree, DeclareInteger, DeclareCondition, SetInteger, SetCondition, ReduceInteger, SetEntry, ReduceEntry, If, IfElse, FunctionStatementsTree, NoStep, StepThen}
 use Rattle.algorithm_meaning.specs.declared.contribution.Writing.TheVariants.{AtOnce}
 use Rattle.algorithm_meaning.specs.declared.state.SetBinding.{SetBinding}
 use Rattle.algorithm_meaning.specs.Arithmetic.{reduced}
@@ -18,7 +18,7 @@ either_source false x y u h k = k
 
 mutual
   -- the vertex stays
-  source_after_step : (sets : List SetBinding) (step : StepTree) (w : WorkValue) → (after_step AtOnce sets step w).scope.source ≡ w.scope.source
+  source_after_step : (sets : List SetBinding) (step : FunctionStatementTree) (w : WorkValue) → (after_step AtOnce sets step w).scope.source ≡ w.scope.source
   source_after_step sets (DeclareInteger name e) w = refl
   source_after_step sets (DeclareCondition name c) w = refl
   source_after_step sets (SetInteger slot e) w = refl
@@ -31,7 +31,7 @@ mutual
   source_after_step sets (IfElse c body other) w =
       either_source (truth w.vectors sets w.scope c) (after_block w (after_steps AtOnce sets body w)) (after_block w (after_steps AtOnce sets other w)) w.scope.source (source_after_steps sets body w) (source_after_steps sets other w)
 
-  source_after_steps : (sets : List SetBinding) (steps : StepsTree) (w : WorkValue) → (after_steps AtOnce sets steps w).scope.source ≡ w.scope.source
+  source_after_steps : (sets : List SetBinding) (steps : FunctionStatementsTree) (w : WorkValue) → (after_steps AtOnce sets steps w).scope.source ≡ w.scope.source
   source_after_steps sets NoStep w = refl
   source_after_steps sets (StepThen step rest) w = source_after_steps sets rest (after_step AtOnce sets step w) ∙ source_after_step sets step w
 
@@ -41,7 +41,7 @@ either_entry false x y vector v n h k = k
 
 mutual
   -- the entries of other vertices stay
-  entry_after_step : (sets : List SetBinding) (step : StepTree) (w : WorkValue) (vector v : ℕ) → (w.scope.source == v) ≡ false
+  entry_after_step : (sets : List SetBinding) (step : FunctionStatementTree) (w : WorkValue) (vector v : ℕ) → (w.scope.source == v) ≡ false
       → entry (after_step AtOnce sets step w).vectors vector v ≡ entry w.vectors vector v
   entry_after_step sets (DeclareInteger name e) w vector v apart = refl
   entry_after_step sets (DeclareCondition name c) w vector v apart = refl
@@ -57,7 +57,7 @@ mutual
   entry_after_step sets (IfElse c body other) w vector v apart =
       either_entry (truth w.vectors sets w.scope c) (after_block w (after_steps AtOnce sets body w)) (after_block w (after_steps AtOnce sets other w)) vector v (entry w.vectors vector v) (entry_after_steps sets body w vector v apart) (entry_after_steps sets other w vector v apart)
 
-  entry_after_steps : (sets : List SetBinding) (steps : StepsTree) (w : WorkValue) (vector v : ℕ) → (w.scope.source == v) ≡ false
+  entry_after_steps : (sets : List SetBinding) (steps : FunctionStatementsTree) (w : WorkValue) (vector v : ℕ) → (w.scope.source == v) ≡ false
       → entry (after_steps AtOnce sets steps w).vectors vector v ≡ entry w.vectors vector v
   entry_after_steps sets NoStep w vector v apart = refl
   entry_after_steps sets (StepThen step rest) w vector v apart =
@@ -72,7 +72,7 @@ neither_second : (a b : Bool) → a || b ≡ false → b ≡ false
 neither_second true b h = absurd (false≢true (sym h))
 neither_second false b h = h
 
-pub entry_after_vertices : (steps : StepsTree) (sets : List SetBinding) (vertices : List ℕ) (vectors : List (List ℤ)) (vector v : ℕ) → is_member v vertices ≡ false
+pub entry_after_vertices : (steps : FunctionStatementsTree) (sets : List SetBinding) (vertices : List ℕ) (vectors : List (List ℤ)) (vector v : ℕ) → is_member v vertices ≡ false
     → entry (after_vertices steps sets vertices vectors) vector v ≡ entry vectors vector v
 entry_after_vertices steps sets [] vectors vector v h = refl
 entry_after_vertices steps sets (u ∷ us) vectors vector v h =

@@ -5,7 +5,7 @@ use Rattle.edge_lists.specs.Edge.{Edge}
 use Rattle.typed_tree.specs.declared.statement.ApplyEnds.{ApplyEnds}
 use Rattle.typed_tree.specs.declared.statement.VertexFilter.{VertexFilter}
 use Rattle.typed_tree.specs.declared.statement.VertexFilter.TheVariants as end
-use Rattle.typed_tree.specs.StepTree.{StepsTree, FunctionTree}
+use Rattle.typed_tree.specs.FunctionStatementTree.{FunctionStatementsTree, FunctionTree}
 use Rattle.algorithm_meaning.specs.declared.contribution.Contribution.{Contribution}
 use Rattle.algorithm_meaning.specs.declared.contribution.Writing.TheVariants.{Collected}
 use Rattle.algorithm_meaning.specs.declared.state.SetBinding.{SetBinding}
@@ -34,11 +34,11 @@ abbrev pub matching : List FunctionTree → GraphValue → StateValue → ApplyE
 matching filters g s ends = filter (λ e. is_end filters g s ends.from e.0 && is_end filters g s ends.to e.1) g.edges
 
 -- what an edge function gives the destination of an edge; it reads these vectors only
-abbrev pub gives : StepsTree → List SetBinding → List (List ℤ) → Edge → List Contribution
+abbrev pub gives : FunctionStatementsTree → List SetBinding → List (List ℤ) → Edge → List Contribution
 gives steps sets before edge = (after_steps Collected sets steps (first_work before (edge_scope edge))).given
 
 -- what several functions give
-abbrev pub all_give : List StepsTree → List SetBinding → List (List ℤ) → Edge → List Contribution
+abbrev pub all_give : List FunctionStatementsTree → List SetBinding → List (List ℤ) → Edge → List Contribution
 all_give [] sets before edge = []
 all_give (steps ∷ more) sets before edge = gives steps sets before edge ++ all_give more sets before edge
 
@@ -48,7 +48,7 @@ with_given v [] vectors = vectors
 with_given v (c ∷ cs) vectors = with_given v cs (reduce_at vectors c.vector v c.reduction c.number)
 
 -- the vectors after these edges; the functions read the vectors before the apply
-abbrev pub after_edges : List StepsTree → List SetBinding → (before : List (List ℤ)) → List Edge → List (List ℤ) → List (List ℤ)
+abbrev pub after_edges : List FunctionStatementsTree → List SetBinding → (before : List (List ℤ)) → List Edge → List (List ℤ) → List (List ℤ)
 after_edges functions sets before [] vectors = vectors
 after_edges functions sets before (edge ∷ edges) vectors =
     after_edges functions sets before edges (with_given edge.1 (all_give functions sets before edge) vectors)

@@ -1,14 +1,14 @@
 -- Filters, and the statement `filter`.
 use Rattle.std.specs.Prelude.{ℕ, ℤ, Bool, false, List, slice_get, slice_index_or}
 use Rattle.std.specs.List.{filter}
-use Rattle.typed_tree.specs.StepTree.{StepsTree, FunctionTree}
+use Rattle.typed_tree.specs.FunctionStatementTree.{FunctionStatementsTree, FunctionTree}
 use Rattle.algorithm_meaning.specs.declared.contribution.Writing.TheVariants.{Collected}
 use Rattle.algorithm_meaning.specs.declared.state.SetBinding.{SetBinding}
 use Rattle.algorithm_meaning.specs.State.{filter_scope}
 use Rattle.algorithm_meaning.specs.Function.{first_work, after_steps, steps_of}
 
 -- the result of a filter at a vertex, which begins as false
-abbrev pub result_of : StepsTree → List SetBinding → List (List ℤ) → ℕ → Bool
+abbrev pub result_of : FunctionStatementsTree → List SetBinding → List (List ℤ) → ℕ → Bool
 result_of steps sets vectors v = slice_index_or (after_steps Collected sets steps (first_work vectors (filter_scope v))).scope.conditions 0 false
 
 -- whether the filter at an index lets a vertex through

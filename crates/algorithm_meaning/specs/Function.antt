@@ -1,7 +1,7 @@
 -- Statements of functions. One definition does for all functions: what a statement writes changes the vectors at once in a vertex function, and is collected in an edge function, which reads the vectors as they were.
 use Rattle.std.specs.Prelude.{ℕ, ℤ, List, [], ◌∷◌, ◌++◌, if◌then◌else◌, Option, Some, None}
 use Rattle.apply_options.specs.declared.reduction.Reduction.{Reduction}
-use Rattle.typed_tree.specs.StepTree.{StepTree, DeclareInteger, DeclareCondition, SetInteger, SetCondition, ReduceInteger, SetEntry, ReduceEntry, If, IfElse, StepsTree, NoStep, StepThen, FunctionTree}
+use Rattle.typed_tree.specs.FunctionStatementTree.{FunctionStatementTree, DeclareInteger, DeclareCondition, SetInteger, SetCondition, ReduceInteger, SetEntry, ReduceEntry, If, IfElse, FunctionStatementsTree, NoStep, StepThen, FunctionTree}
 use Rattle.algorithm_meaning.specs.declared.contribution.Contribution.{Contribution}
 use Rattle.algorithm_meaning.specs.declared.contribution.Writing.{Writing}
 use Rattle.algorithm_meaning.specs.declared.contribution.Writing.TheVariants as writing
@@ -37,7 +37,7 @@ after_block old w = record w { scope = forget_new old.scope w.scope }
 
 abbrev mutual
   -- after a statement; the sets are those of main
-  pub after_step : Writing → List SetBinding → StepTree → WorkValue → WorkValue
+  pub after_step : Writing → List SetBinding → FunctionStatementTree → WorkValue → WorkValue
   after_step writing sets (DeclareInteger name e) w = record w { scope = new_integer w.scope (value w.vectors sets w.scope e) }
   after_step writing sets (DeclareCondition name c) w = record w { scope = new_condition w.scope (truth w.vectors sets w.scope c) }
   after_step writing sets (SetInteger slot e) w = record w { scope = set_integer w.scope slot.index (value w.vectors sets w.scope e) }
@@ -52,11 +52,11 @@ abbrev mutual
       if truth w.vectors sets w.scope c then after_block w (after_steps writing sets body w) else after_block w (after_steps writing sets other w)
 
   -- after statements, in order
-  pub after_steps : Writing → List SetBinding → StepsTree → WorkValue → WorkValue
+  pub after_steps : Writing → List SetBinding → FunctionStatementsTree → WorkValue → WorkValue
   after_steps writing sets NoStep w = w
   after_steps writing sets (StepThen step rest) w = after_steps writing sets rest (after_step writing sets step w)
 
 -- the statements of a function, none where there is no function
-abbrev pub steps_of : Option FunctionTree → StepsTree
+abbrev pub steps_of : Option FunctionTree → FunctionStatementsTree
 steps_of None = NoStep
 steps_of (Some f) = f.steps

@@ -5,7 +5,7 @@ use Rattle.std.specs.List.{All}
 use Rattle.edge_lists.specs.Edge.{Edge}
 use Rattle.apply_options.specs.declared.reduction.Reduction.{Reduction}
 use Rattle.apply_options.specs.declared.reduction.Reduction.TheVariants as reduction
-use Rattle.typed_tree.specs.StepTree.{StepsTree}
+use Rattle.typed_tree.specs.FunctionStatementTree.{FunctionStatementsTree}
 use Rattle.algorithm_meaning.specs.declared.contribution.Contribution.{Contribution}
 use Rattle.algorithm_meaning.specs.declared.state.SetBinding.{SetBinding}
 use Rattle.algorithm_meaning.specs.Arithmetic.{reduced}
@@ -36,12 +36,12 @@ for_vector vector [] = []
 for_vector vector (c ∷ cs) = if c.vector == vector then c ∷ for_vector vector cs else for_vector vector cs
 
 -- for this vector the functions give numbers by one reduction alone, on any edge
-abbrev pub IsGivenBy : Reduction → (vector : ℕ) → List StepsTree → List SetBinding → (before : List (List ℤ)) → Type 0
+abbrev pub IsGivenBy : Reduction → (vector : ℕ) → List FunctionStatementsTree → List SetBinding → (before : List (List ℤ)) → Type 0
 IsGivenBy r vector functions sets before =
     (edge : Edge) → All (λ c. c.reduction ≡ r) (for_vector vector (all_give functions sets before edge))
 
 -- what these edges give a vertex for one vector
-abbrev pub given_to : (vector v : ℕ) → List StepsTree → List SetBinding → (before : List (List ℤ)) → List Edge → List Contribution
+abbrev pub given_to : (vector v : ℕ) → List FunctionStatementsTree → List SetBinding → (before : List (List ℤ)) → List Edge → List Contribution
 given_to vector v functions sets before [] = []
 given_to vector v functions sets before (edge ∷ edges) =
     (if edge.1 == v then for_vector vector (all_give functions sets before edge) else [])

@@ -1,7 +1,7 @@
 -- Blocks that are left, and loops.
 use Rattle.std.specs.Prelude.{ℕ, zero, suc, ℤ, pos, ◌+ℤ◌, int_lt, Bool, take, length, Option, Some, None}
-use Rattle.typed_tree.specs.IntegerTree.{IntegerTree}
-use Rattle.typed_tree.specs.ConditionTree.{ConditionTree}
+use Rattle.typed_tree.specs.IntExpressionTree.{IntExpressionTree}
+use Rattle.typed_tree.specs.BoolExpressionTree.{BoolExpressionTree}
 use Rattle.algorithm_meaning.specs.declared.outcome.End.TheVariants.{TurnsOver}
 use Rattle.algorithm_meaning.specs.declared.state.LoopCounter.{LoopCounter}
 use Rattle.algorithm_meaning.specs.declared.state.Depth.{Depth}
@@ -47,13 +47,13 @@ loop test body next number (suc k) a s =
     choose b (take_turn s.turns s (λ t. then_do (body a t) (loop test body next number k (next a)))) (Live s))
 
 -- `while`: its test is evaluated anew before each turn
-abbrev pub while_test : ℕ → ConditionTree → ℕ → StateValue → Option Bool
+abbrev pub while_test : ℕ → BoolExpressionTree → ℕ → StateValue → Option Bool
 while_test vertices c n s = choice_in vertices c s
 
 abbrev pub while_body : (StateValue → Stand) → ℕ → StateValue → Stand
 while_body block n s = inside block s
 
-abbrev pub after_while : (vertices number : ℕ) → ConditionTree → (StateValue → Stand) → StateValue → Stand
+abbrev pub after_while : (vertices number : ℕ) → BoolExpressionTree → (StateValue → Stand) → StateValue → Stand
 after_while vertices number c block s = loop (while_test vertices c) (while_body block) (λ (n : ℕ). n) number s.turns 0 s
 
 -- the two bounds of `for`, both read once
@@ -62,7 +62,7 @@ both_bounds None end = None
 both_bounds (Some a) None = None
 both_bounds (Some a) (Some b) = Some (record { next = a; end = b })
 
-abbrev pub bounds_in : ℕ → (first end : IntegerTree) → StateValue → Option LoopCounter
+abbrev pub bounds_in : ℕ → (first end : IntExpressionTree) → StateValue → Option LoopCounter
 bounds_in vertices first end s = both_bounds (number_in vertices first s) (number_in vertices end s)
 
 abbrev pub for_test : LoopCounter → StateValue → Option Bool

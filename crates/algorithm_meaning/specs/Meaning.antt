@@ -3,7 +3,7 @@ use Rattle.std.specs.Prelude.{ℕ, suc, ℤ, pos, if◌then◌else◌, ◌==◌,
 use Rattle.edge_lists.specs.Edge.{Edge}
 use Rattle.typed_tree.specs.declared.program.InitialValue.{InitialValue}
 use Rattle.typed_tree.specs.declared.program.InitialValue.TheVariants as beginning
-use Rattle.typed_tree.specs.BlockTree.{ActionTree, DeclareInteger, DeclareCondition, SetInteger, SetCondition, ReduceInteger, SetEntry, ReduceEntry, DeclareSet, AssignSet, AddVertex, PrintInteger, PrintCondition, ApplyVertex, ApplyEdges, If, IfElse, While, For, BlockTree, Empty, Then}
+use Rattle.typed_tree.specs.BlockTree.{StatementKindTree, DeclareInteger, DeclareCondition, SetInteger, SetCondition, ReduceInteger, SetEntry, ReduceEntry, DeclareSet, AssignSet, AddVertex, PrintInteger, PrintCondition, ApplyVertex, ApplyEdges, If, IfElse, While, For, BlockTree, Empty, Then}
 use Rattle.typed_tree.specs.ProgramTree.{ProgramTree}
 use Rattle.algorithm_meaning.specs.declared.state.SetBinding.{SetBinding}
 use Rattle.algorithm_meaning.specs.Arithmetic.{wrapped}
@@ -19,7 +19,7 @@ use Rattle.algorithm_meaning.specs.Loop.{inside, after_while, after_for, bounds_
 
 abbrev mutual
   -- what the statement of this number does
-  pub after : ProgramTree → GraphValue → ℕ → ActionTree → StateValue → Stand
+  pub after : ProgramTree → GraphValue → ℕ → StatementKindTree → StateValue → Stand
   after p g number (DeclareInteger name e) s = after_declare_integer g.vertices number e s
   after p g number (DeclareCondition name c) s = after_declare_condition g.vertices number c s
   after p g number (SetInteger slot e) s = after_set_integer g.vertices number slot.index e s

@@ -1,7 +1,7 @@
 -- Where a run stands, and how it goes on.
 use Rattle.std.specs.Prelude.{ℕ, ℤ, pos, negsuc, nat_lt, Bool, true, false, if◌then◌else◌, Option, Some, None, option_and_then}
-use Rattle.typed_tree.specs.IntegerTree.{IntegerTree}
-use Rattle.typed_tree.specs.ConditionTree.{ConditionTree}
+use Rattle.typed_tree.specs.IntExpressionTree.{IntExpressionTree}
+use Rattle.typed_tree.specs.BoolExpressionTree.{BoolExpressionTree}
 use Rattle.algorithm_meaning.specs.declared.outcome.End.{End}
 use Rattle.algorithm_meaning.specs.declared.outcome.End.TheVariants.{Fault}
 use Rattle.algorithm_meaning.specs.State.{StateValue}
@@ -23,15 +23,15 @@ vertex_number vertices (pos n) = if nat_lt n vertices then Some n else None
 vertex_number vertices (negsuc n) = None
 
 -- the value of a number in main, none where an index in it is no vertex
-abbrev pub number_in : ℕ → IntegerTree → StateValue → Option ℤ
+abbrev pub number_in : ℕ → IntExpressionTree → StateValue → Option ℤ
 number_in vertices e s = if stays_inside vertices s.vectors s.sets s.scope e then Some (value s.vectors s.sets s.scope e) else None
 
 -- the vertex that an index in main is, none where it or an index in it is no vertex
-abbrev pub vertex_in : ℕ → IntegerTree → StateValue → Option ℕ
+abbrev pub vertex_in : ℕ → IntExpressionTree → StateValue → Option ℕ
 vertex_in vertices index s = option_and_then (vertex_number vertices) (number_in vertices index s)
 
 -- a truth value, in the same way
-abbrev pub choice_in : ℕ → ConditionTree → StateValue → Option Bool
+abbrev pub choice_in : ℕ → BoolExpressionTree → StateValue → Option Bool
 choice_in vertices c s = if condition_stays_inside vertices s.vectors s.sets s.scope c then Some (truth s.vectors s.sets s.scope c) else None
 
 -- goes on with a value; where there is none the run ends by a fault of this statement, and nothing is changed

@@ -4,10 +4,10 @@ use Rattle.std.specs.Int.{cast_signed, w64}
 use Rattle.apply_options.specs.declared.reduction.Reduction.{Reduction}
 use Rattle.typed_tree.specs.declared.expression.Endpoint.{Endpoint}
 use Rattle.typed_tree.specs.declared.expression.Endpoint.TheVariants as endpoint
-use Rattle.typed_tree.specs.IntegerTree as integer
-use Rattle.typed_tree.specs.IntegerTree.{IntegerTree}
-use Rattle.typed_tree.specs.ConditionTree as condition
-use Rattle.typed_tree.specs.ConditionTree.{ConditionTree}
+use Rattle.typed_tree.specs.IntExpressionTree as integer
+use Rattle.typed_tree.specs.IntExpressionTree.{IntExpressionTree}
+use Rattle.typed_tree.specs.BoolExpressionTree as condition
+use Rattle.typed_tree.specs.BoolExpressionTree.{BoolExpressionTree}
 use Rattle.algorithm_meaning.specs.Arithmetic.{negative, arithmetic, compared, connected, reduced}
 use Rattle.algorithm_meaning.specs.declared.state.SetBinding.{SetBinding}
 use Rattle.algorithm_meaning.specs.State.{ScopeValue}
@@ -45,7 +45,7 @@ is_vertex vertices (pos n) = nat_lt n vertices
 is_vertex vertices (negsuc n) = false
 
 -- the value of an expression of type int; the size of a set counts as an int
-abbrev pub value : List (List ℤ) → List SetBinding → ScopeValue → IntegerTree → ℤ
+abbrev pub value : List (List ℤ) → List SetBinding → ScopeValue → IntExpressionTree → ℤ
 value vectors sets scope (integer.Number n) = n
 value vectors sets scope (integer.Constant name n) = n
 value vectors sets scope (integer.Variable slot) = slice_index_or scope.integers slot.index (pos 0)
@@ -58,7 +58,7 @@ value vectors sets scope (integer.Negative e) = negative (value vectors sets sco
 value vectors sets scope (integer.Arithmetic o a b) = arithmetic o (value vectors sets scope a) (value vectors sets scope b)
 
 -- the value of an expression of type bool
-abbrev pub truth : List (List ℤ) → List SetBinding → ScopeValue → ConditionTree → Bool
+abbrev pub truth : List (List ℤ) → List SetBinding → ScopeValue → BoolExpressionTree → Bool
 truth vectors sets scope (condition.Literal b) = b
 truth vectors sets scope (condition.Constant name b) = b
 truth vectors sets scope (condition.Variable slot) = slice_index_or scope.conditions slot.index false
@@ -67,7 +67,7 @@ truth vectors sets scope (condition.Compare o a b) = compared o (value vectors s
 truth vectors sets scope (condition.Connect o a b) = connected o (truth vectors sets scope a) (truth vectors sets scope b)
 
 -- each index in the expression is a vertex, wherever it stands
-abbrev pub stays_inside : ℕ → List (List ℤ) → List SetBinding → ScopeValue → IntegerTree → Bool
+abbrev pub stays_inside : ℕ → List (List ℤ) → List SetBinding → ScopeValue → IntExpressionTree → Bool
 stays_inside vertices vectors sets scope (integer.Number n) = true
 stays_inside vertices vectors sets scope (integer.Constant name n) = true
 stays_inside vertices vectors sets scope (integer.Variable slot) = true
@@ -82,7 +82,7 @@ stays_inside vertices vectors sets scope (integer.Arithmetic o a b) =
     stays_inside vertices vectors sets scope a && stays_inside vertices vectors sets scope b
 
 -- the same of an expression of type bool; both sides of `and` and `or` count
-abbrev pub condition_stays_inside : ℕ → List (List ℤ) → List SetBinding → ScopeValue → ConditionTree → Bool
+abbrev pub condition_stays_inside : ℕ → List (List ℤ) → List SetBinding → ScopeValue → BoolExpressionTree → Bool
 condition_stays_inside vertices vectors sets scope (condition.Literal b) = true
 condition_stays_inside vertices vectors sets scope (condition.Constant name b) = true
 condition_stays_inside vertices vectors sets scope (condition.Variable slot) = true

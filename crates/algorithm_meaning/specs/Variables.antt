@@ -1,8 +1,8 @@
 -- Variables, in functions and in main, and the statements of main on them.
 use Rattle.std.specs.Prelude.{ℕ, ℤ, pos, Bool, [], ◌∷◌, ◌++◌, take, length, slice_index_or, slice_set}
 use Rattle.apply_options.specs.declared.reduction.Reduction.{Reduction}
-use Rattle.typed_tree.specs.IntegerTree.{IntegerTree}
-use Rattle.typed_tree.specs.ConditionTree.{ConditionTree}
+use Rattle.typed_tree.specs.IntExpressionTree.{IntExpressionTree}
+use Rattle.typed_tree.specs.BoolExpressionTree.{BoolExpressionTree}
 use Rattle.algorithm_meaning.specs.Arithmetic.{reduced}
 use Rattle.algorithm_meaning.specs.State.{ScopeValue, StateValue}
 use Rattle.algorithm_meaning.specs.Stand.{Stand, Live, number_in, choice_in, with_value}
@@ -38,21 +38,21 @@ with_scope s scope = record s { scope = scope }
 abbrev pub with_new_integer : StateValue → ℤ → StateValue
 with_new_integer s n = with_scope s (new_integer s.scope n)
 
-abbrev pub after_declare_integer : (vertices number : ℕ) → IntegerTree → StateValue → Stand
+abbrev pub after_declare_integer : (vertices number : ℕ) → IntExpressionTree → StateValue → Stand
 after_declare_integer vertices number e s = with_value (number_in vertices e s) number s (λ n. Live (with_new_integer s n))
 
-abbrev pub after_declare_condition : (vertices number : ℕ) → ConditionTree → StateValue → Stand
+abbrev pub after_declare_condition : (vertices number : ℕ) → BoolExpressionTree → StateValue → Stand
 after_declare_condition vertices number c s =
     with_value (choice_in vertices c s) number s (λ b. Live (with_scope s (new_condition s.scope b)))
 
-abbrev pub after_set_integer : (vertices number index : ℕ) → IntegerTree → StateValue → Stand
+abbrev pub after_set_integer : (vertices number index : ℕ) → IntExpressionTree → StateValue → Stand
 after_set_integer vertices number index e s =
     with_value (number_in vertices e s) number s (λ n. Live (with_scope s (set_integer s.scope index n)))
 
-abbrev pub after_set_condition : (vertices number index : ℕ) → ConditionTree → StateValue → Stand
+abbrev pub after_set_condition : (vertices number index : ℕ) → BoolExpressionTree → StateValue → Stand
 after_set_condition vertices number index c s =
     with_value (choice_in vertices c s) number s (λ b. Live (with_scope s (set_condition s.scope index b)))
 
-abbrev pub after_reduce_integer : (vertices number index : ℕ) → Reduction → IntegerTree → StateValue → Stand
+abbrev pub after_reduce_integer : (vertices number index : ℕ) → Reduction → IntExpressionTree → StateValue → Stand
 after_reduce_integer vertices number index reduction e s =
     with_value (number_in vertices e s) number s (λ n. Live (with_scope s (reduce_integer s.scope index reduction n)))

@@ -3,7 +3,7 @@ use Rattle.std.specs.Prelude.{ℕ, zero, suc, ℤ, if◌then◌else◌, nat_lt, 
 use Rattle.std.specs.List.{range_with_len}
 use Rattle.typed_tree.specs.declared.statement.SetValue.{SetValue}
 use Rattle.typed_tree.specs.declared.statement.SetValue.TheVariants as set
-use Rattle.typed_tree.specs.IntegerTree.{IntegerTree}
+use Rattle.typed_tree.specs.IntExpressionTree.{IntExpressionTree}
 use Rattle.typed_tree.specs.ProgramTree.{ProgramTree}
 use Rattle.algorithm_meaning.specs.declared.state.SetBinding.{SetBinding}
 use Rattle.algorithm_meaning.specs.State.{GraphValue, StateValue}
@@ -59,6 +59,6 @@ inserted v [] = v ∷ []
 inserted v (x ∷ xs) = if nat_lt v x then v ∷ x ∷ xs else (if v == x then x ∷ xs else x ∷ inserted v xs)
 
 -- a set gets a vertex, which must be one
-abbrev pub after_add_vertex : (vertices number index : ℕ) → IntegerTree → StateValue → Stand
+abbrev pub after_add_vertex : (vertices number index : ℕ) → IntExpressionTree → StateValue → Stand
 after_add_vertex vertices number index e s =
     with_value (vertex_in vertices e s) number s (λ v. Live (with_members s index (inserted v (members_of (slice_get s.sets index)))))

@@ -3,7 +3,7 @@ ghost use Rattle.std.specs.Prelude.{◌≡◌, ◌<◌, false, ℕ, ℤ, List, [
 ghost use Rattle.std.specs.List.Sorted.{IsPermutation};
 ghost use Rattle.apply_options.specs.declared.reduction.Reduction.{Reduction};
 ghost use Rattle.edge_lists.specs.Edge.{Edge};
-ghost use Rattle.typed_tree.specs.StepTree.{StepsTree};
+ghost use Rattle.typed_tree.specs.FunctionStatementTree.{FunctionStatementsTree};
 ghost use Rattle.algorithm_meaning.specs.declared.contribution.Contribution.{Contribution};
 ghost use Rattle.algorithm_meaning.specs.declared.state.SetBinding.{SetBinding};
 ghost use Rattle.algorithm_meaning.specs.Arithmetic.{remainder};
@@ -31,7 +31,7 @@ pub fn given_numbers_change_places()
 
 /// After an edge apply each entry is the old one reduced with all that the edges into its vertex give.
 pub fn edge_applies_reduce_entries()
-    ensures { (functions : List StepsTree) (sets : List SetBinding) (before : List (List ℤ)) (edges : List Edge) (vectors : List (List ℤ)) (vector v : ℕ)
+    ensures { (functions : List FunctionStatementsTree) (sets : List SetBinding) (before : List (List ℤ)) (edges : List Edge) (vectors : List (List ℤ)) (vector v : ℕ)
         → v < length (slice_index_or vectors vector [])
         → entry (after_edges functions sets before edges vectors) vector v
         ≡ reduced_all (entry vectors vector v) (given_to vector v functions sets before edges) }
@@ -39,7 +39,7 @@ pub fn edge_applies_reduce_entries()
 
 /// The edges of an edge apply may come in any order, for each vector to which its functions give by one reduction.
 pub fn edges_come_in_any_order()
-    ensures { (r : Reduction) (functions : List StepsTree) (sets : List SetBinding) (before : List (List ℤ)) (edges others : List Edge)
+    ensures { (r : Reduction) (functions : List FunctionStatementsTree) (sets : List SetBinding) (before : List (List ℤ)) (edges others : List Edge)
         (vectors : List (List ℤ)) (vector v : ℕ)
         → IsGivenBy r vector functions sets before → IsPermutation edges others
         → entry (after_edges functions sets before edges vectors) vector v
@@ -48,7 +48,7 @@ pub fn edges_come_in_any_order()
 
 /// A vertex apply changes no entry of a vertex outside its set.
 pub fn vertex_applies_leave_others()
-    ensures { (steps : StepsTree) (sets : List SetBinding) (vertices : List ℕ) (vectors : List (List ℤ)) (vector v : ℕ)
+    ensures { (steps : FunctionStatementsTree) (sets : List SetBinding) (vertices : List ℕ) (vectors : List (List ℤ)) (vector v : ℕ)
         → is_member v vertices ≡ false
         → entry (after_vertices steps sets vertices vectors) vector v ≡ entry vectors vector v }
 {}

@@ -6,7 +6,7 @@ use Rattle.std.proofs.lemmas.List.Elements.{All-nil, All-cons}
 use Rattle.std.specs.List.{All, AllByRecursion, list_all}
 use Rattle.schedule.specs.Reduction.{Reduction}
 use Rattle.schedule.specs.Reduction.TheVariants.{Min}
-use Rattle.schedule.specs.StepTree.{FunctionTree, StepTree, DeclareInteger, DeclareCondition, SetInteger, SetCondition, ReduceInteger, SetEntry, ReduceEntry, If, IfElse, StepsTree, NoStep, StepThen}
+use Rattle.schedule.specs.FunctionStatementTree.{FunctionTree, FunctionStatementTree, DeclareInteger, DeclareCondition, SetInteger, SetCondition, ReduceInteger, SetEntry, ReduceEntry, If, IfElse, FunctionStatementsTree, NoStep, StepThen}
 use Rattle.schedule.specs.ProgramTree.{ProgramTree}
 use Rattle.types.specs.EdgeWrites.{StepReduces, StepsReduce, ReducesInOneWay, SetsNoEntry}
 use Rattle.parser.specs.SourceTrees.{SourceTree}
@@ -51,7 +51,7 @@ either_given P false v w h k = k
 
 module _ (P : ℕ → Reduction → Type 0) (sets : List SetBinding) (writing : _) (sets_nothing : (vector : ℕ) (n : ℤ) (w : WorkValue) → after_set writing vector n w ≡ w) (gives_number : (vector : ℕ) (r : Reduction) (n : ℤ) (w : WorkValue) → after_reduce writing vector r n w ≡ record w { given = w.given ++ record { vector = vector; reduction = r; number = n } ∷ [] }) where
   mutual
-    step_gives : (step : StepTree) (w : WorkValue) → ((vector : ℕ) (by : Reduction) → StepReduces vector by step → P vector by) → AreGiven P w.given
+    step_gives : (step : FunctionStatementTree) (w : WorkValue) → ((vector : ℕ) (by : Reduction) → StepReduces vector by step → P vector by) → AreGiven P w.given
         → AreGiven P (after_step writing sets step w).given
     step_gives (DeclareInteger name e) w such h = h
     step_gives (DeclareCondition name c) w such h = h
@@ -69,14 +69,14 @@ module _ (P : ℕ → Reduction → Type 0) (sets : List SetBinding) (writing : 
         either_given P (truth w.vectors sets w.scope c) (after_block w (after_steps writing sets body w)) (after_block w (after_steps writing sets other w))
         (steps_give body w (λ vector by is. such vector by (inl is)) h) (steps_give other w (λ vector by is. such vector by (inr is)) h)
 
-    steps_give : (steps : StepsTree) (w : WorkValue) → ((vector : ℕ) (by : Reduction) → StepsReduce vector by steps → P vector by) → AreGiven P w.given
+    steps_give : (steps : FunctionStatementsTree) (w : WorkValue) → ((vector : ℕ) (by : Reduction) → StepsReduce vector by steps → P vector by) → AreGiven P w.given
         → AreGiven P (after_steps writing sets steps w).given
     steps_give NoStep w such h = h
     steps_give (StepThen step rest) w such h =
         steps_give rest (after_step writing sets step w) (λ vector by is. such vector by (inr is)) (step_gives step w (λ vector by is. such vector by (inl is)) h)
 
 -- an edge function gives a vector numbers only as it reduces it
-gives_reduced : (steps : StepsTree) (sets : List SetBinding) (before : List (List ℤ)) (edge : Edge) → AreGiven (λ vector by. StepsReduce vector by steps) (gives steps sets before edge)
+gives_reduced : (steps : FunctionStatementsTree) (sets : List SetBinding) (before : List (List ℤ)) (edge : Edge) → AreGiven (λ vector by. StepsReduce vector by steps) (gives steps sets before edge)
 gives_reduced steps sets before edge =
     steps_give (λ vector by. StepsReduce vector by steps) sets _ (λ vector n w. refl) (λ vector r n w. refl) steps (first_work before (edge_scope edge)) (λ vector by is. is) tt
 
@@ -110,7 +110,7 @@ entry_decided index vector other false e = inr (λ by h. false≢true (sym e ∙
 
 mutual
   -- a vector is reduced in some way, or in none
-  step_decided : (vector : ℕ) (step : StepTree) → IsDecided (λ by. StepReduces vector by step)
+  step_decided : (vector : ℕ) (step : FunctionStatementTree) → IsDecided (λ by. StepReduces vector by step)
   step_decided vector (DeclareInteger name e) = inr (λ by h. h)
   step_decided vector (DeclareCondition name c) = inr (λ by h. h)
   step_decided vector (SetInteger slot e) = inr (λ by h. h)
@@ -121,13 +121,13 @@ mutual
   step_decided vector (If c body) = steps_decided vector body
   step_decided vector (IfElse c body other) = either_decided (λ by. StepsReduce vector by body) (λ by. StepsReduce vector by other) (steps_decided vector body) (steps_decided vector other)
 
-  steps_decided : (vector : ℕ) (steps : StepsTree) → IsDecided (λ by. StepsReduce vector by steps)
+  steps_decided : (vector : ℕ) (steps : FunctionStatementsTree) → IsDecided (λ by. StepsReduce vector by steps)
   steps_decided vector NoStep = inr (λ by h. h)
   steps_decided vector (StepThen step rest) = either_decided (λ by. StepReduces vector by step) (λ by. StepsReduce vector by rest) (step_decided vector step) (steps_decided vector rest)
 
 mutual
   -- a vector that is reduced is written
-  step_writes_it : (P : ℕ → Bool) (vector : ℕ) (by : Reduction) (step : StepTree) → StepReduces vector by step → list_all P (step_writes step) ≡ true → P vector ≡ true
+  step_writes_it : (P : ℕ → Bool) (vector : ℕ) (by : Reduction) (step : FunctionStatementTree) → StepReduces vector by step → list_all P (step_writes step) ≡ true → P vector ≡ true
   step_writes_it P vector by (DeclareInteger name e) is all = absurd is
   step_writes_it P vector by (DeclareCondition name c) is all = absurd is
   step_writes_it P vector by (SetInteger slot e) is all = absurd is
@@ -140,7 +140,7 @@ mutual
       let both = both_parts P (steps_write body) (steps_write other) all in
       elim is [ inl h ↦ steps_write_it P vector by body h both.0 | inr h ↦ steps_write_it P vector by other h both.1 ]
 
-  steps_write_it : (P : ℕ → Bool) (vector : ℕ) (by : Reduction) (steps : StepsTree) → StepsReduce vector by steps → list_all P (steps_write steps) ≡ true → P vector ≡ true
+  steps_write_it : (P : ℕ → Bool) (vector : ℕ) (by : Reduction) (steps : FunctionStatementsTree) → StepsReduce vector by steps → list_all P (steps_write steps) ≡ true → P vector ≡ true
   steps_write_it P vector by NoStep is all = absurd is
   steps_write_it P vector by (StepThen step rest) is all =
       let both = both_parts P (step_writes step) (steps_write rest) all in
@@ -150,20 +150,20 @@ not_itself : (n : ℕ) → not (n == n) ≡ true → ⊥
 not_itself n h = let same : (n == n) ≡ true = equal_test n n refl in false≢true (sym (ap not same) ∙ h)
 
 -- no vector is reduced by two functions that write no vector both
-reduced_once : (f g : StepsTree) (vector : ℕ) (a b : Reduction) → are_apart (steps_write g) (steps_write f) ≡ true → StepsReduce vector a f → StepsReduce vector b g → ⊥
+reduced_once : (f g : FunctionStatementsTree) (vector : ℕ) (a b : Reduction) → are_apart (steps_write g) (steps_write f) ≡ true → StepsReduce vector a f → StepsReduce vector b g → ⊥
 reduced_once f g vector a b apart by_f by_g =
     let none = steps_write_it (λ v. is_none_of v (steps_write f)) vector b g by_g apart in
     not_itself vector (steps_write_it (λ x. not (x == vector)) vector a f by_f (each_differs vector (steps_write f) none))
 
 -- a function reduces a vector by this alone
-abbrev IsAlone : StepsTree → ℕ → Reduction → Type 0
+abbrev IsAlone : FunctionStatementsTree → ℕ → Reduction → Type 0
 IsAlone f vector r = (by : Reduction) → StepsReduce vector by f → by ≡ r
 
-alone_by : (f : StepsTree) (vector : ℕ) → ReducesInOneWay f → IsDecided (λ by. StepsReduce vector by f) → (r : Reduction) × IsAlone f vector r
+alone_by : (f : FunctionStatementsTree) (vector : ℕ) → ReducesInOneWay f → IsDecided (λ by. StepsReduce vector by f) → (r : Reduction) × IsAlone f vector r
 alone_by f vector one (inl some) = (some.0, λ by is. one vector by some.0 is some.1)
 alone_by f vector one (inr none) = (Min, λ by is. absurd (none by is))
 
-both_alone_by : (f g : StepsTree) (vector : ℕ) → ReducesInOneWay f → ReducesInOneWay g → are_apart (steps_write g) (steps_write f) ≡ true → IsDecided (λ by. StepsReduce vector by f)
+both_alone_by : (f g : FunctionStatementsTree) (vector : ℕ) → ReducesInOneWay f → ReducesInOneWay g → are_apart (steps_write g) (steps_write f) ≡ true → IsDecided (λ by. StepsReduce vector by f)
     → (r : Reduction) × (IsAlone f vector r × IsAlone g vector r)
 both_alone_by f g vector one other apart (inl some) = (some.0, (λ by is. one vector by some.0 is some.1, λ by is. absurd (reduced_once f g vector some.0 by apart some.1 is)))
 both_alone_by f g vector one other apart (inr none) =
@@ -171,13 +171,13 @@ both_alone_by f g vector one other apart (inr none) =
     (second.0, (λ by is. absurd (none by is), second.1))
 
 -- so are the numbers that it gives
-gives_alone : (f : StepsTree) (vector : ℕ) (r : Reduction) → IsAlone f vector r → (sets : List SetBinding) (before : List (List ℤ)) (edge : Edge)
+gives_alone : (f : FunctionStatementsTree) (vector : ℕ) (r : Reduction) → IsAlone f vector r → (sets : List SetBinding) (before : List (List ℤ)) (edge : Edge)
     → AreGiven (λ v by. v ≡ vector → by ≡ r) (gives f sets before edge)
 gives_alone f vector r alone sets before edge =
     given_map (λ v by. StepsReduce v by f) (λ v by. v ≡ vector → by ≡ r) (gives f sets before edge)
     (λ v by is same. alone by (subst (λ (n : ℕ). StepsReduce n by f) same is)) (gives_reduced f sets before edge)
 
-one_reduces : (f : StepsTree) → ReducesInOneWay f → (m : StateValue) → AreReduced (f ∷ []) m
+one_reduces : (f : FunctionStatementsTree) → ReducesInOneWay f → (m : StateValue) → AreReduced (f ∷ []) m
 one_reduces f one m vector =
     let way = alone_by f vector one (steps_decided vector f) in
     record {
@@ -186,7 +186,7 @@ one_reduces f one m vector =
           (given_append (λ v by. v ≡ vector → by ≡ way.0) (gives f m.sets m.vectors edge) [] (gives_alone f vector way.0 way.1 m.sets m.vectors edge) tt);
     }
 
-two_reduce : (f g : StepsTree) → ReducesInOneWay f → ReducesInOneWay g → are_apart (steps_write g) (steps_write f) ≡ true → (m : StateValue) → AreReduced (f ∷ g ∷ []) m
+two_reduce : (f g : FunctionStatementsTree) → ReducesInOneWay f → ReducesInOneWay g → are_apart (steps_write g) (steps_write f) ≡ true → (m : StateValue) → AreReduced (f ∷ g ∷ []) m
 two_reduce f g one other apart m vector =
     let way = both_alone_by f g vector one other apart (steps_decided vector f) in
     record {

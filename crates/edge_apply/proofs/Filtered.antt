@@ -3,7 +3,7 @@ use Rattle.std.proofs.Common.{◌≡◌, ℕ, ◌<◌, ◌==◌, ℤ, Bool, true
 use Rattle.std.proofs.lemmas.Bool.Decides.{Decides-eqb}
 use Rattle.std.specs.List.{filter}
 use Rattle.edge_lists.specs.Edge.{Edge}
-use Rattle.kernels.specs.StepTree.{StepsTree}
+use Rattle.kernels.specs.FunctionStatementTree.{FunctionStatementsTree}
 use Rattle.kernels.specs.State.{StateValue}
 use Rattle.flat_snapshot.specs.Edge.{Ends, ends_eq, ends_of, weight_in}
 use Rattle.flat_snapshot.specs.Digraph.{Digraph, IsDigraph}
@@ -58,7 +58,7 @@ to_agree g from to other is same =
     filter_agree (λ e. from e.0 && to e.1) (λ e. from e.0 && other e.1) g.edges (λ e w has. ap (λ (b : Bool). from e.0 && b) (same e.1 (is.within (ends_of e) w has).1))
 
 -- the changes of an apply to the same edges
-pub changes_along : (n : ℕ) (es fs : List Edge) (m : StateValue) (steps : List StepsTree) (cs : List VectorChanges) → fs ≡ es → AreChangesOn n es m steps cs → AreChangesOn n fs m steps cs
+pub changes_along : (n : ℕ) (es fs : List Edge) (m : StateValue) (steps : List FunctionStatementsTree) (cs : List VectorChanges) → fs ≡ es → AreChangesOn n es m steps cs → AreChangesOn n fs m steps cs
 changes_along n es fs m steps cs same are = subst (λ (ks : List Edge). AreChangesOn n ks m steps cs) (sym same) are
 
 pub and_true : (b : Bool) → b && true ≡ b

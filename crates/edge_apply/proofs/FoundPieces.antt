@@ -3,7 +3,7 @@ use Rattle.std.proofs.Common.{◌≡◌, ℕ, zero, suc, ◌+◌, ◌<◌, List,
 use Rattle.std.proofs.lemmas.List.{append-nil, take_more}
 use Rattle.std.specs.List.{flat_map}
 use Rattle.edge_lists.specs.Edge.{Edge}
-use Rattle.kernels.specs.StepTree.{StepsTree}
+use Rattle.kernels.specs.FunctionStatementTree.{FunctionStatementsTree}
 use Rattle.kernels.specs.State.{StateValue}
 use Rattle.crew.specs.declared.piece_results.Found.{Found}
 use Rattle.crew.specs.Pieces.{pieces_of}
@@ -12,7 +12,7 @@ use Rattle.edge_fold.specs.Gathered.{AreAscending, AreGathered}
 use Rattle.edge_apply.specs.Pieces.{EachAscending, EachGathered}
 
 -- what is found of one piece more
-pub gathered_at : (n : ℕ) (m : StateValue) (steps : List StepsTree) (edges_of : ℕ → List Edge) (fs : List (Found Gathered)) (i : ℕ) (f : Found Gathered)
+pub gathered_at : (n : ℕ) (m : StateValue) (steps : List FunctionStatementsTree) (edges_of : ℕ → List Edge) (fs : List (Found Gathered)) (i : ℕ) (f : Found Gathered)
     → EachGathered n m steps edges_of fs → i < length fs → f ≡ get_or fs i f → AreGathered n m steps (edges_of f.piece) f.out
 gathered_at n m steps edges_of [] i f each l is = absurd (omega (arith, l))
 gathered_at n m steps edges_of (g ∷ fs) zero f each l is = subst (λ (h : Found Gathered). AreGathered n m steps (edges_of h.piece) h.out) (sym is) each.0

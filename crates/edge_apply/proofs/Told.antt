@@ -5,7 +5,7 @@ use Rattle.std.proofs.lemmas.List.{append-nil, drop-drop, get_or-drop}
 use Rattle.std.specs.List.{filter, flat_map, range_with_len}
 use Rattle.edge_lists.specs.Edge.{Edge}
 use Rattle.apply_options.specs.declared.reduction.Reduction.{Reduction}
-use Rattle.kernels.specs.StepTree.{StepsTree}
+use Rattle.kernels.specs.FunctionStatementTree.{FunctionStatementsTree}
 use Rattle.kernels.specs.Laws.{IsGivenBy}
 use Rattle.kernels.specs.State.{StateValue}
 use Rattle.kernels.specs.Value.{entry}
@@ -87,7 +87,7 @@ only_range old part new low high n l k is =
     ∙ changed_alike old part new low (high - low) (λ u a b. is u (omega (arith, b, l, k)) ∙ ap (λ (c : Bool). cond c (new u) (old u)) (within_test low high u a (omega (arith, b, l))))
 
 -- an apply to the edges to the vertices of a range changes what one to all edges changes there
-pub changed_between : (n low high x : ℕ) (r : Reduction) (m : StateValue) (steps : List StepsTree) (es : List Edge) → IsGivenBy r x steps m.sets m.vectors → n ≤ length (slice_index_or m.vectors x []) → low ≤ high → high ≤ n
+pub changed_between : (n low high x : ℕ) (r : Reduction) (m : StateValue) (steps : List FunctionStatementsTree) (es : List Edge) → IsGivenBy r x steps m.sets m.vectors → n ≤ length (slice_index_or m.vectors x []) → low ≤ high → high ≤ n
     → changed n (entry m.vectors x) (entry (after_edges steps m.sets m.vectors (filter (λ e. is_between low high e.1) es) m.vectors) x)
     ≡ changed_from (entry m.vectors x) (entry (after_edges steps m.sets m.vectors es m.vectors) x) low (high - low)
 changed_between n low high x r m steps es by long l k =
@@ -100,7 +100,7 @@ changed_between n low high x r m steps es by long l k =
     (λ v b. sym (entries_after r x v m steps (is_between low high) es by (omega (arith, b, long))) ∙ ap (λ (y : ℤ). cond (is_between low high v) y (old v)) (all v b))
 
 -- an apply to edges that give vertices the same
-pub changed_by_alike : (n x : ℕ) (r : Reduction) (m : StateValue) (steps : List StepsTree) (es fs : List Edge) → IsGivenBy r x steps m.sets m.vectors → n ≤ length (slice_index_or m.vectors x [])
+pub changed_by_alike : (n x : ℕ) (r : Reduction) (m : StateValue) (steps : List FunctionStatementsTree) (es fs : List Edge) → IsGivenBy r x steps m.sets m.vectors → n ≤ length (slice_index_or m.vectors x [])
     → ((v : ℕ) (k : ℤ) → reduced_at r v k (given_on x (all_given m steps) es) ≡ reduced_at r v k (given_on x (all_given m steps) fs))
     → changed n (entry m.vectors x) (entry (after_edges steps m.sets m.vectors es m.vectors) x) ≡ changed n (entry m.vectors x) (entry (after_edges steps m.sets m.vectors fs m.vectors) x)
 changed_by_alike n x r m steps es fs by long alike =

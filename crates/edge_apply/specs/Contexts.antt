@@ -2,7 +2,7 @@
 use Rattle.std.specs.Prelude.{◌≡◌, List}
 use Rattle.kernels.specs.Registers.{HasSizes}
 use Rattle.kernels.specs.State.{StateValue}
-use Rattle.kernels.specs.StepTree.{StepsTree}
+use Rattle.kernels.specs.FunctionStatementTree.{FunctionStatementsTree}
 use Rattle.edge_fold.specs.declared.apply_context.ApplyContext.{ApplyContext}
 use Rattle.edge_fold.specs.declared.apply_context.FoldStart.{FoldStart}
 use Rattle.edge_fold.specs.Folded.{AreKernels, are_weighted}
@@ -21,7 +21,7 @@ context_of a start = record {
 }
 
 -- the functions have these statements, and the apply reads the vectors and the sets of a state
-pub record IsApplyOf (a : Apply) (m : StateValue) (steps : List StepsTree) : Type 0 where
+pub record IsApplyOf (a : Apply) (m : StateValue) (steps : List FunctionStatementsTree) : Type 0 where
   pub vectors : a.vectors.now.vectors ≡ m.vectors
   pub sizes : HasSizes a.sizes.now m
   pub kernels : AreKernels a.first.now a.second steps

@@ -3,7 +3,7 @@ use Rattle.std.specs.Prelude.{◌≡◌, ℕ, ◌-◌, ◌≤◌, List, [], ◌�
 use Rattle.std.specs.List.{flat_map}
 use Rattle.edge_lists.specs.Edge.{Edge}
 use Rattle.apply_options.specs.declared.reduction.Reduction.{Reduction}
-use Rattle.kernels.specs.StepTree.{StepsTree}
+use Rattle.kernels.specs.FunctionStatementTree.{FunctionStatementsTree}
 use Rattle.kernels.specs.Laws.{IsGivenBy}
 use Rattle.kernels.specs.State.{StateValue}
 use Rattle.kernels.specs.Value.{entry}
@@ -26,7 +26,7 @@ changes_in_parts x (f ∷ fs) = changes_of x f.out.vectors.items ++ changes_in_p
 
 -- the changes of an apply to the edges of all pieces, at the vertices of a range
 abbrev pub IsMerged : RangeMerge → (range : ℕ) → Changes → Type 0
-IsMerged w k c = (m : StateValue) (steps : List StepsTree) (edges_of : ℕ → List Edge) → w.apply.vectors.now.vectors ≡ m.vectors → HasSizes w.apply.sizes.now m
+IsMerged w k c = (m : StateValue) (steps : List FunctionStatementsTree) (edges_of : ℕ → List Edge) → w.apply.vectors.now.vectors ≡ m.vectors → HasSizes w.apply.sizes.now m
     → AreKernels w.apply.first.now w.apply.second steps → EachAscending w.found.now → EachGathered w.apply.flat.now.vertices m steps edges_of w.found.now
     → (x : ℕ) (r : Reduction) → IsGivenBy r x steps m.sets m.vectors → w.apply.flat.now.vertices ≤ length (slice_index_or m.vectors x [])
     → changes_of x c.vectors.items

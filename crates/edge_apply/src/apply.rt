@@ -1,7 +1,7 @@
 //! Edge applies: what an apply of edge functions is given.
 ghost use Rattle.std.specs.Prelude.{◌≡◌, List};
 ghost use Rattle.flat_snapshot.specs.Digraph.{IsDigraph};
-ghost use Rattle.kernels.specs.StepTree.{StepsTree};
+ghost use Rattle.kernels.specs.FunctionStatementTree.{FunctionStatementsTree};
 ghost use Rattle.kernels.specs.State.{StateValue};
 ghost use Rattle.edge_fold.specs.Folded.{IsContextOf};
 ghost use Rattle.edge_apply.specs.Contexts.{context_of, IsApplyOf};
@@ -32,7 +32,7 @@ impl<'a> Apply<'a> {
     /// The functions and what they read, whether weights are among it, and what new entries begin with.
     pub fn context(&self, start: FoldStart) -> ApplyContext<'a>
         ensures context { result ≡ context_of self.now start }
-        ensures reads { (m : StateValue) (steps : List StepsTree) → IsApplyOf self.now m steps → IsContextOf result m steps }
+        ensures reads { (m : StateValue) (steps : List FunctionStatementsTree) → IsApplyOf self.now m steps → IsContextOf result m steps }
         ensures graph { IsDigraph self.now.flat.now }
     {
         ApplyContext {

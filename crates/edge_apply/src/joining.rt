@@ -3,7 +3,7 @@ ghost use Rattle.std.specs.Prelude.{◌≡◌, ℕ, ◌≤◌, List, [], length,
 ghost use Rattle.std.specs.List.{filter, flat_map};
 ghost use Rattle.edge_lists.specs.Edge.{Edge};
 ghost use Rattle.crew.specs.Pieces.{pieces_of};
-ghost use Rattle.kernels.specs.StepTree.{StepsTree};
+ghost use Rattle.kernels.specs.FunctionStatementTree.{FunctionStatementsTree};
 ghost use Rattle.kernels.specs.State.{StateValue};
 ghost use Rattle.edge_fold.specs.Folded.{IsContextOf, HasFolded};
 ghost use Rattle.edge_fold.specs.Gathered.{is_between};
@@ -29,7 +29,7 @@ pub fn join_all(
     found: &[Found<Gathered>],
     scratch: &mut Scratch,
 ) -> Result<(), AllocError>
-    ensures { OnOk result ((m : StateValue) (steps : List StepsTree) (edges_of : ℕ → List Edge) → EachGathered context.entry.vertices m steps edges_of found.now
+    ensures { OnOk result ((m : StateValue) (steps : List FunctionStatementsTree) (edges_of : ℕ → List Edge) → EachGathered context.entry.vertices m steps edges_of found.now
         → HasFolded context.entry m steps [] scratch.old → HasFolded context.entry m steps (flat_map edges_of (pieces_of found.now)) scratch.new) }
 {
     'found: for one in found {
@@ -48,7 +48,7 @@ pub(crate) fn join_between(
     high: u32,
     scratch: &mut Scratch,
 ) -> Result<(), AllocError>
-    ensures { OnOk result ((m : StateValue) (steps : List StepsTree) (edges_of : ℕ → List Edge) → EachAscending found.now
+    ensures { OnOk result ((m : StateValue) (steps : List FunctionStatementsTree) (edges_of : ℕ → List Edge) → EachAscending found.now
         → EachGathered context.entry.vertices m steps edges_of found.now
         → HasFolded context.entry m steps [] scratch.old → HasFolded context.entry m steps
         (filter (λ e. is_between low high e.1) (flat_map edges_of (pieces_of found.now))) scratch.new) }

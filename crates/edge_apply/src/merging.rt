@@ -2,7 +2,7 @@
 ghost use Rattle.std.specs.Prelude.{◌≡◌, ◌-◌, ◌^◌, ℕ, List, length, IfOk, min, nat_le};
 ghost use Rattle.std.specs.List.{flat_map};
 ghost use Rattle.edge_lists.specs.Edge.{Edge};
-ghost use Rattle.kernels.specs.StepTree.{StepsTree};
+ghost use Rattle.kernels.specs.FunctionStatementTree.{FunctionStatementsTree};
 ghost use Rattle.kernels.specs.State.{StateValue};
 ghost use Rattle.kernels.specs.Registers.{HasSizes};
 ghost use Rattle.crew.specs.Pieces.{pieces_of};
@@ -70,7 +70,7 @@ pub fn merge_by_ranges<R: Threads + Sync>(
     states: &mut Vec<Scratch>,
 ) -> Result<Changes, AllocError>
     ensures once { IfOk result (λ c. AreApart c.vectors.items) }
-    ensures changes { IfOk result (λ c. (m : StateValue) (steps : List StepsTree) (edges_of : ℕ → List Edge)
+    ensures changes { IfOk result (λ c. (m : StateValue) (steps : List FunctionStatementsTree) (edges_of : ℕ → List Edge)
         → apply.now.vectors.now.vectors ≡ m.vectors → HasSizes apply.now.sizes.now m
         → AreKernels apply.now.first.now apply.now.second steps → EachAscending found.now → EachGathered apply.now.flat.now.vertices m steps edges_of found.now
         → AreChangesOn apply.now.flat.now.vertices (flat_map edges_of (pieces_of found.now)) m steps c.vectors.items) }

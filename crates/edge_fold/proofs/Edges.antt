@@ -6,7 +6,7 @@ use borrow.Rule.Slice.PartMut.{put_mid}
 use Rattle.std.specs.Borrow.{Bor}
 use Rattle.edge_lists.specs.Edge.{Edge, unit_weight}
 use Rattle.apply_options.specs.declared.reduction.Reduction.{Reduction}
-use Rattle.typed_tree.specs.StepTree.{StepsTree}
+use Rattle.typed_tree.specs.FunctionStatementTree.{FunctionStatementsTree}
 use Rattle.kernels.specs.declared.kernel.EdgeKernel.{EdgeKernel}
 use Rattle.kernels.specs.Kernels.{IsEdgeKernel}
 use Rattle.edge_fold.specs.Between.{firsts}
@@ -97,33 +97,33 @@ sent_row x y source r n g same (e ∷ es) =
     ∙ one_for x y r n e.0 (firsts es) (y == x) (given_on x g (row source es)) (sent_row x y source r n g same es)
 
 -- one function, or two
-pub record IsOne (first : EdgeKernel) (steps : List StepsTree) : Type 0 where
-  pub a : StepsTree
+pub record IsOne (first : EdgeKernel) (steps : List FunctionStatementsTree) : Type 0 where
+  pub a : FunctionStatementsTree
   pub alone : steps ≡ a ∷ []
   pub kernel : IsEdgeKernel first a
 
-pub record AreTwo (first second : EdgeKernel) (steps : List StepsTree) : Type 0 where
-  pub a : StepsTree
-  pub b : StepsTree
+pub record AreTwo (first second : EdgeKernel) (steps : List FunctionStatementsTree) : Type 0 where
+  pub a : FunctionStatementsTree
+  pub b : FunctionStatementsTree
   pub both : steps ≡ a ∷ b ∷ []
   pub kernel : IsEdgeKernel first a
   pub other : IsEdgeKernel second b
 
-one_of : (first : EdgeKernel) (steps : List StepsTree) → AreKernels first None steps → IsOne first steps
+one_of : (first : EdgeKernel) (steps : List FunctionStatementsTree) → AreKernels first None steps → IsOne first steps
 one_of first [] are = absurd are
 one_of first (a ∷ []) are = record { a = a; alone = refl; kernel = are }
 one_of first (a ∷ b ∷ cs) are = absurd are
 
-pub one_function : (first : EdgeKernel) (second : Option (Bor EdgeKernel)) (steps : List StepsTree) → second ≡ None → AreKernels first second steps → IsOne first steps
+pub one_function : (first : EdgeKernel) (second : Option (Bor EdgeKernel)) (steps : List FunctionStatementsTree) → second ≡ None → AreKernels first second steps → IsOne first steps
 one_function first second steps e are = one_of first steps (subst (λ (o : Option (Bor EdgeKernel)). AreKernels first o steps) e are)
 
-two_of : (first : EdgeKernel) (second : Bor EdgeKernel) (steps : List StepsTree) → AreKernels first (Some second) steps → AreTwo first second.now steps
+two_of : (first : EdgeKernel) (second : Bor EdgeKernel) (steps : List FunctionStatementsTree) → AreKernels first (Some second) steps → AreTwo first second.now steps
 two_of first second [] are = absurd are
 two_of first second (a ∷ []) are = absurd are
 two_of first second (a ∷ b ∷ []) are = record { a = a; b = b; both = refl; kernel = are.0; other = are.1 }
 two_of first second (a ∷ b ∷ c ∷ cs) are = absurd are
 
-pub two_functions : (first : EdgeKernel) (second : Option (Bor EdgeKernel)) (s : Bor EdgeKernel) (steps : List StepsTree) → second ≡ Some s → AreKernels first second steps → AreTwo first s.now steps
+pub two_functions : (first : EdgeKernel) (second : Option (Bor EdgeKernel)) (s : Bor EdgeKernel) (steps : List FunctionStatementsTree) → second ≡ Some s → AreKernels first second steps → AreTwo first s.now steps
 two_functions first second s steps e are = two_of first s steps (subst (λ (o : Option (Bor EdgeKernel)). AreKernels first o steps) e are)
 
 -- pairs in a row

@@ -12,7 +12,7 @@ use Rattle.edge_fold.specs.declared.accumulator.Accumulator.{Accumulator}
 use Rattle.edge_fold.specs.declared.scratch.Scratch.{Scratch}
 use Rattle.edge_fold.specs.declared.vector_accumulator.VectorAccumulator.{VectorAccumulator}
 use Rattle.edge_fold.specs.declared.vector_accumulator.VectorAccumulators.{VectorAccumulators}
-use Rattle.typed_tree.specs.StepTree.{StepsTree}
+use Rattle.typed_tree.specs.FunctionStatementTree.{FunctionStatementsTree}
 use Rattle.algorithm_meaning.specs.State.{StateValue}
 use Rattle.algorithm_meaning.specs.Value.{entry}
 use Rattle.edge_fold.specs.Folded.{HasFoldedFor, waiting}
@@ -93,7 +93,7 @@ joined_slot f x y p r before now after was t gs is index inside few slot vector 
     }
 
 -- edges that are joined at once, before those that wait, if to reduce with what is joined is to reduce with what they give
-pub folded_before_alike : (f : ApplyContext) (m : StateValue) (steps : List StepsTree) (es more : List Edge) (a b : Scratch) (x : ℕ) (r : Reduction) (gs : List (ℕ × ℤ)) → waiting f.weighted b.pairs ≡ waiting f.weighted a.pairs
+pub folded_before_alike : (f : ApplyContext) (m : StateValue) (steps : List FunctionStatementsTree) (es more : List Edge) (a b : Scratch) (x : ℕ) (r : Reduction) (gs : List (ℕ × ℤ)) → waiting f.weighted b.pairs ≡ waiting f.weighted a.pairs
     → HaveJoined f x r a.slots b.slots gs → ((v : ℕ) (n : ℤ) → v < f.vertices → reduced_at r v n gs ≡ reduced_at r v n (given_on x (all_given m steps) more))
     → HasFoldedFor f m steps es a x r → HasFoldedFor f m steps (es ++ more) b x r
 folded_before_alike f m steps es more a b x r gs same joined alike has = record {
@@ -107,12 +107,12 @@ folded_before_alike f m steps es more a b x r gs same joined alike has = record 
   reduction = joined.reduction has.reduction;
 }
 
-pub folded_before : (f : ApplyContext) (m : StateValue) (steps : List StepsTree) (es more : List Edge) (a b : Scratch) (x : ℕ) (r : Reduction) → waiting f.weighted b.pairs ≡ waiting f.weighted a.pairs
+pub folded_before : (f : ApplyContext) (m : StateValue) (steps : List FunctionStatementsTree) (es more : List Edge) (a b : Scratch) (x : ℕ) (r : Reduction) → waiting f.weighted b.pairs ≡ waiting f.weighted a.pairs
     → HaveJoined f x r a.slots b.slots (given_on x (all_given m steps) more) → HasFoldedFor f m steps es a x r → HasFoldedFor f m steps (es ++ more) b x r
 folded_before f m steps es more a b x r same joined has = folded_before_alike f m steps es more a b x r (given_on x (all_given m steps) more) same joined (λ v n l. refl) has
 
 -- nothing was joined to slots of which none was in use, and no edge waits
-pub folded_nothing : (f : ApplyContext) (m : StateValue) (steps : List StepsTree) (none : VectorAccumulators) (s : Scratch) (x : ℕ) (r : Reduction) → none.used ≡ 0 → s.pairs.count ≡ 0
+pub folded_nothing : (f : ApplyContext) (m : StateValue) (steps : List FunctionStatementsTree) (none : VectorAccumulators) (s : Scratch) (x : ℕ) (r : Reduction) → none.used ≡ 0 → s.pairs.count ≡ 0
     → HaveJoined f x r none s.slots [] → HasFoldedFor f m steps [] s x r
 folded_nothing f m steps none s x r empty waits joined = record {
   entries = λ v h l.
@@ -124,7 +124,7 @@ folded_nothing f m steps none s x r empty waits joined = record {
 }
 
 -- edges that wait
-pub folded_later : (f : ApplyContext) (m : StateValue) (steps : List StepsTree) (es more : List Edge) (a b : Scratch) (x : ℕ) (r : Reduction) (w : Bool) → f.weighted ≡ w → b.slots ≡ a.slots → waiting w b.pairs ≡ waiting w a.pairs ++ more
+pub folded_later : (f : ApplyContext) (m : StateValue) (steps : List FunctionStatementsTree) (es more : List Edge) (a b : Scratch) (x : ℕ) (r : Reduction) (w : Bool) → f.weighted ≡ w → b.slots ≡ a.slots → waiting w b.pairs ≡ waiting w a.pairs ++ more
     → HasFoldedFor f m steps es a x r → HasFoldedFor f m steps (es ++ more) b x r
 folded_later f m steps es more a b x r w counts same waits has = record {
   entries = λ v h l.

@@ -6,7 +6,7 @@ use Rattle.std.proofs.lemmas.List.Elements.{All-head, All-tail}
 use Rattle.std.specs.List.{All, filter}
 use Rattle.edge_lists.specs.Edge.{Edge}
 use Rattle.apply_options.specs.declared.reduction.Reduction.{Reduction}
-use Rattle.typed_tree.specs.StepTree.{StepsTree}
+use Rattle.typed_tree.specs.FunctionStatementTree.{FunctionStatementsTree}
 use Rattle.algorithm_meaning.specs.declared.contribution.Contribution.{Contribution}
 use Rattle.algorithm_meaning.specs.Arithmetic.{reduced}
 use Rattle.algorithm_meaning.specs.EdgeApply.{after_edges, all_give, gives}
@@ -29,7 +29,7 @@ each-append : (a b : List Contribution) → each (a ++ b) triple ≡ each a trip
 each-append [] b = refl
 each-append (c ∷ cs) b = ap (λ (gs : List (ℕ × Reduction × ℤ)). triple c ∷ gs) (each-append cs b)
 
-all_given_is : (m : StateValue) (steps : List StepsTree) (e : Edge) → all_given m steps e ≡ each (all_give steps m.sets m.vectors e) triple
+all_given_is : (m : StateValue) (steps : List FunctionStatementsTree) (e : Edge) → all_given m steps e ≡ each (all_give steps m.sets m.vectors e) triple
 all_given_is m [] e = refl
 all_given_is m (s ∷ ss) e =
     ap (λ (gs : List (ℕ × Reduction × ℤ)). each (gives s m.sets m.vectors e) triple ++ gs) (all_given_is m ss e)
@@ -51,7 +51,7 @@ is_by : (r : Reduction) (x : ℕ) (cs : List Contribution) → All (λ c. c.redu
 is_by r x [] all = tt
 is_by r x (c ∷ cs) all = (by_head r x c (for_one x cs) (c.vector == x) refl all, is_by r x cs (by_tail r c (for_one x cs) (c.vector == x) all))
 
-pub given_by_one : (r : Reduction) (x : ℕ) (m : StateValue) (steps : List StepsTree) → IsGivenBy r x steps m.sets m.vectors → IsReducedBy r x m steps
+pub given_by_one : (r : Reduction) (x : ℕ) (m : StateValue) (steps : List FunctionStatementsTree) → IsGivenBy r x steps m.sets m.vectors → IsReducedBy r x m steps
 given_by_one r x m steps by e = subst (λ (gs : List (ℕ × Reduction × ℤ)). IsBy r x gs) (sym (all_given_is m steps e)) (is_by r x (all_give steps m.sets m.vectors e) (by e))
 
 -- what one edge gives a vertex
@@ -79,7 +79,7 @@ edge_numbers r x v d n (c ∷ cs) all =
     (λ k. edge_numbers r x v d k cs (by_tail r c (for_one x cs) (c.vector == x) all))
 
 -- what edges give a vertex
-edges_numbers : (r : Reduction) (x v : ℕ) (m : StateValue) (steps : List StepsTree) → IsGivenBy r x steps m.sets m.vectors → (n : ℤ) (es : List Edge)
+edges_numbers : (r : Reduction) (x v : ℕ) (m : StateValue) (steps : List FunctionStatementsTree) → IsGivenBy r x steps m.sets m.vectors → (n : ℤ) (es : List Edge)
     → reduced_all n (given_to x v steps m.sets m.vectors es) ≡ reduced_at r v n (given_on x (all_given m steps) es)
 edges_numbers r x v m steps by n [] = refl
 edges_numbers r x v m steps by n (e ∷ es) =
@@ -139,7 +139,7 @@ filtered_edges r x v n test g [] = sym (either_way (test v) n)
 filtered_edges r x v n test g (e ∷ es) = filtered_edge r x v n test g e es (test e.1) (e.1 == v) refl refl (λ k. filtered_edges r x v k test g es)
 
 -- the entries after an apply of these edges, where those to vertices that do not pass are left out
-pub entries_after : (r : Reduction) (x v : ℕ) (m : StateValue) (steps : List StepsTree) (test : ℕ → Bool) (es : List Edge) → IsGivenBy r x steps m.sets m.vectors
+pub entries_after : (r : Reduction) (x v : ℕ) (m : StateValue) (steps : List FunctionStatementsTree) (test : ℕ → Bool) (es : List Edge) → IsGivenBy r x steps m.sets m.vectors
     → v < length (slice_index_or m.vectors x [])
     → cond (test v) (reduced_at r v (entry m.vectors x v) (given_on x (all_given m steps) es)) (entry m.vectors x v)
     ≡ entry (after_edges steps m.sets m.vectors (filter (λ e. test e.1) es) m.vectors) x v

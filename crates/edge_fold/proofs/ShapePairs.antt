@@ -3,7 +3,7 @@ use Rattle.std.proofs.Common.{◌≡◌, ℕ, ℤ, ◌==◌, pos, cond, None, Li
 use Rattle.std.proofs.lemmas.List.{append-nil}
 use Rattle.edge_lists.specs.Edge.{Edge}
 use Rattle.apply_options.specs.declared.reduction.Reduction.{Reduction}
-use Rattle.typed_tree.specs.StepTree.{StepsTree}
+use Rattle.typed_tree.specs.FunctionStatementTree.{FunctionStatementsTree}
 use Rattle.algorithm_meaning.specs.Arithmetic.{arithmetic}
 use Rattle.algorithm_meaning.specs.State.{StateValue}
 use Rattle.algorithm_meaning.specs.Value.{entry}
@@ -43,11 +43,11 @@ shaped_given (shape.Constant x r n) m edge given g has e = has ∙ e
 shaped_given (shape.EntryWith x r y o) m edge given g has e = has ∙ e
 
 -- what one function gives on an edge
-pub one_given : (f : ApplyContext) (m : StateValue) (steps : List StepsTree) (edge : Edge) (gs : List (ℕ × Reduction × ℤ)) → IsContextOf f m steps → f.second ≡ None
-    → ((a : StepsTree) → IsEdgeKernel f.first.now a → given_in m a edge ≡ gs) → all_given m steps edge ≡ gs
+pub one_given : (f : ApplyContext) (m : StateValue) (steps : List FunctionStatementsTree) (edge : Edge) (gs : List (ℕ × Reduction × ℤ)) → IsContextOf f m steps → f.second ≡ None
+    → ((a : FunctionStatementsTree) → IsEdgeKernel f.first.now a → given_in m a edge ≡ gs) → all_given m steps edge ≡ gs
 one_given f m steps edge gs are alone gives =
     let one = one_function f.first.now f.second steps alone are.kernels in
-    ap (λ (ss : List StepsTree). all_given m ss edge) one.alone ∙ append-nil (given_in m one.a edge) ∙ gives one.a one.kernel
+    ap (λ (ss : List FunctionStatementsTree). all_given m ss edge) one.alone ∙ append-nil (given_in m one.a edge) ∙ gives one.a one.kernel
 
 -- a statement that gives neither a source's number nor an entry with the weight gives nothing
 nothing_given : (t : Shape) (m : StateValue) (edge : Edge) → IsEntryless t → IsSourceless t → shape_given t m edge ≡ []
@@ -125,7 +125,7 @@ abbrev pub HasJoinedStatement : ApplyContext → Shape → (source : ℕ) → Li
 HasJoinedStatement f t source es a b = (m : StateValue) → f.vectors.now.vectors ≡ m.vectors → (x : ℕ) (r : Reduction) → ((edge : Edge) → IsBy r x (shape_given t m edge))
     → HaveJoined f x r a b (given_on x (shape_given t m) (row source es))
 
-pub folded_pair : (f : ApplyContext) (m : StateValue) (steps : List StepsTree) (p : ShapePair) (source : ℕ) (es : List (ℕ × ℤ)) (edges : List Edge) (a b : Scratch) (between : VectorAccumulators)
+pub folded_pair : (f : ApplyContext) (m : StateValue) (steps : List FunctionStatementsTree) (p : ShapePair) (source : ℕ) (es : List (ℕ × ℤ)) (edges : List Edge) (a b : Scratch) (between : VectorAccumulators)
     → b.pairs ≡ a.pairs → IsContextOf f m steps → IsPairOf m p (all_given m steps)
     → HasJoinedStatement f p.first source es a.slots between → HasJoinedStatement f p.second source es between b.slots
     → HasFolded f m steps edges a → HasFolded f m steps (edges ++ row source es) b
@@ -143,7 +143,7 @@ folded_pair f m steps p source es edges a b between same are is one other has x 
 abbrev pub HasJoinedSent : ApplyContext → SourceContribution → (d : ℕ) → (before after : VectorAccumulators) → Type 0
 HasJoinedSent f sent d a b = (x : ℕ) (r : Reduction) → (sent.vector ≡ x → sent.reduction ≡ r) → HaveJoined f x r a b (cond (sent.vector == x) (each_given sent.number (d ∷ [])) [])
 
-pub folded_pair_into : (f : ApplyContext) (m : StateValue) (steps : List StepsTree) (p : ContributionPair) (d : ℕ) (es : List (ℕ × ℤ)) (edges : List Edge) (a b : Scratch) (between : VectorAccumulators)
+pub folded_pair_into : (f : ApplyContext) (m : StateValue) (steps : List FunctionStatementsTree) (p : ContributionPair) (d : ℕ) (es : List (ℕ × ℤ)) (edges : List Edge) (a b : Scratch) (between : VectorAccumulators)
     → b.pairs ≡ a.pairs → ArePairContributions p (all_given m steps) es
     → HasJoinedSent f p.first d a.slots between → HasJoinedSent f p.second d between b.slots
     → HasFolded f m steps edges a → HasFolded f m steps (edges ++ column d es) b

@@ -4,7 +4,7 @@ use Rattle.std.proofs.lemmas.List.{append-nil, take-append-drop}
 use Rattle.std.proofs.lemmas.List.Elements.{filter-append}
 use Rattle.std.specs.List.{filter}
 use Rattle.edge_lists.specs.Edge.{Edge}
-use Rattle.typed_tree.specs.StepTree.{StepsTree}
+use Rattle.typed_tree.specs.FunctionStatementTree.{FunctionStatementsTree}
 use Rattle.algorithm_meaning.specs.State.{StateValue}
 use Rattle.kernels.specs.declared.endpoint_filter.EndpointFilter.{EndpointFilter}
 use Rattle.edge_fold.specs.declared.apply_context.ApplyContext.{ApplyContext}
@@ -12,7 +12,7 @@ use Rattle.edge_fold.specs.declared.scratch.Scratch.{Scratch}
 use Rattle.edge_fold.specs.Ends.{IsTest}
 use Rattle.edge_fold.specs.Folded.{IsContextOf, HasFolded}
 
-pub folded_along : (f : ApplyContext) (m : StateValue) (steps : List StepsTree) (es fs : List Edge) (s : Scratch) → es ≡ fs → HasFolded f m steps es s → HasFolded f m steps fs s
+pub folded_along : (f : ApplyContext) (m : StateValue) (steps : List FunctionStatementsTree) (es fs : List Edge) (s : Scratch) → es ≡ fs → HasFolded f m steps es s → HasFolded f m steps fs s
 folded_along f m steps es fs s e has = subst (λ (ks : List Edge). HasFolded f m steps ks s) e has
 
 -- the first items, and what is left after them
@@ -21,7 +21,7 @@ parts_of n all part rest first behind = ap (λ ks. ks ++ rest) first ∙ ap (λ 
 
 -- after a call the scratch has folded these edges too
 abbrev pub FoldsMore : ApplyContext → List Edge → (before after : Scratch) → Type 0
-FoldsMore f more s t = (m : StateValue) (steps : List StepsTree) (es : List Edge) → IsContextOf f m steps → HasFolded f m steps es s → HasFolded f m steps (es ++ more) t
+FoldsMore f more s t = (m : StateValue) (steps : List FunctionStatementsTree) (es : List Edge) → IsContextOf f m steps → HasFolded f m steps es s → HasFolded f m steps (es ++ more) t
 
 -- the edges of items in a row are those of the first ones, and then those of the others
 abbrev pub InRow : {K : Type 0} → (edges_of : List K → List Edge) → Type 0
@@ -58,7 +58,7 @@ walk_done f edges_of all left start s none w m steps es are has =
 
 -- how far a walk has come if only the items that an end lets through bring edges
 abbrev pub FoldsPassing : EndpointFilter → ApplyContext → (edges_of : List ℕ → List Edge) → List ℕ → (before after : Scratch) → Type 0
-FoldsPassing end f edges_of us s t = (m : StateValue) (steps : List StepsTree) (test : ℕ → Bool) (es : List Edge) → IsContextOf f m steps → IsTest end m test
+FoldsPassing end f edges_of us s t = (m : StateValue) (steps : List FunctionStatementsTree) (test : ℕ → Bool) (es : List Edge) → IsContextOf f m steps → IsTest end m test
     → HasFolded f m steps es s → HasFolded f m steps (es ++ edges_of (filter test us)) t
 
 pub record HasPassed (end : EndpointFilter) (f : ApplyContext) (edges_of : List ℕ → List Edge) (all left : List ℕ) (start s : Scratch) : Type 0 where
@@ -74,7 +74,7 @@ pass_begun end f edges_of all s none = record {
 }
 
 pub pass_more : (end : EndpointFilter) (f : ApplyContext) (edges_of : List ℕ → List Edge) (all left part rest kept : List ℕ) (start s t : Scratch) → InRow edges_of → part ++ rest ≡ left
-    → ((m : StateValue) (steps : List StepsTree) (test : ℕ → Bool) → IsContextOf f m steps → IsTest end m test → kept ≡ filter test part)
+    → ((m : StateValue) (steps : List FunctionStatementsTree) (test : ℕ → Bool) → IsContextOf f m steps → IsTest end m test → kept ≡ filter test part)
     → FoldsMore f (edges_of kept) s t → HasPassed end f edges_of all left start s → HasPassed end f edges_of all rest start t
 pass_more end f edges_of all left part rest kept start s t in_row parts are_kept more w = record {
   done = w.done ++ part;

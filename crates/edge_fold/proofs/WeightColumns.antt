@@ -3,7 +3,7 @@ use Rattle.std.proofs.Common.{◌≡◌, ℕ, zero, suc, ◌<◌, ℤ, Bool, tru
 use Rattle.std.specs.List.{filter}
 use Rattle.edge_lists.specs.Edge.{Edge, unit_edge, unit_weight}
 use Rattle.apply_options.specs.declared.reduction.Reduction.{Reduction}
-use Rattle.typed_tree.specs.StepTree.{StepsTree}
+use Rattle.typed_tree.specs.FunctionStatementTree.{FunctionStatementsTree}
 use Rattle.algorithm_meaning.specs.State.{StateValue}
 use Rattle.kernels.specs.Meaning.{given_in}
 use Rattle.edge_fold.specs.Between.{firsts}
@@ -66,7 +66,7 @@ firsts-length [] = refl
 firsts-length (e ∷ es) = ap suc (firsts-length es)
 
 -- what is given on an edge is the same with any weight
-pub all_weightless : (m : StateValue) (steps : List StepsTree) → AreWeightless m steps → (e : Edge) → all_given m steps e ≡ all_given m steps (unit_edge (e.0, e.1))
+pub all_weightless : (m : StateValue) (steps : List FunctionStatementsTree) → AreWeightless m steps → (e : Edge) → all_given m steps e ≡ all_given m steps (unit_edge (e.0, e.1))
 all_weightless m [] are e = refl
 all_weightless m (s ∷ ss) are e =
     ap (λ (gs : List (ℕ × Reduction × ℤ)). gs ++ all_given m ss e) (are.0 e)
@@ -80,7 +80,7 @@ unit_row x s g same (e ∷ es) =
     ap (λ (gs : List (ℕ × Reduction × ℤ)). for_vector x e.0 gs ++ given_on x g (row s (entries_of (firsts es) []))) (sym (same (s, e.0, e.1)))
     ∙ ap (λ (gs : List (ℕ × ℤ)). for_vector x e.0 (g (s, e.0, e.1)) ++ gs) (unit_row x s g same es)
 
-pub weightless_row : (x s : ℕ) (m : StateValue) (steps : List StepsTree) (ds : List ℕ) (es : List (ℕ × ℤ)) → AreWeightless m steps → firsts es ≡ ds
+pub weightless_row : (x s : ℕ) (m : StateValue) (steps : List FunctionStatementsTree) (ds : List ℕ) (es : List (ℕ × ℤ)) → AreWeightless m steps → firsts es ≡ ds
     → given_on x (all_given m steps) (row s (entries_of ds [])) ≡ given_on x (all_given m steps) (row s es)
 weightless_row x s m steps ds es are keys =
     ap (λ (us : List ℕ). given_on x (all_given m steps) (row s (entries_of us []))) (sym keys) ∙ unit_row x s (all_given m steps) (all_weightless m steps are) es
@@ -92,7 +92,7 @@ unit_column x d g same (e ∷ es) =
     ap (λ (gs : List (ℕ × Reduction × ℤ)). for_vector x d gs ++ given_on x g (column d (entries_of (firsts es) []))) (sym (same (e.0, d, e.1)))
     ∙ ap (λ (gs : List (ℕ × ℤ)). for_vector x d (g (e.0, d, e.1)) ++ gs) (unit_column x d g same es)
 
-pub weightless_column : (x d : ℕ) (m : StateValue) (steps : List StepsTree) (ss : List ℕ) (es : List (ℕ × ℤ)) → AreWeightless m steps → firsts es ≡ ss
+pub weightless_column : (x d : ℕ) (m : StateValue) (steps : List FunctionStatementsTree) (ss : List ℕ) (es : List (ℕ × ℤ)) → AreWeightless m steps → firsts es ≡ ss
     → given_on x (all_given m steps) (column d (entries_of ss [])) ≡ given_on x (all_given m steps) (column d es)
 weightless_column x d m steps ss es are keys =
     ap (λ (us : List ℕ). given_on x (all_given m steps) (column d (entries_of us []))) (sym keys) ∙ unit_column x d (all_given m steps) (all_weightless m steps are) es

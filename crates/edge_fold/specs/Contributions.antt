@@ -2,7 +2,7 @@
 use Rattle.std.specs.Prelude.{◌≡◌, ℕ, ◌+◌, ℤ, ◌==◌, if◌then◌else◌, List, [], ◌∷◌, ◌++◌, map}
 use Rattle.edge_lists.specs.Edge.{Edge, unit_weight}
 use Rattle.apply_options.specs.declared.reduction.Reduction.{Reduction}
-use Rattle.typed_tree.specs.StepTree.{StepsTree}
+use Rattle.typed_tree.specs.FunctionStatementTree.{FunctionStatementsTree}
 use Rattle.algorithm_meaning.specs.Arithmetic.{reduced}
 use Rattle.algorithm_meaning.specs.State.{StateValue}
 use Rattle.kernels.specs.Meaning.{given_in}
@@ -47,7 +47,7 @@ entries_of (k ∷ ks) [] = (k, unit_weight) ∷ entries_of ks []
 entries_of (k ∷ ks) (w ∷ ws) = (k, w) ∷ entries_of ks ws
 
 -- what several functions give on an edge, over the vectors of a state
-abbrev pub all_given : StateValue → List StepsTree → Edge → List (ℕ × Reduction × ℤ)
+abbrev pub all_given : StateValue → List FunctionStatementsTree → Edge → List (ℕ × Reduction × ℤ)
 all_given m [] edge = []
 all_given m (steps ∷ more) edge = given_in m steps edge ++ all_given m more edge
 
@@ -57,7 +57,7 @@ IsBy r x [] = Unit {0}
 IsBy r x (g ∷ gs) = (g.0 ≡ x → g.1 ≡ r) × IsBy r x gs
 
 -- so it is on every edge
-abbrev pub IsReducedBy : Reduction → (vector : ℕ) → StateValue → List StepsTree → Type 0
+abbrev pub IsReducedBy : Reduction → (vector : ℕ) → StateValue → List FunctionStatementsTree → Type 0
 IsReducedBy r x m steps = (edge : Edge) → IsBy r x (all_given m steps edge)
 
 -- the edges from sources to destinations, pair by pair, with the weights of the first of them; that of each other one is 1

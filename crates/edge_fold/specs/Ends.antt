@@ -1,6 +1,6 @@
 -- The ends of an edge.
 use Rattle.std.specs.Prelude.{◌≡◌, ℕ, Bool, true, Option, Some, None}
-use Rattle.typed_tree.specs.StepTree.{StepsTree}
+use Rattle.typed_tree.specs.FunctionStatementTree.{FunctionStatementsTree}
 use Rattle.algorithm_meaning.specs.EdgeApply.{is_member}
 use Rattle.algorithm_meaning.specs.Filter.{result_of}
 use Rattle.algorithm_meaning.specs.State.{StateValue}
@@ -11,7 +11,7 @@ use Rattle.kernels.specs.Kernels.{IsFilterKernel}
 
 -- the test is that of a filter, over the vectors and the sets of a state
 pub record IsFilterTest (kernel : FilterKernel) (m : StateValue) (test : ℕ → Bool) : Type 0 where
-  pub steps : StepsTree
+  pub steps : FunctionStatementsTree
   pub of : IsFilterKernel kernel steps
   pub result : (v : ℕ) → test v ≡ result_of steps m.sets m.vectors v
 

@@ -3,7 +3,7 @@ use Rattle.std.specs.Prelude.{◌≡◌, ◌||◌, ℕ, ◌<◌, ℤ, Bool, fals
 use Rattle.std.specs.Borrow.{Bor}
 use Rattle.edge_lists.specs.Edge.{Edge}
 use Rattle.apply_options.specs.declared.reduction.Reduction.{Reduction}
-use Rattle.typed_tree.specs.StepTree.{StepsTree}
+use Rattle.typed_tree.specs.FunctionStatementTree.{FunctionStatementsTree}
 use Rattle.algorithm_meaning.specs.State.{StateValue}
 use Rattle.kernels.specs.declared.kernel.EdgeKernel.{EdgeKernel}
 use Rattle.kernels.specs.Registers.{HasSizes}
@@ -17,7 +17,7 @@ use Rattle.edge_fold.specs.FoldStarts.{combined, first_entry}
 use Rattle.edge_fold.specs.VectorAccumulators.{active, held_in_with, reduction_in}
 
 -- the kernels are those of these functions, in order
-abbrev pub AreKernels : EdgeKernel → Option (Bor EdgeKernel) → List StepsTree → Type 0
+abbrev pub AreKernels : EdgeKernel → Option (Bor EdgeKernel) → List FunctionStatementsTree → Type 0
 AreKernels first None (a ∷ []) = IsEdgeKernel first a
 AreKernels first None _ = ⊥
 AreKernels first (Some second) (a ∷ b ∷ []) = IsEdgeKernel first a × IsEdgeKernel second.now b
@@ -29,12 +29,12 @@ are_weighted first None = first.weighted
 are_weighted first (Some second) = first.weighted || second.now.weighted
 
 -- what each function gives on an edge is the same with any weight
-abbrev pub AreWeightless : StateValue → List StepsTree → Type 0
+abbrev pub AreWeightless : StateValue → List FunctionStatementsTree → Type 0
 AreWeightless m [] = Unit {0}
 AreWeightless m (steps ∷ more) = IsWeightless m steps × AreWeightless m more
 
 -- the functions have these statements, and read the vectors and the sets of a state; where no weight counts, they read none
-pub record IsContextOf (f : ApplyContext) (m : StateValue) (steps : List StepsTree) : Type 0 where
+pub record IsContextOf (f : ApplyContext) (m : StateValue) (steps : List FunctionStatementsTree) : Type 0 where
   pub vectors : f.vectors.now.vectors ≡ m.vectors
   pub sizes : HasSizes f.sizes.now m
   pub kernels : AreKernels f.first.now f.second steps
@@ -50,12 +50,12 @@ edges_in c = pairs c.sources.now c.destinations.now c.weights.now
 
 -- for a vector to which the functions give by one reduction: the new entries of the graph's vertices, reduced with what the
 -- pairs that wait give, are the first ones reduced with what these edges give
-pub record HasFoldedFor (f : ApplyContext) (m : StateValue) (steps : List StepsTree) (edges : List Edge) (s : Scratch) (x : ℕ) (r : Reduction) : Type 0 where
+pub record HasFoldedFor (f : ApplyContext) (m : StateValue) (steps : List FunctionStatementsTree) (edges : List Edge) (s : Scratch) (x : ℕ) (r : Reduction) : Type 0 where
   pub entries : (v : ℕ) (h : ℤ) → v < f.vertices
       → reduced_at r v (held_in_with (combined f.start r) (active s.slots) x v (first_entry f x v h)) (given_on x (all_given m steps) (waiting f.weighted s.pairs))
       ≡ reduced_at r v (first_entry f x v h) (given_on x (all_given m steps) edges)
   pub reduction : reduction_in (active s.slots) x r ≡ r
 
 -- so it is for each such vector
-abbrev pub HasFolded : ApplyContext → StateValue → List StepsTree → List Edge → Scratch → Type 0
+abbrev pub HasFolded : ApplyContext → StateValue → List FunctionStatementsTree → List Edge → Scratch → Type 0
 HasFolded f m steps edges s = (x : ℕ) (r : Reduction) → IsReducedBy r x m steps → HasFoldedFor f m steps edges s x r

@@ -3,7 +3,7 @@ use Rattle.std.specs.Prelude.{◌≡◌, ℕ, ◌<◌, ℤ, pos, ◌==◌, ◌&&
 use Rattle.std.specs.List.Sorted.{IsNonDecreasingBy}
 use Rattle.edge_lists.specs.Edge.{Edge}
 use Rattle.apply_options.specs.declared.reduction.Reduction.{Reduction}
-use Rattle.typed_tree.specs.StepTree.{StepsTree}
+use Rattle.typed_tree.specs.FunctionStatementTree.{FunctionStatementsTree}
 use Rattle.algorithm_meaning.specs.State.{StateValue}
 use Rattle.vectors.specs.declared.changes.EntryChange.{EntryChange}
 use Rattle.vertex_marks.specs.Marks.{is_marked}
@@ -33,12 +33,12 @@ IsGatheredBy r x (g ∷ gs) = (g.vector ≡ x → g.reduction ≡ r) × IsGather
 
 -- for a vector to which the functions give by one reduction: to reduce a number with what is gathered is to reduce it with
 -- what these edges give, at each of n vertices
-pub record AreGatheredFor (vertices : ℕ) (m : StateValue) (steps : List StepsTree) (edges : List Edge) (g : Gathered) (x : ℕ) (r : Reduction) : Type 0 where
+pub record AreGatheredFor (vertices : ℕ) (m : StateValue) (steps : List FunctionStatementsTree) (edges : List Edge) (g : Gathered) (x : ℕ) (r : Reduction) : Type 0 where
   pub reduction : IsGatheredBy r x g.vectors.items
   pub numbers : (v : ℕ) (h : ℤ) → v < vertices → reduced_at r v h (gathered_for x g.vectors.items) ≡ reduced_at r v h (given_on x (all_given m steps) edges)
 
 -- so it is for each such vector
-abbrev pub AreGathered : (vertices : ℕ) → StateValue → List StepsTree → List Edge → Gathered → Type 0
+abbrev pub AreGathered : (vertices : ℕ) → StateValue → List FunctionStatementsTree → List Edge → Gathered → Type 0
 AreGathered vertices m steps edges g = (x : ℕ) (r : Reduction) → IsReducedBy r x m steps → AreGatheredFor vertices m steps edges g x r
 
 -- the vertices of the numbers do not fall

@@ -3,7 +3,7 @@ ghost use Rattle.std.specs.Prelude.{◌≡◌, ℕ, ◌==◌, ◌≤◌, ◌++�
 ghost use Rattle.std.specs.List.{filter};
 ghost use Rattle.edge_lists.specs.Edge.{Edge};
 ghost use Rattle.apply_options.specs.declared.reduction.Reduction.{Reduction};
-ghost use Rattle.typed_tree.specs.StepTree.{StepsTree};
+ghost use Rattle.typed_tree.specs.FunctionStatementTree.{FunctionStatementsTree};
 ghost use Rattle.algorithm_meaning.specs.Laws.{IsGivenBy};
 ghost use Rattle.algorithm_meaning.specs.State.{StateValue};
 ghost use Rattle.algorithm_meaning.specs.Value.{entry};
@@ -39,7 +39,7 @@ impl Scratch {
         to: Option<EndpointFilter<'_>>,
     ) -> Result<Changes, AllocError>
         ensures once { IfOk result (λ c. AreApart c.vectors.items) }
-        ensures changes { IfOk result (λ c. (m : StateValue) (steps : List StepsTree) (edges : List Edge) (test : ℕ → Bool)
+        ensures changes { IfOk result (λ c. (m : StateValue) (steps : List FunctionStatementsTree) (edges : List Edge) (test : ℕ → Bool)
             → IsContextOf context.entry m steps → IsEndTest to.entry m test
             → HasFolded context.entry m steps edges self.old → context.entry.start ≡ OldEntry → (x : ℕ) (r : Reduction)
             → IsGivenBy r x steps m.sets m.vectors → context.entry.vertices ≤ length (slice_index_or m.vectors x [])
@@ -63,7 +63,7 @@ impl Scratch {
         ensures kept { OnOk result ((m : StateValue) (test : ℕ → Bool) → context.entry.vectors.now.vectors ≡ m.vectors
             → HasSizes context.entry.sizes.now m → IsTest end.entry m test
             → kept.new.items ≡ kept.old.items ++ filter test vertices.now) }
-        ensures folded { (f : ApplyContext) (m : StateValue) (steps : List StepsTree) (edges : List Edge) → HasFolded f m steps edges self.old
+        ensures folded { (f : ApplyContext) (m : StateValue) (steps : List FunctionStatementsTree) (edges : List Edge) → HasFolded f m steps edges self.old
             → HasFolded f m steps edges self.new }
     {
         keep_passing(context, end, vertices, &mut self.block, kept)?;

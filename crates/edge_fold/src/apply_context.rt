@@ -1,6 +1,6 @@
 //! Apply context: the functions of an edge apply, and what they read.
 ghost use Rattle.std.specs.Prelude.{◌≡◌, ℕ, ℤ, List, false};
-ghost use Rattle.typed_tree.specs.StepTree.{StepsTree};
+ghost use Rattle.typed_tree.specs.FunctionStatementTree.{FunctionStatementsTree};
 ghost use Rattle.algorithm_meaning.specs.State.{StateValue};
 ghost use Rattle.kernels.specs.Registers.{HasSizes};
 ghost use Rattle.edge_fold.specs.Folded.{AreKernels, AreWeightless, are_weighted};
@@ -53,7 +53,7 @@ impl<'a> ApplyContext<'a> {
 /// on its weight.
 pub fn reads_weights(first: &EdgeKernel, second: Option<&EdgeKernel>) -> bool
     ensures weighted { result ≡ are_weighted first.now second.entry }
-    ensures weightless { result ≡ false → (m : StateValue) (sizes : List ℤ) (steps : List StepsTree) → HasSizes sizes m
+    ensures weightless { result ≡ false → (m : StateValue) (sizes : List ℤ) (steps : List FunctionStatementsTree) → HasSizes sizes m
         → AreKernels first.now second.entry steps → AreWeightless m steps }
 {
     match second {

@@ -1,6 +1,6 @@
 //! Folding by destination: edges to one destination.
 ghost use Rattle.std.specs.Prelude.{◌≡◌, ◌≤◌, ◌++◌, ℕ, ℤ, false, List, [], length, OnOk};
-ghost use Rattle.typed_tree.specs.StepTree.{StepsTree};
+ghost use Rattle.typed_tree.specs.FunctionStatementTree.{FunctionStatementsTree};
 ghost use Rattle.algorithm_meaning.specs.State.{StateValue};
 ghost use Rattle.edge_fold.specs.Folded.{IsContextOf, HasFolded};
 ghost use Rattle.edge_lists.specs.Edge.{Edge};
@@ -25,7 +25,7 @@ impl Scratch {
     ) -> Result<(), AllocError>
         requires few { length sources.now ≤ PAIRS }
         requires unweighted { context.weighted ≡ false }
-        ensures { OnOk result ((m : StateValue) (steps : List StepsTree) (edges : List Edge) (entries : List (ℕ × ℤ)) → firsts entries ≡ sources.now
+        ensures { OnOk result ((m : StateValue) (steps : List FunctionStatementsTree) (edges : List Edge) (entries : List (ℕ × ℤ)) → firsts entries ≡ sources.now
             → IsContextOf context.entry m steps
             → HasFolded context.entry m steps edges self.old → HasFolded context.entry m steps (edges ++ column destination entries) self.new) }
     {
@@ -53,7 +53,7 @@ impl Scratch {
     ) -> Result<(), AllocError>
         requires few { length sources.now ≤ PAIRS }
         requires unweighted { context.weighted ≡ false }
-        ensures { OnOk result ((m : StateValue) (steps : List StepsTree) (edges : List Edge) → IsContextOf context.entry m steps
+        ensures { OnOk result ((m : StateValue) (steps : List FunctionStatementsTree) (edges : List Edge) → IsContextOf context.entry m steps
             → HasFolded context.entry m steps edges self.old
             → HasFolded context.entry m steps (edges ++ column destination (entries_of sources.now [])) self.new) }
     {

@@ -2,7 +2,7 @@
 ghost use Rattle.std.specs.Prelude.{◌≡◌, ℕ, ℤ, List, None, IfSome, length};
 ghost use Rattle.apply_options.specs.declared.reduction.Reduction.{Reduction};
 ghost use Rattle.edge_lists.specs.Edge.{Edge};
-ghost use Rattle.typed_tree.specs.StepTree.{StepsTree};
+ghost use Rattle.typed_tree.specs.FunctionStatementTree.{FunctionStatementsTree};
 ghost use Rattle.algorithm_meaning.specs.State.{StateValue};
 ghost use Rattle.kernels.specs.ShapePairs.{shape_given};
 ghost use Rattle.edge_fold.specs.Folded.{IsContextOf};
@@ -18,7 +18,7 @@ impl ApplyContext<'_> {
     /// What is given on every edge, where it is an entry of the source with the weight.
     #[inline]
     pub(crate) fn entry_contribution(self) -> Option<EntryContribution>
-        ensures { IfSome result (λ g. (m : StateValue) (steps : List StepsTree) → IsContextOf self.entry m steps
+        ensures { IfSome result (λ g. (m : StateValue) (steps : List FunctionStatementsTree) → IsContextOf self.entry m steps
             → IsEntryOf m g (all_given m steps)) }
     {
         if self.second.is_some() {
@@ -37,7 +37,7 @@ impl ApplyContext<'_> {
         weights: &[i64],
     ) -> Option<SourceContribution>
         requires { length weights.now ≡ length sources.now }
-        ensures { IfSome result (λ s. (m : StateValue) (steps : List StepsTree) → IsContextOf self.entry m steps
+        ensures { IfSome result (λ s. (m : StateValue) (steps : List FunctionStatementsTree) → IsContextOf self.entry m steps
             → IsEntryContribution s (all_given m steps) (entries_of sources.now weights.now)) }
     {
         let given = self.entry_contribution()?;

@@ -4,7 +4,7 @@ ghost use Rattle.std.specs.List.{filter};
 ghost use Rattle.std.specs.List.Sorted.{IsNonDecreasing};
 ghost use Rattle.edge_lists.specs.Edge.{Edge};
 ghost use Rattle.apply_options.specs.declared.reduction.Reduction.{Reduction};
-ghost use Rattle.typed_tree.specs.StepTree.{StepsTree};
+ghost use Rattle.typed_tree.specs.FunctionStatementTree.{FunctionStatementsTree};
 ghost use Rattle.algorithm_meaning.specs.State.{StateValue};
 ghost use Rattle.kernels.specs.Registers.{HasSizes};
 ghost use Rattle.edge_fold.specs.declared.apply_context.FoldStart.TheVariants.{Unit as FromUnit};
@@ -58,7 +58,7 @@ impl Scratch {
         to: Option<EndpointFilter<'_>>,
     ) -> Result<Gathered, AllocError>
         ensures ascending { IfOk result (λ g. AreAscending g.vectors.items) }
-        ensures given { IfOk result (λ g. (m : StateValue) (steps : List StepsTree) (edges : List Edge) (test : ℕ → Bool)
+        ensures given { IfOk result (λ g. (m : StateValue) (steps : List FunctionStatementsTree) (edges : List Edge) (test : ℕ → Bool)
             → IsContextOf context.entry m steps → IsEndTest to.entry m test
             → HasFolded context.entry m steps edges self.old → context.entry.start ≡ FromUnit
             → AreGathered context.entry.vertices m steps (filter (λ e. test e.1) edges) g) }
@@ -76,7 +76,7 @@ impl Scratch {
         context: ApplyContext<'_>,
         gathered: &Gathered,
     ) -> Result<(), AllocError>
-        ensures { OnOk result ((m : StateValue) (steps : List StepsTree) (edges more : List Edge) → HasFolded context.entry m steps edges self.old
+        ensures { OnOk result ((m : StateValue) (steps : List FunctionStatementsTree) (edges more : List Edge) → HasFolded context.entry m steps edges self.old
             → AreGathered context.entry.vertices m steps more gathered.now → HasFolded context.entry m steps (edges ++ more) self.new) }
     {
         self.slots.join_gathered(alloc, context, &gathered.vectors)?;

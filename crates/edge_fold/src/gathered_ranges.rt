@@ -4,7 +4,7 @@ ghost use Rattle.std.specs.List.{filter};
 ghost use Rattle.std.specs.List.Sorted.{IsPartitionPoint};
 ghost use Rattle.edge_lists.specs.Edge.{Edge};
 ghost use Rattle.apply_options.specs.declared.reduction.Reduction.{Reduction};
-ghost use Rattle.typed_tree.specs.StepTree.{StepsTree};
+ghost use Rattle.typed_tree.specs.FunctionStatementTree.{FunctionStatementsTree};
 ghost use Rattle.algorithm_meaning.specs.State.{StateValue};
 ghost use Rattle.edge_fold.specs.Gathered.{AreAscending, AreGathered, IsAscending, is_between, numbers_of};
 ghost use Rattle.edge_fold.specs.Contributions.{reduced_at};
@@ -17,7 +17,7 @@ impl Gathered {
     /// What the edges give to the vertices from `low` on up to `high`, if the numbers are by ascending vertices. It
     /// takes time in proportion to what it gives, and to the logarithm of all. The only error is out of memory.
     pub fn between(&self, alloc: Global, low: u32, high: u32) -> Result<Gathered, AllocError>
-        ensures { IfOk result (λ g. (vertices : ℕ) (m : StateValue) (steps : List StepsTree) (edges : List Edge) → AreAscending self.now.vectors.items
+        ensures { IfOk result (λ g. (vertices : ℕ) (m : StateValue) (steps : List FunctionStatementsTree) (edges : List Edge) → AreAscending self.now.vectors.items
             → AreGathered vertices m steps edges self.now
             → AreGathered vertices m steps (filter (λ e. is_between low high e.1) edges) g) }
     {

@@ -1,7 +1,7 @@
 //! Old entries as the first new ones, at all vertices.
 ghost use Rattle.std.specs.Prelude.{◌≡◌, ℕ, ℤ, pos, ◌<◌, ◌≤◌, [], List, length, slice_index_or, OnOk};
 ghost use Rattle.apply_options.specs.declared.reduction.Reduction.{Reduction as Reducing};
-ghost use Rattle.typed_tree.specs.StepTree.{StepsTree};
+ghost use Rattle.typed_tree.specs.FunctionStatementTree.{FunctionStatementsTree};
 ghost use Rattle.algorithm_meaning.specs.State.{StateValue};
 ghost use Rattle.vectors.specs.Lanes.{lane_entry};
 ghost use Rattle.edge_fold.specs.Folded.{IsContextOf, HasFolded};
@@ -27,7 +27,7 @@ impl Scratch {
         alloc: Global,
         context: ApplyContext<'_>,
     ) -> Result<(), AllocError>
-        ensures { OnOk result ((m : StateValue) (steps : List StepsTree) → IsContextOf context.entry m steps → HasFolded context.entry m steps [] self.new) }
+        ensures { OnOk result ((m : StateValue) (steps : List FunctionStatementsTree) → IsContextOf context.entry m steps → HasFolded context.entry m steps [] self.new) }
     {
         self.slots.used = 0;
         self.pairs.count = 0;

@@ -1,6 +1,6 @@
 //! Contributions of several sources, reduced to one number, of an edge function that depends on the source alone.
 ghost use Rattle.std.specs.Prelude.{◌≡◌, List, IfSome};
-ghost use Rattle.typed_tree.specs.StepTree.{StepsTree};
+ghost use Rattle.typed_tree.specs.FunctionStatementTree.{FunctionStatementsTree};
 ghost use Rattle.algorithm_meaning.specs.State.{StateValue};
 ghost use Rattle.kernels.specs.ShapePairs.{shape_given};
 ghost use Rattle.edge_fold.specs.Folded.{IsContextOf};
@@ -15,7 +15,7 @@ impl ApplyContext<'_> {
     /// What sources give each destination together, where each gives its own number and there is a source.
     #[inline]
     pub(crate) fn reduced_contribution(self, sources: &[u32]) -> Option<SourceContribution>
-        ensures { IfSome result (λ s. (m : StateValue) (steps : List StepsTree) → IsContextOf self.entry m steps
+        ensures { IfSome result (λ s. (m : StateValue) (steps : List FunctionStatementsTree) → IsContextOf self.entry m steps
             → IsReducedContribution s (all_given m steps) sources.now) }
     {
         if self.second.is_some() {

@@ -28,7 +28,7 @@ impl Drop for Scratch {
 }
 
 impl Scratch {
-    ghost use Rattle.typed_tree.specs.StepTree.{StepsTree};
+    ghost use Rattle.typed_tree.specs.FunctionStatementTree.{FunctionStatementsTree};
     ghost use Rattle.algorithm_meaning.specs.State.{StateValue};
     ghost use Rattle.edge_fold.specs.declared.apply_context.ApplyContext.{ApplyContext};
     ghost use Rattle.edge_fold.specs.Folded.{IsContextOf, HasFolded};
@@ -38,7 +38,7 @@ impl Scratch {
 
     /// Memory for applies, of which none is taken yet.
     pub fn new(alloc: Global) -> Scratch
-        ensures { (f : ApplyContext) (m : StateValue) (steps : List StepsTree) → HasFolded f m steps [] result }
+        ensures { (f : ApplyContext) (m : StateValue) (steps : List FunctionStatementsTree) → HasFolded f m steps [] result }
     {
         Scratch {
             slots: VectorAccumulators::new(alloc),
@@ -49,7 +49,7 @@ impl Scratch {
 
     /// Begins an apply, whatever became of the one before. It takes constant time.
     pub fn begin(&mut self)
-        ensures { (f : ApplyContext) (m : StateValue) (steps : List StepsTree) → HasFolded f m steps [] self.new }
+        ensures { (f : ApplyContext) (m : StateValue) (steps : List FunctionStatementsTree) → HasFolded f m steps [] self.new }
     {
         self.slots.used = 0;
         self.pairs.count = 0;
@@ -66,7 +66,7 @@ impl Scratch {
         source: u32,
         destinations: &E,
     ) -> Result<bool, AllocError>
-        ensures folded { IfOk result (λ done. done ≡ true → (m : StateValue) (steps : List StepsTree) (edges : List Edge)
+        ensures folded { IfOk result (λ done. done ≡ true → (m : StateValue) (steps : List FunctionStatementsTree) (edges : List Edge)
             → IsContextOf context.entry m steps → HasFolded context.entry m steps edges self.old
             → HasFolded context.entry m steps (edges ++ row source (E.entries destinations.now)) self.new) }
         ensures unchanged { IfOk result (λ done. done ≡ false → self.new ≡ self.old) }
@@ -94,7 +94,7 @@ impl Scratch {
     ) -> Result<(), AllocError>
         requires few { length destinations.now ≤ PAIRS }
         requires unweighted { context.weighted ≡ false }
-        ensures { OnOk result ((m : StateValue) (steps : List StepsTree) (edges : List Edge) (entries : List (ℕ × ℤ))
+        ensures { OnOk result ((m : StateValue) (steps : List FunctionStatementsTree) (edges : List Edge) (entries : List (ℕ × ℤ))
             → firsts entries ≡ destinations.now → IsContextOf context.entry m steps
             → HasFolded context.entry m steps edges self.old → HasFolded context.entry m steps (edges ++ row source entries) self.new) }
     {
@@ -118,7 +118,7 @@ impl Scratch {
     ) -> Result<(), AllocError>
         requires few { length destinations.now ≤ PAIRS }
         requires unweighted { context.weighted ≡ false }
-        ensures { OnOk result ((m : StateValue) (steps : List StepsTree) (edges : List Edge) → IsContextOf context.entry m steps
+        ensures { OnOk result ((m : StateValue) (steps : List FunctionStatementsTree) (edges : List Edge) → IsContextOf context.entry m steps
             → HasFolded context.entry m steps edges self.old
             → HasFolded context.entry m steps (edges ++ row source (entries_of destinations.now [])) self.new) }
     {
@@ -136,7 +136,7 @@ impl Scratch {
 
     /// Lets the kernels run over the pairs that wait. The only error is out of memory.
     pub fn flush(&mut self, alloc: Global, context: ApplyContext<'_>) -> Result<(), AllocError>
-        ensures folded { OnOk result ((m : StateValue) (steps : List StepsTree) (edges : List Edge) → IsContextOf context.entry m steps
+        ensures folded { OnOk result ((m : StateValue) (steps : List FunctionStatementsTree) (edges : List Edge) → IsContextOf context.entry m steps
             → HasFolded context.entry m steps edges self.old → HasFolded context.entry m steps edges self.new) }
         ensures none { OnOk result (self.new.pairs.count ≡ 0) }
     {

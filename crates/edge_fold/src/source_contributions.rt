@@ -1,6 +1,6 @@
 //! Contributions of an edge function that depends on the source alone.
 ghost use Rattle.std.specs.Prelude.{◌≡◌, ℕ, ℤ, ◌∷◌, [], List, None, IfSome};
-ghost use Rattle.typed_tree.specs.StepTree.{StepsTree};
+ghost use Rattle.typed_tree.specs.FunctionStatementTree.{FunctionStatementsTree};
 ghost use Rattle.algorithm_meaning.specs.State.{StateValue};
 ghost use Rattle.kernels.specs.ShapePairs.{shape_given};
 ghost use Rattle.edge_fold.specs.Folded.{IsContextOf};
@@ -16,7 +16,7 @@ impl ApplyContext<'_> {
     /// What is given on every edge from a source, if it is the same on all.
     #[inline]
     pub(crate) fn sent(self, source: u32) -> Option<SourceContribution>
-        ensures { IfSome result (λ s. (m : StateValue) (steps : List StepsTree) → IsContextOf self.entry m steps
+        ensures { IfSome result (λ s. (m : StateValue) (steps : List FunctionStatementsTree) → IsContextOf self.entry m steps
             → (d : ℕ) (w : ℤ) → all_given m steps (source, d, w) ≡ (s.vector, s.reduction, s.number) ∷ []) }
     {
         if self.second.is_some() {

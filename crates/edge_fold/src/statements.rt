@@ -2,7 +2,7 @@
 ghost use Rattle.std.specs.Prelude.{◌≡◌, ◌++◌, ℕ, true, false, List, None, IfSome, IfOk, OnOk};
 ghost use Rattle.apply_options.specs.declared.reduction.Reduction.{Reduction};
 ghost use Rattle.edge_lists.specs.Edge.{Edge};
-ghost use Rattle.typed_tree.specs.StepTree.{StepsTree};
+ghost use Rattle.typed_tree.specs.FunctionStatementTree.{FunctionStatementsTree};
 ghost use Rattle.algorithm_meaning.specs.State.{StateValue};
 ghost use Rattle.kernels.specs.ShapePairs.{shape_given};
 ghost use Rattle.edge_fold.specs.Folded.{IsContextOf, HasFolded};
@@ -30,7 +30,7 @@ impl ApplyContext<'_> {
     /// The shapes of the two statements, if the function has two and no other function is applied with it.
     #[inline]
     fn shape_pair(self) -> Option<ShapePair>
-        ensures { IfSome result (λ p. (m : StateValue) (steps : List StepsTree) → IsContextOf self.entry m steps
+        ensures { IfSome result (λ p. (m : StateValue) (steps : List FunctionStatementsTree) → IsContextOf self.entry m steps
             → IsPairOf m p (all_given m steps)) }
     {
         if self.second.is_some() {
@@ -43,7 +43,7 @@ impl ApplyContext<'_> {
     /// What sources give each destination together by two statements, with these weights or none, if each statement gives a number
     /// of its own source, and there is a source.
     fn reduced_pair(self, sources: &[u32], weights: &[i64]) -> Option<ContributionPair>
-        ensures { IfSome result (λ p. (m : StateValue) (steps : List StepsTree) → IsContextOf self.entry m steps
+        ensures { IfSome result (λ p. (m : StateValue) (steps : List FunctionStatementsTree) → IsContextOf self.entry m steps
             → ArePairContributions p (all_given m steps) (entries_of sources.now weights.now)) }
     {
         let pair = self.shape_pair()?;
@@ -112,7 +112,7 @@ impl Scratch {
         source: u32,
         destinations: &E,
     ) -> Result<bool, AllocError>
-        ensures folded { IfOk result (λ done. done ≡ true → (m : StateValue) (steps : List StepsTree) (edges : List Edge)
+        ensures folded { IfOk result (λ done. done ≡ true → (m : StateValue) (steps : List FunctionStatementsTree) (edges : List Edge)
             → IsContextOf context.entry m steps → HasFolded context.entry m steps edges self.old
             → HasFolded context.entry m steps (edges ++ row source (E.entries destinations.now)) self.new) }
         ensures unchanged { IfOk result (λ done. done ≡ false → self.new ≡ self.old) }
@@ -138,7 +138,7 @@ impl Scratch {
         weights: &[i64],
         destination: u32,
     ) -> Result<bool, AllocError>
-        ensures folded { IfOk result (λ done. done ≡ true → (m : StateValue) (steps : List StepsTree) (edges : List Edge)
+        ensures folded { IfOk result (λ done. done ≡ true → (m : StateValue) (steps : List FunctionStatementsTree) (edges : List Edge)
             → IsContextOf context.entry m steps → HasFolded context.entry m steps edges self.old
             → HasFolded context.entry m steps (edges ++ column destination (entries_of sources.now weights.now)) self.new) }
         ensures unchanged { IfOk result (λ done. done ≡ false → self.new ≡ self.old) }

@@ -1,6 +1,6 @@
 //! Folding with weights: edges for functions that read them.
 ghost use Rattle.std.specs.Prelude.{◌≡◌, ◌+◌, ◌≤◌, ◌++◌, ℕ, true, List, length, OnOk};
-ghost use Rattle.typed_tree.specs.StepTree.{StepsTree};
+ghost use Rattle.typed_tree.specs.FunctionStatementTree.{FunctionStatementsTree};
 ghost use Rattle.algorithm_meaning.specs.State.{StateValue};
 ghost use Rattle.edge_lists.specs.Edge.{Edge};
 ghost use Rattle.edge_fold.specs.Folded.{IsContextOf, HasFolded};
@@ -59,7 +59,7 @@ impl Scratch {
         requires few { length destinations.now ≤ PAIRS }
         requires same { length weights.now ≡ length destinations.now }
         requires weighted { context.weighted ≡ true }
-        ensures { OnOk result ((m : StateValue) (steps : List StepsTree) (edges : List Edge) → IsContextOf context.entry m steps
+        ensures { OnOk result ((m : StateValue) (steps : List FunctionStatementsTree) (edges : List Edge) → IsContextOf context.entry m steps
             → HasFolded context.entry m steps edges self.old
             → HasFolded context.entry m steps (edges ++ row source (entries_of destinations.now weights.now)) self.new) }
     {
@@ -86,7 +86,7 @@ impl Scratch {
         requires few { length destinations.now ≤ PAIRS }
         requires same { length weights.now ≡ length destinations.now }
         requires weighted { context.weighted ≡ true }
-        ensures { OnOk result ((m : StateValue) (steps : List StepsTree) (edges : List Edge) → IsContextOf context.entry m steps
+        ensures { OnOk result ((m : StateValue) (steps : List FunctionStatementsTree) (edges : List Edge) → IsContextOf context.entry m steps
             → HasFolded context.entry m steps edges self.old
             → HasFolded context.entry m steps (edges ++ row source (entries_of destinations.now weights.now)) self.new) }
     {
@@ -116,7 +116,7 @@ impl Scratch {
         requires few { length sources.now ≤ PAIRS }
         requires same { length weights.now ≡ length sources.now }
         requires weighted { context.weighted ≡ true }
-        ensures { OnOk result ((m : StateValue) (steps : List StepsTree) (edges : List Edge) → IsContextOf context.entry m steps
+        ensures { OnOk result ((m : StateValue) (steps : List FunctionStatementsTree) (edges : List Edge) → IsContextOf context.entry m steps
             → HasFolded context.entry m steps edges self.old
             → HasFolded context.entry m steps (edges ++ column destination (entries_of sources.now weights.now)) self.new) }
     {
@@ -146,7 +146,7 @@ impl Scratch {
         requires few { length sources.now ≤ PAIRS }
         requires same { length weights.now ≡ length sources.now }
         requires weighted { context.weighted ≡ true }
-        ensures { OnOk result ((m : StateValue) (steps : List StepsTree) (edges : List Edge) → IsContextOf context.entry m steps
+        ensures { OnOk result ((m : StateValue) (steps : List FunctionStatementsTree) (edges : List Edge) → IsContextOf context.entry m steps
             → HasFolded context.entry m steps edges self.old
             → HasFolded context.entry m steps (edges ++ column destination (entries_of sources.now weights.now)) self.new) }
     {

@@ -1,6 +1,6 @@
 pub mod Packing
 pub mod SortedUpdates
 pub mod KeepingLast
-pub mod Turning
+pub mod Transposing
 pub mod EndWidths
 pub mod Weighted

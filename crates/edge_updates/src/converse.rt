@@ -10,7 +10,7 @@ use crate::edge_update::EdgeUpdate;
 
 /// Swaps the ends of the edge of each update. Where the updates ascended, their new neighbours do not
 /// fall. It takes linear time and no memory.
-pub fn turn(updates: &mut Vec<EdgeUpdate>)
+pub fn transpose(updates: &mut Vec<EdgeUpdate>)
     ensures same { (u v : ℕ)
         → decided updates.new.items (v, u) ≡ decided updates.old.items (u, v) }
     ensures once { NamesOnce updates.old.items → NamesOnce updates.new.items }
@@ -19,6 +19,6 @@ pub fn turn(updates: &mut Vec<EdgeUpdate>)
     ensures len { vec_len updates.new ≡ vec_len updates.old }
 {
     for update in updates.iter_mut() {
-        *update = update.turned();
+        *update = update.transposed();
     }
 }

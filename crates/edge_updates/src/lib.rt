@@ -3,7 +3,7 @@
 //! A contract sees an [`EdgeUpdate`] as a vertex, a neighbour of it and whether the edge between them
 //! is added, and a list of them as what it decides: the last update that names an edge decides on it.
 //! [`sort`] and [`keep_last`] leave that as it is, and after both the edges ascend, each once.
-//! [`turn`] gives the same edges seen from the neighbour, and [`sort_turned`] sorts them too: they are
+//! [`transpose`] gives the same edges seen from the neighbour, and [`sort_transposed`] sorts them too: they are
 //! the other direction. [`Updates`] lends them with the weights of the edges that they add.
 //!
 //! Batches of a graph are sorted by this crate.
@@ -15,8 +15,8 @@ mod lasts;
 mod sorts;
 mod updates;
 
-pub use converse::turn;
+pub use converse::transpose;
 pub use edge_update::EdgeUpdate;
 pub use lasts::keep_last;
-pub use sorts::{sort, sort_forked, sort_turned};
+pub use sorts::{sort, sort_forked, sort_transposed};
 pub use updates::Updates;

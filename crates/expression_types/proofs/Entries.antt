@@ -1,7 +1,7 @@
 -- Entries of vectors in operators in a row.
 use Rattle.std.proofs.Common.{◌≡◌, refl, sym, ◌∙◌, Bool, true, false, ◌||◌, ℕ, zero, suc, List, [], ◌∷◌}
 use Rattle.typed_tree.specs.declared.expression.Operand.{Operand}
-use Rattle.typed_tree.specs.IntegerTree.{IntegerTree, Arithmetic, integer_tree, negated, operands_tree}
+use Rattle.typed_tree.specs.IntExpressionTree.{IntExpressionTree, Arithmetic, int_expression_tree, negated, operands_tree}
 use Rattle.expression_types.specs.ValueTree.{reads_entry, operands_read_entry}
 
 or_false : (a : Bool) → (a || false) ≡ a
@@ -12,13 +12,13 @@ or_or : (a b c : Bool) → ((a || b) || c) ≡ (a || (b || c))
 or_or true b c = refl
 or_or false b c = refl
 
-pub reads_entry-operands : (left : IntegerTree) (operands : List Operand)
+pub reads_entry-operands : (left : IntExpressionTree) (operands : List Operand)
     → reads_entry (operands_tree left operands) ≡ (reads_entry left || operands_read_entry operands)
 reads_entry-operands left [] = sym (or_false (reads_entry left))
 reads_entry-operands left (o ∷ others) =
-    reads_entry-operands (Arithmetic o.operator left (integer_tree o.integer)) others
-    ∙ or_or (reads_entry left) (reads_entry (integer_tree o.integer)) (operands_read_entry others)
+    reads_entry-operands (Arithmetic o.operator left (int_expression_tree o.integer)) others
+    ∙ or_or (reads_entry left) (reads_entry (int_expression_tree o.integer)) (operands_read_entry others)
 
-pub reads_entry-negated : (n : ℕ) (e : IntegerTree) → reads_entry (negated n e) ≡ reads_entry e
+pub reads_entry-negated : (n : ℕ) (e : IntExpressionTree) → reads_entry (negated n e) ≡ reads_entry e
 reads_entry-negated zero e = refl
 reads_entry-negated (suc n) e = reads_entry-negated n e

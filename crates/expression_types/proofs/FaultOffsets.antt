@@ -10,8 +10,8 @@ use Rattle.syntax.specs.ExpressionTrees.{ExpressionTree, ConjunctionTree, Compar
 use Rattle.syntax.specs.ExpressionSpelling.{comparison_terminals, conjunction_terminals, expression_terminals, primary_terminals, sum_terminals, term_terminals, unary_terminals}
 use Rattle.syntax.proofs.Behind.{all_both, all_left, all_right}
 use Rattle.typed_tree.specs.declared.expression.VarRef.{VarRef}
-use Rattle.typed_tree.specs.IntegerTree as integer
-use Rattle.typed_tree.specs.IntegerTree.{IntegerTree}
+use Rattle.typed_tree.specs.IntExpressionTree as integer
+use Rattle.typed_tree.specs.IntExpressionTree.{IntExpressionTree}
 use Rattle.expression_types.specs.declared.fault.Fault.{Fault}
 use Rattle.expression_types.specs.declared.fault.TypeRule.{TypeRule}
 use Rattle.expression_types.specs.declared.fault.TypeRule.TheVariants as rule
@@ -96,7 +96,7 @@ size_stands P scope at name here there =
     let e = used scope name in both_stand P e.faults _ (used_stands P scope name there) (as_size_stands P at e.value here)
 
 -- entries
-integer_index_stands : (P : ℕ → Type 0) (at vector : ℕ) (e : IntegerTree) → P at → FaultsStand P (integer_index at vector e)
+integer_index_stands : (P : ℕ → Type 0) (at vector : ℕ) (e : IntExpressionTree) → P at → FaultsStand P (integer_index at vector e)
 integer_index_stands P at vector e here =
     if_stand P (reads_entry e) (fault_at at rule.WrongIndex ErrorValue) (sure (Integer (integer.Entry vector e))) (here, tt) tt
 

@@ -7,8 +7,8 @@ use Rattle.syntax.specs.ExpressionTrees.{PrimaryTree, Bare}
 use Rattle.syntax.specs.ExpressionViews.{behind}
 use Rattle.typed_tree.specs.declared.expression.Endpoint.{Endpoint}
 use Rattle.typed_tree.specs.declared.expression.VarRef.{VarRef}
-use Rattle.typed_tree.specs.ConditionTree.{ConditionTree, turned}
-use Rattle.typed_tree.specs.IntegerTree.{IntegerTree, Parameter, negated}
+use Rattle.typed_tree.specs.BoolExpressionTree.{BoolExpressionTree, turned}
+use Rattle.typed_tree.specs.IntExpressionTree.{IntExpressionTree, Parameter, negated}
 use Rattle.expression_types.specs.declared.fault.Fault.{Fault}
 use Rattle.expression_types.specs.declared.fault.TypeRule.TheVariants as rule
 use Rattle.expression_types.specs.Faults.{earlier}
@@ -24,34 +24,34 @@ use Rattle.expression_types.specs.ValueTree.{ValueTree, Integer, Condition, Vert
 abbrev signed : ℕ → Prefix → WithFaults ValueTree → WithFaults ValueTree
 signed at sign m = m >>= λ v. given at rule.WrongType (signed_value sign v)
 
-nots : (at : ℕ) (signs : List Prefix) (c : ConditionTree) → all_not signs ≡ true → signs_value at signs (Condition c) ≡ sure (Condition (turned (length signs) c))
+nots : (at : ℕ) (signs : List Prefix) (c : BoolExpressionTree) → all_not signs ≡ true → signs_value at signs (Condition c) ≡ sure (Condition (turned (length signs) c))
 nots at [] c all = refl
 nots at (prefix.Not ∷ signs) c all = ap (signed at prefix.Not) (nots at signs c all)
 nots at (prefix.Minus ∷ signs) c all = absurd (false≢true all)
 
-minus_on_condition : (at : ℕ) (signs : List Prefix) (c : ConditionTree) (all : Bool) → all_not signs ≡ all
+minus_on_condition : (at : ℕ) (signs : List Prefix) (c : BoolExpressionTree) (all : Bool) → all_not signs ≡ all
     → (all_not signs ≡ false → signs_value at signs (Condition c) ≡ fault_at at rule.WrongType ErrorValue)
     → signs_value at (prefix.Minus ∷ signs) (Condition c) ≡ fault_at at rule.WrongType ErrorValue
 minus_on_condition at signs c true is misses = ap (signed at prefix.Minus) (nots at signs c is)
 minus_on_condition at signs c false is misses = ap (signed at prefix.Minus) (misses is)
 
-not_nots : (at : ℕ) (signs : List Prefix) (c : ConditionTree) → all_not signs ≡ false → signs_value at signs (Condition c) ≡ fault_at at rule.WrongType ErrorValue
+not_nots : (at : ℕ) (signs : List Prefix) (c : BoolExpressionTree) → all_not signs ≡ false → signs_value at signs (Condition c) ≡ fault_at at rule.WrongType ErrorValue
 not_nots at [] c some = absurd (true≢false some)
 not_nots at (prefix.Not ∷ signs) c some = ap (signed at prefix.Not) (not_nots at signs c some)
 not_nots at (prefix.Minus ∷ signs) c some = minus_on_condition at signs c (all_not signs) refl (λ is. not_nots at signs c is)
 
-minuses : (at : ℕ) (signs : List Prefix) (e : IntegerTree) → all_minus signs ≡ true → signs_value at signs (Integer e) ≡ sure (Integer (negated (length signs) e))
+minuses : (at : ℕ) (signs : List Prefix) (e : IntExpressionTree) → all_minus signs ≡ true → signs_value at signs (Integer e) ≡ sure (Integer (negated (length signs) e))
 minuses at [] e all = refl
 minuses at (prefix.Minus ∷ signs) e all = ap (signed at prefix.Minus) (minuses at signs e all)
 minuses at (prefix.Not ∷ signs) e all = absurd (false≢true all)
 
-not_on_integer : (at : ℕ) (signs : List Prefix) (e : IntegerTree) (all : Bool) → all_minus signs ≡ all
+not_on_integer : (at : ℕ) (signs : List Prefix) (e : IntExpressionTree) (all : Bool) → all_minus signs ≡ all
     → (all_minus signs ≡ false → signs_value at signs (Integer e) ≡ fault_at at rule.WrongType ErrorValue)
     → signs_value at (prefix.Not ∷ signs) (Integer e) ≡ fault_at at rule.WrongType ErrorValue
 not_on_integer at signs e true is misses = ap (signed at prefix.Not) (minuses at signs e is)
 not_on_integer at signs e false is misses = ap (signed at prefix.Not) (misses is)
 
-not_minuses : (at : ℕ) (signs : List Prefix) (e : IntegerTree) → all_minus signs ≡ false → signs_value at signs (Integer e) ≡ fault_at at rule.WrongType ErrorValue
+not_minuses : (at : ℕ) (signs : List Prefix) (e : IntExpressionTree) → all_minus signs ≡ false → signs_value at signs (Integer e) ≡ fault_at at rule.WrongType ErrorValue
 not_minuses at [] e some = absurd (true≢false some)
 not_minuses at (prefix.Minus ∷ signs) e some = ap (signed at prefix.Minus) (not_minuses at signs e some)
 not_minuses at (prefix.Not ∷ signs) e some = not_on_integer at signs e (all_minus signs) refl (λ is. not_minuses at signs e is)
@@ -86,7 +86,7 @@ error_stays at first_fault signs (Vertex p) is = absurd (false≢true is)
 error_stays at first_fault signs (Set slot) is = absurd (false≢true is)
 error_stays at first_fault signs ErrorValue is = ap (outcome first_fault) (on_error at signs)
 
-pub condition_turned : (at : ℕ) (first_fault : Option Fault) (signs : List Prefix) (v : ValueTree) (c : ConditionTree) → Some c ≡ as_condition v → all_not signs ≡ true
+pub condition_turned : (at : ℕ) (first_fault : Option Fault) (signs : List Prefix) (v : ValueTree) (c : BoolExpressionTree) → Some c ≡ as_condition v → all_not signs ≡ true
     → outcome first_fault (signs_value at signs v) ≡ (Condition (turned (length signs) c), first_fault)
 condition_turned at first_fault signs (Integer e) c is all = cc
 condition_turned at first_fault signs (Condition d) c is all =
@@ -95,7 +95,7 @@ condition_turned at first_fault signs (Vertex p) c is all = cc
 condition_turned at first_fault signs (Set slot) c is all = cc
 condition_turned at first_fault signs ErrorValue c is all = cc
 
-pub condition_misses : (at : ℕ) (first_fault : Option Fault) (signs : List Prefix) (v : ValueTree) (c : ConditionTree) → Some c ≡ as_condition v → all_not signs ≡ false
+pub condition_misses : (at : ℕ) (first_fault : Option Fault) (signs : List Prefix) (v : ValueTree) (c : BoolExpressionTree) → Some c ≡ as_condition v → all_not signs ≡ false
     → outcome first_fault (signs_value at signs v) ≡ (ErrorValue, wrong at first_fault)
 condition_misses at first_fault signs (Integer e) c is some = cc
 condition_misses at first_fault signs (Condition d) c is some = ap (outcome first_fault) (not_nots at signs d some)
@@ -103,7 +103,7 @@ condition_misses at first_fault signs (Vertex p) c is some = cc
 condition_misses at first_fault signs (Set slot) c is some = cc
 condition_misses at first_fault signs ErrorValue c is some = cc
 
-pub integer_negated : (at : ℕ) (first_fault : Option Fault) (signs : List Prefix) (v : ValueTree) (e : IntegerTree) → signs ≢ [] → Some e ≡ as_integer v → all_minus signs ≡ true
+pub integer_negated : (at : ℕ) (first_fault : Option Fault) (signs : List Prefix) (v : ValueTree) (e : IntExpressionTree) → signs ≢ [] → Some e ≡ as_integer v → all_minus signs ≡ true
     → outcome first_fault (signs_value at signs v) ≡ (Integer (negated (length signs) e), first_fault)
 integer_negated at first_fault [] v e some is all = absurd (some refl)
 integer_negated at first_fault (s ∷ signs) (Integer d) e some is all =
@@ -115,7 +115,7 @@ integer_negated at first_fault (s ∷ signs) (Vertex p) e some is all =
 integer_negated at first_fault (s ∷ signs) (Set slot) e some is all = cc
 integer_negated at first_fault (s ∷ signs) ErrorValue e some is all = cc
 
-pub integer_misses : (at : ℕ) (first_fault : Option Fault) (signs : List Prefix) (v : ValueTree) (e : IntegerTree) → signs ≢ [] → Some e ≡ as_integer v → all_minus signs ≡ false
+pub integer_misses : (at : ℕ) (first_fault : Option Fault) (signs : List Prefix) (v : ValueTree) (e : IntExpressionTree) → signs ≢ [] → Some e ≡ as_integer v → all_minus signs ≡ false
     → outcome first_fault (signs_value at signs v) ≡ (ErrorValue, wrong at first_fault)
 integer_misses at first_fault [] v e some is missing = absurd (some refl)
 integer_misses at first_fault (s ∷ signs) (Integer d) e some is missing = ap (outcome first_fault) (not_minuses at (s ∷ signs) d missing)

@@ -7,8 +7,8 @@ use Rattle.syntax.specs.Terminals.{Identifier}
 use Rattle.syntax.specs.ExpressionTrees.{ExpressionTree, ConjunctionTree, ComparisonTree, SumTree, TermTree, UnaryTree, PrimaryTree, LastConjunction, ConjunctionThen, LastComparison, ComparisonThen, OneSum, TwoSums, LastTerm, TermThen, LastUnary, UnaryThen, Bare, Signed, Literal, Truth, Variable, Entry, Size, Parentheses}
 use Rattle.typed_tree.specs.declared.expression.Connective.TheVariants as connective
 use Rattle.typed_tree.specs.declared.expression.VarRef.{VarRef}
-use Rattle.typed_tree.specs.IntegerTree as integer
-use Rattle.typed_tree.specs.ConditionTree as condition
+use Rattle.typed_tree.specs.IntExpressionTree as integer
+use Rattle.typed_tree.specs.BoolExpressionTree as condition
 use Rattle.expression_types.specs.declared.fault.TypeRule.TheVariants as rule
 use Rattle.expression_types.specs.declared.scope.Entity.{Entity}
 use Rattle.expression_types.specs.declared.scope.Entity.TheVariants as entity

@@ -14,10 +14,10 @@ use Rattle.typed_tree.specs.declared.expression.Connective.{Connective}
 use Rattle.typed_tree.specs.declared.expression.Connective.TheVariants as connective
 use Rattle.typed_tree.specs.declared.expression.Operator.{Operator}
 use Rattle.typed_tree.specs.declared.expression.Operator.TheVariants as operator
-use Rattle.typed_tree.specs.IntegerTree as integer
-use Rattle.typed_tree.specs.IntegerTree.{IntegerTree}
-use Rattle.typed_tree.specs.ConditionTree as condition
-use Rattle.typed_tree.specs.ConditionTree.{ConditionTree}
+use Rattle.typed_tree.specs.IntExpressionTree as integer
+use Rattle.typed_tree.specs.IntExpressionTree.{IntExpressionTree}
+use Rattle.typed_tree.specs.BoolExpressionTree as condition
+use Rattle.typed_tree.specs.BoolExpressionTree.{BoolExpressionTree}
 use Rattle.expression_types.specs.declared.fault.TypeRule.{TypeRule}
 use Rattle.expression_types.specs.declared.fault.TypeRule.TheVariants as rule
 use Rattle.expression_types.specs.declared.scope.Inside.{Inside}
@@ -45,12 +45,12 @@ unless_faulty faulty m = record { faults = if faulty then [] else m.faults; valu
 
 -- What operators of one level take so far: all are of the type that they want; one is not; or one has a faulty part.
 pub data IntegersTree : Type 0 where
-  Integers : IntegerTree → IntegersTree
+  Integers : IntExpressionTree → IntegersTree
   MixedIntegers : IntegersTree
   ErrorIntegers : IntegersTree
 
 pub data ConditionsTree : Type 0 where
-  Conditions : ConditionTree → ConditionsTree
+  Conditions : BoolExpressionTree → ConditionsTree
   MixedConditions : ConditionsTree
   ErrorConditions : ConditionsTree
 
@@ -152,7 +152,7 @@ signed_value prefix.Not (Set slot) = None
 signed_value prefix.Not ErrorValue = Some ErrorValue
 
 -- An index of main is an integer that reads no entry; where it is neither, both rules are broken.
-abbrev pub integer_index : ℕ → ℕ → IntegerTree → WithFaults ValueTree
+abbrev pub integer_index : ℕ → ℕ → IntExpressionTree → WithFaults ValueTree
 integer_index at vector e = if reads_entry e then fault_at at rule.WrongIndex ErrorValue else sure (Integer (integer.Entry vector e))
 
 abbrev pub condition_index : ℕ → Bool → WithFaults ValueTree

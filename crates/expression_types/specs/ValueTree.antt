@@ -3,10 +3,10 @@ use Rattle.std.specs.Prelude.{ℕ, Bool, true, false, ◌||◌, List, [], ◌∷
 use Rattle.typed_tree.specs.declared.expression.Endpoint.{Endpoint}
 use Rattle.typed_tree.specs.declared.expression.Operand.{Operand}
 use Rattle.typed_tree.specs.declared.expression.VarRef.{VarRef}
-use Rattle.typed_tree.specs.IntegerTree as integer
-use Rattle.typed_tree.specs.IntegerTree.{IntegerTree, integer_tree}
-use Rattle.typed_tree.specs.ConditionTree as condition
-use Rattle.typed_tree.specs.ConditionTree.{ConditionTree, condition_tree}
+use Rattle.typed_tree.specs.IntExpressionTree as integer
+use Rattle.typed_tree.specs.IntExpressionTree.{IntExpressionTree, int_expression_tree}
+use Rattle.typed_tree.specs.BoolExpressionTree as condition
+use Rattle.typed_tree.specs.BoolExpressionTree.{BoolExpressionTree, bool_expression_tree}
 use Rattle.expression_types.specs.declared.scope.Entity.{Entity}
 use Rattle.expression_types.specs.declared.scope.Entity.TheVariants as entity
 use Rattle.expression_types.specs.declared.value.Value.{Value}
@@ -14,16 +14,16 @@ use Rattle.expression_types.specs.declared.value.Value.TheVariants as rust
 
 -- an expression of type int, bool, Vertex or vertexset{Vertex}, or one with a faulty part
 pub data ValueTree : Type 0 where
-  Integer : IntegerTree → ValueTree
-  Condition : ConditionTree → ValueTree
+  Integer : IntExpressionTree → ValueTree
+  Condition : BoolExpressionTree → ValueTree
   Vertex : Endpoint → ValueTree
   Set : VarRef → ValueTree
   ErrorValue : ValueTree
 
 -- the tree that a Rust tree is
 abbrev pub value_tree : Value → ValueTree
-value_tree (rust.Integer e) = Integer (integer_tree e)
-value_tree (rust.Condition c) = Condition (condition_tree c)
+value_tree (rust.Integer e) = Integer (int_expression_tree e)
+value_tree (rust.Condition c) = Condition (bool_expression_tree c)
 value_tree (rust.Vertex at) = Vertex at
 value_tree (rust.Set slot) = Set slot
 value_tree rust.Error = ErrorValue
@@ -116,14 +116,14 @@ named_set entity.Main = None
 named_set entity.Error = None
 
 -- the integer that a value reads as: a vertex reads as its number
-abbrev pub as_integer : ValueTree → Option IntegerTree
+abbrev pub as_integer : ValueTree → Option IntExpressionTree
 as_integer (Integer e) = Some e
 as_integer (Condition c) = None
 as_integer (Vertex at) = Some (integer.Parameter at)
 as_integer (Set slot) = None
 as_integer ErrorValue = None
 
-abbrev pub as_condition : ValueTree → Option ConditionTree
+abbrev pub as_condition : ValueTree → Option BoolExpressionTree
 as_condition (Integer e) = None
 as_condition (Condition c) = Some c
 as_condition (Vertex at) = None
@@ -131,7 +131,7 @@ as_condition (Set slot) = None
 as_condition ErrorValue = None
 
 -- an entry of a vector is read in it
-abbrev pub reads_entry : IntegerTree → Bool
+abbrev pub reads_entry : IntExpressionTree → Bool
 reads_entry (integer.Number n) = false
 reads_entry (integer.Constant name n) = false
 reads_entry (integer.Variable slot) = false
@@ -146,10 +146,10 @@ reads_entry (integer.Arithmetic operator left right) = reads_entry left || reads
 -- in one of the operands
 abbrev pub operands_read_entry : List Operand → Bool
 operands_read_entry [] = false
-operands_read_entry (o ∷ others) = reads_entry (integer_tree o.integer) || operands_read_entry others
+operands_read_entry (o ∷ others) = reads_entry (int_expression_tree o.integer) || operands_read_entry others
 
 -- the same of a condition
-abbrev pub condition_reads_entry : ConditionTree → Bool
+abbrev pub condition_reads_entry : BoolExpressionTree → Bool
 condition_reads_entry (condition.Literal b) = false
 condition_reads_entry (condition.Constant name b) = false
 condition_reads_entry (condition.Variable slot) = false

@@ -1,8 +1,8 @@
 //! Values: typed expressions, and those that names have alone.
 ghost use Rattle.std.specs.Prelude.{◌≡◌, is_some};
 ghost use Rattle.std.specs.Option.{option_map};
-ghost use Rattle.typed_tree.specs.ConditionTree.{condition_tree};
-ghost use Rattle.typed_tree.specs.IntegerTree.{integer_tree};
+ghost use Rattle.typed_tree.specs.BoolExpressionTree.{bool_expression_tree};
+ghost use Rattle.typed_tree.specs.IntExpressionTree.{int_expression_tree};
 ghost use Rattle.expression_types.specs.ValueTree.{as_condition, as_integer, as_set, as_vertex, is_condition as condition, is_error as error};
 ghost use Rattle.expression_types.specs.ValueTree.{named_set, named_value, named_vector, operands_read_entry, reads_entry as entry_is_read, value_tree};
 
@@ -73,7 +73,7 @@ impl Value {
 
     /// The integer that the value reads as, or `None` where it is none; a vertex reads as its number.
     pub fn into_integer(self) -> Option<IntExpression>
-        ensures { option_map integer_tree result ≡ as_integer (value_tree self) }
+        ensures { option_map int_expression_tree result ≡ as_integer (value_tree self) }
     {
         match self {
             Value::Integer(e) => Some(e),
@@ -84,7 +84,7 @@ impl Value {
 
     /// The condition that the value is, or `None` where it is none.
     pub fn into_condition(self) -> Option<BoolExpression>
-        ensures { option_map condition_tree result ≡ as_condition (value_tree self) }
+        ensures { option_map bool_expression_tree result ≡ as_condition (value_tree self) }
     {
         match self {
             Value::Condition(c) => Some(c),
@@ -152,7 +152,7 @@ pub fn set_named(entity: Entity) -> Option<VarRef>
 /// Whether an entry of a vector is read in the expression.
 #[cycle(entries)]
 pub fn reads_entry(e: &IntExpression) -> bool
-    ensures { result ≡ entry_is_read (integer_tree e.now) }
+    ensures { result ≡ entry_is_read (int_expression_tree e.now) }
 {
     match e {
         IntExpression::EntryAt(_, _) | IntExpression::Entry(_, _) => true,

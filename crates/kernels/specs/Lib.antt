@@ -16,5 +16,5 @@ pub use Rattle.register_code.specs.Meaning
 pub use Rattle.register_code.specs.declared.instruction.ContributionCode
 pub use Rattle.register_code.specs.declared.instruction.RegisterInstruction
 pub use Rattle.register_code.specs.declared.register_counts.RegisterCounts
-pub use Rattle.typed_tree.specs.StepTree
+pub use Rattle.typed_tree.specs.FunctionStatementTree
 pub mod inside

@@ -1,9 +1,9 @@
 -- How large statements are.
 use Rattle.std.proofs.Common.{◌≡◌, ◌<◌, ℕ, ◌+◌, ◌*◌, arith}
-use Rattle.typed_tree.specs.BlockTree.{ActionTree, If, IfElse, While, For, BlockTree, Empty, Then}
+use Rattle.typed_tree.specs.BlockTree.{StatementKindTree, If, IfElse, While, For, BlockTree, Empty, Then}
 
 abbrev mutual
-  pub action_size : ActionTree → ℕ
+  pub action_size : StatementKindTree → ℕ
   action_size (If c body) = 1 + block_size body
   action_size (IfElse c body other) = 1 + (block_size body + block_size other)
   action_size (While c body) = 1 + block_size body

@@ -1,9 +1,9 @@
 -- The instructions of statements with blocks, and of blocks.
 use Rattle.std.proofs.Common.{◌≡◌, ℕ, ◌+◌, Bool, false, Option, List, [], ◌∷◌, ◌++◌, length, refl, sym, ap, ◌∙◌, arith, subst, append-nil, append_assoc}
 use Rattle.typed_tree.specs.declared.statement.MainStatement.{MainStatement}
-use Rattle.typed_tree.specs.IntegerTree.{IntegerTree}
-use Rattle.typed_tree.specs.ConditionTree.{ConditionTree}
-use Rattle.typed_tree.specs.BlockTree.{ActionTree, DeclareInteger, If, IfElse, While, For, BlockTree, Then, block_tree}
+use Rattle.typed_tree.specs.IntExpressionTree.{IntExpressionTree}
+use Rattle.typed_tree.specs.BoolExpressionTree.{BoolExpressionTree}
+use Rattle.typed_tree.specs.BlockTree.{StatementKindTree, DeclareInteger, If, IfElse, While, For, BlockTree, Then, block_tree}
 use Rattle.typed_tree.specs.ProgramTree.{ProgramTree}
 use Rattle.apply_options.specs.ScheduleTree.{ScheduleTree}
 use Rattle.algorithm_meaning.specs.declared.state.Depth.{Depth}
@@ -24,7 +24,7 @@ module _ (p : ProgramTree) (s : ScheduleTree) where
     pub puts : Puts p a b done
     pub is : whole ≡ done ++ plan_all p s (length b) d is_done left
 
-  pub has_put_next : (whole : List InstructionTree) (a b c : List Instruction) (d : Depth) (is_done : Bool) (number : ℕ) (label : Option ℕ) (action : ActionTree) (rest : BlockTree)
+  pub has_put_next : (whole : List InstructionTree) (a b c : List Instruction) (d : Depth) (is_done : Bool) (number : ℕ) (label : Option ℕ) (action : StatementKindTree) (rest : BlockTree)
       → HasPut whole a b d is_done (Then number label action rest)
       → Puts p b c (plan_in (fusion_role_of p s d is_done label action rest) s number label d (plan p s (length b) d number label action))
       → HasPut whole a c (behind action d) (takes_next (fusion_role_of p s d is_done label action rest)) rest
@@ -53,7 +53,7 @@ module _ (p : ProgramTree) (s : ScheduleTree) where
   ends_at : (b c : List Instruction) (d : Depth) (body : BlockTree) → Puts p b c (plan_all p s (length b) d false body) → length c ≡ length b + size_all p s d false body
   ends_at b c d body puts = puts_length p b c (plan_all p s (length b) d false body) puts ∙ ap (λ n. length b + n) (length-plan_all p s body (length b) d false)
 
-  pub puts_if : (a b c e : List Instruction) (n to : ℕ) (d : Depth) (number : ℕ) (label : Option ℕ) (t : ConditionTree) (body : BlockTree)
+  pub puts_if : (a b c e : List Instruction) (n to : ℕ) (d : Depth) (number : ℕ) (label : Option ℕ) (t : BoolExpressionTree) (body : BlockTree)
       → KeepsIndex a b n → Puts p b c (plan_all p s (length b) d false body) → to ≡ length c → Fills p c e n (plain number d (Unless t to))
       → Puts p a e (plan p s (length a) d number label (If t body))
   puts_if a b c e n to d number label t body keeps puts behind fills =
@@ -61,7 +61,7 @@ module _ (p : ProgramTree) (s : ScheduleTree) where
       let index : to ≡ length a + 1 + size_all p s d false body = behind ∙ ends_at b c d body puts ∙ ap (λ m. m + size_all p s d false body) one in
       puts_filled p a b c e n _ _ keeps (subst (λ m. Puts p b c (plan_all p s m d false body)) one puts) (subst (λ m. Fills p c e n (plain number d (Unless t m))) index fills)
 
-  pub puts_choice : (a b c e k g h : List Instruction) (n to m : ℕ) (d : Depth) (number : ℕ) (label : Option ℕ) (t : ConditionTree) (body other : BlockTree)
+  pub puts_choice : (a b c e k g h : List Instruction) (n to m : ℕ) (d : Depth) (number : ℕ) (label : Option ℕ) (t : BoolExpressionTree) (body other : BlockTree)
       → KeepsIndex a b n → Puts p b c (plan_all p s (length b) d false body) → to ≡ length c + 1 → Fills p c e n (plain number d (Unless t to))
       → KeepsIndex e k m → Puts p k g (plan_all p s (length k) d false other) → Fills p g h m (loop_step number d d (Jump (length g)))
       → Puts p a h (plan p s (length a) d number label (IfElse t body other))
@@ -76,7 +76,7 @@ module _ (p : ProgramTree) (s : ScheduleTree) where
       puts_both p a e h _ _ first
       (puts_filled p e k g h m _ _ keeps_jump (subst (λ q. Puts p k g (plan_all p s q d false other)) second more) (subst (λ q. Fills p g h m (loop_step number d d (Jump q))) end jump))
 
-  pub puts_while : (a b c g e : List Instruction) (n to : ℕ) (d : Depth) (number : ℕ) (label : Option ℕ) (t : ConditionTree) (body : BlockTree)
+  pub puts_while : (a b c g e : List Instruction) (n to : ℕ) (d : Depth) (number : ℕ) (label : Option ℕ) (t : BoolExpressionTree) (body : BlockTree)
       → BeginsLoop p a b n (loop_step number d d Turn) → Puts p b c (plan_all p s (length b) d false body)
       → Puts p c g (loop_step number d d (Jump n) ∷ []) → to ≡ length g → Fills p g e n (plain number d (Unless t to))
       → Puts p a e (plan p s (length a) d number label (While t body))
@@ -90,7 +90,7 @@ module _ (p : ProgramTree) (s : ScheduleTree) where
       (subst (λ q. Puts p c g (loop_step number d d (Jump q) ∷ [])) begins.keeps.at jump)))
       (subst (λ q. Fills p g e n (plain number d (Unless t q))) index fills)
 
-  pub puts_for : (a f b c g e : List Instruction) (n : ℕ) (d : Depth) (number : ℕ) (label : Option ℕ) (name : ℕ) (first end : IntegerTree) (body : BlockTree)
+  pub puts_for : (a f b c g e : List Instruction) (n : ℕ) (d : Depth) (number : ℕ) (label : Option ℕ) (name : ℕ) (first end : IntExpressionTree) (body : BlockTree)
       → Puts p a f (plain number d (Do (DeclareInteger name first)) ∷ loop_step number (with_integer d) d (Enter name end) ∷ [])
       → BeginsLoop p f b n (loop_step number (in_loop d) d Turn) → Puts p b c (plan_all p s (length b) (in_loop d) false body)
       → Puts p c g (plain number d (Advance name) ∷ loop_step number (in_loop d) d (Jump n) ∷ []) → Fills p g e n (loop_step number (in_loop d) d (UnlessBelow name (length g)))

@@ -1,10 +1,10 @@
 -- Kinds of statements.
 use Rattle.typed_tree.specs.declared.statement.SetValue.{SetValue}
 use Rattle.typed_tree.specs.declared.statement.SetValue.TheVariants as set
-use Rattle.typed_tree.specs.BlockTree.{ActionTree, SetEntry, ReduceEntry, DeclareSet, AssignSet, AddVertex, PrintInteger, ApplyVertex, ApplyEdges, If, IfElse, While, For}
+use Rattle.typed_tree.specs.BlockTree.{StatementKindTree, SetEntry, ReduceEntry, DeclareSet, AssignSet, AddVertex, PrintInteger, ApplyVertex, ApplyEdges, If, IfElse, While, For}
 
 -- a statement without a block
-abbrev pub HasNoBlock : ActionTree → Type 0
+abbrev pub HasNoBlock : StatementKindTree → Type 0
 HasNoBlock (If c body) = ⊥
 HasNoBlock (IfElse c body other) = ⊥
 HasNoBlock (While c body) = ⊥
@@ -12,7 +12,7 @@ HasNoBlock (For name first end body) = ⊥
 HasNoBlock _ = Unit {0}
 
 -- a statement on a vertex set, or an apply
-abbrev pub IsOnSets : ActionTree → Type 0
+abbrev pub IsOnSets : StatementKindTree → Type 0
 IsOnSets (DeclareSet name value) = Unit {0}
 IsOnSets (AssignSet slot value) = Unit {0}
 IsOnSets (ApplyVertex set function) = Unit {0}
@@ -20,7 +20,7 @@ IsOnSets (ApplyEdges ends function) = Unit {0}
 IsOnSets _ = ⊥
 
 -- such a one, a statement on an entry or a vertex, or one that prints a number
-abbrev pub IsOther : ActionTree → Type 0
+abbrev pub IsOther : StatementKindTree → Type 0
 IsOther (SetEntry vector index e) = Unit {0}
 IsOther (ReduceEntry vector index reduction e) = Unit {0}
 IsOther (AddVertex slot e) = Unit {0}

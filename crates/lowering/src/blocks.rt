@@ -1,8 +1,8 @@
 //! Statements as instructions.
 ghost use Rattle.std.specs.Prelude.{◌≡◌, ℕ, IfOk, OnOk, Option, false, length};
-ghost use Rattle.typed_tree.specs.BlockTree.{For, If, IfElse, While, action_tree, block_tree};
-ghost use Rattle.typed_tree.specs.ConditionTree.{condition_tree};
-ghost use Rattle.typed_tree.specs.IntegerTree.{integer_tree};
+ghost use Rattle.typed_tree.specs.BlockTree.{For, If, IfElse, While, statement_kind_tree, block_tree};
+ghost use Rattle.typed_tree.specs.BoolExpressionTree.{bool_expression_tree};
+ghost use Rattle.typed_tree.specs.IntExpressionTree.{int_expression_tree};
 ghost use Rattle.typed_tree.specs.ProgramTree.{program_tree};
 ghost use Rattle.plans.specs.Fusing.{fusion_role_of, takes_next};
 ghost use Rattle.plans.specs.Plan.{behind, behind_all, plan, plan_all, plan_in};
@@ -68,14 +68,14 @@ impl Lowering<'_> {
     ) -> Result<bool, AllocError>
         ensures next { IfOk result (λ next. next ≡ takes_next
             (fusion_role_of (program_tree self.entry.program.now) self.entry.schedule.now (depth_of visible.old) is_done statement.now.label
-            (action_tree statement.now.action) (block_tree rest.now))) }
+            (statement_kind_tree statement.now.action) (block_tree rest.now))) }
         ensures code { OnOk result (Puts (program_tree self.entry.program.now) code.old.items code.new.items
             (plan_in (fusion_role_of (program_tree self.entry.program.now) self.entry.schedule.now (depth_of visible.old) is_done statement.now.label
-            (action_tree statement.now.action) (block_tree rest.now))
+            (statement_kind_tree statement.now.action) (block_tree rest.now))
             self.entry.schedule.now statement.now.number statement.now.label (depth_of visible.old)
             (plan (program_tree self.entry.program.now) self.entry.schedule.now (length code.old.items) (depth_of visible.old) statement.now.number
-            statement.now.label (action_tree statement.now.action)))) }
-        ensures visible { OnOk result (depth_of visible.new ≡ behind (action_tree statement.now.action) (depth_of visible.old)) }
+            statement.now.label (statement_kind_tree statement.now.action)))) }
+        ensures visible { OnOk result (depth_of visible.new ≡ behind (statement_kind_tree statement.now.action) (depth_of visible.old)) }
     {
         if is_done {
             visible.declare(&statement.action)?;
@@ -110,8 +110,8 @@ impl Lowering<'_> {
     ) -> Result<(), AllocError>
         ensures code { OnOk result (Puts (program_tree self.entry.program.now) code.old.items code.new.items
             (plan (program_tree self.entry.program.now) self.entry.schedule.now (length code.old.items) (depth_of visible.old) statement.now.number
-            statement.now.label (action_tree statement.now.action))) }
-        ensures visible { OnOk result (depth_of visible.new ≡ behind (action_tree statement.now.action) (depth_of visible.old)) }
+            statement.now.label (statement_kind_tree statement.now.action))) }
+        ensures visible { OnOk result (depth_of visible.new ≡ behind (statement_kind_tree statement.now.action) (depth_of visible.old)) }
     {
         let number = statement.number;
         match &statement.action {
@@ -148,7 +148,7 @@ impl Lowering<'_> {
     ) -> Result<(), AllocError>
         ensures code { (label : Option ℕ) → OnOk result (Puts (program_tree self.entry.program.now) code.old.items code.new.items
             (plan (program_tree self.entry.program.now) self.entry.schedule.now (length code.old.items) (depth_of visible.old) number label
-            (If (condition_tree c.now) (block_tree body.now)))) }
+            (If (bool_expression_tree c.now) (block_tree body.now)))) }
         ensures visible { OnOk result (depth_of visible.new ≡ depth_of visible.old) }
     {
         let depth = visible.depth();
@@ -174,7 +174,7 @@ impl Lowering<'_> {
     ) -> Result<(), AllocError>
         ensures code { (label : Option ℕ) → OnOk result (Puts (program_tree self.entry.program.now) code.old.items code.new.items
             (plan (program_tree self.entry.program.now) self.entry.schedule.now (length code.old.items) (depth_of visible.old) number label
-            (IfElse (condition_tree c.now) (block_tree branches.entry.body.now) (block_tree branches.entry.other.now)))) }
+            (IfElse (bool_expression_tree c.now) (block_tree branches.entry.body.now) (block_tree branches.entry.other.now)))) }
         ensures visible { OnOk result (depth_of visible.new ≡ depth_of visible.old) }
     {
         let depth = visible.depth();
@@ -203,7 +203,7 @@ impl Lowering<'_> {
     ) -> Result<(), AllocError>
         ensures code { (label : Option ℕ) → OnOk result (Puts (program_tree self.entry.program.now) code.old.items code.new.items
             (plan (program_tree self.entry.program.now) self.entry.schedule.now (length code.old.items) (depth_of visible.old) number label
-            (While (condition_tree c.now) (block_tree body.now)))) }
+            (While (bool_expression_tree c.now) (block_tree body.now)))) }
         ensures visible { OnOk result (depth_of visible.new ≡ depth_of visible.old) }
     {
         let depth = visible.depth();
@@ -230,7 +230,7 @@ impl Lowering<'_> {
     ) -> Result<(), AllocError>
         ensures code { (label : Option ℕ) → OnOk result (Puts (program_tree self.entry.program.now) code.old.items code.new.items
             (plan (program_tree self.entry.program.now) self.entry.schedule.now (length code.old.items) (depth_of visible.old) number label
-            (For range.entry.name (integer_tree range.entry.first.now) (integer_tree range.entry.end.now) (block_tree body.now)))) }
+            (For range.entry.name (int_expression_tree range.entry.first.now) (int_expression_tree range.entry.end.now) (block_tree body.now)))) }
         ensures visible { OnOk result (depth_of visible.new ≡ depth_of visible.old) }
     {
         let depth = visible.depth();

@@ -1,8 +1,8 @@
 //! Statements without blocks: one instruction each.
 ghost use Rattle.std.specs.Prelude.{◌≡◌, ◌++◌, ◌∷◌, [], IfOk, OnOk, length, slice_set, vec_len};
-ghost use Rattle.typed_tree.specs.BlockTree.{DeclareInteger, action_tree};
-ghost use Rattle.typed_tree.specs.ConditionTree.{condition_tree};
-ghost use Rattle.typed_tree.specs.IntegerTree.{integer_tree};
+ghost use Rattle.typed_tree.specs.BlockTree.{DeclareInteger, statement_kind_tree};
+ghost use Rattle.typed_tree.specs.BoolExpressionTree.{bool_expression_tree};
+ghost use Rattle.typed_tree.specs.IntExpressionTree.{int_expression_tree};
 ghost use Rattle.typed_tree.specs.ProgramTree.{program_tree};
 ghost use Rattle.apply_options.specs.ScheduleTree.{no_choice};
 ghost use Rattle.plans.specs.Instruction.{Advance, Do, Enter, Jump, Turn, Unless, UnlessBelow};
@@ -100,7 +100,7 @@ impl Lowering<'_> {
         to: usize,
     ) -> Result<Instruction, AllocError>
         ensures { IfOk result (λ i. IsWritten (program_tree self.entry.program.now) i
-            (loop_step head.number head.keep head.shown (Unless (condition_tree c.now) to))) }
+            (loop_step head.number head.keep head.shown (Unless (bool_expression_tree c.now) to))) }
     {
         let mut words = Vec::new(self.alloc);
         Lines {
@@ -168,7 +168,7 @@ impl Lowering<'_> {
         code: &mut Vec<Instruction>,
     ) -> Result<(), AllocError>
         ensures { OnOk result (Puts (program_tree self.entry.program.now) code.old.items code.new.items
-            (plain_tree number depth (Do (DeclareInteger name (integer_tree e.now))) ∷ [])) }
+            (plain_tree number depth (Do (DeclareInteger name (int_expression_tree e.now))) ∷ [])) }
     {
         code.push(self.first(number, depth, name, e)?)?;
         Ok(())
@@ -183,7 +183,7 @@ impl Lowering<'_> {
         e: &IntExpression,
     ) -> Result<Instruction, AllocError>
         ensures { IfOk result (λ i. IsWritten (program_tree self.entry.program.now) i
-            (plain_tree number depth (Do (DeclareInteger name (integer_tree e.now))))) }
+            (plain_tree number depth (Do (DeclareInteger name (int_expression_tree e.now))))) }
     {
         let mut words = Vec::new(self.alloc);
         Lines {
@@ -208,7 +208,7 @@ impl Lowering<'_> {
         code: &mut Vec<Instruction>,
     ) -> Result<(), AllocError>
         ensures { OnOk result (Puts (program_tree self.entry.program.now) code.old.items code.new.items
-            (loop_step head.number head.keep head.shown (Enter name (integer_tree e.now)) ∷ [])) }
+            (loop_step head.number head.keep head.shown (Enter name (int_expression_tree e.now)) ∷ [])) }
     {
         code.push(self.enter(head, name, e)?)?;
         Ok(())
@@ -222,7 +222,7 @@ impl Lowering<'_> {
         e: &IntExpression,
     ) -> Result<Instruction, AllocError>
         ensures { IfOk result (λ i. IsWritten (program_tree self.entry.program.now) i
-            (loop_step head.number head.keep head.shown (Enter name (integer_tree e.now)))) }
+            (loop_step head.number head.keep head.shown (Enter name (int_expression_tree e.now)))) }
     {
         let mut words = Vec::new(self.alloc);
         Lines {
@@ -304,7 +304,7 @@ impl Lowering<'_> {
         code: &mut Vec<Instruction>,
     ) -> Result<(), AllocError>
         ensures { OnOk result (Fills (program_tree self.entry.program.now) code.old.items code.new.items index
-            (loop_step head.number head.keep head.shown (Unless (condition_tree c.now) to))) }
+            (loop_step head.number head.keep head.shown (Unless (bool_expression_tree c.now) to))) }
     {
         let unless = self.unless(head, c, to)?;
         replace(code, index, unless);
@@ -351,8 +351,8 @@ impl Lowering<'_> {
         code: &mut Vec<Instruction>,
     ) -> Result<(), AllocError>
         ensures code { OnOk result (Puts (program_tree self.entry.program.now) code.old.items code.new.items
-            (plain_tree number (depth_of visible.old) (Do (DeclareInteger range.entry.name (integer_tree range.entry.first.now)))
-            ∷ loop_step number (with_integer (depth_of visible.old)) (depth_of visible.old) (Enter range.entry.name (integer_tree range.entry.end.now)) ∷ [])) }
+            (plain_tree number (depth_of visible.old) (Do (DeclareInteger range.entry.name (int_expression_tree range.entry.first.now)))
+            ∷ loop_step number (with_integer (depth_of visible.old)) (depth_of visible.old) (Enter range.entry.name (int_expression_tree range.entry.end.now)) ∷ [])) }
         ensures visible { OnOk result (depth_of visible.new ≡ in_loop (depth_of visible.old)) }
     {
         let ForRange { name, first, end } = range;
@@ -375,9 +375,9 @@ impl Lowering<'_> {
         depth: Depth,
         code: &mut Vec<Instruction>,
     ) -> Result<(), AllocError>
-        ensures { HasNoBlock (action_tree statement.now.action)
+        ensures { HasNoBlock (statement_kind_tree statement.now.action)
             → OnOk result (Puts (program_tree self.entry.program.now) code.old.items code.new.items
-            (chosen self.entry.schedule.now statement.now.number statement.now.label depth (Do (action_tree statement.now.action)) ∷ [])) }
+            (chosen self.entry.schedule.now statement.now.number statement.now.label depth (Do (statement_kind_tree statement.now.action)) ∷ [])) }
     {
         let choice = self.schedule.choice_at(statement.label);
         let mut words = Vec::new(self.alloc);

@@ -1,8 +1,8 @@
 //! Operations of statements without blocks, with the kernels of their expressions.
 ghost use Rattle.std.specs.Prelude.{◌≡◌, IfOk, MatchOption, Some};
-ghost use Rattle.typed_tree.specs.BlockTree.{action_tree};
-ghost use Rattle.typed_tree.specs.ConditionTree.{condition_tree};
-ghost use Rattle.typed_tree.specs.IntegerTree.{integer_tree};
+ghost use Rattle.typed_tree.specs.BlockTree.{statement_kind_tree};
+ghost use Rattle.typed_tree.specs.BoolExpressionTree.{bool_expression_tree};
+ghost use Rattle.typed_tree.specs.IntExpressionTree.{int_expression_tree};
 ghost use Rattle.kernels.specs.Expressions.{IsConditionKernel, IsIntegerKernel};
 ghost use Rattle.plans.specs.Fusing.{EdgeApplyTree, edge_apply_of as edge_apply_in};
 ghost use Rattle.plans.specs.Instruction.{Do};
@@ -23,7 +23,7 @@ pub(crate) fn integer_kernel(
     e: &IntExpression,
     depth: Depth,
 ) -> Result<ExpressionKernel, AllocError>
-    ensures kernel { IfOk result (λ k. IsIntegerKernel k (integer_tree e.now)) }
+    ensures kernel { IfOk result (λ k. IsIntegerKernel k (int_expression_tree e.now)) }
     ensures visible { IfOk result (λ k. IsFor depth k) }
 {
     ExpressionKernel::of_integer(alloc, e, depth.integers, depth.conditions)
@@ -35,7 +35,7 @@ pub(crate) fn condition_kernel(
     c: &BoolExpression,
     depth: Depth,
 ) -> Result<ExpressionKernel, AllocError>
-    ensures kernel { IfOk result (λ k. IsConditionKernel k (condition_tree c.now)) }
+    ensures kernel { IfOk result (λ k. IsConditionKernel k (bool_expression_tree c.now)) }
     ensures visible { IfOk result (λ k. IsFor depth k) }
 {
     ExpressionKernel::of_condition(alloc, c, depth.integers, depth.conditions)
@@ -47,7 +47,7 @@ pub(crate) fn operation_of(
     action: &StatementKind,
     depth: Depth,
 ) -> Result<PlanOperation, AllocError>
-    ensures { IfOk result (λ o. HasNoBlock (action_tree action.now) → IsOperation depth depth o (Do (action_tree action.now))) }
+    ensures { IfOk result (λ o. HasNoBlock (statement_kind_tree action.now) → IsOperation depth depth o (Do (statement_kind_tree action.now))) }
 {
     match action {
         StatementKind::DeclareInteger(name, e) => {
@@ -99,7 +99,7 @@ fn other_operation(
     action: &StatementKind,
     depth: Depth,
 ) -> Result<PlanOperation, AllocError>
-    ensures { IfOk result (λ o. IsOther (action_tree action.now) → IsOperation depth depth o (Do (action_tree action.now))) }
+    ensures { IfOk result (λ o. IsOther (statement_kind_tree action.now) → IsOperation depth depth o (Do (statement_kind_tree action.now))) }
 {
     match action {
         StatementKind::SetEntry(vector, index, e) => {
@@ -142,7 +142,7 @@ fn other_operation(
 
 /// The same of a statement on a vertex set, and of an apply.
 fn set_operation(action: &StatementKind) -> PlanOperation
-    ensures { (keep shown : Depth) → IsOnSets (action_tree action.now) → IsOperation keep shown result (Do (action_tree action.now)) }
+    ensures { (keep shown : Depth) → IsOnSets (statement_kind_tree action.now) → IsOperation keep shown result (Do (statement_kind_tree action.now)) }
 {
     match action {
         StatementKind::ApplyVertex(set, function) => PlanOperation::ApplyVertices {
@@ -171,8 +171,8 @@ fn set_operation(action: &StatementKind) -> PlanOperation
 
 /// The edge apply that a statement is.
 fn edge_operation(action: &StatementKind) -> PlanOperation
-    ensures { (keep shown : Depth) (x : EdgeApplyTree) → edge_apply_in (action_tree action.now) ≡ Some x
-        → IsOperation keep shown result (Do (action_tree action.now)) }
+    ensures { (keep shown : Depth) (x : EdgeApplyTree) → edge_apply_in (statement_kind_tree action.now) ≡ Some x
+        → IsOperation keep shown result (Do (statement_kind_tree action.now)) }
 {
     match edge_apply_of(action) {
         Some(apply) => PlanOperation::ApplyEdges {

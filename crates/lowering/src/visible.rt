@@ -1,6 +1,6 @@
 //! Visible variables: how many of each kind a statement sees.
 ghost use Rattle.std.specs.Prelude.{◌≡◌, IfOk, OnOk, length};
-ghost use Rattle.typed_tree.specs.BlockTree.{action_tree};
+ghost use Rattle.typed_tree.specs.BlockTree.{statement_kind_tree};
 ghost use Rattle.plans.specs.Plan.{IsWithin, behind, with_integer};
 ghost use Rattle.lowering.specs.Visible.{depth_of};
 
@@ -43,7 +43,7 @@ impl Visible {
 
     /// With what a statement declares after it.
     pub(crate) fn declare(&mut self, action: &StatementKind) -> Result<(), AllocError>
-        ensures { OnOk result (depth_of self.new ≡ behind (action_tree action.now) (depth_of self.old)) }
+        ensures { OnOk result (depth_of self.new ≡ behind (statement_kind_tree action.now) (depth_of self.old)) }
     {
         match action {
             StatementKind::DeclareInteger(name, _) => self.integers.push(*name)?,

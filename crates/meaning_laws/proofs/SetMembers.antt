@@ -14,7 +14,7 @@ use Rattle.typed_tree.specs.declared.statement.ApplyEnds.{ApplyEnds}
 use Rattle.typed_tree.specs.declared.statement.SetValue.TheVariants as set
 use Rattle.typed_tree.specs.declared.statement.VertexFilter.{VertexFilter}
 use Rattle.typed_tree.specs.declared.statement.VertexFilter.TheVariants.{Members, Function}
-use Rattle.typed_tree.specs.StepTree.{FunctionTree}
+use Rattle.typed_tree.specs.FunctionStatementTree.{FunctionTree}
 use Rattle.typed_tree.specs.ProgramTree.{ProgramTree}
 use Rattle.algorithm_meaning.specs.Arithmetic.{int_equal}
 use Rattle.algorithm_meaning.specs.State.{GraphValue, StateValue}

@@ -6,7 +6,7 @@ use Rattle.std.specs.Option.{option_and_then}
 use Rattle.std.specs.List.{AllByRecursion, concat}
 use Rattle.typed_tree.specs.declared.statement.SetValue.{SetValue}
 use Rattle.typed_tree.specs.declared.statement.SetValue.TheVariants as set
-use Rattle.typed_tree.specs.BlockTree.{ActionTree, DeclareInteger, DeclareCondition, SetInteger, SetCondition, ReduceInteger, SetEntry, ReduceEntry, DeclareSet, AssignSet, AddVertex, PrintInteger, PrintCondition, ApplyVertex, ApplyEdges, If, IfElse, While, For, BlockTree, Empty, Then}
+use Rattle.typed_tree.specs.BlockTree.{StatementKindTree, DeclareInteger, DeclareCondition, SetInteger, SetCondition, ReduceInteger, SetEntry, ReduceEntry, DeclareSet, AssignSet, AddVertex, PrintInteger, PrintCondition, ApplyVertex, ApplyEdges, If, IfElse, While, For, BlockTree, Empty, Then}
 use Rattle.typed_tree.specs.ProgramTree.{ProgramTree}
 use Rattle.algorithm_meaning.specs.declared.outcome.End.TheVariants.{TurnsOver}
 use Rattle.algorithm_meaning.specs.declared.state.Depth.{Depth}
@@ -126,7 +126,7 @@ module _ (n : ℕ) where
 
 module _ (p : ProgramTree) (g : GraphValue) where
   mutual
-    action_sound : (a : ActionTree) (number : ℕ) (s : StateValue) → IsSound g.vertices s → Sound g.vertices (after p g number a s)
+    action_sound : (a : StatementKindTree) (number : ℕ) (s : StateValue) → IsSound g.vertices s → Sound g.vertices (after p g number a s)
     action_sound (DeclareInteger name e) number s is = value_sound g.vertices (number_in g.vertices e s) number s _ is (λ x. record { printed = is.printed; sets = is.sets })
     action_sound (DeclareCondition name c) number s is = value_sound g.vertices (choice_in g.vertices c s) number s _ is (λ b. record { printed = is.printed; sets = is.sets })
     action_sound (SetInteger slot e) number s is = value_sound g.vertices (number_in g.vertices e s) number s _ is (λ x. record { printed = is.printed; sets = is.sets })

@@ -7,8 +7,8 @@ use Rattle.typed_tree.specs.declared.statement.SetValue.{SetValue}
 use Rattle.typed_tree.specs.declared.statement.SetValue.TheVariants as set
 use Rattle.typed_tree.specs.declared.statement.VertexFilter.{VertexFilter}
 use Rattle.typed_tree.specs.declared.statement.VertexFilter.TheVariants.{Members, Function}
-use Rattle.typed_tree.specs.StepTree.{FunctionTree}
-use Rattle.typed_tree.specs.BlockTree.{ActionTree, DeclareInteger, DeclareCondition, SetInteger, SetCondition, ReduceInteger, SetEntry, ReduceEntry, DeclareSet, AssignSet, AddVertex, PrintInteger, PrintCondition, ApplyVertex, ApplyEdges, If, IfElse, While, For, BlockTree, Empty, Then}
+use Rattle.typed_tree.specs.FunctionStatementTree.{FunctionTree}
+use Rattle.typed_tree.specs.BlockTree.{StatementKindTree, DeclareInteger, DeclareCondition, SetInteger, SetCondition, ReduceInteger, SetEntry, ReduceEntry, DeclareSet, AssignSet, AddVertex, PrintInteger, PrintCondition, ApplyVertex, ApplyEdges, If, IfElse, While, For, BlockTree, Empty, Then}
 use Rattle.typed_tree.specs.ProgramTree.{ProgramTree}
 use Rattle.algorithm_meaning.specs.declared.outcome.End.{End}
 use Rattle.algorithm_meaning.specs.declared.outcome.End.TheVariants.{Finished, TurnsOver, Fault}
@@ -126,7 +126,7 @@ module _ (d : ℕ) where
 
   module _ (p : ProgramTree) (g : GraphValue) where
     mutual
-      action_follows : (a : ActionTree) (number : ℕ) (s : StateValue) → Follows d (after p g number a s) (after p g number a (plus d s))
+      action_follows : (a : StatementKindTree) (number : ℕ) (s : StateValue) → Follows d (after p g number a s) (after p g number a (plus d s))
       action_follows (DeclareInteger name e) number s = value_follows (number_in g.vertices e s) number s _ _ (λ n. refl)
       action_follows (DeclareCondition name c) number s = value_follows (choice_in g.vertices c s) number s _ _ (λ b. refl)
       action_follows (SetInteger slot e) number s = value_follows (number_in g.vertices e s) number s _ _ (λ n. refl)

@@ -1,7 +1,7 @@
 -- Turns never grow, and so the number with which a loop is read says nothing.
 use Rattle.std.proofs.Common.{◌≡◌, ℕ, zero, suc, ◌+◌, ◌≤◌, Bool, true, false, int_lt, Option, Some, None, refl, sym, ap, ◌∙◌, arith, le_refl}
-use Rattle.typed_tree.specs.ConditionTree.{ConditionTree}
-use Rattle.typed_tree.specs.BlockTree.{ActionTree, DeclareInteger, DeclareCondition, SetInteger, SetCondition, ReduceInteger, SetEntry, ReduceEntry, DeclareSet, AssignSet, AddVertex, PrintInteger, PrintCondition, ApplyVertex, ApplyEdges, If, IfElse, While, For, BlockTree, Empty, Then}
+use Rattle.typed_tree.specs.BoolExpressionTree.{BoolExpressionTree}
+use Rattle.typed_tree.specs.BlockTree.{StatementKindTree, DeclareInteger, DeclareCondition, SetInteger, SetCondition, ReduceInteger, SetEntry, ReduceEntry, DeclareSet, AssignSet, AddVertex, PrintInteger, PrintCondition, ApplyVertex, ApplyEdges, If, IfElse, While, For, BlockTree, Empty, Then}
 use Rattle.typed_tree.specs.ProgramTree.{ProgramTree}
 use Rattle.algorithm_meaning.specs.declared.outcome.End.TheVariants.{Finished, TurnsOver, Fault}
 use Rattle.algorithm_meaning.specs.declared.state.Depth.{Depth}
@@ -91,7 +91,7 @@ module _ {A : Type 0} (test : A → StateValue → Option Bool) (body : A → St
 
 module _ (p : ProgramTree) (g : GraphValue) where
   mutual
-    action_falls : (a : ActionTree) (n number : ℕ) (s : StateValue) → s.turns ≤ n → Falls n (after p g number a s)
+    action_falls : (a : StatementKindTree) (n number : ℕ) (s : StateValue) → s.turns ≤ n → Falls n (after p g number a s)
     action_falls (DeclareInteger name e) n number s le = value_falls n (number_in g.vertices e s) number s _ (λ x. le)
     action_falls (DeclareCondition name c) n number s le = value_falls n (choice_in g.vertices c s) number s _ (λ b. le)
     action_falls (SetInteger slot e) n number s le = value_falls n (number_in g.vertices e s) number s _ (λ x. le)
@@ -130,7 +130,7 @@ module _ (p : ProgramTree) (g : GraphValue) where
   for_falls : (body : BlockTree) (m : ℕ) (r : LoopCounter) (t : StateValue) → t.turns ≤ m → Falls m (for_body (after_all p g body) r t)
   for_falls body m r t below = leave_falls m (depth_of t) _ (block_falls body m _ below)
 
-  pub while_again : (number : ℕ) (c : ConditionTree) (body : BlockTree) (s : StateValue) → after p g number (While c body) s
+  pub while_again : (number : ℕ) (c : BoolExpressionTree) (body : BlockTree) (s : StateValue) → after p g number (While c body) s
       ≡ with_value (choice_in g.vertices c s) number s (λ b. choose b (take_turn s.turns s (λ t. then_do (inside (after_all p g body) t) (after p g number (While c body)))) (Live s))
   while_again number c body s = loop_again (while_test g.vertices c) (while_body (after_all p g body)) (λ (n : ℕ). n) number (while_falls body) 0 s
 
@@ -138,7 +138,7 @@ module _ (p : ProgramTree) (g : GraphValue) where
       ≡ choose (int_lt r.next r.end) (take_turn s.turns s (λ t. then_do (for_body (after_all p g body) r t) (after_for number (after_all p g body) (next_of r)))) (Live s)
   for_again number body r s = loop_again for_test (for_body (after_all p g body)) next_of number (for_falls body) r s
 
-  pub while_with : (number k : ℕ) (c : ConditionTree) (body : BlockTree) (s : StateValue) → s.turns ≤ k
+  pub while_with : (number k : ℕ) (c : BoolExpressionTree) (body : BlockTree) (s : StateValue) → s.turns ≤ k
       → loop (while_test g.vertices c) (while_body (after_all p g body)) (λ (n : ℕ). n) number k 0 s ≡ after_while g.vertices number c (after_all p g body) s
   while_with number k c body s le = loop_same (while_test g.vertices c) (while_body (after_all p g body)) (λ (n : ℕ). n) number (while_falls body) k s.turns 0 s le (le_refl s.turns)
 

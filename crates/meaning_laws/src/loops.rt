@@ -1,6 +1,6 @@
 //! Laws of loops and of turns, each the contract of a call that does nothing.
 ghost use Rattle.std.specs.Prelude.{◌≡◌, ◌≢◌, ◌≤◌, ℕ, int_lt};
-ghost use Rattle.typed_tree.specs.ConditionTree.{ConditionTree};
+ghost use Rattle.typed_tree.specs.BoolExpressionTree.{BoolExpressionTree};
 ghost use Rattle.typed_tree.specs.BlockTree.{BlockTree, While};
 ghost use Rattle.typed_tree.specs.ProgramTree.{ProgramTree};
 ghost use Rattle.algorithm_meaning.specs.declared.outcome.End.TheVariants.{TurnsOver};
@@ -14,7 +14,7 @@ ghost use Rattle.algorithm_meaning.specs.Shown.{meaning};
 /// The law that a `while` is its test, and where that holds a turn, the body and the `while` again; and that a `for` is the
 /// same with its name at the next number. The call does nothing.
 pub fn loops_are_unrolled()
-    ensures while_loops { (p : ProgramTree) (g : GraphValue) (number : ℕ) (c : ConditionTree) (body : BlockTree) (s : StateValue)
+    ensures while_loops { (p : ProgramTree) (g : GraphValue) (number : ℕ) (c : BoolExpressionTree) (body : BlockTree) (s : StateValue)
         → after p g number (While c body) s
         ≡ with_value (choice_in g.vertices c s) number s (λ b. choose b
         (take_turn s.turns s (λ t. then_do (inside (after_all p g body) t) (after p g number (While c body)))) (Live s)) }
@@ -27,7 +27,7 @@ pub fn loops_are_unrolled()
 /// The law that the number with which a loop is read decides nothing: any that is no less than the turns that are left gives the
 /// same. The call does nothing.
 pub fn loops_need_no_more_than_their_turns()
-    ensures while_loops { (p : ProgramTree) (g : GraphValue) (number k : ℕ) (c : ConditionTree) (body : BlockTree) (s : StateValue) → s.turns ≤ k
+    ensures while_loops { (p : ProgramTree) (g : GraphValue) (number k : ℕ) (c : BoolExpressionTree) (body : BlockTree) (s : StateValue) → s.turns ≤ k
         → loop (while_test g.vertices c) (while_body (after_all p g body)) (λ (n : ℕ). n) number k 0 s
         ≡ after_while g.vertices number c (after_all p g body) s }
     ensures for_loops { (p : ProgramTree) (g : GraphValue) (number k : ℕ) (body : BlockTree) (r : counter.LoopCounter) (s : StateValue) → s.turns ≤ k

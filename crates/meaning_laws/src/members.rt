@@ -4,7 +4,7 @@ ghost use Rattle.edge_lists.specs.Edge.{Edge};
 ghost use Rattle.typed_tree.specs.declared.expression.VarRef as slot;
 ghost use Rattle.typed_tree.specs.declared.statement.ApplyEnds as ends;
 ghost use Rattle.typed_tree.specs.declared.statement.SetValue.TheVariants as set;
-ghost use Rattle.typed_tree.specs.StepTree.{FunctionTree};
+ghost use Rattle.typed_tree.specs.FunctionStatementTree.{FunctionTree};
 ghost use Rattle.typed_tree.specs.ProgramTree.{ProgramTree};
 ghost use Rattle.algorithm_meaning.specs.State.{GraphValue, StateValue};
 ghost use Rattle.algorithm_meaning.specs.Value.{entry, members_of};

@@ -14,8 +14,8 @@ use Rattle.syntax.specs.declared.statement.Action.{Row_of-Statement, end_of-Stat
 use Rattle.syntax.specs.declared.statement.Action.TheViews as views
 use Rattle.syntax.specs.declared.statement.Action.TheViews.{the_lemmas}
 use Rattle.syntax.proofs.Loops.{Goes, goes_end, goes_fails}
-use Rattle.syntax.specs.SourceTrees.{BlockTree, ActionTree, While, For, If, IfElse, Then}
-use Rattle.syntax.specs.SourceViews.{action_tree, rows_tree, block_tree, statement_of}
+use Rattle.syntax.specs.SourceTrees.{BlockTree, StatementKindTree, While, For, If, IfElse, Then}
+use Rattle.syntax.specs.SourceViews.{statement_kind_tree, rows_tree, block_tree, statement_of}
 use Rattle.syntax.specs.SourceReading.{expression, name_at, after_terminal, after_terminals, closed, else_by, action_by, block_by, block_at, block_from, next_statement, statement_by, begins_statement, where_begins}
 use Rattle.parser.proofs.Steps.{bind_bind, bind_same}
 use Rattle.parser.specs.declared.block.Opening.{Opening as Begun}
@@ -24,32 +24,32 @@ use Rattle.parser.specs.inside.Blocks.{action_at, to_end_by, otherwise_by, openi
 
 pub rows_tree-items : {m : _} (rows : Row_of-Statement m) → rows_tree rows ≡ block_tree (items-the_row-Statement m rows)
 rows_tree-items end_of-Statement = refl
-rows_tree-items (more_of-Statement label action rest) = ap (Then label (action_tree action)) (rows_tree-items rest)
+rows_tree-items (more_of-Statement label action rest) = ap (Then label (statement_kind_tree action)) (rows_tree-items rest)
 
-pub action_tree-While : (at : ℕ) (test : ExpressionTree) (body : Vec Statement) → action_tree (views.While at test body) ≡ While at test (block_tree body.items)
-action_tree-While at test body = search (rules, the_lemmas, rows_tree-items)
+pub statement_kind_tree-While : (at : ℕ) (test : ExpressionTree) (body : Vec Statement) → statement_kind_tree (views.While at test body) ≡ While at test (block_tree body.items)
+statement_kind_tree-While at test body = search (rules, the_lemmas, rows_tree-items)
 
-pub action_tree-For : (at : ℕ) (name : Identifier) (first last : ExpressionTree) (body : Vec Statement)
-    → action_tree (views.For at name first last body) ≡ For at name first last (block_tree body.items)
-action_tree-For at name first last body = search (rules, the_lemmas, rows_tree-items)
+pub statement_kind_tree-For : (at : ℕ) (name : Identifier) (first last : ExpressionTree) (body : Vec Statement)
+    → statement_kind_tree (views.For at name first last body) ≡ For at name first last (block_tree body.items)
+statement_kind_tree-For at name first last body = search (rules, the_lemmas, rows_tree-items)
 
-pub action_tree-If : (at : ℕ) (test : ExpressionTree) (body : Vec Statement) → action_tree (views.If at test body) ≡ If at test (block_tree body.items)
-action_tree-If at test body = search (rules, the_lemmas, rows_tree-items)
+pub statement_kind_tree-If : (at : ℕ) (test : ExpressionTree) (body : Vec Statement) → statement_kind_tree (views.If at test body) ≡ If at test (block_tree body.items)
+statement_kind_tree-If at test body = search (rules, the_lemmas, rows_tree-items)
 
-pub action_tree-IfElse : (at : ℕ) (test : ExpressionTree) (body other : Vec Statement)
-    → action_tree (views.IfElse at test body other) ≡ IfElse at test (block_tree body.items) (block_tree other.items)
-action_tree-IfElse at test body other = search (rules, the_lemmas, rows_tree-items)
+pub statement_kind_tree-IfElse : (at : ℕ) (test : ExpressionTree) (body other : Vec Statement)
+    → statement_kind_tree (views.IfElse at test body other) ≡ IfElse at test (block_tree body.items) (block_tree other.items)
+statement_kind_tree-IfElse at test body other = search (rules, the_lemmas, rows_tree-items)
 
 -- the block of statements in order
 pub block_from-map : (items : List Statement) → block_from (map statement_of items) ≡ block_tree items
 block_from-map [] = refl
-block_from-map (s ∷ items) = ap (Then s.label (action_tree s.action)) (block_from-map items)
+block_from-map (s ∷ items) = ap (Then s.label (statement_kind_tree s.action)) (block_from-map items)
 
 pub block_at-is : (depth : ℕ) (ws : List Terminal) → block_at depth ws ≡ block_by (action_at depth) ws
 block_at-is zero ws = refl
 block_at-is (suc depth) ws = refl
 
-module _ (depth : ℕ) {start : List Terminal} {front : List (Option Identifier × ActionTree)} {left : List Terminal} where
+module _ (depth : ℕ) {start : List Terminal} {front : List (Option Identifier × StatementKindTree)} {left : List Terminal} where
   pub block_ends : Goes (next_statement (action_at depth)) start front left → begins_statement left ≡ false → block_at depth start ≡ Some (block_from front, left)
   block_ends goes begins =
       block_at-is depth start
@@ -59,10 +59,10 @@ module _ (depth : ℕ) {start : List Terminal} {front : List (Option Identifier 
   block_fails goes begins none =
       block_at-is depth start
       ∙ ap (λ r. r >>= λ b. Some (block_from b.0, b.1))
-      (goes_fails goes (ap (λ b. where_begins b (statement_by (action_at depth) left)) begins ∙ ap (λ (r : Option ((Option Identifier × ActionTree) × List Terminal)). Some r) none))
+      (goes_fails goes (ap (λ b. where_begins b (statement_by (action_at depth) left)) begins ∙ ap (λ (r : Option ((Option Identifier × StatementKindTree) × List Terminal)). Some r) none))
 
 -- `end` after a block, and the statement of the block
-closed_is : (block : Reader BlockTree) (ws : List Terminal) (action : BlockTree → ActionTree)
+closed_is : (block : Reader BlockTree) (ws : List Terminal) (action : BlockTree → StatementKindTree)
     → (to_end_by block ws >>= λ b. Some (action b.0, b.1)) ≡ (block ws >>= λ b. closed (OfKeyword keyword.End ∷ []) (action b.0, b.1))
 closed_is block ws action =
     bind_bind (block ws) _ _ _ (λ b. bind_bind (after_terminals (OfKeyword keyword.End ∷ []) b.1) _ _ _ (λ rest. refl))
@@ -101,7 +101,7 @@ opened_is block keyword.If at o ws is = if_is block at ws ∙ ap (λ o. opened_b
 opened_is block keyword.Print at o ws is = ap (λ o. opened_by block o at ws) (same_opening opening.Print o is)
 opened_is block _ at o ws is = absurd (false≢true (ap is_some is))
 
-pub next_is : (depth : ℕ) (left rest : List Terminal) (s : Option Identifier × ActionTree) → begins_statement left ≡ true → statement_by (action_at depth) left ≡ Some (s, rest)
+pub next_is : (depth : ℕ) (left rest : List Terminal) (s : Option Identifier × StatementKindTree) → begins_statement left ≡ true → statement_by (action_at depth) left ≡ Some (s, rest)
     → next_statement (action_at depth) left ≡ Some (Some (s, rest))
 next_is depth left rest s begins is =
-    ap (λ b. where_begins b (statement_by (action_at depth) left)) begins ∙ ap (λ (r : Option ((Option Identifier × ActionTree) × List Terminal)). Some r) is
+    ap (λ b. where_begins b (statement_by (action_at depth) left)) begins ∙ ap (λ (r : Option ((Option Identifier × StatementKindTree) × List Terminal)). Some r) is

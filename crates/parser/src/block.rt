@@ -4,7 +4,7 @@ ghost use Rattle.syntax.specs.Terminals.{OfKeyword};
 ghost use Rattle.parser.specs.Readers.{terminals, Gives};
 ghost use Rattle.syntax.specs.SourceTrees.{While, For, If, IfElse};
 ghost use Rattle.syntax.specs.SourceReading.{block_at, statement_by, begins_statement as begins_statement_at, after_terminal};
-ghost use Rattle.syntax.specs.SourceViews.{action_tree, statement_of, block_tree};
+ghost use Rattle.syntax.specs.SourceViews.{statement_kind_tree, statement_of, block_tree};
 ghost use Rattle.parser.specs.inside.Blocks.{action_at, block_in, declared_at, printed_at, range_at, to_end_by, otherwise_by, opening_of, opened_by};
 ghost use Rattle.parser.specs.inside.Views.{statements_tree};
 
@@ -98,7 +98,7 @@ fn action(
     cursor: Cursor<'_>,
     depth: u32,
 ) -> Result<(Action, Cursor<'_>), SyntaxError>
-    ensures reads { Gives action_tree result (action_at depth (terminals cursor.entry)) }
+    ensures reads { Gives statement_kind_tree result (action_at depth (terminals cursor.entry)) }
     ensures shorter { IfOk result (λ x. length (terminals x.1) < length (terminals cursor.entry)) }
 {
     let Some((token, after)) = cursor.next() else {
@@ -127,7 +127,7 @@ fn opened(
     cursor: Cursor<'_>,
     depth: u32,
 ) -> Result<(Action, Cursor<'_>), SyntaxError>
-    ensures reads { Gives action_tree result (opened_by (block_in depth) opening at (terminals cursor.entry)) }
+    ensures reads { Gives statement_kind_tree result (opened_by (block_in depth) opening at (terminals cursor.entry)) }
     ensures shorter { IfOk result (λ x. length (terminals x.1) ≤ length (terminals cursor.entry)) }
 {
     match opening {
@@ -145,7 +145,7 @@ fn declared(
     at: usize,
     cursor: Cursor<'_>,
 ) -> Result<(Action, Cursor<'_>), SyntaxError>
-    ensures reads { Gives action_tree result (declared_at at (terminals cursor.entry)) }
+    ensures reads { Gives statement_kind_tree result (declared_at at (terminals cursor.entry)) }
     ensures shorter { IfOk result (λ x. length (terminals x.1) ≤ length (terminals cursor.entry)) }
 {
     let (variable, assign) = typed(alloc, cursor)?;
@@ -164,7 +164,7 @@ fn printed(
     at: usize,
     cursor: Cursor<'_>,
 ) -> Result<(Action, Cursor<'_>), SyntaxError>
-    ensures reads { Gives action_tree result (printed_at at (terminals cursor.entry)) }
+    ensures reads { Gives statement_kind_tree result (printed_at at (terminals cursor.entry)) }
     ensures shorter { IfOk result (λ x. length (terminals x.1) ≤ length (terminals cursor.entry)) }
 {
     let (value, behind) = ended(alloc, cursor)?;
@@ -179,7 +179,7 @@ fn while_loop(
     cursor: Cursor<'_>,
     depth: u32,
 ) -> Result<(Action, Cursor<'_>), SyntaxError>
-    ensures reads { Gives action_tree result (opened_by (block_in depth) Opening.While at (terminals cursor.entry)) }
+    ensures reads { Gives statement_kind_tree result (opened_by (block_in depth) Opening.While at (terminals cursor.entry)) }
     ensures shorter { IfOk result (λ x. length (terminals x.1) ≤ length (terminals cursor.entry)) }
 {
     let (test, rest) = cursor.expression(alloc)?;
@@ -188,7 +188,7 @@ fn while_loop(
 }
 
 fn while_action(at: usize, test: Expression, body: Vec<Statement>) -> Action
-    ensures { action_tree result ≡ While at test (block_tree body.items) }
+    ensures { statement_kind_tree result ≡ While at test (block_tree body.items) }
 {
     Action::While { at, test, body }
 }
@@ -201,7 +201,7 @@ fn for_loop(
     cursor: Cursor<'_>,
     depth: u32,
 ) -> Result<(Action, Cursor<'_>), SyntaxError>
-    ensures reads { Gives action_tree result (opened_by (block_in depth) Opening.For at (terminals cursor.entry)) }
+    ensures reads { Gives statement_kind_tree result (opened_by (block_in depth) Opening.For at (terminals cursor.entry)) }
     ensures shorter { IfOk result (λ x. length (terminals x.1) ≤ length (terminals cursor.entry)) }
 {
     let ((name, first, limit), rest) = range(alloc, cursor)?;
@@ -232,7 +232,7 @@ fn for_action(
     limit: Expression,
     body: Vec<Statement>,
 ) -> Action
-    ensures { action_tree result ≡ For at name first limit (block_tree body.items) }
+    ensures { statement_kind_tree result ≡ For at name first limit (block_tree body.items) }
 {
     Action::For {
         at,
@@ -251,7 +251,7 @@ fn choice(
     cursor: Cursor<'_>,
     depth: u32,
 ) -> Result<(Action, Cursor<'_>), SyntaxError>
-    ensures reads { Gives action_tree result (opened_by (block_in depth) Opening.If at (terminals cursor.entry)) }
+    ensures reads { Gives statement_kind_tree result (opened_by (block_in depth) Opening.If at (terminals cursor.entry)) }
     ensures shorter { IfOk result (λ x. length (terminals x.1) ≤ length (terminals cursor.entry)) }
 {
     let (test, rest) = cursor.expression(alloc)?;
@@ -269,7 +269,7 @@ fn otherwise(
     cursor: Cursor<'_>,
     depth: u32,
 ) -> Result<(Action, Cursor<'_>), SyntaxError>
-    ensures reads { Gives action_tree result
+    ensures reads { Gives statement_kind_tree result
         (otherwise_by (block_in depth) at test (block_tree body.items, terminals cursor.entry)
         (after_terminal (OfKeyword Keyword.Else) (terminals cursor.entry))) }
     ensures shorter { IfOk result (λ x. length (terminals x.1) ≤ length (terminals cursor.entry)) }
@@ -287,7 +287,7 @@ fn otherwise(
 }
 
 fn if_action(at: usize, test: Expression, body: Vec<Statement>) -> Action
-    ensures { action_tree result ≡ If at test (block_tree body.items) }
+    ensures { statement_kind_tree result ≡ If at test (block_tree body.items) }
 {
     Action::If { at, test, body }
 }
@@ -298,7 +298,7 @@ fn if_else_action(
     body: Vec<Statement>,
     otherwise: Vec<Statement>,
 ) -> Action
-    ensures { action_tree result ≡ IfElse at test (block_tree body.items) (block_tree otherwise.items) }
+    ensures { statement_kind_tree result ≡ IfElse at test (block_tree body.items) (block_tree otherwise.items) }
 {
     Action::IfElse {
         at,

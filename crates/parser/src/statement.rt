@@ -5,7 +5,7 @@ ghost use Rattle.parser.specs.Readers.{terminals, Gives};
 ghost use Rattle.parser.specs.inside.Fronts.{applied_by, applied_function_at};
 ghost use Rattle.syntax.specs.SourceReading.{reduction_at, ended_at, entry_at, entry_by, after_terminal};
 ghost use Rattle.syntax.specs.SourceReading.{after_terminals, method_by, added_at, reduced_at, named_action};
-ghost use Rattle.syntax.specs.SourceViews.{action_tree};
+ghost use Rattle.syntax.specs.SourceViews.{statement_kind_tree};
 
 use crate::cursor::Cursor;
 use crate::initial::{assigned, ends};
@@ -62,7 +62,7 @@ pub(crate) fn named(
     name: Name,
     cursor: Cursor<'_>,
 ) -> Result<(Action, Cursor<'_>), SyntaxError>
-    ensures reads { Gives action_tree result (named_action name (terminals cursor.entry)) }
+    ensures reads { Gives statement_kind_tree result (named_action name (terminals cursor.entry)) }
     ensures shorter { IfOk result (λ x. length (terminals x.1) ≤ length (terminals cursor.entry)) }
 {
     if let Some(_) = cursor.after_symbol(Symbol::Assign) {
@@ -84,7 +84,7 @@ fn reduced(
     name: Name,
     cursor: Cursor<'_>,
 ) -> Result<(Action, Cursor<'_>), SyntaxError>
-    ensures reads { Gives action_tree result (reduced_at name (terminals cursor.entry)) }
+    ensures reads { Gives statement_kind_tree result (reduced_at name (terminals cursor.entry)) }
     ensures shorter { IfOk result (λ x. length (terminals x.1) ≤ length (terminals cursor.entry)) }
 {
     let (reduction, rest) = reduction(cursor)?;
@@ -103,7 +103,7 @@ fn entry(
     vector: Name,
     cursor: Cursor<'_>,
 ) -> Result<(Action, Cursor<'_>), SyntaxError>
-    ensures reads { Gives action_tree result (entry_at vector (terminals cursor.entry)) }
+    ensures reads { Gives statement_kind_tree result (entry_at vector (terminals cursor.entry)) }
     ensures shorter { IfOk result (λ x. length (terminals x.1) ≤ length (terminals cursor.entry)) }
 {
     let (index, close) = cursor.expression(alloc)?;
@@ -118,7 +118,7 @@ fn entry_value(
     index: Expression,
     cursor: Cursor<'_>,
 ) -> Result<(Action, Cursor<'_>), SyntaxError>
-    ensures reads { Gives action_tree result
+    ensures reads { Gives statement_kind_tree result
         (entry_by vector index (terminals cursor.entry) (after_terminal (OfSymbol Symbol.Assign) (terminals cursor.entry))) }
     ensures shorter { IfOk result (λ x. length (terminals x.1) ≤ length (terminals cursor.entry)) }
 {
@@ -135,7 +135,7 @@ fn entry_assigned(
     index: Expression,
     cursor: Cursor<'_>,
 ) -> Result<(Action, Cursor<'_>), SyntaxError>
-    ensures reads { Gives action_tree result (entry_by vector index (terminals cursor.entry) (Some (terminals cursor.entry))) }
+    ensures reads { Gives statement_kind_tree result (entry_by vector index (terminals cursor.entry) (Some (terminals cursor.entry))) }
     ensures shorter { IfOk result (λ x. length (terminals x.1) ≤ length (terminals cursor.entry)) }
 {
     let (value, behind) = ended(alloc, cursor)?;
@@ -154,7 +154,7 @@ fn entry_reduced(
     index: Expression,
     cursor: Cursor<'_>,
 ) -> Result<(Action, Cursor<'_>), SyntaxError>
-    ensures reads { Gives action_tree result (entry_by vector index (terminals cursor.entry) None) }
+    ensures reads { Gives statement_kind_tree result (entry_by vector index (terminals cursor.entry) None) }
     ensures shorter { IfOk result (λ x. length (terminals x.1) ≤ length (terminals cursor.entry)) }
 {
     let (reduction, rest) = reduction(cursor)?;
@@ -174,7 +174,7 @@ fn method(
     name: Name,
     cursor: Cursor<'_>,
 ) -> Result<(Action, Cursor<'_>), SyntaxError>
-    ensures reads { Gives action_tree result
+    ensures reads { Gives statement_kind_tree result
         (method_by name (terminals cursor.entry) (after_terminals (OfSymbol Symbol.Dot ∷ OfKeyword Keyword.AddVertex ∷ []) (terminals cursor.entry))) }
     ensures shorter { IfOk result (λ x. length (terminals x.1) ≤ length (terminals cursor.entry)) }
 {
@@ -186,7 +186,7 @@ fn method(
 
 /// The vertex that is added to a set, and what stands around it, from after `addVertex`.
 fn added(alloc: Global, set: Name, cursor: Cursor<'_>) -> Result<(Action, Cursor<'_>), SyntaxError>
-    ensures reads { Gives action_tree result (added_at set (terminals cursor.entry)) }
+    ensures reads { Gives statement_kind_tree result (added_at set (terminals cursor.entry)) }
     ensures shorter { IfOk result (λ x. length (terminals x.1) ≤ length (terminals cursor.entry)) }
 {
     let inside = cursor.expect_symbol(Symbol::OpenParenthesis)?;
@@ -201,7 +201,7 @@ fn applied(
     target: Name,
     cursor: Cursor<'_>,
 ) -> Result<(Action, Cursor<'_>), SyntaxError>
-    ensures reads { Gives action_tree result (applied_by target (terminals cursor.entry)) }
+    ensures reads { Gives statement_kind_tree result (applied_by target (terminals cursor.entry)) }
     ensures shorter { IfOk result (λ x. length (terminals x.1) ≤ length (terminals cursor.entry)) }
 {
     let (ends, dot) = ends(alloc, cursor)?;

@@ -1,7 +1,7 @@
 -- What functions leave alone, while what they write is collected.
 use Rattle.std.proofs.Common.{◌≡◌, ℤ, Bool, true, false, cond, List, ap, ◌∙◌, refl}
-use Rattle.typed_tree.specs.StepTree.{StepTree, DeclareInteger, DeclareCondition, SetInteger, SetCondition, ReduceInteger, SetEntry, ReduceEntry, If, IfElse, StepsTree, NoStep, StepThen}
-use Rattle.typed_tree.specs.ConditionTree.{ConditionTree}
+use Rattle.typed_tree.specs.FunctionStatementTree.{FunctionStatementTree, DeclareInteger, DeclareCondition, SetInteger, SetCondition, ReduceInteger, SetEntry, ReduceEntry, If, IfElse, FunctionStatementsTree, NoStep, StepThen}
+use Rattle.typed_tree.specs.BoolExpressionTree.{BoolExpressionTree}
 use Rattle.algorithm_meaning.specs.declared.contribution.Writing.{Writing}
 use Rattle.algorithm_meaning.specs.declared.contribution.Writing.TheVariants.{Collected}
 use Rattle.algorithm_meaning.specs.declared.state.SetBinding.{SetBinding}
@@ -14,7 +14,7 @@ either false x y vectors h k = k
 
 mutual
   -- the vectors stay
-  pub collected_step : (sets : List SetBinding) (step : StepTree) (w : WorkValue) → (after_step Collected sets step w).vectors ≡ w.vectors
+  pub collected_step : (sets : List SetBinding) (step : FunctionStatementTree) (w : WorkValue) → (after_step Collected sets step w).vectors ≡ w.vectors
   collected_step sets (DeclareInteger name e) w = refl
   collected_step sets (DeclareCondition name c) w = refl
   collected_step sets (SetInteger slot e) w = refl
@@ -27,17 +27,17 @@ mutual
   collected_step sets (IfElse c body other) w =
       either (truth w.vectors sets w.scope c) (after_block w (after_steps Collected sets body w)) (after_block w (after_steps Collected sets other w)) w.vectors (collected_steps sets body w) (collected_steps sets other w)
 
-  pub collected_steps : (sets : List SetBinding) (steps : StepsTree) (w : WorkValue) → (after_steps Collected sets steps w).vectors ≡ w.vectors
+  pub collected_steps : (sets : List SetBinding) (steps : FunctionStatementsTree) (w : WorkValue) → (after_steps Collected sets steps w).vectors ≡ w.vectors
   collected_steps sets NoStep w = refl
   collected_steps sets (StepThen step rest) w = collected_steps sets rest (after_step Collected sets step w) ∙ collected_step sets step w
 
 -- `if` whose condition holds
-pub after_step-If_true : (writing : Writing) (sets : List SetBinding) (c : ConditionTree) (body : StepsTree) (w : WorkValue)
+pub after_step-If_true : (writing : Writing) (sets : List SetBinding) (c : BoolExpressionTree) (body : FunctionStatementsTree) (w : WorkValue)
     → truth w.vectors sets w.scope c ≡ true → after_step writing sets (If c body) w ≡ after_block w (after_steps writing sets body w)
 after_step-If_true writing sets c body w h = ap (λ (b : Bool). cond b (after_block w (after_steps writing sets body w)) w) h
 
 -- `if` with `else`, either way
-pub after_step-IfElse : (writing : Writing) (sets : List SetBinding) (c : ConditionTree) (body other : StepsTree) (w : WorkValue) (b : Bool)
+pub after_step-IfElse : (writing : Writing) (sets : List SetBinding) (c : BoolExpressionTree) (body other : FunctionStatementsTree) (w : WorkValue) (b : Bool)
     → truth w.vectors sets w.scope c ≡ b
     → after_step writing sets (IfElse c body other) w ≡ cond b (after_block w (after_steps writing sets body w)) (after_block w (after_steps writing sets other w))
 after_step-IfElse writing sets c body other w b h =

@@ -2,7 +2,7 @@
 ghost use Rattle.std.specs.Prelude.{◌≡◌, [], ◌∷◌, ◌++◌, Some, false, true, if◌then◌else◌, IfOk, OnOk, map, replicate, slice_index_or, slice_set};
 ghost use Rattle.std.specs.List.{filter, range_with_len};
 ghost use Rattle.typed_tree.specs.ProgramTree.{program_tree};
-ghost use Rattle.typed_tree.specs.StepTree.{function_tree, steps_tree};
+ghost use Rattle.typed_tree.specs.FunctionStatementTree.{function_tree, function_statements_tree};
 ghost use Rattle.algorithm_meaning.specs.EdgeApply.{after_edge_apply, after_edges, gives, is_end, is_modified, modified, with_given};
 ghost use Rattle.algorithm_meaning.specs.Filter.{result_of};
 ghost use Rattle.plain_run.specs.inside.Flags.{HasFlags, flagged, marked};
@@ -69,7 +69,7 @@ fn run_for_edges(
     sets: &[SetBinding],
     before: &mut Vec<Sequence<i64>>,
 ) -> Result<Vec<Sequence<i64>>, AllocError>
-    ensures after { IfOk result (λ v. v.items ≡ after_edges (steps_tree steps.now ∷ []) sets.now before.old.items
+    ensures after { IfOk result (λ v. v.items ≡ after_edges (function_statements_tree steps.now ∷ []) sets.now before.old.items
         (filter (flagged passing.now) edges.now) before.old.items) }
     ensures before { OnOk result (before.new.items ≡ before.old.items) }
 {
@@ -106,7 +106,7 @@ fn run_for_edge(
     after: &mut Vec<Sequence<i64>>,
     frame: &mut FunctionFrame,
 ) -> Result<(), AllocError>
-    ensures after { OnOk result (after.new.items ≡ with_given edge.1 (gives (steps_tree steps.now) sets.now before.old.items edge) after.old.items) }
+    ensures after { OnOk result (after.new.items ≡ with_given edge.1 (gives (function_statements_tree steps.now) sets.now before.old.items edge) after.old.items) }
     ensures before { OnOk result (before.new.items ≡ before.old.items) }
 {
     begin(frame, edge.0, edge.1, edge.2);
@@ -200,7 +200,7 @@ fn flags_of_filter(
     sets: &[SetBinding],
     vectors: &mut Vec<Sequence<i64>>,
 ) -> Result<Vec<bool>, AllocError>
-    ensures flags { IfOk result (λ f. f.items ≡ map (result_of (steps_tree steps.now) sets.now vectors.old.items) (range_with_len 0 vertices)) }
+    ensures flags { IfOk result (λ f. f.items ≡ map (result_of (function_statements_tree steps.now) sets.now vectors.old.items) (range_with_len 0 vertices)) }
     ensures vectors { OnOk result (vectors.new.items ≡ vectors.old.items) }
 {
     let mut frame = new_frame(alloc);

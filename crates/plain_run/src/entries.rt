@@ -3,7 +3,7 @@
 //! Each is told its statement's number and the number of vertices, and answers how the run ended if it
 //! did, and then it has changed nothing.
 ghost use Rattle.std.specs.Prelude.{◌≡◌, IfOk};
-ghost use Rattle.typed_tree.specs.IntegerTree.{integer_tree};
+ghost use Rattle.typed_tree.specs.IntExpressionTree.{int_expression_tree};
 ghost use Rattle.algorithm_meaning.specs.Entries.{after_reduce_entry, after_set_entry};
 ghost use Rattle.plain_run.specs.inside.Seen.{stand, state_of};
 ghost use Rattle.algorithm_meaning.specs.Value.{reduce_at, with_entry};
@@ -24,7 +24,7 @@ pub(crate) fn set_entry_in(
     state: &mut InterpreterState,
 ) -> Option<End>
     ensures meaning { stand result (state_of state.new)
-        ≡ after_set_entry context.vertices context.number vector (integer_tree index.now) (integer_tree e.now) (state_of state.old) }
+        ≡ after_set_entry context.vertices context.number vector (int_expression_tree index.now) (int_expression_tree e.now) (state_of state.old) }
     ensures turns { state.new.turns ≡ state.old.turns }
 {
     let Some(vertex) = vertex_of(index, context.vertices, state) else {
@@ -46,7 +46,7 @@ pub(crate) fn reduce_entry(
     state: &mut InterpreterState,
 ) -> Option<End>
     ensures meaning { stand result (state_of state.new)
-        ≡ after_reduce_entry context.vertices context.number vector (integer_tree index.now) reduction (integer_tree e.now) (state_of state.old) }
+        ≡ after_reduce_entry context.vertices context.number vector (int_expression_tree index.now) reduction (int_expression_tree e.now) (state_of state.old) }
     ensures turns { state.new.turns ≡ state.old.turns }
 {
     let Some(vertex) = vertex_of(index, context.vertices, state) else {

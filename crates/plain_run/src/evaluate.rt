@@ -4,8 +4,8 @@
 //! a question of its own, which `main` asks first. Operators in a row and signs in a row are loops, so that
 //! recursion is left for brackets and indexes.
 ghost use Rattle.std.specs.Prelude.{◌≡◌, false, pos, slice_get, slice_index_or};
-ghost use Rattle.typed_tree.specs.IntegerTree.{integer_tree};
-ghost use Rattle.typed_tree.specs.ConditionTree.{condition_tree};
+ghost use Rattle.typed_tree.specs.IntExpressionTree.{int_expression_tree};
+ghost use Rattle.typed_tree.specs.BoolExpressionTree.{bool_expression_tree};
 ghost use Rattle.algorithm_meaning.specs.Arithmetic.{arithmetic};
 ghost use Rattle.plain_run.specs.inside.Chain.{conditions_stay_inside, conditions_truth, negative_times, not_times, operands_stay_inside, operands_value};
 ghost use Rattle.plain_run.specs.inside.Seen.{scope_of};
@@ -28,7 +28,7 @@ pub(crate) fn evaluate(
     sets: &[SetBinding],
     scope: &Environment,
 ) -> i64
-    ensures { result ≡ value vectors.now sets.now (scope_of scope.now) (integer_tree e.now) }
+    ensures { result ≡ value vectors.now sets.now (scope_of scope.now) (int_expression_tree e.now) }
 {
     total_of(e, vectors, sets, scope).number
 }
@@ -41,7 +41,7 @@ fn total_of(
     sets: &[SetBinding],
     scope: &Environment,
 ) -> Total
-    ensures { result.number ≡ value vectors.now sets.now (scope_of scope.now) (integer_tree e.now) }
+    ensures { result.number ≡ value vectors.now sets.now (scope_of scope.now) (int_expression_tree e.now) }
 {
     match e {
         IntExpression::Number(n) => Total { number: *n },
@@ -133,7 +133,7 @@ pub(crate) fn holds(
     sets: &[SetBinding],
     scope: &Environment,
 ) -> bool
-    ensures { result ≡ truth vectors.now sets.now (scope_of scope.now) (condition_tree c.now) }
+    ensures { result ≡ truth vectors.now sets.now (scope_of scope.now) (bool_expression_tree c.now) }
 {
     match c {
         BoolExpression::Literal(b) => *b,
@@ -193,7 +193,7 @@ pub(crate) fn is_inside(
     sets: &[SetBinding],
     scope: &Environment,
 ) -> bool
-    ensures { result ≡ stays_inside vertices vectors.now sets.now (scope_of scope.now) (integer_tree e.now) }
+    ensures { result ≡ stays_inside vertices vectors.now sets.now (scope_of scope.now) (int_expression_tree e.now) }
 {
     match e {
         IntExpression::Number(_)
@@ -244,7 +244,7 @@ pub(crate) fn condition_is_inside(
     sets: &[SetBinding],
     scope: &Environment,
 ) -> bool
-    ensures { result ≡ condition_stays_inside vertices vectors.now sets.now (scope_of scope.now) (condition_tree c.now) }
+    ensures { result ≡ condition_stays_inside vertices vectors.now sets.now (scope_of scope.now) (bool_expression_tree c.now) }
 {
     match c {
         BoolExpression::Literal(_) | BoolExpression::Constant(_, _) | BoolExpression::Variable(_) =>

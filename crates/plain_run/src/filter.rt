@@ -1,7 +1,7 @@
 //! Filters, and the statement `filter`.
 ghost use Rattle.std.specs.Prelude.{◌≡◌, false, IfOk, OnOk, map, slice_index_or};
 ghost use Rattle.std.specs.List.{filter};
-ghost use Rattle.typed_tree.specs.StepTree.{function_tree, steps_tree};
+ghost use Rattle.typed_tree.specs.FunctionStatementTree.{function_tree, function_statements_tree};
 ghost use Rattle.algorithm_meaning.specs.Filter.{filtered, lets_through, result_of};
 
 use crate::evaluate::condition_at;
@@ -41,7 +41,7 @@ pub(crate) fn filter_passes(
     vectors: &mut Vec<Sequence<i64>>,
     frame: &mut FunctionFrame,
 ) -> Result<bool, AllocError>
-    ensures passes { IfOk result (λ b. b ≡ result_of (steps_tree steps.now) sets.now vectors.old.items vertex) }
+    ensures passes { IfOk result (λ b. b ≡ result_of (function_statements_tree steps.now) sets.now vectors.old.items vertex) }
     ensures vectors { OnOk result (vectors.new.items ≡ vectors.old.items) }
 {
     begin_filter(frame, vertex)?;

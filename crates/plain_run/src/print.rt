@@ -1,7 +1,7 @@
 //! Print statements: the text that a run writes.
 ghost use Rattle.std.specs.Prelude.{◌≡◌, ◌++◌, IfOk, OnOk};
-ghost use Rattle.typed_tree.specs.IntegerTree.{integer_tree};
-ghost use Rattle.typed_tree.specs.ConditionTree.{condition_tree};
+ghost use Rattle.typed_tree.specs.IntExpressionTree.{int_expression_tree};
+ghost use Rattle.typed_tree.specs.BoolExpressionTree.{bool_expression_tree};
 ghost use Rattle.algorithm_meaning.specs.Print.{after_print_condition, after_print_integer, condition_line, integer_line};
 ghost use Rattle.plain_run.specs.inside.Seen.{stand, state_of};
 
@@ -18,7 +18,7 @@ pub(crate) fn print_integer_in(
     state: &mut InterpreterState,
 ) -> Result<Option<End>, AllocError>
     ensures meaning { IfOk result (λ end. stand end (state_of state.new)
-        ≡ after_print_integer context.vertices context.number (integer_tree e.now) (state_of state.old)) }
+        ≡ after_print_integer context.vertices context.number (int_expression_tree e.now) (state_of state.old)) }
     ensures turns { state.new.turns ≡ state.old.turns }
 {
     let Some(printed) = number_of(e, context.vertices, state) else {
@@ -34,7 +34,7 @@ pub(crate) fn print_condition_in(
     state: &mut InterpreterState,
 ) -> Result<Option<End>, AllocError>
     ensures meaning { IfOk result (λ end. stand end (state_of state.new)
-        ≡ after_print_condition context.vertices context.number (condition_tree c.now) (state_of state.old)) }
+        ≡ after_print_condition context.vertices context.number (bool_expression_tree c.now) (state_of state.old)) }
     ensures turns { state.new.turns ≡ state.old.turns }
 {
     let Some(value) = decide(c, context.vertices, state) else {

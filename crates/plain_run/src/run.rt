@@ -1,7 +1,7 @@
 //! The slow run of programs.
 ghost use Rattle.std.specs.Prelude.{◌≡◌, ◌<◌, ◌≤◌, ℕ, [], ◌∷◌, IfOk, IfNone, OnOk};
-ghost use Rattle.typed_tree.specs.ConditionTree.{condition_tree};
-ghost use Rattle.typed_tree.specs.BlockTree.{action_tree, block_tree};
+ghost use Rattle.typed_tree.specs.BoolExpressionTree.{bool_expression_tree};
+ghost use Rattle.typed_tree.specs.BlockTree.{statement_kind_tree, block_tree};
 ghost use Rattle.typed_tree.specs.ProgramTree.{program_tree};
 ghost use Rattle.algorithm_meaning.specs.EdgeApply.{after_edge_apply};
 ghost use Rattle.algorithm_meaning.specs.Entries.{with_vectors};
@@ -82,7 +82,7 @@ fn run_statement(
 ) -> Result<Option<End>, AllocError>
     ensures meaning { IfOk result (λ end. stand end (state_of state.new)
         ≡ after (program_tree input.entry.program.now) (graph_of input.entry.graph.now) statement.now.number
-        (action_tree statement.now.action) (state_of state.old)) }
+        (statement_kind_tree statement.now.action) (state_of state.old)) }
     ensures turns { state.new.turns ≤ state.old.turns }
 {
     let number = statement.number;
@@ -117,7 +117,7 @@ fn run_without_block(
 ) -> Result<Option<End>, AllocError>
     requires { HasNoBlock action.now }
     ensures meaning { IfOk result (λ end. stand end (state_of state.new)
-        ≡ after (program_tree input.entry.program.now) (graph_of input.entry.graph.now) number (action_tree action.now) (state_of state.old)) }
+        ≡ after (program_tree input.entry.program.now) (graph_of input.entry.graph.now) number (statement_kind_tree action.now) (state_of state.old)) }
     ensures turns { state.new.turns ≡ state.old.turns }
 {
     let context = StatementContext {
@@ -164,7 +164,7 @@ fn run_over_sets(
 ) -> Result<(), AllocError>
     requires { IsOverSets action.now }
     ensures meaning { OnOk result ((number : ℕ) → Live (state_of state.new)
-        ≡ after (program_tree input.entry.program.now) (graph_of input.entry.graph.now) number (action_tree action.now) (state_of state.old)) }
+        ≡ after (program_tree input.entry.program.now) (graph_of input.entry.graph.now) number (statement_kind_tree action.now) (state_of state.old)) }
     ensures turns { state.new.turns ≡ state.old.turns }
 {
     match action {
@@ -234,7 +234,7 @@ fn run_while(
     state: &mut InterpreterState,
 ) -> Result<Option<End>, AllocError>
     ensures meaning { IfOk result (λ end. stand end (state_of state.new)
-        ≡ after_while input.entry.graph.now.vertices number (condition_tree test.now)
+        ≡ after_while input.entry.graph.now.vertices number (bool_expression_tree test.now)
         (after_all (program_tree input.entry.program.now) (graph_of input.entry.graph.now) (block_tree body.now)) (state_of state.old)) }
     ensures turns { state.new.turns ≤ state.old.turns }
 {

@@ -1,8 +1,8 @@
 //! What statements of `main` do with vertex sets.
 ghost use Rattle.std.specs.Prelude.{◌≡◌, [], ◌∷◌, ◌++◌, if◌then◌else◌, nat_lt, IfOk, OnOk, map, slice_get};
-ghost use Rattle.typed_tree.specs.IntegerTree.{integer_tree};
+ghost use Rattle.typed_tree.specs.IntExpressionTree.{int_expression_tree};
 ghost use Rattle.typed_tree.specs.ProgramTree.{program_tree};
-ghost use Rattle.typed_tree.specs.StepTree.{function_tree};
+ghost use Rattle.typed_tree.specs.FunctionStatementTree.{function_tree};
 ghost use Rattle.algorithm_meaning.specs.EdgeApply.{after_edge_apply, modified};
 ghost use Rattle.algorithm_meaning.specs.Entries.{with_vectors};
 ghost use Rattle.algorithm_meaning.specs.Filter.{filtered};
@@ -63,7 +63,7 @@ pub(crate) fn add_vertex(
     state: &mut InterpreterState,
 ) -> Result<Option<End>, AllocError>
     ensures meaning { IfOk result (λ end. stand end (state_of state.new)
-        ≡ after_add_vertex context.vertices context.number index (integer_tree e.now) (state_of state.old)) }
+        ≡ after_add_vertex context.vertices context.number index (int_expression_tree e.now) (state_of state.old)) }
     ensures turns { state.new.turns ≡ state.old.turns }
 {
     let Some(vertex) = vertex_of(e, context.vertices, state) else {

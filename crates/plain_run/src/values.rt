@@ -1,7 +1,7 @@
 //! Values that statements of `main` read, and the variables that blocks and loops bring.
 ghost use Rattle.std.specs.Prelude.{◌≡◌, ◌≤◌, OnOk, Some, int_lt};
-ghost use Rattle.typed_tree.specs.IntegerTree.{integer_tree};
-ghost use Rattle.typed_tree.specs.ConditionTree.{condition_tree};
+ghost use Rattle.typed_tree.specs.IntExpressionTree.{int_expression_tree};
+ghost use Rattle.typed_tree.specs.BoolExpressionTree.{bool_expression_tree};
 ghost use Rattle.algorithm_meaning.specs.declared.outcome.End.TheVariants.{Fault};
 ghost use Rattle.algorithm_meaning.specs.Variables.{with_new_integer};
 ghost use Rattle.algorithm_meaning.specs.Loop.{bounds_in, depth_of, forget_beyond, next_of};
@@ -24,7 +24,7 @@ pub(crate) fn fault(number: u64) -> Option<End>
 
 /// The value of a number, or `None` where an index in it is no vertex.
 pub(crate) fn number_of(e: &IntExpression, vertices: u32, state: &InterpreterState) -> Option<i64>
-    ensures { result ≡ number_in vertices (integer_tree e.now) (state_of state.now) }
+    ensures { result ≡ number_in vertices (int_expression_tree e.now) (state_of state.now) }
 {
     if !is_inside(e, vertices, &state.vectors, &state.sets, &state.scope) {
         return None;
@@ -38,7 +38,7 @@ pub(crate) fn vertex_of(
     vertices: u32,
     state: &InterpreterState,
 ) -> Option<u32>
-    ensures { result ≡ vertex_in vertices (integer_tree index.now) (state_of state.now) }
+    ensures { result ≡ vertex_in vertices (int_expression_tree index.now) (state_of state.now) }
 {
     let number = number_of(index, vertices, state)?;
     let vertex = u32::try_from(number).ok()?;
@@ -51,7 +51,7 @@ pub(crate) fn vertex_of(
 
 /// A truth value, or `None` where an index in it is no vertex.
 pub(crate) fn decide(c: &BoolExpression, vertices: u32, state: &InterpreterState) -> Option<bool>
-    ensures { result ≡ choice_in vertices (condition_tree c.now) (state_of state.now) }
+    ensures { result ≡ choice_in vertices (bool_expression_tree c.now) (state_of state.now) }
 {
     if !condition_is_inside(c, vertices, &state.vectors, &state.sets, &state.scope) {
         return None;
@@ -66,7 +66,7 @@ pub(crate) fn counter_of(
     vertices: u32,
     state: &InterpreterState,
 ) -> Option<LoopCounter>
-    ensures { result ≡ bounds_in vertices (integer_tree first.now) (integer_tree end.now) (state_of state.now) }
+    ensures { result ≡ bounds_in vertices (int_expression_tree first.now) (int_expression_tree end.now) (state_of state.now) }
 {
     let next = number_of(first, vertices, state)?;
     let end = number_of(end, vertices, state)?;

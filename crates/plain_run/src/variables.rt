@@ -3,8 +3,8 @@
 //! Each is told its statement's number and the number of vertices, and answers how the run ended if it
 //! did, and then it has changed nothing.
 ghost use Rattle.std.specs.Prelude.{◌≡◌, IfOk, slice_set};
-ghost use Rattle.typed_tree.specs.IntegerTree.{integer_tree};
-ghost use Rattle.typed_tree.specs.ConditionTree.{condition_tree};
+ghost use Rattle.typed_tree.specs.IntExpressionTree.{int_expression_tree};
+ghost use Rattle.typed_tree.specs.BoolExpressionTree.{bool_expression_tree};
 ghost use Rattle.plain_run.specs.inside.Seen.{stand, state_of};
 ghost use Rattle.algorithm_meaning.specs.Variables.{after_declare_condition, after_declare_integer};
 ghost use Rattle.algorithm_meaning.specs.Variables.{after_reduce_integer, after_set_condition, after_set_integer};
@@ -23,7 +23,7 @@ pub(crate) fn declare_integer(
     state: &mut InterpreterState,
 ) -> Result<Option<End>, AllocError>
     ensures meaning { IfOk result (λ end. stand end (state_of state.new)
-        ≡ after_declare_integer context.vertices context.number (integer_tree e.now) (state_of state.old)) }
+        ≡ after_declare_integer context.vertices context.number (int_expression_tree e.now) (state_of state.old)) }
     ensures turns { state.new.turns ≡ state.old.turns }
 {
     let Some(value) = number_of(e, context.vertices, state) else {
@@ -39,7 +39,7 @@ pub(crate) fn declare_condition(
     state: &mut InterpreterState,
 ) -> Result<Option<End>, AllocError>
     ensures meaning { IfOk result (λ end. stand end (state_of state.new)
-        ≡ after_declare_condition context.vertices context.number (condition_tree c.now) (state_of state.old)) }
+        ≡ after_declare_condition context.vertices context.number (bool_expression_tree c.now) (state_of state.old)) }
     ensures turns { state.new.turns ≡ state.old.turns }
 {
     let Some(value) = decide(c, context.vertices, state) else {
@@ -56,7 +56,7 @@ pub(crate) fn set_integer(
     state: &mut InterpreterState,
 ) -> Option<End>
     ensures meaning { stand result (state_of state.new)
-        ≡ after_set_integer context.vertices context.number index (integer_tree e.now) (state_of state.old) }
+        ≡ after_set_integer context.vertices context.number index (int_expression_tree e.now) (state_of state.old) }
     ensures turns { state.new.turns ≡ state.old.turns }
 {
     let Some(value) = number_of(e, context.vertices, state) else {
@@ -73,7 +73,7 @@ pub(crate) fn set_condition(
     state: &mut InterpreterState,
 ) -> Option<End>
     ensures meaning { stand result (state_of state.new)
-        ≡ after_set_condition context.vertices context.number index (condition_tree c.now) (state_of state.old) }
+        ≡ after_set_condition context.vertices context.number index (bool_expression_tree c.now) (state_of state.old) }
     ensures turns { state.new.turns ≡ state.old.turns }
 {
     let Some(value) = decide(c, context.vertices, state) else {
@@ -91,7 +91,7 @@ pub(crate) fn reduce_integer(
     state: &mut InterpreterState,
 ) -> Option<End>
     ensures meaning { stand result (state_of state.new)
-        ≡ after_reduce_integer context.vertices context.number index reduction (integer_tree e.now) (state_of state.old) }
+        ≡ after_reduce_integer context.vertices context.number index reduction (int_expression_tree e.now) (state_of state.old) }
     ensures turns { state.new.turns ≡ state.old.turns }
 {
     let Some(given) = number_of(e, context.vertices, state) else {

@@ -1,6 +1,6 @@
 //! `apply` of a vertex function.
 ghost use Rattle.std.specs.Prelude.{◌≡◌, OnOk, map};
-ghost use Rattle.typed_tree.specs.StepTree.{function_tree, steps_tree};
+ghost use Rattle.typed_tree.specs.FunctionStatementTree.{function_tree, function_statements_tree};
 ghost use Rattle.plain_run.specs.inside.Seen.{state_of};
 ghost use Rattle.algorithm_meaning.specs.VertexApply.{after_apply_vertex, after_vertex, after_vertices};
 
@@ -36,7 +36,7 @@ fn run_for_vertices(
     vertices: &[u32],
     vectors: &mut Vec<Sequence<i64>>,
 ) -> Result<(), AllocError>
-    ensures { OnOk result (vectors.new.items ≡ after_vertices (steps_tree steps.now) sets.now vertices.now vectors.old.items) }
+    ensures { OnOk result (vectors.new.items ≡ after_vertices (function_statements_tree steps.now) sets.now vertices.now vectors.old.items) }
 {
     let mut frame = new_frame(alloc);
     'vertices: for vertex in vertices {
@@ -52,7 +52,7 @@ fn run_for_vertex(
     vectors: &mut Vec<Sequence<i64>>,
     frame: &mut FunctionFrame,
 ) -> Result<(), AllocError>
-    ensures { OnOk result (vectors.new.items ≡ after_vertex (steps_tree steps.now) sets.now vertex vectors.old.items) }
+    ensures { OnOk result (vectors.new.items ≡ after_vertex (function_statements_tree steps.now) sets.now vertex vectors.old.items) }
 {
     begin(frame, vertex, vertex, UNIT_WEIGHT);
     run_steps(steps, Writing::AtOnce, sets, vectors, frame)?;

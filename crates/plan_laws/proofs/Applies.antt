@@ -11,7 +11,7 @@ use Rattle.typed_tree.specs.declared.statement.VertexFilter.TheVariants as filte
 use Rattle.typed_tree.specs.declared.apply.StatementApply.{StatementApply}
 use Rattle.typed_tree.specs.declared.apply.StatementApply.TheVariants.{Vertices, Edges}
 use Rattle.typed_tree.specs.Access.{function_writes}
-use Rattle.typed_tree.specs.BlockTree.{ActionTree, DeclareSet, AssignSet, ApplyVertex, ApplyEdges}
+use Rattle.typed_tree.specs.BlockTree.{StatementKindTree, DeclareSet, AssignSet, ApplyVertex, ApplyEdges}
 use Rattle.typed_tree.specs.ProgramTree.{ProgramTree}
 use Rattle.typed_tree.specs.Resolved.{VisibleTree, ActionIsResolved, EndsAreResolved, behind_action}
 use Rattle.schedule.specs.Sites.{apply_of, modifying_as}
@@ -24,22 +24,22 @@ use Rattle.type_laws.specs.VisibleSets.{EndIsVisible, EndsAreVisible, IsVisible,
 use Rattle.type_laws.proofs.ResolvedScopes.{get_before, get_last}
 
 -- what is visible stays so after a statement
-pub stays_visible : (a : ActionTree) (names : SetNames) (k : ℕ) (x : Option ℕ) → slice_get names k ≡ Some x → slice_get (names_behind a names) k ≡ Some x
+pub stays_visible : (a : StatementKindTree) (names : SetNames) (k : ℕ) (x : Option ℕ) → slice_get names k ≡ Some x → slice_get (names_behind a names) k ≡ Some x
 stays_visible (DeclareSet name value) names k x is = get_before names (Some name ∷ []) k x is
 stays_visible _ names k x is = is
 
-end_stays : (a : ActionTree) (names : SetNames) (end : Option VertexFilter) → EndIsVisible names end → EndIsVisible (names_behind a names) end
+end_stays : (a : StatementKindTree) (names : SetNames) (end : Option VertexFilter) → EndIsVisible names end → EndIsVisible (names_behind a names) end
 end_stays a names None visible = tt
 end_stays a names (Some (filter.Members slot)) visible = stays_visible a names slot.index (Some slot.name) visible
 end_stays a names (Some (filter.Function index)) visible = tt
 
-value_stays : (a : ActionTree) (names : SetNames) (value : SetValue) → ValueIsVisible names value → ValueIsVisible (names_behind a names) value
+value_stays : (a : StatementKindTree) (names : SetNames) (value : SetValue) → ValueIsVisible names value → ValueIsVisible (names_behind a names) value
 value_stays a names (set.Filter slot index) visible = stays_visible a names slot.index (Some slot.name) visible
 value_stays a names (set.Modified ends function vector) visible = (end_stays a names ends.from visible.0, end_stays a names ends.to visible.1)
 value_stays a names _ visible = tt
 
 -- what a statement speaks of is visible after it too
-pub sets_stay : (p : ProgramTree) (a : ActionTree) (names : SetNames) → SetsAreVisible p names a → SetsAreVisible p (names_behind a names) a
+pub sets_stay : (p : ProgramTree) (a : StatementKindTree) (names : SetNames) → SetsAreVisible p names a → SetsAreVisible p (names_behind a names) a
 sets_stay p (DeclareSet name value) names visible = value_stays (DeclareSet name value) names value visible
 sets_stay p _ names visible = visible
 
@@ -56,7 +56,7 @@ module _ (p : ProgramTree) where
   ResultIsWritten function (Declared name vector) = Contains (function_writes p.edge_functions function) vector
   ResultIsWritten function (Assigned slot vector) = Contains (function_writes p.edge_functions function) vector
 
-  pub record IsEdgeApply (v : VisibleTree) (names : SetNames) (a : ActionTree) (x : StatementApply) : Type 0 where
+  pub record IsEdgeApply (v : VisibleTree) (names : SetNames) (a : StatementKindTree) (x : StatementApply) : Type 0 where
     pub apply : EdgeApplyTree
     pub is : edge_apply_of a ≡ Some apply
     pub tree : x ≡ apply_tree apply
@@ -65,14 +65,14 @@ module _ (p : ProgramTree) where
     pub written : ResultIsWritten apply.part.function apply.part.result
     pub stands : (d : Depth) → d.sets ≡ length v.sets → length p.sets ≤ d.sets → ResultStands (behind_action a v) d apply.part.result
 
-  pub record IsVertexApply (names : SetNames) (a : ActionTree) (x : StatementApply) : Type 0 where
+  pub record IsVertexApply (names : SetNames) (a : StatementKindTree) (x : StatementApply) : Type 0 where
     pub apply : VertexApplyTree
     pub is : vertex_apply_of a ≡ Some apply
     pub no_edges : edge_apply_of a ≡ None
     pub tree : x ≡ Vertices apply.set apply.function
     pub visible : IsVisible names apply.set
 
-  abbrev pub IsApply : VisibleTree → SetNames → ActionTree → StatementApply → Type 0
+  abbrev pub IsApply : VisibleTree → SetNames → StatementKindTree → StatementApply → Type 0
   IsApply v names a x = IsEdgeApply v names a x ⊎ IsVertexApply names a x
 
   declared_apply : (v : VisibleTree) (names : SetNames) (name : ℕ) (value : SetValue) (x : StatementApply) → modifying_as name value ≡ Some x → ActionIsResolved p v (DeclareSet name value)
@@ -105,7 +105,7 @@ module _ (p : ProgramTree) where
       })
   assigned_apply v names slot _ x is resolved visible asks = absurd (none-some x is)
 
-  pub statement_apply : (v : VisibleTree) (names : SetNames) (a : ActionTree) (x : StatementApply) → apply_of a ≡ Some x → ActionIsResolved p v a → SetsAreVisible p names a → AsksForWritten p a
+  pub statement_apply : (v : VisibleTree) (names : SetNames) (a : StatementKindTree) (x : StatementApply) → apply_of a ≡ Some x → ActionIsResolved p v a → SetsAreVisible p names a → AsksForWritten p a
       → IsApply v names a x
   statement_apply v names (ApplyVertex set function) x is resolved visible asks =
       inr (record {

@@ -1,6 +1,6 @@
 -- The loops around the instructions of a plan.
 use Rattle.std.proofs.Common.{◌≡◌, ℕ, zero, suc, ◌+◌, ◌≤◌, Bool, true, false, List, [], ◌∷◌, ◌++◌, length, if◌then◌else◌, Option, Some, None, slice_get, refl, arith, subst}
-use Rattle.typed_tree.specs.BlockTree.{ActionTree, DeclareInteger, DeclareCondition, DeclareSet, BlockTree, Empty, Then}
+use Rattle.typed_tree.specs.BlockTree.{StatementKindTree, DeclareInteger, DeclareCondition, DeclareSet, BlockTree, Empty, Then}
 use Rattle.typed_tree.specs.ProgramTree.{ProgramTree}
 use Rattle.apply_options.specs.ScheduleTree.{ScheduleTree, choice_at}
 use Rattle.algorithm_meaning.specs.declared.state.Depth.{Depth}
@@ -105,7 +105,7 @@ IsForTwo (ApplyVerticesTogether set a b) = Unit {0}
 IsForTwo _ = ⊥
 
 -- the statement declares no integer
-abbrev pub DeclaresNone : ActionTree → Type 0
+abbrev pub DeclaresNone : StatementKindTree → Type 0
 DeclaresNone a = (d : Depth) → (behind a d).integers ≡ d.integers
 
 abbrev pub FirstDeclaresNone : BlockTree → Type 0
@@ -117,29 +117,29 @@ abbrev pub IsDone : (is_done : Bool) → BlockTree → Type 0
 IsDone false b = Unit {0}
 IsDone true b = FirstDeclaresNone b
 
-abbrev pub FitsCompany : FusionRole → ActionTree → BlockTree → Type 0
+abbrev pub FitsCompany : FusionRole → StatementKindTree → BlockTree → Type 0
 FitsCompany Alone a rest = Unit {0}
 FitsCompany (WithNext operation) a rest = IsForTwo operation × DeclaresNone a × FirstDeclaresNone rest
 FitsCompany WithPrevious a rest = DeclaresNone a
 
-edge_declares_none : (a : ActionTree) (x : EdgeApplyTree) → edge_apply_of a ≡ Some x → DeclaresNone a
+edge_declares_none : (a : StatementKindTree) (x : EdgeApplyTree) → edge_apply_of a ≡ Some x → DeclaresNone a
 edge_declares_none (DeclareInteger name e) x is = let bad : None ≡ Some x = is in cc
 edge_declares_none (DeclareCondition name e) x is = λ d. refl
 edge_declares_none (DeclareSet name value) x is = λ d. refl
 edge_declares_none _ x is = λ d. refl
 
-vertex_declares_none : (a : ActionTree) (x : VertexApplyTree) → vertex_apply_of a ≡ Some x → DeclaresNone a
+vertex_declares_none : (a : StatementKindTree) (x : VertexApplyTree) → vertex_apply_of a ≡ Some x → DeclaresNone a
 vertex_declares_none (DeclareInteger name e) x is = let bad : None ≡ Some x = is in cc
 vertex_declares_none (DeclareCondition name e) x is = λ d. refl
 vertex_declares_none (DeclareSet name value) x is = λ d. refl
 vertex_declares_none _ x is = λ d. refl
 
 -- what holds of an operation that does both
-abbrev FitsBoth : (a b : ActionTree) → Option OperationTree → Type 0
+abbrev FitsBoth : (a b : StatementKindTree) → Option OperationTree → Type 0
 FitsBoth a b None = Unit {0}
 FitsBoth a b (Some operation) = IsForTwo operation × DeclaresNone a × DeclaresNone b
 
-edges_fit_both : (p : ProgramTree) (d : Depth) (a b : ActionTree) (x y : Option EdgeApplyTree) → edge_apply_of a ≡ x → edge_apply_of b ≡ y → FitsBoth a b (edges_together p d x y)
+edges_fit_both : (p : ProgramTree) (d : Depth) (a b : StatementKindTree) (x y : Option EdgeApplyTree) → edge_apply_of a ≡ x → edge_apply_of b ≡ y → FitsBoth a b (edges_together p d x y)
 edges_fit_both p d a b None y e f = tt
 edges_fit_both p d a b (Some x) None e f = tt
 edges_fit_both p d a b (Some x) (Some y) e f = by_test (edges_fit p d x y)
@@ -148,7 +148,7 @@ edges_fit_both p d a b (Some x) (Some y) e f = by_test (edges_fit p d x y)
     by_test true = (tt, edge_declares_none a x e, edge_declares_none b y f)
     by_test false = tt
 
-vertices_fit_both : (p : ProgramTree) (a b : ActionTree) (x y : Option VertexApplyTree) → vertex_apply_of a ≡ x → vertex_apply_of b ≡ y → FitsBoth a b (vertices_together p x y)
+vertices_fit_both : (p : ProgramTree) (a b : StatementKindTree) (x y : Option VertexApplyTree) → vertex_apply_of a ≡ x → vertex_apply_of b ≡ y → FitsBoth a b (vertices_together p x y)
 vertices_fit_both p a b None y e f = tt
 vertices_fit_both p a b (Some x) None e f = tt
 vertices_fit_both p a b (Some x) (Some y) e f = by_test (vertices_fit p x y)
@@ -157,17 +157,17 @@ vertices_fit_both p a b (Some x) (Some y) e f = by_test (vertices_fit p x y)
     by_test true = (tt, vertex_declares_none a x e, vertex_declares_none b y f)
     by_test false = tt
 
-either_fits_both : (a b : ActionTree) (x y : Option OperationTree) → FitsBoth a b x → FitsBoth a b y → FitsBoth a b (either x y)
+either_fits_both : (a b : StatementKindTree) (x y : Option OperationTree) → FitsBoth a b x → FitsBoth a b y → FitsBoth a b (either x y)
 either_fits_both a b None y h k = k
 either_fits_both a b (Some operation) y h k = h
 
-fused_fits : (fused : Bool) (a b : ActionTree) (number : ℕ) (label : Option ℕ) (rest : BlockTree) (o : Option OperationTree) → FitsBoth a b o
+fused_fits : (fused : Bool) (a b : StatementKindTree) (number : ℕ) (label : Option ℕ) (rest : BlockTree) (o : Option OperationTree) → FitsBoth a b o
     → FitsCompany (if fused then with_next o else Alone) a (Then number label b rest)
 fused_fits true a b number label rest None h = tt
 fused_fits true a b number label rest (Some operation) h = h
 fused_fits false a b number label rest o h = tt
 
-pub company_fits : (p : ProgramTree) (s : ScheduleTree) (d : Depth) (is_done : Bool) (number : ℕ) (label : Option ℕ) (a : ActionTree) (rest : BlockTree) → IsDone is_done (Then number label a rest)
+pub company_fits : (p : ProgramTree) (s : ScheduleTree) (d : Depth) (is_done : Bool) (number : ℕ) (label : Option ℕ) (a : StatementKindTree) (rest : BlockTree) → IsDone is_done (Then number label a rest)
     → FitsCompany (fusion_role_of p s d is_done label a rest) a rest
 company_fits p s d true number label a rest done = done
 company_fits p s d false number label a Empty done = tt
@@ -176,7 +176,7 @@ company_fits p s d false number label a (Then second other b rest) done =
     (either_fits_both a b (edges_together p d (edge_apply_of a) (edge_apply_of b)) (vertices_together p (vertex_apply_of a) (vertex_apply_of b))
     (edges_fit_both p d a b (edge_apply_of a) (edge_apply_of b) refl refl) (vertices_fit_both p a b (vertex_apply_of a) (vertex_apply_of b) refl refl))
 
-pub next_done : (company : FusionRole) (a : ActionTree) (rest : BlockTree) → FitsCompany company a rest → IsDone (takes_next company) rest
+pub next_done : (company : FusionRole) (a : StatementKindTree) (rest : BlockTree) → FitsCompany company a rest → IsDone (takes_next company) rest
 next_done Alone a rest fits = tt
 next_done (WithNext operation) a rest fits = fits.2
 next_done WithPrevious a rest fits = tt

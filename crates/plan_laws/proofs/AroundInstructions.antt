@@ -2,7 +2,7 @@
 use Rattle.std.proofs.Common.{◌≡◌, ℕ, ◌+◌, ◌<◌, ◌≤◌, append_assoc, Bool, false, List, [], ◌∷◌, ◌++◌, length, length-append, Option, Some, slice_get, refl, ap, sym, ◌∙◌, arith, subst}
 use Rattle.std.proofs.Math.Seq.{get_or-append_seam}
 use Rattle.std.proofs.lemmas.Option.{slice_get-get_or}
-use Rattle.typed_tree.specs.BlockTree.{ActionTree, DeclareInteger, DeclareCondition, SetInteger, SetCondition, ReduceInteger, SetEntry, ReduceEntry, DeclareSet, AssignSet, AddVertex, PrintInteger, PrintCondition, ApplyVertex, ApplyEdges, If, IfElse, While, For, BlockTree, Empty, Then}
+use Rattle.typed_tree.specs.BlockTree.{StatementKindTree, DeclareInteger, DeclareCondition, SetInteger, SetCondition, ReduceInteger, SetEntry, ReduceEntry, DeclareSet, AssignSet, AddVertex, PrintInteger, PrintCondition, ApplyVertex, ApplyEdges, If, IfElse, While, For, BlockTree, Empty, Then}
 use Rattle.typed_tree.specs.ProgramTree.{ProgramTree}
 use Rattle.apply_options.specs.ScheduleTree.{ScheduleTree}
 use Rattle.algorithm_meaning.specs.declared.state.Depth.{Depth}
@@ -21,14 +21,14 @@ around_in (WithNext operation) is own = is ∷ []
 around_in WithPrevious is own = []
 
 -- so many integers are visible after a statement
-integers_after : (a : ActionTree) (d : Depth) → integers_behind a d.integers ≡ (behind a d).integers
+integers_after : (a : StatementKindTree) (d : Depth) → integers_behind a d.integers ≡ (behind a d).integers
 integers_after (DeclareInteger name e) d = refl
 integers_after _ d = refl
 
 module _ (p : ProgramTree) (s : ScheduleTree) where
   abbrev mutual
     -- the loops around each instruction of a statement
-    pub around : Depth → List ℕ → ActionTree → List (List ℕ)
+    pub around : Depth → List ℕ → StatementKindTree → List (List ℕ)
     around d is (If c body) = is ∷ around_all d is false body
     around d is (IfElse c body other) = is ∷ (around_all d is false body ++ is ∷ around_all d is false other)
     around d is (While c body) = is ∷ is ∷ (around_all d is false body ++ is ∷ [])
@@ -50,7 +50,7 @@ module _ (p : ProgramTree) (s : ScheduleTree) where
   length_around_in WithPrevious is own n e = refl
 
   mutual
-    length-around : (a : ActionTree) (d : Depth) (is : List ℕ) → length (around d is a) ≡ size p s d a
+    length-around : (a : StatementKindTree) (d : Depth) (is : List ℕ) → length (around d is a) ≡ size p s d a
     length-around (If c body) d is = omega (arith, length-around_all body d is false)
     length-around (IfElse c body other) d is =
         omega (arith, length-around_all body d is false, length-around_all other d is false, length-append (around_all d is false body) (is ∷ around_all d is false other))
@@ -87,7 +87,7 @@ module _ (p : ProgramTree) (s : ScheduleTree) where
         → Entry code table index is d.integers
     first_entry index is d i stands rows keeps = record { instruction = i; stands = stands; around = rows; keeps = omega (arith, keeps) }
 
-    action_entry : (a : ActionTree) (index number : ℕ) (label : Option ℕ) (d : Depth) (is : List ℕ) → HasAt code index (plan p s index d number label a) → HasRows table index (around d is a)
+    action_entry : (a : StatementKindTree) (index number : ℕ) (label : Option ℕ) (d : Depth) (is : List ℕ) → HasAt code index (plan p s index d number label a) → HasRows table index (around d is a)
         → Entry code table index is d.integers
     action_entry (DeclareInteger name e) index number label d is at rows = first_entry index is d _ at.0 rows.0 refl
     action_entry (DeclareCondition name c) index number label d is at rows = first_entry index is d _ at.0 rows.0 refl
@@ -108,7 +108,7 @@ module _ (p : ProgramTree) (s : ScheduleTree) where
     action_entry (While c body) index number label d is at rows = first_entry index is d _ at.0 rows.0 refl
     action_entry (For name first end body) index number label d is at rows = first_entry index is d _ at.0 rows.0 refl
 
-    company_entry : (company : FusionRole) (action : ActionTree) (rest : BlockTree) (index number : ℕ) (label : Option ℕ) (d : Depth) (is : List ℕ) (own : List InstructionTree) (own_rows : List (List ℕ)) (n : ℕ)
+    company_entry : (company : FusionRole) (action : StatementKindTree) (rest : BlockTree) (index number : ℕ) (label : Option ℕ) (d : Depth) (is : List ℕ) (own : List InstructionTree) (own_rows : List (List ℕ)) (n : ℕ)
         → FitsCompany company action rest
         → HasAt code index (plan_in company s number label d own) → HasRows table index (around_in company is own_rows)
         → (HasAt code index own → HasRows table index own_rows → Entry code table index is d.integers)
@@ -143,7 +143,7 @@ module _ (p : ProgramTree) (s : ScheduleTree) where
         (rows_behind table index n (index + n) first_rows other_rows f refl rows)
         (entry_along code table (index + (n + m)) (index + n + m) is (behind_all rest (behind action d)).integers same end))
 
-    company_local : (company : FusionRole) (action : ActionTree) (rest : BlockTree) (index number : ℕ) (label : Option ℕ) (d : Depth) (is : List ℕ) (own : List InstructionTree) (own_rows : List (List ℕ)) (n : ℕ)
+    company_local : (company : FusionRole) (action : StatementKindTree) (rest : BlockTree) (index number : ℕ) (label : Option ℕ) (d : Depth) (is : List ℕ) (own : List InstructionTree) (own_rows : List (List ℕ)) (n : ℕ)
         → FitsCompany company action rest → AreBelow is d.integers
         → HasAt code index (plan_in company s number label d own) → HasRows table index (around_in company is own_rows)
         → (HasAt code index own → HasRows table index own_rows → Entry code table (index + n) is (behind action d).integers → AllLocal code table index own own_rows)
@@ -160,7 +160,7 @@ module _ (p : ProgramTree) (s : ScheduleTree) where
     company_local WithPrevious action rest index number label d is own own_rows n fits below at rows all next = tt
 
     mutual
-      action_local : (a : ActionTree) (index number : ℕ) (label : Option ℕ) (d : Depth) (is : List ℕ) → HasAt code index (plan p s index d number label a) → HasRows table index (around d is a)
+      action_local : (a : StatementKindTree) (index number : ℕ) (label : Option ℕ) (d : Depth) (is : List ℕ) → HasAt code index (plan p s index d number label a) → HasRows table index (around d is a)
           → Entry code table (index + size p s d a) is (behind a d).integers → AreBelow is d.integers → KeepsInside d.integers is a
           → AllLocal code table index (plan p s index d number label a) (around d is a)
       action_local (DeclareInteger name e) index number label d is at rows end below keeps = ((tt, keeps, end, below), tt)

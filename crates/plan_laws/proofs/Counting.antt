@@ -1,7 +1,7 @@
 -- In each configuration that a run of a plan reaches the counters of its loops are variables.
 use Rattle.std.proofs.Common.{◌≡◌, ◌≢◌, ℕ, zero, suc, ◌+◌, ◌≤◌, ◌<◌, ℤ, pos, Bool, true, false, List, [], ◌∷◌, ◌++◌, length, length-append, take, Option, Some, None, slice_get, slice_set, slice_index_or, int_lt, if◌then◌else◌, MatchOption, refl, ap, sym, ◌∙◌, arith, subst}
 use Rattle.std.proofs.lemmas.List.{length-take-le, length-set}
-use Rattle.typed_tree.specs.BlockTree.{ActionTree, DeclareInteger, DeclareCondition, SetInteger, SetCondition, ReduceInteger, SetEntry, ReduceEntry, DeclareSet, AssignSet, AddVertex, PrintInteger, PrintCondition, ApplyVertex, ApplyEdges, If, IfElse, While, For}
+use Rattle.typed_tree.specs.BlockTree.{StatementKindTree, DeclareInteger, DeclareCondition, SetInteger, SetCondition, ReduceInteger, SetEntry, ReduceEntry, DeclareSet, AssignSet, AddVertex, PrintInteger, PrintCondition, ApplyVertex, ApplyEdges, If, IfElse, While, For}
 use Rattle.typed_tree.specs.ProgramTree.{ProgramTree}
 use Rattle.algorithm_meaning.specs.State.{GraphValue, StateValue}
 use Rattle.algorithm_meaning.specs.Arithmetic.{reduced}
@@ -83,7 +83,7 @@ by_value (Some x) number is rs n s go h = h x
 
 module _ (p : ProgramTree) (g : GraphValue) where
   -- a statement without a block that assigns no variable of a loop
-  counters_after : (a : ActionTree) → HasNoBlock a → (d : Depth) (is : List ℕ) (rs : List LoopCounter) (number : ℕ) (s : StateValue) → KeepsInside d.integers is a → AreCounters is rs s.scope.integers
+  counters_after : (a : StatementKindTree) → HasNoBlock a → (d : Depth) (is : List ℕ) (rs : List LoopCounter) (number : ℕ) (s : StateValue) → KeepsInside d.integers is a → AreCounters is rs s.scope.integers
       → d.integers ≤ length s.scope.integers → HasCounters is rs (behind a d).integers (after p g number a s)
   counters_after (DeclareInteger name e) alone d is rs number s keeps are long =
       by_value (number_in g.vertices e s) number is rs (d.integers + 1) s _

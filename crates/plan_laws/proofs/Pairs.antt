@@ -11,7 +11,7 @@ use Rattle.typed_tree.specs.declared.statement.VertexFilter.TheVariants as filte
 use Rattle.typed_tree.specs.declared.apply.StatementApply.{StatementApply}
 use Rattle.typed_tree.specs.declared.apply.StatementApply.TheVariants.{Vertices}
 use Rattle.typed_tree.specs.Access.{are_apart, function_uses, function_writes}
-use Rattle.typed_tree.specs.BlockTree.{ActionTree}
+use Rattle.typed_tree.specs.BlockTree.{StatementKindTree}
 use Rattle.typed_tree.specs.Independence.{are_same, are_same_ends, have_same_sets, is_end, name_at}
 use Rattle.typed_tree.specs.ProgramTree.{ProgramTree}
 use Rattle.typed_tree.specs.Resolved.{VisibleTree, EndIsResolved, EndsAreResolved, IsResolved, behind_action}
@@ -28,7 +28,7 @@ use Rattle.plan_laws.proofs.Applies.{IsApply, IsEdgeApply, IsVertexApply, Result
 use Rattle.plan_laws.proofs.Sizes.{AreConstant, all_two, edge_function_constant, filter_constant, vertex_function_local}
 
 -- one operation does both
-pub record OneDoes (p : ProgramTree) (d : Depth) (a b : ActionTree) : Type 0 where
+pub record OneDoes (p : ProgramTree) (d : Depth) (a b : StatementKindTree) : Type 0 where
   pub operation : OperationTree
   pub is : together p d a b ≡ Some operation
   pub does : AreTogether a b operation
@@ -106,7 +106,7 @@ module _ (p : ProgramTree) (all : IsResolved p) where
     second_apart (Assigned slot vector) written = one_apart vector (function_writes p.edge_functions f) (written_not vector written)
 
   -- a statement that has what is known of the first, and one after it
-  module _ (v : VisibleTree) (names : SetNames) (d : Depth) (deep : d.sets ≡ length v.sets) (low : length p.sets ≤ d.sets) (apart : AreApart p names) (a b : ActionTree) (one other : StatementApply) where
+  module _ (v : VisibleTree) (names : SetNames) (d : Depth) (deep : d.sets ≡ length v.sets) (low : length p.sets ≤ d.sets) (apart : AreApart p names) (a b : StatementKindTree) (one other : StatementApply) where
     edges_fit_together : (x : IsEdgeApply p v names a one) (y : IsEdgeApply p (behind_action a v) names b other) → have_same_sets p.names (apply_tree x.apply) (apply_tree y.apply) ≡ true
         → IsIndependent p (apply_tree x.apply) (apply_tree y.apply) → edges_fit p d x.apply y.apply ≡ true
     edges_fit_together x y sets alone =

@@ -5,7 +5,7 @@ use Rattle.std.proofs.lemmas.Bool.{eqb-true, eqb-false}
 use Rattle.std.proofs.lemmas.List.{map-append}
 use Rattle.std.proofs.lemmas.Option.{cond_some, none-some, same_Some}
 use Rattle.typed_tree.specs.declared.apply.StatementApply.{StatementApply}
-use Rattle.typed_tree.specs.BlockTree.{ActionTree, If, IfElse, While, For, BlockTree, Empty, Then}
+use Rattle.typed_tree.specs.BlockTree.{StatementKindTree, If, IfElse, While, For, BlockTree, Empty, Then}
 use Rattle.typed_tree.specs.ProgramTree.{ProgramTree}
 use Rattle.schedule.specs.declared.site.Site.{Site}
 use Rattle.schedule.specs.Calls.{apply_in, is_label, is_next}
@@ -68,7 +68,7 @@ module _ (first second : ℕ) where
   abbrev InBlock : BlockTree → Site → Type 0
   InBlock b site = Located (λ s t. AreNeighbours s t b) (sites_of b) first second site.apply
 
-  next_here : (number l : ℕ) (action : ActionTree) (rest : BlockTree) → first ≡ l → is_label (label_of rest) second ≡ true
+  next_here : (number l : ℕ) (action : StatementKindTree) (rest : BlockTree) → first ≡ l → is_label (label_of rest) second ≡ true
       → Located (λ s t. AreNeighbours s t (Then number (Some l) action rest)) (sites_of (Then number (Some l) action rest)) first second (apply_of action)
   next_here number l action Empty same next = cc
   next_here number l action (Then n None a others) same next = cc
@@ -85,7 +85,7 @@ module _ (first second : ℕ) where
         site = has_right (site_at (Some l) action rest) (sites_in action ++ sites_of rest) second (apply_of a) (has_right (sites_in action) (sites_of rest) second (apply_of a) (inl (is, refl)));
       }
 
-  located_here : (number : ℕ) (label : Option ℕ) (action : ActionTree) (rest : BlockTree) (site : Site) → lookup (nat_eq first) (site_at label action rest) ≡ Some site
+  located_here : (number : ℕ) (label : Option ℕ) (action : StatementKindTree) (rest : BlockTree) (site : Site) → lookup (nat_eq first) (site_at label action rest) ≡ Some site
       → is_label site.next second ≡ true → InBlock (Then number label action rest) site
   located_here number None action rest site is next = absurd (none-some site is)
   located_here number (Some l) action rest site is next =
@@ -95,7 +95,7 @@ module _ (first second : ℕ) where
       (next_here number l action rest (eqb-true first l found.0) (subst (λ (x : Site). is_label x.next second ≡ true) (sym found.1) next))
 
   mutual
-    located_inside : (a : ActionTree) (site : Site) → lookup (nat_eq first) (sites_in a) ≡ Some site → is_label site.next second ≡ true
+    located_inside : (a : StatementKindTree) (site : Site) → lookup (nat_eq first) (sites_in a) ≡ Some site → is_label site.next second ≡ true
         → Located (λ s t. AreNeighboursInside s t a) (sites_in a) first second site.apply
     located_inside (If c body) site is next = located body site is next
     located_inside (IfElse c body other) site is next =
@@ -154,7 +154,7 @@ one_site : (n : ℕ) (xs : Sites) (label : ℕ) (apply : Option StatementApply) 
 one_site n [] label apply site order is has = absurd has
 one_site n (x ∷ xs) label apply site order is has = by_test n x xs label apply site (nat_eq label x.0) refl order is has (one_site (suc n) xs label apply site order.1)
 
-own_keys : (label : Option ℕ) (action : ActionTree) (rest : BlockTree) → keys (site_at label action rest) ≡ own_index label
+own_keys : (label : Option ℕ) (action : StatementKindTree) (rest : BlockTree) → keys (site_at label action rest) ≡ own_index label
 own_keys None action rest = refl
 own_keys (Some l) action rest = refl
 
@@ -162,7 +162,7 @@ keys_of_two : (xs ys : Sites) (ls ms : List ℕ) → keys xs ≡ ls → keys ys 
 keys_of_two xs ys ls ms first second = map-append (λ x. x.0) xs ys ∙ ap (λ ks. ks ++ keys ys) first ∙ ap (λ ks. ls ++ ks) second
 
 mutual
-  inner_keys : (a : ActionTree) → keys (sites_in a) ≡ inner_indices a
+  inner_keys : (a : StatementKindTree) → keys (sites_in a) ≡ inner_indices a
   inner_keys (If c body) = block_keys body
   inner_keys (IfElse c body other) = keys_of_two (sites_of body) (sites_of other) (label_indices body) (label_indices other) (block_keys body) (block_keys other)
   inner_keys (While c body) = block_keys body

@@ -4,12 +4,12 @@ use Rattle.std.specs.Prelude.{slice_get, zero, suc}
 use Rattle.std.specs.List.{AllByRecursion}
 use Rattle.std.proofs.lemmas.Bool.{and_from}
 use Rattle.std.proofs.lemmas.Option.{slice_get_within}
-use Rattle.typed_tree.specs.IntegerTree as integer
-use Rattle.typed_tree.specs.IntegerTree.{IntegerTree}
-use Rattle.typed_tree.specs.ConditionTree as condition
-use Rattle.typed_tree.specs.ConditionTree.{ConditionTree}
-use Rattle.typed_tree.specs.StepTree as step
-use Rattle.typed_tree.specs.StepTree.{FunctionTree, StepTree, StepsTree}
+use Rattle.typed_tree.specs.IntExpressionTree as integer
+use Rattle.typed_tree.specs.IntExpressionTree.{IntExpressionTree}
+use Rattle.typed_tree.specs.BoolExpressionTree as condition
+use Rattle.typed_tree.specs.BoolExpressionTree.{BoolExpressionTree}
+use Rattle.typed_tree.specs.FunctionStatementTree as step
+use Rattle.typed_tree.specs.FunctionStatementTree.{FunctionTree, FunctionStatementTree, FunctionStatementsTree}
 use Rattle.typed_tree.specs.ProgramTree.{ProgramTree}
 use Rattle.typed_tree.specs.Resolved.{VisibleTree, ConditionIsResolved, EdgeFunctionIsResolved, FilterIsResolved, IntegerIsResolved, StepIsResolved, StepsAreResolved, VertexFunctionIsResolved, behind_step, in_edge_function, in_filter, in_vertex_function}
 use Rattle.plans.specs.Fusing.{condition_is_local, condition_sizes, function_is_local, function_sizes, integer_is_local, integer_sizes, step_is_local, step_sizes, steps_are_local, steps_are_local_where, steps_sizes, steps_sizes_where}
@@ -25,7 +25,7 @@ at_index P Q none some [] index all = none
 at_index P Q none some (f ∷ fs) zero all = some f all.0
 at_index P Q none some (f ∷ fs) (suc index) all = at_index P Q none some fs index all.1
 
-behind_sets : (s : StepTree) (v : VisibleTree) → (behind_step s v).sets ≡ v.sets
+behind_sets : (s : FunctionStatementTree) (v : VisibleTree) → (behind_step s v).sets ≡ v.sets
 behind_sets (step.DeclareInteger name e) v = refl
 behind_sets (step.DeclareCondition name c) v = refl
 behind_sets (step.SetInteger slot e) v = refl
@@ -36,7 +36,7 @@ behind_sets (step.ReduceEntry vector by e) v = refl
 behind_sets (step.If c body) v = refl
 behind_sets (step.IfElse c body other) v = refl
 
-behind_indexes : (s : StepTree) (v : VisibleTree) → (behind_step s v).indexes ≡ v.indexes
+behind_indexes : (s : FunctionStatementTree) (v : VisibleTree) → (behind_step s v).indexes ≡ v.indexes
 behind_indexes (step.DeclareInteger name e) v = refl
 behind_indexes (step.DeclareCondition name c) v = refl
 behind_indexes (step.SetInteger slot e) v = refl
@@ -52,7 +52,7 @@ module _ (p : ProgramTree) where
   abbrev pub AreConstant : List ℕ → Type 0
   AreConstant indices = AllByRecursion (λ index. index < length p.sets) indices
 
-  integer_constant : (v : VisibleTree) → v.sets ≡ p.sets → (e : IntegerTree) → IntegerIsResolved p v e → AreConstant (integer_sizes e)
+  integer_constant : (v : VisibleTree) → v.sets ≡ p.sets → (e : IntExpressionTree) → IntegerIsResolved p v e → AreConstant (integer_sizes e)
   integer_constant v same (integer.Number n) is = tt
   integer_constant v same (integer.Constant name n) is = tt
   integer_constant v same (integer.Variable slot) is = tt
@@ -65,7 +65,7 @@ module _ (p : ProgramTree) where
   integer_constant v same (integer.Arithmetic operator a b) is =
       all_two (λ index. index < length p.sets) (integer_sizes a) (integer_sizes b) (integer_constant v same a is.0) (integer_constant v same b is.1)
 
-  condition_constant : (v : VisibleTree) → v.sets ≡ p.sets → (c : ConditionTree) → ConditionIsResolved p v c → AreConstant (condition_sizes c)
+  condition_constant : (v : VisibleTree) → v.sets ≡ p.sets → (c : BoolExpressionTree) → ConditionIsResolved p v c → AreConstant (condition_sizes c)
   condition_constant v same (condition.Literal b) is = tt
   condition_constant v same (condition.Constant name b) is = tt
   condition_constant v same (condition.Variable slot) is = tt
@@ -76,7 +76,7 @@ module _ (p : ProgramTree) where
       all_two (λ index. index < length p.sets) (condition_sizes a) (condition_sizes b) (condition_constant v same a is.0) (condition_constant v same b is.1)
 
   mutual
-    step_constant : (v : VisibleTree) → v.sets ≡ p.sets → (s : StepTree) → StepIsResolved p v s → AreConstant (step_sizes s)
+    step_constant : (v : VisibleTree) → v.sets ≡ p.sets → (s : FunctionStatementTree) → StepIsResolved p v s → AreConstant (step_sizes s)
     step_constant v same (step.DeclareInteger name e) is = integer_constant v same e is.1
     step_constant v same (step.DeclareCondition name c) is = condition_constant v same c is.1
     step_constant v same (step.SetInteger slot e) is = integer_constant v same e is.1
@@ -90,7 +90,7 @@ module _ (p : ProgramTree) where
         all_two (λ index. index < length p.sets) (condition_sizes c) (steps_sizes body ++ steps_sizes other) (condition_constant v same c is.0)
         (all_two (λ index. index < length p.sets) (steps_sizes body) (steps_sizes other) (steps_constant v same body is.1) (steps_constant v same other is.2))
 
-    steps_constant : (v : VisibleTree) → v.sets ≡ p.sets → (ss : StepsTree) → StepsAreResolved p v ss → AreConstant (steps_sizes ss)
+    steps_constant : (v : VisibleTree) → v.sets ≡ p.sets → (ss : FunctionStatementsTree) → StepsAreResolved p v ss → AreConstant (steps_sizes ss)
     steps_constant v same step.NoStep is = tt
     steps_constant v same (step.StepThen s others) is =
         all_two (λ index. index < length p.sets) (step_sizes s) (steps_sizes others) (step_constant v same s is.0)
@@ -105,7 +105,7 @@ module _ (p : ProgramTree) where
       at_index (FilterIsResolved p) (λ o. AreConstant (steps_sizes_where o)) tt (λ f is. steps_constant (in_filter p is.1.0) refl f.steps is.1.2) p.filters index all
 
   -- where no entry is read at an index
-  integer_local : (v : VisibleTree) → v.indexes ≡ false → (e : IntegerTree) → IntegerIsResolved p v e → integer_is_local e ≡ true
+  integer_local : (v : VisibleTree) → v.indexes ≡ false → (e : IntExpressionTree) → IntegerIsResolved p v e → integer_is_local e ≡ true
   integer_local v none (integer.Number n) is = refl
   integer_local v none (integer.Constant name n) is = refl
   integer_local v none (integer.Variable slot) is = refl
@@ -117,7 +117,7 @@ module _ (p : ProgramTree) where
   integer_local v none (integer.Negative e) is = integer_local v none e is
   integer_local v none (integer.Arithmetic operator a b) is = and_from (integer_is_local a) (integer_is_local b) (integer_local v none a is.0) (integer_local v none b is.1)
 
-  condition_local : (v : VisibleTree) → v.indexes ≡ false → (c : ConditionTree) → ConditionIsResolved p v c → condition_is_local c ≡ true
+  condition_local : (v : VisibleTree) → v.indexes ≡ false → (c : BoolExpressionTree) → ConditionIsResolved p v c → condition_is_local c ≡ true
   condition_local v none (condition.Literal b) is = refl
   condition_local v none (condition.Constant name b) is = refl
   condition_local v none (condition.Variable slot) is = refl
@@ -126,7 +126,7 @@ module _ (p : ProgramTree) where
   condition_local v none (condition.Connect connective a b) is = and_from (condition_is_local a) (condition_is_local b) (condition_local v none a is.0) (condition_local v none b is.1)
 
   mutual
-    step_local : (v : VisibleTree) → v.indexes ≡ false → (s : StepTree) → StepIsResolved p v s → step_is_local s ≡ true
+    step_local : (v : VisibleTree) → v.indexes ≡ false → (s : FunctionStatementTree) → StepIsResolved p v s → step_is_local s ≡ true
     step_local v none (step.DeclareInteger name e) is = integer_local v none e is.1
     step_local v none (step.DeclareCondition name c) is = condition_local v none c is.1
     step_local v none (step.SetInteger slot e) is = integer_local v none e is.1
@@ -139,7 +139,7 @@ module _ (p : ProgramTree) where
         and_from (condition_is_local c) (steps_are_local body && steps_are_local other) (condition_local v none c is.0)
         (and_from (steps_are_local body) (steps_are_local other) (steps_local v none body is.1) (steps_local v none other is.2))
 
-    steps_local : (v : VisibleTree) → v.indexes ≡ false → (ss : StepsTree) → StepsAreResolved p v ss → steps_are_local ss ≡ true
+    steps_local : (v : VisibleTree) → v.indexes ≡ false → (ss : FunctionStatementsTree) → StepsAreResolved p v ss → steps_are_local ss ≡ true
     steps_local v none step.NoStep is = refl
     steps_local v none (step.StepThen s others) is =
         and_from (step_is_local s) (steps_are_local others) (step_local v none s is.0) (steps_local (behind_step s v) (behind_indexes s v ∙ none) others is.1)

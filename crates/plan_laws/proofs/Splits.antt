@@ -4,7 +4,7 @@ use Rattle.std.specs.List.{AllByRecursion}
 use Rattle.std.proofs.lemmas.Bool.{eq-eqb, eqb-true}
 use Rattle.std.proofs.lemmas.List.{append_assoc}
 use Rattle.std.proofs.lemmas.Option.{none-some}
-use Rattle.typed_tree.specs.BlockTree.{ActionTree, DeclareSet, If, IfElse, While, For, BlockTree, Empty, Then}
+use Rattle.typed_tree.specs.BlockTree.{StatementKindTree, DeclareSet, If, IfElse, While, For, BlockTree, Empty, Then}
 use Rattle.typed_tree.specs.ProgramTree.{ProgramTree}
 use Rattle.typed_tree.specs.Resolved as resolved
 use Rattle.typed_tree.specs.Resolved.{VisibleTree, ActionIsResolved, BlockIsResolved, behind_action}
@@ -73,7 +73,7 @@ pub record IsPair (p : ProgramTree) (s : ScheduleTree) (one other : StatementTre
       → OneDoes p d one.action other.action
 
 -- no block is in the statement
-abbrev IsPlain : ActionTree → Type 0
+abbrev IsPlain : StatementKindTree → Type 0
 IsPlain (If c body) = ⊥
 IsPlain (IfElse c body other) = ⊥
 IsPlain (While c body) = ⊥
@@ -94,7 +94,7 @@ module _ (p : ProgramTree) (s : ScheduleTree) (pairs : FusesInPairs s) where
   no_second d (Some x) None = refl
   no_second d (Some x) (Some y) = refl
 
-  second_is_plain : (d : Depth) (a b : ActionTree) (o : OperationTree) → together p d a b ≡ Some o → IsPlain b
+  second_is_plain : (d : Depth) (a b : StatementKindTree) (o : OperationTree) → together p d a b ≡ Some o → IsPlain b
   second_is_plain d a (If c body) o is = absurd (none-some o (sym (no_second d (edge_apply_of a) (vertex_apply_of a)) ∙ is))
   second_is_plain d a (IfElse c body other) o is = absurd (none-some o (sym (no_second d (edge_apply_of a) (vertex_apply_of a)) ∙ is))
   second_is_plain d a (While c body) o is = absurd (none-some o (sym (no_second d (edge_apply_of a) (vertex_apply_of a)) ∙ is))
@@ -114,13 +114,13 @@ module _ (p : ProgramTree) (s : ScheduleTree) (pairs : FusesInPairs s) where
           let same : second ≡ label = eqb-true second label is in
           (first, subst (λ l. (choice_of l s).fused ≡ Some (Into first)) same (pairs.0 first second chosen))
 
-  next_done : (d : Depth) (label other : Option ℕ) (number : ℕ) (a b : ActionTree) (rest : BlockTree) (test : Bool) (o : Option OperationTree) → is_with (choice_at label s).fused other ≡ test
+  next_done : (d : Depth) (label other : Option ℕ) (number : ℕ) (a b : StatementKindTree) (rest : BlockTree) (test : Bool) (o : Option OperationTree) → is_with (choice_at label s).fused other ≡ test
       → together p d a b ≡ o → IsDone s (takes_next (if test then with_next o else Alone)) (Then number other b rest)
   next_done d label other number a b rest false o is does = tt
   next_done d label other number a b rest true None is does = tt
   next_done d label other number a b rest true (Some o) is does = (second_is_plain d a b o does, second_fused label other is)
 
-  rest_done : (d : Depth) (is_done : Bool) (label : Option ℕ) (a : ActionTree) (rest : BlockTree) → IsDone s (takes_next (fusion_role_of p s d is_done label a rest)) rest
+  rest_done : (d : Depth) (is_done : Bool) (label : Option ℕ) (a : StatementKindTree) (rest : BlockTree) → IsDone s (takes_next (fusion_role_of p s d is_done label a rest)) rest
   rest_done d true label a rest = tt
   rest_done d false label a Empty = tt
   rest_done d false label a (Then number other b rest) = next_done d label other number a b rest (is_with (choice_at label s).fused other) (together p d a b) refl refl
@@ -130,7 +130,7 @@ module _ (p : ProgramTree) (s : ScheduleTree) (pairs : FusesInPairs s) where
   none_taken true = refl
   none_taken false = refl
 
-  is_alone : (d : Depth) (label : Option ℕ) (a : ActionTree) (rest : BlockTree) → edge_apply_of a ≡ None → vertex_apply_of a ≡ None → fusion_role_of p s d false label a rest ≡ Alone
+  is_alone : (d : Depth) (label : Option ℕ) (a : StatementKindTree) (rest : BlockTree) → edge_apply_of a ≡ None → vertex_apply_of a ≡ None → fusion_role_of p s d false label a rest ≡ Alone
   is_alone d label a Empty no_edges no_vertices = refl
   is_alone d label a (Then number other b rest) no_edges no_vertices =
       let test = is_with (choice_at label s).fused other in
@@ -138,12 +138,12 @@ module _ (p : ProgramTree) (s : ScheduleTree) (pairs : FusesInPairs s) where
       ∙ ap (λ e. if test then with_next (either (edges_together p d None (edge_apply_of b)) (vertices_together p e (vertex_apply_of b))) else Alone) no_vertices
       ∙ none_taken test
 
-  block_alone : (d : Depth) (is_done : Bool) (number : ℕ) (label : Option ℕ) (a : ActionTree) (rest : BlockTree) → (IsPlain a → ⊥) → edge_apply_of a ≡ None → vertex_apply_of a ≡ None
+  block_alone : (d : Depth) (is_done : Bool) (number : ℕ) (label : Option ℕ) (a : StatementKindTree) (rest : BlockTree) → (IsPlain a → ⊥) → edge_apply_of a ≡ None → vertex_apply_of a ≡ None
       → IsDone s is_done (Then number label a rest) → fusion_role_of p s d is_done label a rest ≡ Alone
   block_alone d true number label a rest not_plain no_edges no_vertices done = absurd (not_plain done.0)
   block_alone d false number label a rest not_plain no_edges no_vertices done = is_alone d label a rest no_edges no_vertices
 
-  inside_alone : (one other : StatementTree) (d : Depth) (is_done : Bool) (number : ℕ) (label : Option ℕ) (a : ActionTree) (rest : BlockTree) → AreNeighboursInside one other a
+  inside_alone : (one other : StatementTree) (d : Depth) (is_done : Bool) (number : ℕ) (label : Option ℕ) (a : StatementKindTree) (rest : BlockTree) → AreNeighboursInside one other a
       → IsDone s is_done (Then number label a rest) → fusion_role_of p s d is_done label a rest ≡ Alone
   inside_alone one other d is_done number label (If c body) rest are done = block_alone d is_done number label (If c body) rest (λ plain. plain) refl refl done
   inside_alone one other d is_done number label (IfElse c body others) rest are done = block_alone d is_done number label (IfElse c body others) rest (λ plain. plain) refl refl done
@@ -152,7 +152,7 @@ module _ (p : ProgramTree) (s : ScheduleTree) (pairs : FusesInPairs s) where
   inside_alone one other d is_done number label _ rest are done = absurd are
 
   -- the first of a fusing is done with the second
-  not_second : (is_done : Bool) (number : ℕ) (label : Option ℕ) (a : ActionTree) (rest : BlockTree) (second : ℕ) → (choice_at label s).fused ≡ Some (With second)
+  not_second : (is_done : Bool) (number : ℕ) (label : Option ℕ) (a : StatementKindTree) (rest : BlockTree) (second : ℕ) → (choice_at label s).fused ≡ Some (With second)
       → IsDone s is_done (Then number label a rest) → is_done ≡ false
   not_second false number label a rest second fused done = refl
   not_second true number label a rest second fused done =
@@ -165,7 +165,7 @@ module _ (p : ProgramTree) (s : ScheduleTree) (pairs : FusesInPairs s) where
   taken true o is = refl
   taken false o is = cc
 
-  takes : (d : Depth) (number other_number : ℕ) (label other : Option ℕ) (a b : ActionTree) (rest : BlockTree) (second : ℕ) (o : OperationTree) → (choice_at label s).fused ≡ Some (With second)
+  takes : (d : Depth) (number other_number : ℕ) (label other : Option ℕ) (a b : StatementKindTree) (rest : BlockTree) (second : ℕ) (o : OperationTree) → (choice_at label s).fused ≡ Some (With second)
       → other ≡ Some second → together p d a b ≡ Some o → fusion_role_of p s d false label a (Then other_number other b rest) ≡ WithNext o
   takes d number other_number label other a b rest second o fused has does =
       ap (λ t. if is_with (choice_at label s).fused other then with_next t else Alone) does
@@ -173,16 +173,16 @@ module _ (p : ProgramTree) (s : ScheduleTree) (pairs : FusesInPairs s) where
       ∙ ap (λ l. if is_with (Some (With second)) l then with_next (Some o) else Alone) has
       ∙ taken (nat_eq second second) o (eq-eqb second second refl)
 
-  deep_behind : (a : ActionTree) (d : Depth) (v : VisibleTree) → d.sets ≡ length v.sets → (behind a d).sets ≡ length (behind_action a v).sets
+  deep_behind : (a : StatementKindTree) (d : Depth) (v : VisibleTree) → d.sets ≡ length v.sets → (behind a d).sets ≡ length (behind_action a v).sets
   deep_behind (DeclareSet name value) d v deep = omega (arith, deep, length-append v.sets (name ∷ []))
   deep_behind _ d v deep = deep
 
-  low_behind : (a : ActionTree) (d : Depth) → length p.sets ≤ d.sets → length p.sets ≤ (behind a d).sets
+  low_behind : (a : StatementKindTree) (d : Depth) → length p.sets ≤ d.sets → length p.sets ≤ (behind a d).sets
   low_behind (DeclareSet name value) d low = omega (arith, low)
   low_behind _ d low = low
 
   -- as the first two statements of a block
-  module _ (index : ℕ) (d : Depth) (n number other_number : ℕ) (label other_label : Option ℕ) (a b : ActionTree) (rest : BlockTree) where
+  module _ (index : ℕ) (d : Depth) (n number other_number : ℕ) (label other_label : Option ℕ) (a b : StatementKindTree) (rest : BlockTree) where
     abbrev first_statement : StatementTree
     first_statement = record { number = number; label = label; action = a }
 
@@ -245,7 +245,7 @@ module _ (p : ProgramTree) (s : ScheduleTree) (pairs : FusesInPairs s) where
     neither_of : (i : InstructionTree) → i.number < one.number → one.number < other.number → IsOfNeither one other i
     neither_of i first second = ((λ same. absurd (omega (arith, same))), (λ same. absurd (omega (arith, same))))
 
-    here : (index : ℕ) (d : Depth) (v : VisibleTree) (is_done : Bool) (n number : ℕ) (label : Option ℕ) (a : ActionTree) (rest : BlockTree)
+    here : (index : ℕ) (d : Depth) (v : VisibleTree) (is_done : Bool) (n number : ℕ) (label : Option ℕ) (a : StatementKindTree) (rest : BlockTree)
         → BeginsWith one (Then number label a rest) → BeginsWith other rest → d.sets ≡ length v.sets → length p.sets ≤ d.sets → BlockIsResolved p v (Then number label a rest)
         → InOrder n (numbers (Then number label a rest)) → IsDone s is_done (Then number label a rest) → Splits (plan_all p s index d is_done (Then number label a rest))
     here index d v is_done n number label a Empty first second deep low known order done = absurd second
@@ -258,7 +258,7 @@ module _ (p : ProgramTree) (s : ScheduleTree) (pairs : FusesInPairs s) where
         deep low known.1 known.2.1 order done))
 
     mutual
-      split_inside : (a : ActionTree) (index : ℕ) (d : Depth) (v : VisibleTree) (number : ℕ) (label : Option ℕ) (n : ℕ) → AreNeighboursInside one other a → d.sets ≡ length v.sets
+      split_inside : (a : StatementKindTree) (index : ℕ) (d : Depth) (v : VisibleTree) (number : ℕ) (label : Option ℕ) (n : ℕ) → AreNeighboursInside one other a → d.sets ≡ length v.sets
           → length p.sets ≤ d.sets → ActionIsResolved p v a → number < n → InOrder n (inner_numbers a) → Splits (plan p s index d number label a)
       split_inside (If c body) index d v number label n are deep low known above order =
           let up = neighbours_ascend body one other n order are in

@@ -1,7 +1,7 @@
 -- Two fused statements of a checked program are one instruction of its plan.
 use Rattle.std.proofs.Common.{◌≡◌, refl, ap, subst, ◌∙◌, inl, inr, ℕ, ◌<◌, ◌≤◌, false, [], ◌∷◌, arith, Option, Some}
 use Rattle.std.specs.Prelude.{Ok}
-use Rattle.typed_tree.specs.BlockTree.{ActionTree, If, IfElse, While, For, BlockTree, Empty, Then}
+use Rattle.typed_tree.specs.BlockTree.{StatementKindTree, If, IfElse, While, For, BlockTree, Empty, Then}
 use Rattle.typed_tree.specs.ProgramTree.{ProgramTree}
 use Rattle.typed_tree.specs.Resolved.{IsResolved, behind_action, in_main}
 use Rattle.apply_options.specs.declared.apply_schedule.Fused.TheVariants.{With}
@@ -26,13 +26,13 @@ use Rattle.plan_laws.proofs.Sites.{AreFused, fused_stand}
 use Rattle.plan_laws.proofs.Splits.{IsPair, Split, split_before, split_block}
 
 -- what holds of each statement of main holds of both
-module _ (P : SetNames → ActionTree → Type 0) (one other : StatementTree) where
+module _ (P : SetNames → StatementKindTree → Type 0) (one other : StatementTree) where
   record HoldsOfBoth : Type 0 where
     pub names : SetNames
     pub first : P names one.action
     pub second : P (names_behind one.action names) other.action
 
-  at_both : (names : SetNames) (number : ℕ) (label : Option ℕ) (a : ActionTree) (rest : BlockTree) → BeginsWith one (Then number label a rest) → BeginsWith other rest
+  at_both : (names : SetNames) (number : ℕ) (label : Option ℕ) (a : StatementKindTree) (rest : BlockTree) → BeginsWith one (Then number label a rest) → BeginsWith other rest
       → HoldsOfEach P names (Then number label a rest) → HoldsOfBoth
   at_both names number label a Empty first second all = absurd second
   at_both names number label a (Then n l b rest) first second all =
@@ -45,7 +45,7 @@ module _ (P : SetNames → ActionTree → Type 0) (one other : StatementTree) wh
       }
 
   mutual
-    both_inside : (a : ActionTree) (names : SetNames) → AreNeighboursInside one other a → HoldsInside P names a → HoldsOfBoth
+    both_inside : (a : StatementKindTree) (names : SetNames) → AreNeighboursInside one other a → HoldsInside P names a → HoldsOfBoth
     both_inside (If c body) names are all = both_of body names are all
     both_inside (IfElse c body others) names (inl are) all = both_of body names are all.0
     both_inside (IfElse c body others) names (inr are) all = both_of others names are all.1

@@ -1,12 +1,12 @@
 -- Two statements of main, the second right after the first in a block.
 use Rattle.std.specs.Prelude.{◌≡◌, ◌⊎◌, ℕ, Option}
-use Rattle.typed_tree.specs.BlockTree.{ActionTree, DeclareInteger, DeclareCondition, SetInteger, SetCondition, ReduceInteger, SetEntry, ReduceEntry, DeclareSet, AssignSet, AddVertex, PrintInteger, PrintCondition, ApplyVertex, ApplyEdges, If, IfElse, While, For, BlockTree, Empty, Then}
+use Rattle.typed_tree.specs.BlockTree.{StatementKindTree, DeclareInteger, DeclareCondition, SetInteger, SetCondition, ReduceInteger, SetEntry, ReduceEntry, DeclareSet, AssignSet, AddVertex, PrintInteger, PrintCondition, ApplyVertex, ApplyEdges, If, IfElse, While, For, BlockTree, Empty, Then}
 
 -- a statement with its number and its label
 pub record StatementTree : Type 0 where
   pub number : ℕ
   pub label : Option ℕ
-  pub action : ActionTree
+  pub action : StatementKindTree
 
 -- the block begins with the statement
 abbrev pub BeginsWith : StatementTree → BlockTree → Type 0
@@ -15,7 +15,7 @@ BeginsWith s (Then number label action others) = record { number = number; label
 
 abbrev mutual
   -- the second statement stands right after the first in a block of the statement
-  pub AreNeighboursInside : (first second : StatementTree) → ActionTree → Type 0
+  pub AreNeighboursInside : (first second : StatementTree) → StatementKindTree → Type 0
   AreNeighboursInside first second (DeclareInteger name e) = ⊥
   AreNeighboursInside first second (DeclareCondition name c) = ⊥
   AreNeighboursInside first second (SetInteger slot e) = ⊥

@@ -1,7 +1,7 @@
 -- Two fused statements as one instruction of a plan.
 use Rattle.std.specs.Prelude.{◌≡◌, ◌≢◌, ◌⊎◌, ℕ, true, List, ◌∷◌, ◌++◌, Some}
 use Rattle.std.specs.List.{AllByRecursion}
-use Rattle.typed_tree.specs.BlockTree.{ActionTree}
+use Rattle.typed_tree.specs.BlockTree.{StatementKindTree}
 use Rattle.typed_tree.specs.ProgramTree.{ProgramTree}
 use Rattle.apply_options.specs.ScheduleTree.{ScheduleTree, choice_of}
 use Rattle.plans.specs.Instruction.{OperationTree, ApplyEdgesTogether, ApplyVerticesTogether, InstructionTree}
@@ -10,7 +10,7 @@ use Rattle.plans.specs.Plan.{plan_of}
 use Rattle.plan_laws.specs.Neighbours.{StatementTree, AreNeighbours}
 
 -- both statements are edge applies between the same ends, and the operation does the two together
-pub record AreEdgesTogether (first second : ActionTree) (operation : OperationTree) : Type 0 where
+pub record AreEdgesTogether (first second : StatementKindTree) (operation : OperationTree) : Type 0 where
   pub one : EdgeApplyTree
   pub other : EdgeApplyTree
   pub first_applies : edge_apply_of first ≡ Some one
@@ -20,7 +20,7 @@ pub record AreEdgesTogether (first second : ActionTree) (operation : OperationTr
   pub does : operation ≡ ApplyEdgesTogether one.ends one.part other.part
 
 -- both statements are vertex applies to the same set, and the operation does the two together
-pub record AreVerticesTogether (first second : ActionTree) (operation : OperationTree) : Type 0 where
+pub record AreVerticesTogether (first second : StatementKindTree) (operation : OperationTree) : Type 0 where
   pub one : VertexApplyTree
   pub other : VertexApplyTree
   pub first_applies : vertex_apply_of first ≡ Some one
@@ -28,7 +28,7 @@ pub record AreVerticesTogether (first second : ActionTree) (operation : Operatio
   pub same_set : one.set.index ≡ other.set.index
   pub does : operation ≡ ApplyVerticesTogether one.set one.function other.function
 
-abbrev pub AreTogether : (first second : ActionTree) → OperationTree → Type 0
+abbrev pub AreTogether : (first second : StatementKindTree) → OperationTree → Type 0
 AreTogether first second operation = AreEdgesTogether first second operation ⊎ AreVerticesTogether first second operation
 
 -- the instruction comes from neither of two statements

@@ -3,10 +3,10 @@ use Rattle.std.proofs.Common.{rules, ◌≡◌, ◌≢◌, ℕ, zero, suc, List,
 use Rattle.typed_tree.specs.declared.expression.Connective.{Connective}
 use Rattle.typed_tree.specs.declared.expression.Operand.{Operand}
 use Rattle.typed_tree.specs.declared.expression.BoolExpression.{BoolExpression}
-use Rattle.typed_tree.specs.IntegerTree as integer
-use Rattle.typed_tree.specs.IntegerTree.{IntegerTree, negated, integer_tree, operands_tree}
-use Rattle.typed_tree.specs.ConditionTree as condition
-use Rattle.typed_tree.specs.ConditionTree.{ConditionTree, turned, condition_tree, conditions_tree}
+use Rattle.typed_tree.specs.IntExpressionTree as integer
+use Rattle.typed_tree.specs.IntExpressionTree.{IntExpressionTree, negated, int_expression_tree, operands_tree}
+use Rattle.typed_tree.specs.BoolExpressionTree as condition
+use Rattle.typed_tree.specs.BoolExpressionTree.{BoolExpressionTree, turned, bool_expression_tree, conditions_tree}
 use Rattle.typed_tree.specs.ProgramTree.{ProgramTree}
 use Rattle.std.specs.Global.{Box}
 use Rattle.typed_tree.specs.declared.expression.IntExpression.{IntExpression}
@@ -18,37 +18,37 @@ use Rattle.plan_text.specs.Expressions.{integer_words, condition_words, operator
 use Rattle.plan_text.specs.inside.Rows.{operand_words, connected_words, times}
 use Rattle.plan_text.proofs.Spaces.{absurd_cons, behind_some, times_suc}
 
-pub words_negated : (p : ProgramTree) (signs : ℕ) (e : IntegerTree) → integer_words p (negated signs e) ≡ integer_words p e ++ times signs (codes "neg")
+pub words_negated : (p : ProgramTree) (signs : ℕ) (e : IntExpressionTree) → integer_words p (negated signs e) ≡ integer_words p e ++ times signs (codes "neg")
 words_negated p zero e = sym (append-nil (integer_words p e))
 words_negated p (suc n) e =
     ap (λ ws. ws ++ codes "neg" ∷ []) (words_negated p n e)
     ∙ append_assoc (integer_words p e) (times n (codes "neg")) (codes "neg" ∷ [])
     ∙ ap (λ ws. integer_words p e ++ ws) (sym (times_suc n (codes "neg")))
 
-pub words_turned : (p : ProgramTree) (turns : ℕ) (c : ConditionTree) → condition_words p (turned turns c) ≡ condition_words p c ++ times turns (codes "not")
+pub words_turned : (p : ProgramTree) (turns : ℕ) (c : BoolExpressionTree) → condition_words p (turned turns c) ≡ condition_words p c ++ times turns (codes "not")
 words_turned p zero c = sym (append-nil (condition_words p c))
 words_turned p (suc n) c =
     ap (λ ws. ws ++ codes "not" ∷ []) (words_turned p n c)
     ∙ append_assoc (condition_words p c) (times n (codes "not")) (codes "not" ∷ [])
     ∙ ap (λ ws. condition_words p c ++ ws) (sym (times_suc n (codes "not")))
 
-pub words_operands : (p : ProgramTree) (left : IntegerTree) (operands : List Operand) → integer_words p (operands_tree left operands) ≡ integer_words p left ++ operand_words p operands
+pub words_operands : (p : ProgramTree) (left : IntExpressionTree) (operands : List Operand) → integer_words p (operands_tree left operands) ≡ integer_words p left ++ operand_words p operands
 words_operands p left [] = sym (append-nil (integer_words p left))
 words_operands p left (o ∷ os) =
-    words_operands p (integer.Arithmetic o.operator left (integer_tree o.integer)) os
-    ∙ append_assoc (integer_words p left ++ integer_words p (integer_tree o.integer)) (operator_word o.operator ∷ []) (operand_words p os)
-    ∙ append_assoc (integer_words p left) (integer_words p (integer_tree o.integer)) (operator_word o.operator ∷ operand_words p os)
+    words_operands p (integer.Arithmetic o.operator left (int_expression_tree o.integer)) os
+    ∙ append_assoc (integer_words p left ++ integer_words p (int_expression_tree o.integer)) (operator_word o.operator ∷ []) (operand_words p os)
+    ∙ append_assoc (integer_words p left) (integer_words p (int_expression_tree o.integer)) (operator_word o.operator ∷ operand_words p os)
 
-pub words_connected : (p : ProgramTree) (connective : Connective) (left : ConditionTree) (conditions : List BoolExpression)
+pub words_connected : (p : ProgramTree) (connective : Connective) (left : BoolExpressionTree) (conditions : List BoolExpression)
     → condition_words p (conditions_tree connective left conditions) ≡ condition_words p left ++ connected_words p connective conditions
 words_connected p connective left [] = sym (append-nil (condition_words p left))
 words_connected p connective left (c ∷ cs) =
-    words_connected p connective (condition.Connect connective left (condition_tree c)) cs
-    ∙ append_assoc (condition_words p left ++ condition_words p (condition_tree c)) (connective_word connective ∷ []) (connected_words p connective cs)
-    ∙ append_assoc (condition_words p left) (condition_words p (condition_tree c)) (connective_word connective ∷ connected_words p connective cs)
+    words_connected p connective (condition.Connect connective left (bool_expression_tree c)) cs
+    ∙ append_assoc (condition_words p left ++ condition_words p (bool_expression_tree c)) (connective_word connective ∷ []) (connected_words p connective cs)
+    ∙ append_assoc (condition_words p left) (condition_words p (bool_expression_tree c)) (connective_word connective ∷ connected_words p connective cs)
 
 -- an expression has a word
-pub integer_words_some : (p : ProgramTree) (e : IntegerTree) → integer_words p e ≢ []
+pub integer_words_some : (p : ProgramTree) (e : IntExpressionTree) → integer_words p e ≢ []
 integer_words_some p (integer.Number n) = absurd_cons _ []
 integer_words_some p (integer.Constant name n) = absurd_cons _ []
 integer_words_some p (integer.Variable slot) = absurd_cons _ []
@@ -60,7 +60,7 @@ integer_words_some p (integer.SetSize slot) = absurd_cons _ []
 integer_words_some p (integer.Negative e) = behind_some (integer_words p e) (codes "neg") []
 integer_words_some p (integer.Arithmetic operator a b) = behind_some (integer_words p a ++ integer_words p b) (operator_word operator) []
 
-pub condition_words_some : (p : ProgramTree) (c : ConditionTree) → condition_words p c ≢ []
+pub condition_words_some : (p : ProgramTree) (c : BoolExpressionTree) → condition_words p c ≢ []
 condition_words_some p (condition.Literal b) = absurd_cons _ []
 condition_words_some p (condition.Constant name b) = absurd_cons _ []
 condition_words_some p (condition.Variable slot) = absurd_cons _ []
@@ -69,11 +69,11 @@ condition_words_some p (condition.Compare comparison a b) = behind_some (integer
 condition_words_some p (condition.Connect connective a b) = behind_some (condition_words p a ++ condition_words p b) (connective_word connective) []
 
 -- the trees of expressions
-pub integer_tree-Entry : (vector : ℕ) (index : Box IntExpression) → integer_tree (integer_views.Entry vector index) ≡ integer.Entry vector (integer_tree index.value)
-integer_tree-Entry vector index = search (rules, the_lemmas)
+pub int_expression_tree-Entry : (vector : ℕ) (index : Box IntExpression) → int_expression_tree (integer_views.Entry vector index) ≡ integer.Entry vector (int_expression_tree index.value)
+int_expression_tree-Entry vector index = search (rules, the_lemmas)
 
-pub integer_tree-Negative : (signs : ℕ) (e : Box IntExpression) → integer_tree (integer_views.Negative signs e) ≡ negated signs (integer_tree e.value)
-integer_tree-Negative signs e = search (rules, the_lemmas)
+pub int_expression_tree-Negative : (signs : ℕ) (e : Box IntExpression) → int_expression_tree (integer_views.Negative signs e) ≡ negated signs (int_expression_tree e.value)
+int_expression_tree-Negative signs e = search (rules, the_lemmas)
 
-pub condition_tree-Not : (turns : ℕ) (c : Box BoolExpression) → condition_tree (condition_views.Not turns c) ≡ turned turns (condition_tree c.value)
-condition_tree-Not turns c = search (rules, the_condition_lemmas)
+pub bool_expression_tree-Not : (turns : ℕ) (c : Box BoolExpression) → bool_expression_tree (condition_views.Not turns c) ≡ turned turns (bool_expression_tree c.value)
+bool_expression_tree-Not turns c = search (rules, the_condition_lemmas)

@@ -8,10 +8,10 @@ use Rattle.typed_tree.specs.declared.expression.Connective.TheVariants as connec
 use Rattle.typed_tree.specs.declared.expression.Operator.{Operator}
 use Rattle.typed_tree.specs.declared.expression.Operator.TheVariants as operator
 use Rattle.typed_tree.specs.declared.program.Vector.{Vector}
-use Rattle.typed_tree.specs.IntegerTree as integer
-use Rattle.typed_tree.specs.IntegerTree.{IntegerTree}
-use Rattle.typed_tree.specs.ConditionTree as condition
-use Rattle.typed_tree.specs.ConditionTree.{ConditionTree}
+use Rattle.typed_tree.specs.IntExpressionTree as integer
+use Rattle.typed_tree.specs.IntExpressionTree.{IntExpressionTree}
+use Rattle.typed_tree.specs.BoolExpressionTree as condition
+use Rattle.typed_tree.specs.BoolExpressionTree.{BoolExpressionTree}
 use Rattle.typed_tree.specs.ProgramTree.{ProgramTree}
 
 -- the name at an index, without a byte where there is none
@@ -58,7 +58,7 @@ abbrev pub size_word : ProgramTree → (name : ℕ) → List ℕ
 size_word p name = name_at p name ++ codes "#"
 
 -- an expression of type int; what only functions have is named too
-abbrev pub integer_words : ProgramTree → IntegerTree → List (List ℕ)
+abbrev pub integer_words : ProgramTree → IntExpressionTree → List (List ℕ)
 integer_words p (integer.Number n) = signed_decimal n ∷ []
 integer_words p (integer.Constant name n) = name_at p name ∷ []
 integer_words p (integer.Variable slot) = name_at p slot.name ∷ []
@@ -71,7 +71,7 @@ integer_words p (integer.Negative e) = integer_words p e ++ codes "neg" ∷ []
 integer_words p (integer.Arithmetic operator a b) = integer_words p a ++ integer_words p b ++ operator_word operator ∷ []
 
 -- and one of type bool
-abbrev pub condition_words : ProgramTree → ConditionTree → List (List ℕ)
+abbrev pub condition_words : ProgramTree → BoolExpressionTree → List (List ℕ)
 condition_words p (condition.Literal b) = truth_word b ∷ []
 condition_words p (condition.Constant name b) = name_at p name ∷ []
 condition_words p (condition.Variable slot) = name_at p slot.name ∷ []

@@ -8,10 +8,10 @@ use Rattle.typed_tree.specs.declared.statement.VertexFilter.TheVariants as end
 use Rattle.typed_tree.specs.declared.statement.ApplyEnds.{ApplyEnds}
 use Rattle.typed_tree.specs.declared.statement.SetValue.{SetValue}
 use Rattle.typed_tree.specs.declared.statement.SetValue.TheVariants as set
-use Rattle.typed_tree.specs.IntegerTree.{IntegerTree}
-use Rattle.typed_tree.specs.ConditionTree.{ConditionTree}
-use Rattle.typed_tree.specs.StepTree.{FunctionTree}
-use Rattle.typed_tree.specs.BlockTree.{ActionTree, DeclareInteger, DeclareCondition, SetInteger, SetCondition, ReduceInteger, SetEntry, ReduceEntry, DeclareSet, AssignSet, AddVertex, PrintInteger, PrintCondition, ApplyVertex, ApplyEdges, If, IfElse, While, For}
+use Rattle.typed_tree.specs.IntExpressionTree.{IntExpressionTree}
+use Rattle.typed_tree.specs.BoolExpressionTree.{BoolExpressionTree}
+use Rattle.typed_tree.specs.FunctionStatementTree.{FunctionTree}
+use Rattle.typed_tree.specs.BlockTree.{StatementKindTree, DeclareInteger, DeclareCondition, SetInteger, SetCondition, ReduceInteger, SetEntry, ReduceEntry, DeclareSet, AssignSet, AddVertex, PrintInteger, PrintCondition, ApplyVertex, ApplyEdges, If, IfElse, While, For}
 use Rattle.typed_tree.specs.ProgramTree.{ProgramTree}
 use Rattle.apply_options.specs.declared.apply_schedule.ApplySchedule.{ApplySchedule}
 use Rattle.apply_options.specs.declared.apply_schedule.DenseVertexSet.{DenseVertexSet}
@@ -68,7 +68,7 @@ abbrev pub set_words : (target : List ℕ) → (words : List (List ℕ)) → Lis
 set_words target words = codes "set" ∷ target ∷ bracketed words ∷ []
 
 -- put v [i] = [e]
-abbrev pub put_words : ProgramTree → (vector : ℕ) → (index : IntegerTree) → (word : List ℕ) → (value : IntegerTree) → List (List ℕ)
+abbrev pub put_words : ProgramTree → (vector : ℕ) → (index : IntExpressionTree) → (word : List ℕ) → (value : IntExpressionTree) → List (List ℕ)
 put_words p vector index word value =
     codes "put" ∷ vector_at p vector ∷ bracketed (integer_words p index) ∷ word ∷ bracketed (integer_words p value) ∷ []
 
@@ -127,7 +127,7 @@ set_line p name (set.Copy slot) choice = set_value_words p name (set.Copy slot)
 set_line p name (set.Filter slot index) choice = set_value_words p name (set.Filter slot index)
 
 -- a statement without a block; what stands for one with a block is no instruction of its own
-abbrev pub statement_words : ProgramTree → ActionTree → ApplySchedule → List (List ℕ)
+abbrev pub statement_words : ProgramTree → StatementKindTree → ApplySchedule → List (List ℕ)
 statement_words p (DeclareInteger name e) choice = set_words (name_at p name) (integer_words p e)
 statement_words p (DeclareCondition name c) choice = set_words (name_at p name) (condition_words p c)
 statement_words p (SetInteger slot e) choice = set_words (name_at p slot.name) (integer_words p e)
@@ -148,14 +148,14 @@ statement_words p (While c body) choice = []
 statement_words p (For name first last body) choice = []
 
 -- unless [c], before the index that it goes to
-abbrev pub unless_words : ProgramTree → ConditionTree → List (List ℕ)
+abbrev pub unless_words : ProgramTree → BoolExpressionTree → List (List ℕ)
 unless_words p c = codes "unless" ∷ bracketed (condition_words p c) ∷ []
 
 -- of `for i`: set i.end [e], unless [i i.end <], set i [i 1 +]
 abbrev pub end_name : ProgramTree → (name : ℕ) → List ℕ
 end_name p name = name_at p name ++ codes ".end"
 
-abbrev pub bound_words : ProgramTree → (name : ℕ) → IntegerTree → List (List ℕ)
+abbrev pub bound_words : ProgramTree → (name : ℕ) → IntExpressionTree → List (List ℕ)
 bound_words p name e = set_words (end_name p name) (integer_words p e)
 
 abbrev pub below_words : ProgramTree → (name : ℕ) → List (List ℕ)

@@ -1,8 +1,8 @@
 //! Expressions of `main` as words.
 ghost use Rattle.std.specs.Fmt.{signed_decimal};
 ghost use Rattle.std.specs.Prelude.{◌≡◌, ◌++◌, ◌∷◌, [], OnOk};
-ghost use Rattle.typed_tree.specs.IntegerTree.{integer_tree};
-ghost use Rattle.typed_tree.specs.ConditionTree.{condition_tree};
+ghost use Rattle.typed_tree.specs.IntExpressionTree.{int_expression_tree};
+ghost use Rattle.typed_tree.specs.BoolExpressionTree.{bool_expression_tree};
 ghost use Rattle.typed_tree.specs.ProgramTree.{program_tree};
 ghost use Rattle.plan_text.specs.Expressions.{comparison_word, condition_words, connective_word, entry_word};
 ghost use Rattle.plan_text.specs.Expressions.{integer_words, operator_word, size_word, truth_word};
@@ -24,7 +24,7 @@ pub(crate) fn put_integer(
     lines: Lines<'_>,
     e: &IntExpression,
 ) -> Result<(), AllocError>
-    ensures { OnOk result (out.new.items ≡ out.old.items ++ spaced (integer_words (program_tree lines.entry.program.now) (integer_tree e.now))) }
+    ensures { OnOk result (out.new.items ≡ out.old.items ++ spaced (integer_words (program_tree lines.entry.program.now) (int_expression_tree e.now))) }
 {
     match e {
         IntExpression::Number(n) => put_number(out, *n),
@@ -68,7 +68,7 @@ pub(crate) fn put_condition(
     lines: Lines<'_>,
     c: &BoolExpression,
 ) -> Result<(), AllocError>
-    ensures { OnOk result (out.new.items ≡ out.old.items ++ spaced (condition_words (program_tree lines.entry.program.now) (condition_tree c.now))) }
+    ensures { OnOk result (out.new.items ≡ out.old.items ++ spaced (condition_words (program_tree lines.entry.program.now) (bool_expression_tree c.now))) }
 {
     match c {
         BoolExpression::Literal(b) => put_word(out, truth_text(*b)),

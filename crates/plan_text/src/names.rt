@@ -1,7 +1,7 @@
 //! The names that instructions speak of.
 ghost use Rattle.std.specs.Prelude.{◌≡◌, map};
 ghost use Rattle.typed_tree.specs.ProgramTree.{program_tree};
-ghost use Rattle.typed_tree.specs.StepTree.{function_tree};
+ghost use Rattle.typed_tree.specs.FunctionStatementTree.{function_tree};
 ghost use Rattle.plan_text.specs.Expressions.{name_at, vector_at};
 ghost use Rattle.plan_text.specs.Lines.{function_at};
 

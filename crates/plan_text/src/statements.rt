@@ -1,8 +1,8 @@
 //! Instructions as words.
 ghost use Rattle.std.specs.Prelude.{◌≡◌, ◌++◌, ◌∷◌, [], map, codes, OnOk};
-ghost use Rattle.typed_tree.specs.BlockTree.{action_tree};
-ghost use Rattle.typed_tree.specs.ConditionTree.{condition_tree};
-ghost use Rattle.typed_tree.specs.IntegerTree.{integer_tree};
+ghost use Rattle.typed_tree.specs.BlockTree.{statement_kind_tree};
+ghost use Rattle.typed_tree.specs.BoolExpressionTree.{bool_expression_tree};
+ghost use Rattle.typed_tree.specs.IntExpressionTree.{int_expression_tree};
 ghost use Rattle.typed_tree.specs.ProgramTree.{program_tree};
 ghost use Rattle.plan_text.specs.Expressions.{condition_words, integer_words, name_at};
 ghost use Rattle.plan_text.specs.Lines.{advance_words, below_words, bound_words, end_name, put_words, reducing_word};
@@ -29,7 +29,7 @@ impl Lines<'_> {
         choice: ApplySchedule,
     ) -> Result<(), AllocError>
         ensures { OnOk result (out.new.items ≡ out.old.items
-            ++ spaced (statement_words (program_tree self.entry.program.now) (action_tree action.now) choice)) }
+            ++ spaced (statement_words (program_tree self.entry.program.now) (statement_kind_tree action.now) choice)) }
     {
         match action {
             StatementKind::DeclareSet(name, value) => self.put_set(out, *name, *value, choice),
@@ -56,7 +56,7 @@ impl Lines<'_> {
     fn put_values(self, out: &mut Vec<u8>, action: &StatementKind) -> Result<(), AllocError>
         requires { TakesValues action.now }
         ensures { (choice : ApplySchedule) → OnOk result (out.new.items ≡ out.old.items
-            ++ spaced (statement_words (program_tree self.entry.program.now) (action_tree action.now) choice)) }
+            ++ spaced (statement_words (program_tree self.entry.program.now) (statement_kind_tree action.now) choice)) }
     {
         match action {
             StatementKind::DeclareInteger(name, e) => self.put_set_integer(out, *name, e),
@@ -79,7 +79,7 @@ impl Lines<'_> {
 
     /// Puts `unless` and a test, before the index that it goes to.
     pub fn put_unless(self, out: &mut Vec<u8>, c: &BoolExpression) -> Result<(), AllocError>
-        ensures { OnOk result (out.new.items ≡ out.old.items ++ spaced (unless_words (program_tree self.entry.program.now) (condition_tree c.now))) }
+        ensures { OnOk result (out.new.items ≡ out.old.items ++ spaced (unless_words (program_tree self.entry.program.now) (bool_expression_tree c.now))) }
     {
         self.put_condition_behind(out, b"unless", c)
     }
@@ -91,7 +91,7 @@ impl Lines<'_> {
         name: usize,
         e: &IntExpression,
     ) -> Result<(), AllocError>
-        ensures { OnOk result (out.new.items ≡ out.old.items ++ spaced (bound_words (program_tree self.entry.program.now) name (integer_tree e.now))) }
+        ensures { OnOk result (out.new.items ≡ out.old.items ++ spaced (bound_words (program_tree self.entry.program.now) name (int_expression_tree e.now))) }
     {
         put_word(out, b"set")?;
         put_marked(out, self.name(name), b".end")?;
@@ -154,7 +154,7 @@ impl Lines<'_> {
     ) -> Result<(), AllocError>
         ensures { OnOk result (out.new.items ≡ out.old.items
             ++ spaced (set_words (name_at (program_tree self.entry.program.now) name)
-            (integer_words (program_tree self.entry.program.now) (integer_tree e.now)))) }
+            (integer_words (program_tree self.entry.program.now) (int_expression_tree e.now)))) }
     {
         self.put_target(out, name)?;
         self.put_bracketed(out, e)
@@ -169,7 +169,7 @@ impl Lines<'_> {
     ) -> Result<(), AllocError>
         ensures { OnOk result (out.new.items ≡ out.old.items
             ++ spaced (set_words (name_at (program_tree self.entry.program.now) name)
-            (condition_words (program_tree self.entry.program.now) (condition_tree c.now)))) }
+            (condition_words (program_tree self.entry.program.now) (bool_expression_tree c.now)))) }
     {
         self.put_target(out, name)?;
         self.put_bracketed_condition(out, c)
@@ -184,7 +184,7 @@ impl Lines<'_> {
         e: &IntExpression,
     ) -> Result<(), AllocError>
         ensures { OnOk result (out.new.items ≡ out.old.items ++ spaced (set_words (name_at (program_tree self.entry.program.now) name)
-            (name_at (program_tree self.entry.program.now) name ∷ integer_words (program_tree self.entry.program.now) (integer_tree e.now)
+            (name_at (program_tree self.entry.program.now) name ∷ integer_words (program_tree self.entry.program.now) (int_expression_tree e.now)
             ++ reducing_word reduction ∷ []))) }
     {
         self.put_target(out, name)?;
@@ -202,7 +202,7 @@ impl Lines<'_> {
         e: &IntExpression,
     ) -> Result<(), AllocError>
         ensures { OnOk result (out.new.items ≡ out.old.items
-            ++ spaced (name_at (program_tree self.entry.program.now) name ∷ integer_words (program_tree self.entry.program.now) (integer_tree e.now)
+            ++ spaced (name_at (program_tree self.entry.program.now) name ∷ integer_words (program_tree self.entry.program.now) (int_expression_tree e.now)
             ++ reducing_word reduction ∷ [])) }
     {
         put_word(out, self.name(name))?;
@@ -220,7 +220,7 @@ impl Lines<'_> {
         e: &IntExpression,
     ) -> Result<(), AllocError>
         ensures { OnOk result (out.new.items ≡ out.old.items
-            ++ spaced (put_words (program_tree self.entry.program.now) vector (integer_tree index.now) word.now (integer_tree e.now))) }
+            ++ spaced (put_words (program_tree self.entry.program.now) vector (int_expression_tree index.now) word.now (int_expression_tree e.now))) }
     {
         put_word(out, b"put")?;
         put_word(out, self.vector(vector))?;
@@ -281,7 +281,7 @@ impl Lines<'_> {
     ) -> Result<(), AllocError>
         ensures { OnOk result (out.new.items ≡ out.old.items
             ++ spaced (codes "addvertex" ∷ name_at (program_tree self.entry.program.now) name
-            ∷ bracketed (integer_words (program_tree self.entry.program.now) (integer_tree e.now)) ∷ [])) }
+            ∷ bracketed (integer_words (program_tree self.entry.program.now) (int_expression_tree e.now)) ∷ [])) }
     {
         self.put_words(out, b"addvertex", name)?;
         self.put_bracketed(out, e)
@@ -290,7 +290,7 @@ impl Lines<'_> {
     /// `print [e]`
     fn put_print(self, out: &mut Vec<u8>, e: &IntExpression) -> Result<(), AllocError>
         ensures { OnOk result (out.new.items ≡ out.old.items
-            ++ spaced (codes "print" ∷ bracketed (integer_words (program_tree self.entry.program.now) (integer_tree e.now)) ∷ [])) }
+            ++ spaced (codes "print" ∷ bracketed (integer_words (program_tree self.entry.program.now) (int_expression_tree e.now)) ∷ [])) }
     {
         put_word(out, b"print")?;
         self.put_bracketed(out, e)
@@ -304,7 +304,7 @@ impl Lines<'_> {
         c: &BoolExpression,
     ) -> Result<(), AllocError>
         ensures { OnOk result (out.new.items ≡ out.old.items
-            ++ spaced (word.now ∷ bracketed (condition_words (program_tree self.entry.program.now) (condition_tree c.now)) ∷ [])) }
+            ++ spaced (word.now ∷ bracketed (condition_words (program_tree self.entry.program.now) (bool_expression_tree c.now)) ∷ [])) }
     {
         put_word(out, word)?;
         self.put_bracketed_condition(out, c)
@@ -313,7 +313,7 @@ impl Lines<'_> {
     /// `[e]`
     fn put_bracketed(self, out: &mut Vec<u8>, e: &IntExpression) -> Result<(), AllocError>
         ensures { OnOk result (out.new.items ≡ out.old.items
-            ++ spaced (bracketed (integer_words (program_tree self.entry.program.now) (integer_tree e.now)) ∷ [])) }
+            ++ spaced (bracketed (integer_words (program_tree self.entry.program.now) (int_expression_tree e.now)) ∷ [])) }
     {
         open_bracket(out)?;
         put_integer(out, self, e)?;
@@ -327,7 +327,7 @@ impl Lines<'_> {
         c: &BoolExpression,
     ) -> Result<(), AllocError>
         ensures { OnOk result (out.new.items ≡ out.old.items
-            ++ spaced (bracketed (condition_words (program_tree self.entry.program.now) (condition_tree c.now)) ∷ [])) }
+            ++ spaced (bracketed (condition_words (program_tree self.entry.program.now) (bool_expression_tree c.now)) ∷ [])) }
     {
         open_bracket(out)?;
         put_condition(out, self, c)?;

@@ -18,11 +18,11 @@ use Rattle.typed_tree.specs.declared.expression.ComparisonOperator.TheVariants a
 use Rattle.typed_tree.specs.declared.expression.Connective.{Connective}
 use Rattle.typed_tree.specs.declared.expression.Connective.TheVariants as connective
 use Rattle.typed_tree.specs.declared.program.Vector.{Vector}
-use Rattle.typed_tree.specs.StepTree.{FunctionTree}
-use Rattle.typed_tree.specs.IntegerTree as integer
-use Rattle.typed_tree.specs.IntegerTree.{IntegerTree}
-use Rattle.typed_tree.specs.ConditionTree as condition
-use Rattle.typed_tree.specs.ConditionTree.{ConditionTree}
+use Rattle.typed_tree.specs.FunctionStatementTree.{FunctionTree}
+use Rattle.typed_tree.specs.IntExpressionTree as integer
+use Rattle.typed_tree.specs.IntExpressionTree.{IntExpressionTree}
+use Rattle.typed_tree.specs.BoolExpressionTree as condition
+use Rattle.typed_tree.specs.BoolExpressionTree.{BoolExpressionTree}
 use Rattle.typed_tree.specs.ProgramTree.{ProgramTree}
 use Rattle.plan_text.specs.Expressions.{comparison_word, condition_words, connective_word, entry_word, integer_words, name_at, name_of, operator_word, truth_word, vector_at}
 use Rattle.plan_text.specs.Lines.{dense_word, direction_word, function_name, parallelization_word, reducing_word, reduction_word}
@@ -124,7 +124,7 @@ AreBare words = AllByRecursion IsBare words
 pub bare_and : (words : List (List ℕ)) (word : List ℕ) → AreBare words → IsBare word → AreBare (words ++ word ∷ [])
 bare_and words word are is = all_both IsBare words (word ∷ []) are (is, tt)
 
-pub integer_bare : (p : ProgramTree) (e : IntegerTree) → HasBareNames p → AreBare (integer_words p e)
+pub integer_bare : (p : ProgramTree) (e : IntExpressionTree) → HasBareNames p → AreBare (integer_words p e)
 integer_bare p (integer.Number n) are = (integer_is_bare n, tt)
 integer_bare p (integer.Constant name n) are = (name_is_bare p name are, tt)
 integer_bare p (integer.Variable slot) are = (name_is_bare p slot.name are, tt)
@@ -140,7 +140,7 @@ integer_bare p (integer.Arithmetic o a b) are =
     bare_and (integer_words p a ++ integer_words p b) (operator_word o)
     (all_both IsBare (integer_words p a) (integer_words p b) (integer_bare p a are) (integer_bare p b are)) (operator_is_bare o)
 
-pub condition_bare : (p : ProgramTree) (c : ConditionTree) → HasBareNames p → AreBare (condition_words p c)
+pub condition_bare : (p : ProgramTree) (c : BoolExpressionTree) → HasBareNames p → AreBare (condition_words p c)
 condition_bare p (condition.Literal b) are = (truth_is_bare b, tt)
 condition_bare p (condition.Constant name b) are = (name_is_bare p name are, tt)
 condition_bare p (condition.Variable slot) are = (name_is_bare p slot.name are, tt)

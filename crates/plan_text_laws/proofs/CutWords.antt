@@ -15,10 +15,10 @@ use Rattle.typed_tree.specs.declared.expression.ComparisonOperator.TheVariants a
 use Rattle.typed_tree.specs.declared.expression.Connective.{Connective}
 use Rattle.typed_tree.specs.declared.expression.Connective.TheVariants as connective
 use Rattle.typed_tree.specs.declared.program.Vector.{Vector}
-use Rattle.typed_tree.specs.IntegerTree as integer
-use Rattle.typed_tree.specs.IntegerTree.{IntegerTree}
-use Rattle.typed_tree.specs.ConditionTree as condition
-use Rattle.typed_tree.specs.ConditionTree.{ConditionTree}
+use Rattle.typed_tree.specs.IntExpressionTree as integer
+use Rattle.typed_tree.specs.IntExpressionTree.{IntExpressionTree}
+use Rattle.typed_tree.specs.BoolExpressionTree as condition
+use Rattle.typed_tree.specs.BoolExpressionTree.{BoolExpressionTree}
 use Rattle.typed_tree.specs.ProgramTree.{ProgramTree}
 use Rattle.algorithm_meaning.specs.State.{StateValue}
 use Rattle.algorithm_meaning.specs.Stand.{choice_in, number_in}
@@ -123,7 +123,7 @@ truth_is_one false = looked_at (codes "false") refl
 words_and : (words : List (List ℕ)) (word : List ℕ) → AllByRecursion IsOneWord words → IsOneWord word → AllByRecursion IsOneWord (words ++ word ∷ [])
 words_and words word are is = all_both IsOneWord words (word ∷ []) are (is, tt)
 
-pub integer_words_are : (p : ProgramTree) (names : Names) (s : StateValue) (e : IntegerTree) → HasNamesOfOneWord p → IntegerIsGiven p names s e → AllByRecursion IsOneWord (integer_words p e)
+pub integer_words_are : (p : ProgramTree) (names : Names) (s : StateValue) (e : IntExpressionTree) → HasNamesOfOneWord p → IntegerIsGiven p names s e → AllByRecursion IsOneWord (integer_words p e)
 integer_words_are p names s (integer.Number n) one given = (literal_is_one n given, tt)
 integer_words_are p names s (integer.Constant name n) one given = (name_is_one p name one, tt)
 integer_words_are p names s (integer.Variable slot) one given = (name_is_one p slot.name one, tt)
@@ -145,7 +145,7 @@ integer_words_are p names s (integer.Arithmetic o a b) one given =
 some_last : (words : List (List ℕ)) (word : List ℕ) → 0 < length (words ++ word ∷ [])
 some_last words word = omega (arith, length-append words (word ∷ []))
 
-pub some_integer_words : (p : ProgramTree) (e : IntegerTree) → 0 < length (integer_words p e)
+pub some_integer_words : (p : ProgramTree) (e : IntExpressionTree) → 0 < length (integer_words p e)
 some_integer_words p (integer.Number n) = omega arith
 some_integer_words p (integer.Constant name n) = omega arith
 some_integer_words p (integer.Variable slot) = omega arith
@@ -157,7 +157,7 @@ some_integer_words p (integer.SetSize slot) = omega arith
 some_integer_words p (integer.Negative e) = some_last (integer_words p e) (codes "neg")
 some_integer_words p (integer.Arithmetic o a b) = some_last (integer_words p a ++ integer_words p b) (operator_word o)
 
-condition_words_are : (p : ProgramTree) (names : Names) (s : StateValue) (c : ConditionTree) → HasNamesOfOneWord p → ConditionIsGiven p names s c → AllByRecursion IsOneWord (condition_words p c)
+condition_words_are : (p : ProgramTree) (names : Names) (s : StateValue) (c : BoolExpressionTree) → HasNamesOfOneWord p → ConditionIsGiven p names s c → AllByRecursion IsOneWord (condition_words p c)
 condition_words_are p names s (condition.Literal b) one given = (truth_is_one b, tt)
 condition_words_are p names s (condition.Constant name b) one given = (name_is_one p name one, tt)
 condition_words_are p names s (condition.Variable slot) one given = (name_is_one p slot.name one, tt)
@@ -172,7 +172,7 @@ condition_words_are p names s (condition.Connect o a b) one given =
     (all_both IsOneWord (condition_words p a) (condition_words p b) (condition_words_are p names s a one given.0) (condition_words_are p names s b one given.1))
     (connective_is_one o)
 
-some_condition_words : (p : ProgramTree) (c : ConditionTree) → 0 < length (condition_words p c)
+some_condition_words : (p : ProgramTree) (c : BoolExpressionTree) → 0 < length (condition_words p c)
 some_condition_words p (condition.Literal b) = omega arith
 some_condition_words p (condition.Constant name b) = omega arith
 some_condition_words p (condition.Variable slot) = omega arith
@@ -180,12 +180,12 @@ some_condition_words p (condition.Not c) = some_last (condition_words p c) (code
 some_condition_words p (condition.Compare o a b) = some_last (integer_words p a ++ integer_words p b) (comparison_word o)
 some_condition_words p (condition.Connect o a b) = some_last (condition_words p a ++ condition_words p b) (connective_word o)
 
-pub integer_in_brackets : (p : ProgramTree) (names : Names) (s : StateValue) (e : IntegerTree) → HasNamesOfOneWord p → IntegerIsGiven p names s e
+pub integer_in_brackets : (p : ProgramTree) (names : Names) (s : StateValue) (e : IntExpressionTree) → HasNamesOfOneWord p → IntegerIsGiven p names s e
     → read_brackets names (bracketed (integer_words p e)) ≡ option_map (λ n. Number n ∷ []) (number_in names.vertices e s)
 integer_in_brackets p names s e one given =
     text_back (λ words. read_words names words []) (integer_words p e) (some_integer_words p e) (integer_words_are p names s e one given) ∙ integer_is_read p names s e [] given
 
-pub condition_in_brackets : (p : ProgramTree) (names : Names) (s : StateValue) (c : ConditionTree) → HasNamesOfOneWord p → ConditionIsGiven p names s c
+pub condition_in_brackets : (p : ProgramTree) (names : Names) (s : StateValue) (c : BoolExpressionTree) → HasNamesOfOneWord p → ConditionIsGiven p names s c
     → read_brackets names (bracketed (condition_words p c)) ≡ option_map (λ b. Truth b ∷ []) (choice_in names.vertices c s)
 condition_in_brackets p names s c one given =
     text_back (λ words. read_words names words []) (condition_words p c) (some_condition_words p c) (condition_words_are p names s c one given) ∙ condition_is_read p names s c [] given

@@ -10,9 +10,9 @@ use Rattle.typed_tree.specs.declared.statement.SetValue.{SetValue}
 use Rattle.typed_tree.specs.declared.statement.SetValue.TheVariants as set
 use Rattle.typed_tree.specs.declared.statement.VertexFilter.{VertexFilter}
 use Rattle.typed_tree.specs.declared.statement.VertexFilter.TheVariants as end
-use Rattle.typed_tree.specs.IntegerTree.{IntegerTree}
+use Rattle.typed_tree.specs.IntExpressionTree.{IntExpressionTree}
 use Rattle.typed_tree.specs.BlockTree as action
-use Rattle.typed_tree.specs.BlockTree.{ActionTree}
+use Rattle.typed_tree.specs.BlockTree.{StatementKindTree}
 use Rattle.typed_tree.specs.ProgramTree.{ProgramTree}
 use Rattle.plans.specs.Instruction as operation
 use Rattle.plans.specs.Instruction.{InstructionTree, OperationTree}
@@ -128,7 +128,7 @@ in_brackets words are = record {
 set_are : (target : List ℕ) (words : List (List ℕ)) → IsBare target → AreBare words → AreLineWords (set_words target words)
 set_are target words is are = (plain_word (codes "set") (bare (codes "set") refl), (plain_word target is, (in_brackets words are, tt)))
 
-put_are : (p : ProgramTree) (vector : ℕ) (index : IntegerTree) (word : List ℕ) (value : IntegerTree) → HasBareNames p → IsBare word → AreLineWords (put_words p vector index word value)
+put_are : (p : ProgramTree) (vector : ℕ) (index : IntExpressionTree) (word : List ℕ) (value : IntExpressionTree) → HasBareNames p → IsBare word → AreLineWords (put_words p vector index word value)
 put_are p vector index word value are is = (
   plain_word (codes "put") (bare (codes "put") refl),
   (
@@ -195,7 +195,7 @@ set_line_are p name (set.Modified ends function vector) choice are =
 word_and_brackets : (word : List ℕ) (words : List (List ℕ)) → IsBare word → AreBare words → AreLineWords (word ∷ bracketed words ∷ [])
 word_and_brackets word words is are = (plain_word word is, (in_brackets words are, tt))
 
-statement_are : (p : ProgramTree) (action : ActionTree) (choice : ApplySchedule) → HasBareNames p → AreLineWords (statement_words p action choice)
+statement_are : (p : ProgramTree) (action : StatementKindTree) (choice : ApplySchedule) → HasBareNames p → AreLineWords (statement_words p action choice)
 statement_are p (action.DeclareInteger name e) choice are = set_are (name_at p name) (integer_words p e) (name_is_bare p name are) (integer_bare p e are)
 statement_are p (action.DeclareCondition name c) choice are = set_are (name_at p name) (condition_words p c) (name_is_bare p name are) (condition_bare p c are)
 statement_are p (action.SetInteger slot e) choice are = set_are (name_at p slot.name) (integer_words p e) (name_is_bare p slot.name are) (integer_bare p e are)

@@ -16,10 +16,10 @@ use Rattle.typed_tree.specs.declared.expression.ComparisonOperator.{ComparisonOp
 use Rattle.typed_tree.specs.declared.expression.ComparisonOperator.TheVariants as comparison
 use Rattle.typed_tree.specs.declared.expression.Connective.{Connective}
 use Rattle.typed_tree.specs.declared.expression.Connective.TheVariants as connective
-use Rattle.typed_tree.specs.IntegerTree as integer
-use Rattle.typed_tree.specs.IntegerTree.{IntegerTree}
-use Rattle.typed_tree.specs.ConditionTree as condition
-use Rattle.typed_tree.specs.ConditionTree.{ConditionTree}
+use Rattle.typed_tree.specs.IntExpressionTree as integer
+use Rattle.typed_tree.specs.IntExpressionTree.{IntExpressionTree}
+use Rattle.typed_tree.specs.BoolExpressionTree as condition
+use Rattle.typed_tree.specs.BoolExpressionTree.{BoolExpressionTree}
 use Rattle.typed_tree.specs.ProgramTree.{ProgramTree}
 use Rattle.algorithm_meaning.specs.Arithmetic.{arithmetic, compared, connected}
 use Rattle.algorithm_meaning.specs.State.{StateValue}
@@ -190,13 +190,13 @@ literal_read names true stack = refl
 literal_read names false stack = refl
 
 -- the number that an expression has in a state, and whether it has one
-abbrev number_of_tree : StateValue → IntegerTree → ℤ
+abbrev number_of_tree : StateValue → IntExpressionTree → ℤ
 number_of_tree s e = value s.vectors s.sets s.scope e
 
-abbrev has_number : Names → StateValue → IntegerTree → Bool
+abbrev has_number : Names → StateValue → IntExpressionTree → Bool
 has_number names s e = stays_inside names.vertices s.vectors s.sets s.scope e
 
-integer_read : (p : ProgramTree) (names : Names) (s : StateValue) (e : IntegerTree) (stack : List StackValue) → IntegerIsGiven p names s e
+integer_read : (p : ProgramTree) (names : Names) (s : StateValue) (e : IntExpressionTree) (stack : List StackValue) → IntegerIsGiven p names s e
     → read_words names (integer_words p e) stack ≡ (if has_number names s e then Some (Number (number_of_tree s e) ∷ stack) else None)
 integer_read p names s (integer.Number n) stack given = alone names (signed_decimal n) stack (Number n ∷ stack) (read_literal names n stack given)
 integer_read p names s (integer.Constant name n) stack given = alone names (name_at p name) stack (Number n ∷ stack) (read_name names (name_at p name) (Number n) stack given)
@@ -228,19 +228,19 @@ integer_read p names s (integer.Arithmetic o a b) stack given =
     (integer_read p names s a stack given.0) (integer_read p names s b (m ∷ stack) given.1)
     ∙ ap (λ (x : Stack). if has_number names s a && has_number names s b then x else None) (operator_read names o (number_of_tree s a) (number_of_tree s b) stack)
 
-pub integer_is_read : (p : ProgramTree) (names : Names) (s : StateValue) (e : IntegerTree) (stack : List StackValue) → IntegerIsGiven p names s e
+pub integer_is_read : (p : ProgramTree) (names : Names) (s : StateValue) (e : IntExpressionTree) (stack : List StackValue) → IntegerIsGiven p names s e
     → read_words names (integer_words p e) stack ≡ option_map (λ n. Number n ∷ stack) (number_in names.vertices e s)
 integer_is_read p names s e stack given =
     integer_read p names s e stack given ∙ map_guard (λ (n : ℤ). Number n ∷ stack) (has_number names s e) (number_of_tree s e)
 
 -- the same of a truth value
-abbrev truth_of_tree : StateValue → ConditionTree → Bool
+abbrev truth_of_tree : StateValue → BoolExpressionTree → Bool
 truth_of_tree s c = truth s.vectors s.sets s.scope c
 
-abbrev has_truth : Names → StateValue → ConditionTree → Bool
+abbrev has_truth : Names → StateValue → BoolExpressionTree → Bool
 has_truth names s c = condition_stays_inside names.vertices s.vectors s.sets s.scope c
 
-condition_read : (p : ProgramTree) (names : Names) (s : StateValue) (c : ConditionTree) (stack : List StackValue) → ConditionIsGiven p names s c
+condition_read : (p : ProgramTree) (names : Names) (s : StateValue) (c : BoolExpressionTree) (stack : List StackValue) → ConditionIsGiven p names s c
     → read_words names (condition_words p c) stack ≡ (if has_truth names s c then Some (Truth (truth_of_tree s c) ∷ stack) else None)
 condition_read p names s (condition.Literal b) stack given = literal_read names b stack
 condition_read p names s (condition.Constant name b) stack given = alone names (name_at p name) stack (Truth b ∷ stack) (read_name names (name_at p name) (Truth b) stack given)
@@ -262,7 +262,7 @@ condition_read p names s (condition.Connect o a b) stack given =
     (condition_read p names s a stack given.0) (condition_read p names s b (m ∷ stack) given.1)
     ∙ ap (λ (x : Stack). if has_truth names s a && has_truth names s b then x else None) (connective_read names o (truth_of_tree s a) (truth_of_tree s b) stack)
 
-pub condition_is_read : (p : ProgramTree) (names : Names) (s : StateValue) (c : ConditionTree) (stack : List StackValue) → ConditionIsGiven p names s c
+pub condition_is_read : (p : ProgramTree) (names : Names) (s : StateValue) (c : BoolExpressionTree) (stack : List StackValue) → ConditionIsGiven p names s c
     → read_words names (condition_words p c) stack ≡ option_map (λ b. Truth b ∷ stack) (choice_in names.vertices c s)
 condition_is_read p names s c stack given =
     condition_read p names s c stack given ∙ map_guard (λ (b : Bool). Truth b ∷ stack) (has_truth names s c) (truth_of_tree s c)

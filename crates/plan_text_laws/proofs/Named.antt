@@ -11,9 +11,9 @@ use Rattle.typed_tree.specs.declared.statement.SetValue.{SetValue}
 use Rattle.typed_tree.specs.declared.statement.SetValue.TheVariants as set
 use Rattle.typed_tree.specs.declared.statement.VertexFilter.{VertexFilter}
 use Rattle.typed_tree.specs.declared.statement.VertexFilter.TheVariants as end
-use Rattle.typed_tree.specs.StepTree.{FunctionTree}
+use Rattle.typed_tree.specs.FunctionStatementTree.{FunctionTree}
 use Rattle.typed_tree.specs.BlockTree as action
-use Rattle.typed_tree.specs.BlockTree.{ActionTree}
+use Rattle.typed_tree.specs.BlockTree.{StatementKindTree}
 use Rattle.typed_tree.specs.ProgramTree.{ProgramTree}
 use Rattle.plans.specs.Fusing.{modifying}
 use Rattle.plans.specs.Instruction as operation
@@ -37,7 +37,7 @@ set_names p name (set.Copy slot) choice = refl
 set_names p name (set.Filter slot function) choice = refl
 set_names p name (set.Modified ends function vector) choice = refl
 
-action_names : (p : ProgramTree) (action : ActionTree) (choice : ApplySchedule) → names_behind (kind_of_action action) (statement_words p action choice ++ []) ≡ names_of_action p action
+action_names : (p : ProgramTree) (action : StatementKindTree) (choice : ApplySchedule) → names_behind (kind_of_action action) (statement_words p action choice ++ []) ≡ names_of_action p action
 action_names p (action.DeclareInteger name e) choice = refl
 action_names p (action.DeclareCondition name c) choice = refl
 action_names p (action.SetInteger slot e) choice = refl
@@ -85,7 +85,7 @@ no_reduction_of_set (set.Copy slot) words = refl
 no_reduction_of_set (set.Filter slot function) words = refl
 no_reduction_of_set (set.Modified ends function vector) words = refl
 
-action_reduction : (p : ProgramTree) (action : ActionTree) (choice : ApplySchedule)
+action_reduction : (p : ProgramTree) (action : StatementKindTree) (choice : ApplySchedule)
     → reduction_behind (kind_of_action action) (statement_words p action choice ++ []) ≡ reduction_of (operation.Do action)
 action_reduction p (action.DeclareInteger name e) choice = refl
 action_reduction p (action.DeclareCondition name c) choice = refl
@@ -222,7 +222,7 @@ set_edges p name (set.Modified ends function vector) make choice none same =
     edges_read p ends (one_part function (Some (record { name = name; vector = vector }))) None choice none
     ∙ ap (λ (x : Option (List ℕ × List ℕ)). with_parts (end_names p ends.from) (end_names p ends.to) (record { function = function_at p p.edge_functions function; changed = x }) None) (sym (same vector))
 
-action_edges : (p : ProgramTree) (action : ActionTree) (choice : ApplySchedule) → HasNoMarks p
+action_edges : (p : ProgramTree) (action : StatementKindTree) (choice : ApplySchedule) → HasNoMarks p
     → edges_behind (kind_of_action action) (statement_words p action choice ++ []) ≡ edges_of p (operation.Do action)
 action_edges p (action.DeclareInteger name e) choice none = refl
 action_edges p (action.DeclareCondition name c) choice none = refl

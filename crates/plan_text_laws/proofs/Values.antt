@@ -8,9 +8,9 @@ use Rattle.apply_options.specs.declared.reduction.Reduction.TheVariants as reduc
 use Rattle.typed_tree.specs.declared.expression.VarRef.{VarRef}
 use Rattle.typed_tree.specs.declared.statement.SetValue.{SetValue}
 use Rattle.typed_tree.specs.declared.statement.SetValue.TheVariants as set
-use Rattle.typed_tree.specs.IntegerTree.{IntegerTree}
+use Rattle.typed_tree.specs.IntExpressionTree.{IntExpressionTree}
 use Rattle.typed_tree.specs.BlockTree as action
-use Rattle.typed_tree.specs.BlockTree.{ActionTree}
+use Rattle.typed_tree.specs.BlockTree.{StatementKindTree}
 use Rattle.typed_tree.specs.ProgramTree.{ProgramTree}
 use Rattle.algorithm_meaning.specs.declared.state.LoopCounter.{LoopCounter}
 use Rattle.algorithm_meaning.specs.Arithmetic.{reduced}
@@ -46,7 +46,7 @@ no_values names words (set.Copy slot) = refl
 no_values names words (set.Filter slot function) = refl
 no_values names words (set.Modified ends function vector) = refl
 
-action_values : (p : ProgramTree) (names : Names) (s : StateValue) (action : ActionTree) (choice : ApplySchedule) → HasNamesOfOneWord p → ActionIsGiven p names s action
+action_values : (p : ProgramTree) (names : Names) (s : StateValue) (action : StatementKindTree) (choice : ApplySchedule) → HasNamesOfOneWord p → ActionIsGiven p names s action
     → read_indices names (statement_words p action choice ++ []) (bracket_indices (kind_of_action action)) ≡ values_of_action names.vertices s action
 action_values p names s (action.DeclareInteger name e) choice one given = one_value _ _ (integer_in_brackets p names s e one given)
 action_values p names s (action.DeclareCondition name c) choice one given = one_value _ _ (condition_in_brackets p names s c one given)
@@ -135,7 +135,7 @@ reduce_value : (names : Names) (r : Reduction) (a : ℤ) (o : Option ℤ)
 reduce_value names r a None = refl
 reduce_value names r a (Some n) = reduce_is names r a n
 
-pub reduction_is_read : (p : ProgramTree) (names : Names) (s : StateValue) (x : VarRef) (r : Reduction) (e : IntegerTree) (choice : ApplySchedule) → HasNamesOfOneWord p
+pub reduction_is_read : (p : ProgramTree) (names : Names) (s : StateValue) (x : VarRef) (r : Reduction) (e : IntExpressionTree) (choice : ApplySchedule) → HasNamesOfOneWord p
     → IsNamed names (name_at p x.name) (Number (slice_index_or s.scope.integers x.index (pos 0))) → IntegerIsGiven p names s e
     → read_reduction names (slice_index_or (statement_words p (action.ReduceInteger x r e) choice) 2 [])
     ≡ option_map (λ n. reduced r (slice_index_or s.scope.integers x.index (pos 0)) n) (number_in names.vertices e s)

@@ -15,7 +15,7 @@ use Rattle.typed_tree.specs.declared.statement.ApplyEnds.{ApplyEnds}
 use Rattle.typed_tree.specs.declared.statement.SetValue.{SetValue}
 use Rattle.typed_tree.specs.declared.statement.SetValue.TheVariants as set
 use Rattle.typed_tree.specs.BlockTree as action
-use Rattle.typed_tree.specs.BlockTree.{ActionTree}
+use Rattle.typed_tree.specs.BlockTree.{StatementKindTree}
 use Rattle.typed_tree.specs.ProgramTree.{ProgramTree}
 use Rattle.plans.specs.Instruction as operation
 use Rattle.plans.specs.Instruction.{OperationTree, InstructionTree}
@@ -35,7 +35,7 @@ set_kind p name (set.Copy slot) choice = refl
 set_kind p name (set.Filter slot function) choice = refl
 set_kind p name (set.Modified ends function vector) choice = refl
 
-action_kind : (p : ProgramTree) (action : ActionTree) (choice : ApplySchedule) → kind_in (statement_words p action choice ++ []) ≡ kind_of_action action
+action_kind : (p : ProgramTree) (action : StatementKindTree) (choice : ApplySchedule) → kind_in (statement_words p action choice ++ []) ≡ kind_of_action action
 action_kind p (action.DeclareInteger name e) choice = refl
 action_kind p (action.DeclareCondition name c) choice = refl
 action_kind p (action.SetInteger slot e) choice = refl
@@ -78,7 +78,7 @@ no_index_of_set (set.Copy slot) words = refl
 no_index_of_set (set.Filter slot function) words = refl
 no_index_of_set (set.Modified ends function vector) words = refl
 
-no_index : (action : ActionTree) (words : List (List ℕ)) → index_behind (kind_of_action action) words ≡ None
+no_index : (action : StatementKindTree) (words : List (List ℕ)) → index_behind (kind_of_action action) words ≡ None
 no_index (action.DeclareInteger name e) words = refl
 no_index (action.DeclareCondition name c) words = refl
 no_index (action.SetInteger slot e) words = refl
@@ -178,7 +178,7 @@ set_settings p name (set.Filter slot function) choice is = absurd cc
 set_settings p name (set.Modified ends function vector) choice is =
     edges_are p ends (one_part function (Some (record { name = name; vector = vector }))) None choice
 
-action_settings : (p : ProgramTree) (action : ActionTree) (choice : ApplySchedule) → kind_of_action action ≡ Some ApplyEdges
+action_settings : (p : ProgramTree) (action : StatementKindTree) (choice : ApplySchedule) → kind_of_action action ≡ Some ApplyEdges
     → settings_in (statement_words p action choice ++ []) ≡ Some (settings_used choice)
 action_settings p (action.DeclareInteger name e) choice is = absurd cc
 action_settings p (action.DeclareCondition name c) choice is = absurd cc

@@ -2,10 +2,10 @@
 use Rattle.std.specs.Prelude.{◌≡◌, ◌≢◌, ℕ, pos, FitsSigned, false, List, length, None, slice_get, slice_index_or}
 use Rattle.std.specs.Int.{cast_signed, w64}
 use Rattle.std.specs.List.{AllByRecursion}
-use Rattle.typed_tree.specs.IntegerTree as integer
-use Rattle.typed_tree.specs.IntegerTree.{IntegerTree}
-use Rattle.typed_tree.specs.ConditionTree as condition
-use Rattle.typed_tree.specs.ConditionTree.{ConditionTree}
+use Rattle.typed_tree.specs.IntExpressionTree as integer
+use Rattle.typed_tree.specs.IntExpressionTree.{IntExpressionTree}
+use Rattle.typed_tree.specs.BoolExpressionTree as condition
+use Rattle.typed_tree.specs.BoolExpressionTree.{BoolExpressionTree}
 use Rattle.typed_tree.specs.ProgramTree.{ProgramTree}
 use Rattle.algorithm_meaning.specs.State.{StateValue}
 use Rattle.algorithm_meaning.specs.Value.{entry, members_of}
@@ -26,7 +26,7 @@ pub record IsNamed (names : Names) (word : List ℕ) (value : StackValue) : Type
   pub gives : names.value word ≡ value
 
 -- What the expression speaks of has for the machine the value that it has in the state. What only functions have is none of main's.
-abbrev pub IntegerIsGiven : ProgramTree → Names → StateValue → IntegerTree → Type 0
+abbrev pub IntegerIsGiven : ProgramTree → Names → StateValue → IntExpressionTree → Type 0
 IntegerIsGiven p names s (integer.Number n) = FitsSigned w64 n
 IntegerIsGiven p names s (integer.Constant name n) = IsNamed names (name_at p name) (Number n)
 IntegerIsGiven p names s (integer.Variable slot) = IsNamed names (name_at p slot.name) (Number (slice_index_or s.scope.integers slot.index (pos 0)))
@@ -40,7 +40,7 @@ IntegerIsGiven p names s (integer.SetSize slot) =
 IntegerIsGiven p names s (integer.Negative e) = IntegerIsGiven p names s e
 IntegerIsGiven p names s (integer.Arithmetic operator a b) = IntegerIsGiven p names s a × IntegerIsGiven p names s b
 
-abbrev pub ConditionIsGiven : ProgramTree → Names → StateValue → ConditionTree → Type 0
+abbrev pub ConditionIsGiven : ProgramTree → Names → StateValue → BoolExpressionTree → Type 0
 ConditionIsGiven p names s (condition.Literal b) = Unit {0}
 ConditionIsGiven p names s (condition.Constant name b) = IsNamed names (name_at p name) (Truth b)
 ConditionIsGiven p names s (condition.Variable slot) = IsNamed names (name_at p slot.name) (Truth (slice_index_or s.scope.conditions slot.index false))

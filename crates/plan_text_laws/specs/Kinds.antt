@@ -5,7 +5,7 @@ use Rattle.std.specs.Str.{bytes_eq}
 use Rattle.typed_tree.specs.declared.statement.SetValue.{SetValue}
 use Rattle.typed_tree.specs.declared.statement.SetValue.TheVariants as set
 use Rattle.typed_tree.specs.BlockTree as action
-use Rattle.typed_tree.specs.BlockTree.{ActionTree}
+use Rattle.typed_tree.specs.BlockTree.{StatementKindTree}
 use Rattle.typed_tree.specs.ProgramTree.{ProgramTree}
 use Rattle.plans.specs.Instruction as operation
 use Rattle.plans.specs.Instruction.{OperationTree, InstructionTree}
@@ -61,7 +61,7 @@ kind_of_set (set.Copy slot) = CopySet
 kind_of_set (set.Filter slot function) = Filter
 kind_of_set (set.Modified ends function vector) = ApplyEdges
 
-abbrev pub kind_of_action : ActionTree → Option InstructionKind
+abbrev pub kind_of_action : StatementKindTree → Option InstructionKind
 kind_of_action (action.DeclareInteger name e) = Some Set
 kind_of_action (action.DeclareCondition name c) = Some Set
 kind_of_action (action.SetInteger slot e) = Some Set

@@ -12,7 +12,7 @@ use Rattle.typed_tree.specs.declared.statement.SetValue.TheVariants as set
 use Rattle.typed_tree.specs.declared.statement.VertexFilter.{VertexFilter}
 use Rattle.typed_tree.specs.declared.statement.VertexFilter.TheVariants as end
 use Rattle.typed_tree.specs.BlockTree as action
-use Rattle.typed_tree.specs.BlockTree.{ActionTree}
+use Rattle.typed_tree.specs.BlockTree.{StatementKindTree}
 use Rattle.typed_tree.specs.ProgramTree.{ProgramTree}
 use Rattle.plans.specs.Fusing.{edge_apply_of}
 use Rattle.plans.specs.Instruction as operation
@@ -45,7 +45,7 @@ names_of_set p name (set.Filter slot function) = name_at p name ∷ name_at p sl
 names_of_set p name (set.Modified ends function vector) = []
 
 -- the variable, the vector or the set that changes; the set and the functions of a vertex apply
-abbrev pub names_of_action : ProgramTree → ActionTree → List (List ℕ)
+abbrev pub names_of_action : ProgramTree → StatementKindTree → List (List ℕ)
 names_of_action p (action.DeclareInteger name e) = name_at p name ∷ []
 names_of_action p (action.DeclareCondition name c) = name_at p name ∷ []
 names_of_action p (action.SetInteger slot e) = name_at p slot.name ∷ []

@@ -1,10 +1,10 @@
 -- The brackets of instructions, and the values that stand in them.
 use Rattle.std.specs.Prelude.{ℕ, int_lt, List, [], ◌∷◌, Option, Some, map, slice_index_or}
 use Rattle.std.specs.Option.{option_map}
-use Rattle.typed_tree.specs.IntegerTree.{IntegerTree}
-use Rattle.typed_tree.specs.ConditionTree.{ConditionTree}
+use Rattle.typed_tree.specs.IntExpressionTree.{IntExpressionTree}
+use Rattle.typed_tree.specs.BoolExpressionTree.{BoolExpressionTree}
 use Rattle.typed_tree.specs.BlockTree as action
-use Rattle.typed_tree.specs.BlockTree.{ActionTree}
+use Rattle.typed_tree.specs.BlockTree.{StatementKindTree}
 use Rattle.typed_tree.specs.ProgramTree.{ProgramTree}
 use Rattle.algorithm_meaning.specs.declared.state.LoopCounter.{LoopCounter}
 use Rattle.algorithm_meaning.specs.Loop.{next_of}
@@ -35,14 +35,14 @@ read_indices names words indices = map (λ index. read_brackets names (slice_ind
 abbrev pub values_in : Names → List (List ℕ) → List Stack
 values_in names words = read_indices names words (bracket_indices (kind_in words))
 
-abbrev pub number_on : ℕ → StateValue → IntegerTree → Stack
+abbrev pub number_on : ℕ → StateValue → IntExpressionTree → Stack
 number_on vertices s e = option_map (λ n. Number n ∷ []) (number_in vertices e s)
 
-abbrev pub truth_on : ℕ → StateValue → ConditionTree → Stack
+abbrev pub truth_on : ℕ → StateValue → BoolExpressionTree → Stack
 truth_on vertices s c = option_map (λ b. Truth b ∷ []) (choice_in vertices c s)
 
 -- the values that an instruction takes in a state
-abbrev pub values_of_action : ℕ → StateValue → ActionTree → List Stack
+abbrev pub values_of_action : ℕ → StateValue → StatementKindTree → List Stack
 values_of_action vertices s (action.DeclareInteger name e) = number_on vertices s e ∷ []
 values_of_action vertices s (action.DeclareCondition name c) = truth_on vertices s c ∷ []
 values_of_action vertices s (action.SetInteger slot e) = number_on vertices s e ∷ []
@@ -64,7 +64,7 @@ values_of vertices r s (operation.Advance name) = Some (Number (next_of r).next 
 values_of vertices r s _ = []
 
 -- it is known what the expressions of an instruction speak of; a variable that is reduced is read by a law of its own
-abbrev pub ActionIsGiven : ProgramTree → Names → StateValue → ActionTree → Type 0
+abbrev pub ActionIsGiven : ProgramTree → Names → StateValue → StatementKindTree → Type 0
 ActionIsGiven p names s (action.DeclareInteger name e) = IntegerIsGiven p names s e
 ActionIsGiven p names s (action.DeclareCondition name c) = ConditionIsGiven p names s c
 ActionIsGiven p names s (action.SetInteger slot e) = IntegerIsGiven p names s e

@@ -4,8 +4,8 @@ ghost use Rattle.std.specs.Option.{option_map};
 ghost use Rattle.apply_options.specs.declared.apply_schedule.ApplySchedule as schedule;
 ghost use Rattle.apply_options.specs.declared.reduction.Reduction as reduction;
 ghost use Rattle.typed_tree.specs.declared.expression.VarRef as slot;
-ghost use Rattle.typed_tree.specs.IntegerTree.{IntegerTree};
-ghost use Rattle.typed_tree.specs.ConditionTree.{ConditionTree};
+ghost use Rattle.typed_tree.specs.IntExpressionTree.{IntExpressionTree};
+ghost use Rattle.typed_tree.specs.BoolExpressionTree.{BoolExpressionTree};
 ghost use Rattle.typed_tree.specs.BlockTree.{ReduceInteger};
 ghost use Rattle.typed_tree.specs.ProgramTree.{ProgramTree};
 ghost use Rattle.algorithm_meaning.specs.declared.state.LoopCounter as counter;
@@ -25,9 +25,9 @@ ghost use Rattle.plan_text_laws.specs.Values.{OperationIsGiven, values_in, value
 /// The law that the text of an expression in brackets, cut at its spaces and read from left to right, gives the one value
 /// that the expression has in the state, and none where it has none. The call does nothing.
 pub fn brackets_are_read_by_hand()
-    ensures integers { (p : ProgramTree) (names : Names) (s : StateValue) (e : IntegerTree) → HasNamesOfOneWord p → IntegerIsGiven p names s e
+    ensures integers { (p : ProgramTree) (names : Names) (s : StateValue) (e : IntExpressionTree) → HasNamesOfOneWord p → IntegerIsGiven p names s e
         → read_brackets names (bracketed (integer_words p e)) ≡ option_map (λ n. Number n ∷ []) (number_in names.vertices e s) }
-    ensures conditions { (p : ProgramTree) (names : Names) (s : StateValue) (c : ConditionTree) → HasNamesOfOneWord p → ConditionIsGiven p names s c
+    ensures conditions { (p : ProgramTree) (names : Names) (s : StateValue) (c : BoolExpressionTree) → HasNamesOfOneWord p → ConditionIsGiven p names s c
         → read_brackets names (bracketed (condition_words p c)) ≡ option_map (λ b. Truth b ∷ []) (choice_in names.vertices c s) }
 {}
 
@@ -42,7 +42,7 @@ pub fn instructions_have_their_values()
 /// The law that `set x [x e min]`, of which the last word is that of a reduction and the others are read from left to right,
 /// has the value of `x` reduced with that of `e`. The call does nothing.
 pub fn reductions_are_read_by_hand()
-    ensures { (p : ProgramTree) (names : Names) (s : StateValue) (x : slot.VarRef) (r : reduction.Reduction) (e : IntegerTree) (choice : schedule.ApplySchedule)
+    ensures { (p : ProgramTree) (names : Names) (s : StateValue) (x : slot.VarRef) (r : reduction.Reduction) (e : IntExpressionTree) (choice : schedule.ApplySchedule)
         → HasNamesOfOneWord p → IsNamed names (name_at p x.name) (Number (slice_index_or s.scope.integers x.index (pos 0)))
         → IntegerIsGiven p names s e
         → read_reduction names (slice_index_or (statement_words p (ReduceInteger x r e) choice) 2 [])

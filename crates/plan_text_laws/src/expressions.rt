@@ -2,8 +2,8 @@
 ghost use Rattle.std.specs.Prelude.{◌≡◌, ◌≢◌, ℕ, List, ◌∷◌, ◌++◌, codes};
 ghost use Rattle.std.specs.Option.{option_map};
 ghost use Rattle.lexer.specs.Tokens.{IsName};
-ghost use Rattle.typed_tree.specs.IntegerTree.{IntegerTree};
-ghost use Rattle.typed_tree.specs.ConditionTree.{ConditionTree};
+ghost use Rattle.typed_tree.specs.IntExpressionTree.{IntExpressionTree};
+ghost use Rattle.typed_tree.specs.BoolExpressionTree.{BoolExpressionTree};
 ghost use Rattle.typed_tree.specs.ProgramTree.{ProgramTree};
 ghost use Rattle.algorithm_meaning.specs.State.{StateValue};
 ghost use Rattle.algorithm_meaning.specs.Stand.{choice_in, number_in};
@@ -18,9 +18,9 @@ ghost use Rattle.plan_text_laws.specs.Names.{IsNoMark};
 /// the expression has in the state on top of what was there before; and that the reading stops exactly where the expression
 /// has none, at an index that is no vertex. The call does nothing.
 pub fn expressions_are_read_by_hand()
-    ensures integers { (p : ProgramTree) (names : Names) (s : StateValue) (e : IntegerTree) (stack : List StackValue) → IntegerIsGiven p names s e
+    ensures integers { (p : ProgramTree) (names : Names) (s : StateValue) (e : IntExpressionTree) (stack : List StackValue) → IntegerIsGiven p names s e
         → read_words names (integer_words p e) stack ≡ option_map (λ n. Number n ∷ stack) (number_in names.vertices e s) }
-    ensures conditions { (p : ProgramTree) (names : Names) (s : StateValue) (c : ConditionTree) (stack : List StackValue) → ConditionIsGiven p names s c
+    ensures conditions { (p : ProgramTree) (names : Names) (s : StateValue) (c : BoolExpressionTree) (stack : List StackValue) → ConditionIsGiven p names s c
         → read_words names (condition_words p c) stack ≡ option_map (λ b. Truth b ∷ stack) (choice_in names.vertices c s) }
 {}
 

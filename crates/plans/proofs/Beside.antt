@@ -4,11 +4,11 @@ use Rattle.std.specs.Int.{cast_signed, w64}
 use Rattle.std.specs.List.{list_all}
 use Rattle.std.proofs.lemmas.List.Folds.{list_all-append}
 use Rattle.apply_options.specs.declared.reduction.Reduction.{Reduction}
-use Rattle.typed_tree.specs.IntegerTree as integer
-use Rattle.typed_tree.specs.IntegerTree.{IntegerTree}
-use Rattle.typed_tree.specs.ConditionTree as condition
-use Rattle.typed_tree.specs.ConditionTree.{ConditionTree}
-use Rattle.typed_tree.specs.StepTree.{StepTree, DeclareInteger, DeclareCondition, SetInteger, SetCondition, ReduceInteger, SetEntry, ReduceEntry, If, IfElse, StepsTree, NoStep, StepThen}
+use Rattle.typed_tree.specs.IntExpressionTree as integer
+use Rattle.typed_tree.specs.IntExpressionTree.{IntExpressionTree}
+use Rattle.typed_tree.specs.BoolExpressionTree as condition
+use Rattle.typed_tree.specs.BoolExpressionTree.{BoolExpressionTree}
+use Rattle.typed_tree.specs.FunctionStatementTree.{FunctionStatementTree, DeclareInteger, DeclareCondition, SetInteger, SetCondition, ReduceInteger, SetEntry, ReduceEntry, If, IfElse, FunctionStatementsTree, NoStep, StepThen}
 use Rattle.algorithm_meaning.specs.Arithmetic.{negative, arithmetic, compared, connected}
 use Rattle.algorithm_meaning.specs.State.{ScopeValue, edge_scope, filter_scope}
 use Rattle.algorithm_meaning.specs.Value.{vertex_at, entry_at, members_of, value, truth}
@@ -43,7 +43,7 @@ index_same xs ys vector (pos n) e = ap (λ (row : List ℤ). slice_index_or row 
 index_same xs ys vector (negsuc n) e = refl
 
 module _ (vectors indices : List ℕ) (a b : List SetBinding) (sets_agree : SetsAgreeBut indices a b) where
-  value_beside : (v w : WorkValue) → IsBeside vectors v w → (e : IntegerTree) → are_apart (integer_reads e) vectors ≡ true → are_apart (integer_sizes e) indices ≡ true
+  value_beside : (v w : WorkValue) → IsBeside vectors v w → (e : IntExpressionTree) → are_apart (integer_reads e) vectors ≡ true → are_apart (integer_sizes e) indices ≡ true
       → value v.vectors a v.scope e ≡ value w.vectors b w.scope e
   value_beside v w h (integer.Number n) reads sizes = refl
   value_beside v w h (integer.Constant name n) reads sizes = refl
@@ -69,7 +69,7 @@ module _ (vectors indices : List ℕ) (a b : List SetBinding) (sets_agree : Sets
       let n = value_beside v w h y r.1 s.1 in
       λ i. arithmetic o (m i) (n i)
 
-  truth_beside : (v w : WorkValue) → IsBeside vectors v w → (c : ConditionTree) → are_apart (condition_reads c) vectors ≡ true → are_apart (condition_sizes c) indices ≡ true
+  truth_beside : (v w : WorkValue) → IsBeside vectors v w → (c : BoolExpressionTree) → are_apart (condition_reads c) vectors ≡ true → are_apart (condition_sizes c) indices ≡ true
       → truth v.vectors a v.scope c ≡ truth w.vectors b w.scope c
   truth_beside v w h (condition.Literal x) reads sizes = refl
   truth_beside v w h (condition.Constant name x) reads sizes = refl
@@ -113,7 +113,7 @@ module _ (vectors indices : List ℕ) (a b : List SetBinding) (sets_agree : Sets
       (subst (λ (z : WorkValue). IsBeside vectors m z) (sym (gives_number vector r y w)) both)
 
   mutual
-    step_beside : (step : StepTree) (v w : WorkValue) → IsBeside vectors v w → are_apart (step_uses step) vectors ≡ true → are_apart (step_sizes step) indices ≡ true
+    step_beside : (step : FunctionStatementTree) (v w : WorkValue) → IsBeside vectors v w → are_apart (step_uses step) vectors ≡ true → are_apart (step_sizes step) indices ≡ true
         → IsBeside vectors (after_step writing a step v) (after_step writing b step w)
     step_beside (DeclareInteger name e) v w h uses sizes =
         let x = value_beside vectors indices a b sets_agree v w h e uses sizes in
@@ -153,7 +153,7 @@ module _ (vectors indices : List ℕ) (a b : List SetBinding) (sets_agree : Sets
         (block_beside vectors indices a b sets_agree v (after_steps writing a body v) w (after_steps writing b body w) h (steps_beside body v w h blocks.0 inner.0))
         (block_beside vectors indices a b sets_agree v (after_steps writing a other v) w (after_steps writing b other w) h (steps_beside other v w h blocks.1 inner.1))
 
-    steps_beside : (steps : StepsTree) (v w : WorkValue) → IsBeside vectors v w → are_apart (steps_use steps) vectors ≡ true → are_apart (steps_sizes steps) indices ≡ true
+    steps_beside : (steps : FunctionStatementsTree) (v w : WorkValue) → IsBeside vectors v w → are_apart (steps_use steps) vectors ≡ true → are_apart (steps_sizes steps) indices ≡ true
         → IsBeside vectors (after_steps writing a steps v) (after_steps writing b steps w)
     steps_beside NoStep v w h uses sizes = h
     steps_beside (StepThen step rest) v w h uses sizes =
@@ -161,19 +161,19 @@ module _ (vectors indices : List ℕ) (a b : List SetBinding) (sets_agree : Sets
         let s = both_parts (λ v. is_none_of v indices) (step_sizes step) (steps_sizes rest) sizes in
         steps_beside rest (after_step writing a step v) (after_step writing b step w) (step_beside step v w h r.0 s.0) r.1 s.1
 
-  given_beside : (steps : StepsTree) (xs ys : List (List ℤ)) (scope : ScopeValue) → AgreeBut vectors xs ys → are_apart (steps_use steps) vectors ≡ true → are_apart (steps_sizes steps) indices ≡ true
+  given_beside : (steps : FunctionStatementsTree) (xs ys : List (List ℤ)) (scope : ScopeValue) → AgreeBut vectors xs ys → are_apart (steps_use steps) vectors ≡ true → are_apart (steps_sizes steps) indices ≡ true
       → (after_steps writing a steps (first_work xs scope)).given ≡ (after_steps writing b steps (first_work ys scope)).given
   given_beside steps xs ys scope agree uses sizes =
       let r = steps_beside steps (first_work xs scope) (first_work ys scope) (record { rows = agree; scope = refl; given = refl }) uses sizes in
       r.given
 
-  result_beside : (steps : StepsTree) (xs ys : List (List ℤ)) (scope : ScopeValue) → AgreeBut vectors xs ys → are_apart (steps_use steps) vectors ≡ true → are_apart (steps_sizes steps) indices ≡ true
+  result_beside : (steps : FunctionStatementsTree) (xs ys : List (List ℤ)) (scope : ScopeValue) → AgreeBut vectors xs ys → are_apart (steps_use steps) vectors ≡ true → are_apart (steps_sizes steps) indices ≡ true
       → slice_index_or (after_steps writing a steps (first_work xs scope)).scope.conditions 0 false ≡ slice_index_or (after_steps writing b steps (first_work ys scope)).scope.conditions 0 false
   result_beside steps xs ys scope agree uses sizes =
       let r = steps_beside steps (first_work xs scope) (first_work ys scope) (record { rows = agree; scope = refl; given = refl }) uses sizes in
       ap (λ (s : ScopeValue). slice_index_or s.conditions 0 false) r.scope
 
-module _ (vectors indices : List ℕ) (a b : List SetBinding) (sets_agree : SetsAgreeBut indices a b) (steps : StepsTree) (xs ys : List (List ℤ)) (agree : AgreeBut vectors xs ys) (uses : are_apart (steps_use steps) vectors ≡ true) (sizes : are_apart (steps_sizes steps) indices ≡ true) where
+module _ (vectors indices : List ℕ) (a b : List SetBinding) (sets_agree : SetsAgreeBut indices a b) (steps : FunctionStatementsTree) (xs ys : List (List ℤ)) (agree : AgreeBut vectors xs ys) (uses : are_apart (steps_use steps) vectors ≡ true) (sizes : are_apart (steps_sizes steps) indices ≡ true) where
   -- an edge function gives the same
   pub gives_same : (edge : Edge) → gives steps a xs edge ≡ gives steps b ys edge
   gives_same edge = given_beside vectors indices a b sets_agree _ (λ vector n w. refl) (λ vector r n w. refl) steps xs ys (edge_scope edge) agree uses sizes

@@ -2,9 +2,9 @@
 use Rattle.std.proofs.Common.{◌≡◌, ℕ, zero, suc, ◌+◌, ◌*◌, ◌<◌, Bool, true, false, List, [], ◌∷◌, map, length, Option, Some, None, slice_get, ap, sym, ◌∙◌, refl, subst, arith}
 use Rattle.typed_tree.specs.declared.expression.VarRef.{VarRef}
 use Rattle.typed_tree.specs.declared.statement.ApplyEnds.{ApplyEnds}
-use Rattle.typed_tree.specs.IntegerTree.{IntegerTree}
-use Rattle.typed_tree.specs.ConditionTree.{ConditionTree, Literal}
-use Rattle.typed_tree.specs.BlockTree.{ActionTree, DeclareInteger, DeclareCondition, SetInteger, SetCondition, ReduceInteger, SetEntry, ReduceEntry, DeclareSet, AssignSet, AddVertex, PrintInteger, PrintCondition, ApplyVertex}
+use Rattle.typed_tree.specs.IntExpressionTree.{IntExpressionTree}
+use Rattle.typed_tree.specs.BoolExpressionTree.{BoolExpressionTree, Literal}
+use Rattle.typed_tree.specs.BlockTree.{StatementKindTree, DeclareInteger, DeclareCondition, SetInteger, SetCondition, ReduceInteger, SetEntry, ReduceEntry, DeclareSet, AssignSet, AddVertex, PrintInteger, PrintCondition, ApplyVertex}
 use Rattle.algorithm_meaning.specs.declared.state.Depth.{Depth}
 use Rattle.plans.specs.Instruction.{EdgePartTree, OperationTree, Do, ApplyEdgesTogether, ApplyVerticesTogether, Unless, Enter, UnlessBelow, Advance, Turn, Jump, End, InstructionTree}
 use Rattle.algorithm_meaning.specs.declared.state.LoopCounter.{LoopCounter}
@@ -36,7 +36,7 @@ record SameBound (o t : OperationTree) : Type 0 where
 itself_alike : (o : OperationTree) → SameBound o o
 itself_alike o = record { turn = refl; rank = λ count index b. refl }
 
-do_alike : (action : ActionTree) → SameBound End (Do action)
+do_alike : (action : StatementKindTree) → SameBound End (Do action)
 do_alike action = record { turn = refl; rank = λ count index b. by_test count index b }
   where
     by_test : (count index : ℕ) (b : Bool) → rank_by count index End b ≡ rank_by count index (Do action) b
@@ -57,14 +57,14 @@ edges_alike ends first second = record { turn = refl; rank = λ count index b. b
     by_test count index true = refl
     by_test count index false = refl
 
-unless_alike : (c : ConditionTree) (to : ℕ) → SameBound (Unless (Literal true) to) (Unless c to)
+unless_alike : (c : BoolExpressionTree) (to : ℕ) → SameBound (Unless (Literal true) to) (Unless c to)
 unless_alike c to = record { turn = refl; rank = λ count index b. by_test count index b }
   where
     by_test : (count index : ℕ) (b : Bool) → rank_by count index (Unless (Literal true) to) b ≡ rank_by count index (Unless c to) b
     by_test count index true = refl
     by_test count index false = refl
 
-enter_alike : (name : ℕ) (e : IntegerTree) → SameBound End (Enter name e)
+enter_alike : (name : ℕ) (e : IntExpressionTree) → SameBound End (Enter name e)
 enter_alike name e = record { turn = refl; rank = λ count index b. by_test count index b }
   where
     by_test : (count index : ℕ) (b : Bool) → rank_by count index End b ≡ rank_by count index (Enter name e) b

@@ -2,7 +2,7 @@
 use Rattle.std.proofs.Common.{◌≡◌, ℕ, zero, suc, ◌≤◌, List, [], ◌∷◌, take, ap, sym, ◌∙◌, refl, arith}
 use Rattle.std.proofs.Math.Seq.{take-length}
 use Rattle.std.proofs.lemmas.List.{length-take-le}
-use Rattle.typed_tree.specs.BlockTree.{ActionTree, DeclareInteger, DeclareCondition, SetInteger, SetCondition, ReduceInteger, SetEntry, ReduceEntry, DeclareSet, AssignSet, AddVertex, PrintInteger, PrintCondition, ApplyVertex, ApplyEdges, If, IfElse, While, For, BlockTree, Empty, Then}
+use Rattle.typed_tree.specs.BlockTree.{StatementKindTree, DeclareInteger, DeclareCondition, SetInteger, SetCondition, ReduceInteger, SetEntry, ReduceEntry, DeclareSet, AssignSet, AddVertex, PrintInteger, PrintCondition, ApplyVertex, ApplyEdges, If, IfElse, While, For, BlockTree, Empty, Then}
 use Rattle.algorithm_meaning.specs.State.{StateValue}
 use Rattle.algorithm_meaning.specs.declared.state.Depth.{Depth}
 use Rattle.plans.specs.Plan.{IsWithin, in_loop, behind, behind_all}
@@ -21,7 +21,7 @@ within_both d e f h k = record {
 pub within_loop : (d : Depth) → IsWithin d (in_loop d)
 within_loop d = record { integers = omega arith; conditions = omega arith; sets = omega arith }
 
-pub within_behind : (a : ActionTree) (d : Depth) → IsWithin d (behind a d)
+pub within_behind : (a : StatementKindTree) (d : Depth) → IsWithin d (behind a d)
 within_behind (DeclareInteger name e) d = record { integers = omega arith; conditions = omega arith; sets = omega arith }
 within_behind (DeclareCondition name c) d = record { integers = omega arith; conditions = omega arith; sets = omega arith }
 within_behind (DeclareSet name set) d = record { integers = omega arith; conditions = omega arith; sets = omega arith }

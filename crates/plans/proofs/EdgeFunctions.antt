@@ -2,7 +2,7 @@
 use Rattle.std.proofs.Common.{◌≡◌, ℕ, ◌==◌, ℤ, true, not, List, [], ◌∷◌, ◌++◌, slice_index_or, ap, sym, ◌∙◌}
 use Rattle.std.proofs.lemmas.List.{append-nil}
 use Rattle.edge_lists.specs.Edge.{Edge}
-use Rattle.typed_tree.specs.StepTree.{StepsTree}
+use Rattle.typed_tree.specs.FunctionStatementTree.{FunctionStatementsTree}
 use Rattle.algorithm_meaning.specs.EdgeApply.{gives, after_edges}
 use Rattle.typed_tree.specs.Access.{is_none_of, are_apart, steps_write}
 use Rattle.algorithm_meaning.specs.declared.state.SetBinding.{SetBinding}
@@ -11,18 +11,18 @@ use Rattle.plans.proofs.Beside.{AgreeBut}
 use Rattle.plans.proofs.GivenVectors.{AreFor, gives_for, each_differs}
 use Rattle.plans.proofs.Giving.{AreForOthers, given_along, edges_give, both_along, row_along}
 
-one_gives : (f : StepsTree) (sets : List SetBinding) (before : List (List ℤ)) (edges : List Edge) (xs : List (List ℤ))
+one_gives : (f : FunctionStatementsTree) (sets : List SetBinding) (before : List (List ℤ)) (edges : List Edge) (xs : List (List ℤ))
     → after_edges (f ∷ []) sets before edges xs ≡ given_along (gives f sets before) edges xs
 one_gives f sets before edges xs =
     edges_give (f ∷ []) sets before edges xs ∙ (λ i. given_along (λ e. append-nil (gives f sets before e) i) edges xs)
 
-two_give : (f g : StepsTree) (sets : List SetBinding) (before : List (List ℤ)) (edges : List Edge) (xs : List (List ℤ))
+two_give : (f g : FunctionStatementsTree) (sets : List SetBinding) (before : List (List ℤ)) (edges : List Edge) (xs : List (List ℤ))
     → after_edges (f ∷ g ∷ []) sets before edges xs ≡ given_along (λ e. gives f sets before e ++ gives g sets before e) edges xs
 two_give f g sets before edges xs =
     edges_give (f ∷ g ∷ []) sets before edges xs ∙ (λ i. given_along (λ e. gives f sets before e ++ append-nil (gives g sets before e) i) edges xs)
 
 -- a vector that the function does not write stays
-pub unwritten_stays : (f : StepsTree) (sets : List SetBinding) (before : List (List ℤ)) (edges : List Edge) (xs : List (List ℤ))
+pub unwritten_stays : (f : FunctionStatementsTree) (sets : List SetBinding) (before : List (List ℤ)) (edges : List Edge) (xs : List (List ℤ))
     → AgreeBut (steps_write f) (after_edges (f ∷ []) sets before edges xs) xs
 unwritten_stays f sets before edges xs vector h =
     ap (λ (ys : List (List ℤ)). slice_index_or ys vector []) (one_gives f sets before edges xs)
@@ -33,7 +33,7 @@ for_others : (cs ds : List Contribution) (vectors : List ℕ) → ((vector : ℕ
 for_others cs [] vectors differ h = tt
 for_others cs (d ∷ ds) vectors differ h = (differ d.vector h.0, for_others cs ds vectors differ h.1)
 
-module _ (f g : StepsTree) (apart : are_apart (steps_write g) (steps_write f) ≡ true) where
+module _ (f g : FunctionStatementsTree) (apart : are_apart (steps_write g) (steps_write f) ≡ true) where
   give_to_others : (sets : List SetBinding) (before : List (List ℤ)) (e e' : Edge) → AreForOthers (gives f sets before e) (gives g sets before e')
   give_to_others sets before e e' =
       for_others (gives f sets before e) (gives g sets before e') (steps_write f)

@@ -1,6 +1,6 @@
 -- Two edge applies together.
 use Rattle.std.proofs.Common.{◌≡◌, ℕ, ℤ, true, List, [], ◌∷◌, ◌++◌, length, Option, Some, None, slice_get, slice_index_or, ap, sym, ◌∙◌, refl}
-use Rattle.typed_tree.specs.StepTree.{FunctionTree, StepsTree}
+use Rattle.typed_tree.specs.FunctionStatementTree.{FunctionTree, FunctionStatementsTree}
 use Rattle.typed_tree.specs.ProgramTree.{ProgramTree}
 use Rattle.algorithm_meaning.specs.State.{GraphValue, StateValue}
 use Rattle.algorithm_meaning.specs.Entries.{with_vectors}
@@ -65,10 +65,10 @@ fit_together p d x y h =
     }
 
 module _ (p : ProgramTree) (g : GraphValue) (d : Depth) (x y : EdgeApplyTree) (s : StateValue) (fit : AreChecked p d x y) (deep : length s.sets ≡ d.sets) where
-  abbrev first : StepsTree
+  abbrev first : FunctionStatementsTree
   first = steps_of (slice_get p.edge_functions x.part.function)
 
-  abbrev second : StepsTree
+  abbrev second : FunctionStatementsTree
   second = steps_of (slice_get p.edge_functions y.part.function)
 
   abbrev edges : List Edge

@@ -1,6 +1,6 @@
 -- Each step leaves fewer.
 use Rattle.std.proofs.Common.{◌≡◌, ℕ, zero, suc, ◌+◌, ◌*◌, ◌<◌, ℤ, Bool, true, false, if◌then◌else◌, int_lt, List, [], ◌∷◌, length, Option, Some, None, slice_get, ap, sym, ◌∙◌, refl, arith, subst}
-use Rattle.typed_tree.specs.BlockTree.{ActionTree, DeclareInteger, DeclareCondition, SetInteger, SetCondition, ReduceInteger, SetEntry, ReduceEntry, DeclareSet, AssignSet, AddVertex, PrintInteger, PrintCondition, ApplyVertex, ApplyEdges, If, IfElse, While, For}
+use Rattle.typed_tree.specs.BlockTree.{StatementKindTree, DeclareInteger, DeclareCondition, SetInteger, SetCondition, ReduceInteger, SetEntry, ReduceEntry, DeclareSet, AssignSet, AddVertex, PrintInteger, PrintCondition, ApplyVertex, ApplyEdges, If, IfElse, While, For}
 use Rattle.typed_tree.specs.ProgramTree.{ProgramTree}
 use Rattle.algorithm_meaning.specs.State.{GraphValue, StateValue}
 use Rattle.algorithm_meaning.specs.Stand.{Stand, Live, Over, with_value, number_in, choice_in, vertex_in}
@@ -27,7 +27,7 @@ by_value (Some x) number n s go h = h x
 
 module _ (p : ProgramTree) (g : GraphValue) where
   -- a statement without a block uses no turn
-  turns_stay : (a : ActionTree) → HasNoBlock a → (number : ℕ) (s : StateValue) → HasTurns s.turns (after p g number a s)
+  turns_stay : (a : StatementKindTree) → HasNoBlock a → (number : ℕ) (s : StateValue) → HasTurns s.turns (after p g number a s)
   turns_stay (DeclareInteger name e) alone number s = by_value (number_in g.vertices e s) number s.turns s _ (λ n. refl)
   turns_stay (DeclareCondition name c) alone number s = by_value (choice_in g.vertices c s) number s.turns s _ (λ b. refl)
   turns_stay (SetInteger slot e) alone number s = by_value (number_in g.vertices e s) number s.turns s _ (λ n. refl)

@@ -1,7 +1,7 @@
 -- `for` on the machine.
 use Rattle.std.proofs.Common.{◌≡◌, ℕ, ◌+◌, ℤ, pos, int_lt, Bool, true, false, if◌then◌else◌, List, [], ◌∷◌, ◌++◌, Option, Some, None, slice_get, slice_index_or, ap, sym, ◌∙◌, refl, arith}
 use Rattle.std.proofs.Math.Seq.{get_or-append_seam}
-use Rattle.typed_tree.specs.IntegerTree.{IntegerTree}
+use Rattle.typed_tree.specs.IntExpressionTree.{IntExpressionTree}
 use Rattle.typed_tree.specs.BlockTree.{DeclareInteger}
 use Rattle.typed_tree.specs.ProgramTree.{ProgramTree}
 use Rattle.algorithm_meaning.specs.declared.outcome.End.TheVariants.{TurnsOver, Fault}
@@ -23,7 +23,7 @@ of_some : (a b : Bool) → Some a ≡ Some b → a ≡ b
 of_some a b e = cc
 
 -- where the instructions of a `for` stand
-pub record StandsFor (code : List InstructionTree) (index number name back to : ℕ) (first end : IntegerTree) (d : Depth) : Type 0 where
+pub record StandsFor (code : List InstructionTree) (index number name back to : ℕ) (first end : IntExpressionTree) (d : Depth) : Type 0 where
   pub at_first : slice_get code index ≡ Some (plain number d (Do (DeclareInteger name first)))
   pub at_end : slice_get code (index + 1) ≡ Some (loop_step number (with_integer d) d (Enter name end))
   pub at_test : slice_get code (index + 2) ≡ Some (loop_step number (in_loop d) d (UnlessBelow name to))
@@ -31,7 +31,7 @@ pub record StandsFor (code : List InstructionTree) (index number name back to : 
   pub at_advance : slice_get code back ≡ Some (plain number d (Advance name))
   pub at_jump : slice_get code (back + 1) ≡ Some (loop_step number (in_loop d) d (Jump (index + 2)))
 
-module _ (p : ProgramTree) (g : GraphValue) (code : List InstructionTree) (index number name back to : ℕ) (first end : IntegerTree) (d e : Depth) (loops : List LoopCounter) (stands : StandsFor code index number name back to first end d) where
+module _ (p : ProgramTree) (g : GraphValue) (code : List InstructionTree) (index number name back to : ℕ) (first end : IntExpressionTree) (d e : Depth) (loops : List LoopCounter) (stands : StandsFor code index number name back to first end d) where
   -- at the head of `for`
   abbrev IsAtFor : LoopCounter → StateValue → Configuration → Type 0
   IsAtFor r s c = (m : StateValue) × (forget_beyond (in_loop d) m ≡ pushed s r.next r.end) × (c ≡ At (index + 2) (r ∷ loops) m)

@@ -1,6 +1,6 @@
 -- Two applies that a plan does together fit.
 use Rattle.std.proofs.Common.{◌≡◌, ℕ, ◌+◌, nat_eq, ◌&&◌, Bool, true, false, if◌then◌else◌, List, [], ◌∷◌, Option, Some, None, slice_get, refl, arith}
-use Rattle.typed_tree.specs.BlockTree.{ActionTree, DeclareInteger, DeclareCondition, SetInteger, SetCondition, ReduceInteger, SetEntry, ReduceEntry, DeclareSet, AssignSet, AddVertex, PrintInteger, PrintCondition, ApplyVertex, ApplyEdges, If, IfElse, While, For, BlockTree, Empty, Then}
+use Rattle.typed_tree.specs.BlockTree.{StatementKindTree, DeclareInteger, DeclareCondition, SetInteger, SetCondition, ReduceInteger, SetEntry, ReduceEntry, DeclareSet, AssignSet, AddVertex, PrintInteger, PrintCondition, ApplyVertex, ApplyEdges, If, IfElse, While, For, BlockTree, Empty, Then}
 use Rattle.typed_tree.specs.ProgramTree.{ProgramTree}
 use Rattle.algorithm_meaning.specs.Function.{steps_of}
 use Rattle.apply_options.specs.ScheduleTree.{ScheduleTree, choice_at}
@@ -61,7 +61,7 @@ module _ (p : ProgramTree) where
   fused_fits true (Some operation) h = h
   fused_fits false o h = tt
 
-  company_fits : (s : ScheduleTree) (d : Depth) (is_done : Bool) (label : Option ℕ) (a : ActionTree) (rest : BlockTree) → CompanyFits (fusion_role_of p s d is_done label a rest)
+  company_fits : (s : ScheduleTree) (d : Depth) (is_done : Bool) (label : Option ℕ) (a : StatementKindTree) (rest : BlockTree) → CompanyFits (fusion_role_of p s d is_done label a rest)
   company_fits s d true label a rest = tt
   company_fits s d false label a Empty = tt
   company_fits s d false label a (Then number other b rest) =
@@ -81,7 +81,7 @@ module _ (p : ProgramTree) (s : ScheduleTree) where
 
   mutual
     -- what a statement, and what a block does together fits
-    action_fits : (a : ActionTree) (index number : ℕ) (label : Option ℕ) (d : Depth) → AllOf Fits (plan p s index d number label a)
+    action_fits : (a : StatementKindTree) (index number : ℕ) (label : Option ℕ) (d : Depth) → AllOf Fits (plan p s index d number label a)
     action_fits (DeclareInteger name e) index number label d = (tt, tt)
     action_fits (DeclareCondition name c) index number label d = (tt, tt)
     action_fits (SetInteger slot e) index number label d = (tt, tt)

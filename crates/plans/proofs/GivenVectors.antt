@@ -3,7 +3,7 @@ use Rattle.std.proofs.Common.{◌≡◌, ℕ, ◌==◌, ◌&&◌, ◌||◌, ℤ,
 use Rattle.std.specs.List.{list_all, list_any}
 use Rattle.std.proofs.lemmas.List.Folds.{list_all-append}
 use Rattle.apply_options.specs.declared.reduction.Reduction.{Reduction}
-use Rattle.typed_tree.specs.StepTree.{StepTree, DeclareInteger, DeclareCondition, SetInteger, SetCondition, ReduceInteger, SetEntry, ReduceEntry, If, IfElse, StepsTree, NoStep, StepThen}
+use Rattle.typed_tree.specs.FunctionStatementTree.{FunctionStatementTree, DeclareInteger, DeclareCondition, SetInteger, SetCondition, ReduceInteger, SetEntry, ReduceEntry, If, IfElse, FunctionStatementsTree, NoStep, StepThen}
 use Rattle.algorithm_meaning.specs.State.{edge_scope}
 use Rattle.algorithm_meaning.specs.Value.{value, truth}
 use Rattle.algorithm_meaning.specs.Function.{WorkValue, first_work, after_set, after_reduce, after_step, after_steps, after_block}
@@ -29,7 +29,7 @@ all_two P xs ys h k = list_all-append P xs ys ∙ (λ i. h i && k i)
 
 mutual
   -- a vector that is written is used
-  writes_of_step : (P : ℕ → Bool) (step : StepTree) → list_all P (step_uses step) ≡ true → list_all P (step_writes step) ≡ true
+  writes_of_step : (P : ℕ → Bool) (step : FunctionStatementTree) → list_all P (step_uses step) ≡ true → list_all P (step_writes step) ≡ true
   writes_of_step P (DeclareInteger name e) h = refl
   writes_of_step P (DeclareCondition name c) h = refl
   writes_of_step P (SetInteger slot e) h = refl
@@ -42,7 +42,7 @@ mutual
       let blocks = both_parts P (steps_use body) (steps_use other) (both_parts P (condition_reads c) (steps_use body ++ steps_use other) h).1 in
       all_two P (steps_write body) (steps_write other) (writes_of_steps P body blocks.0) (writes_of_steps P other blocks.1)
 
-  pub writes_of_steps : (P : ℕ → Bool) (steps : StepsTree) → list_all P (steps_use steps) ≡ true → list_all P (steps_write steps) ≡ true
+  pub writes_of_steps : (P : ℕ → Bool) (steps : FunctionStatementsTree) → list_all P (steps_use steps) ≡ true → list_all P (steps_write steps) ≡ true
   writes_of_steps P NoStep h = refl
   writes_of_steps P (StepThen step rest) h =
       let both = both_parts P (step_uses step) (steps_use rest) h in
@@ -54,7 +54,7 @@ either_given P false v w h k = k
 
 module _ (P : ℕ → Bool) (sets : List SetBinding) (writing : _) (sets_nothing : (vector : ℕ) (n : ℤ) (w : WorkValue) → after_set writing vector n w ≡ w) (gives_number : (vector : ℕ) (r : Reduction) (n : ℤ) (w : WorkValue) → after_reduce writing vector r n w ≡ record w { given = w.given ++ record { vector = vector; reduction = r; number = n } ∷ [] }) where
   mutual
-    step_gives : (step : StepTree) (w : WorkValue) → list_all P (step_writes step) ≡ true → AreFor P w.given → AreFor P (after_step writing sets step w).given
+    step_gives : (step : FunctionStatementTree) (w : WorkValue) → list_all P (step_writes step) ≡ true → AreFor P w.given → AreFor P (after_step writing sets step w).given
     step_gives (DeclareInteger name e) w writes h = h
     step_gives (DeclareCondition name c) w writes h = h
     step_gives (SetInteger slot e) w writes h = h
@@ -72,14 +72,14 @@ module _ (P : ℕ → Bool) (sets : List SetBinding) (writing : _) (sets_nothing
         either_given P (truth w.vectors sets w.scope c) (after_block w (after_steps writing sets body w)) (after_block w (after_steps writing sets other w))
         (steps_give body w blocks.0 h) (steps_give other w blocks.1 h)
 
-    steps_give : (steps : StepsTree) (w : WorkValue) → list_all P (steps_write steps) ≡ true → AreFor P w.given → AreFor P (after_steps writing sets steps w).given
+    steps_give : (steps : FunctionStatementsTree) (w : WorkValue) → list_all P (steps_write steps) ≡ true → AreFor P w.given → AreFor P (after_steps writing sets steps w).given
     steps_give NoStep w writes h = h
     steps_give (StepThen step rest) w writes h =
         let both = both_parts P (step_writes step) (steps_write rest) writes in
         steps_give rest (after_step writing sets step w) both.1 (step_gives step w both.0 h)
 
 -- an edge function gives numbers for the vectors that it writes
-pub gives_for : (P : ℕ → Bool) (steps : StepsTree) (sets : List SetBinding) (before : List (List ℤ)) (edge : Edge) → list_all P (steps_write steps) ≡ true → AreFor P (gives steps sets before edge)
+pub gives_for : (P : ℕ → Bool) (steps : FunctionStatementsTree) (sets : List SetBinding) (before : List (List ℤ)) (edge : Edge) → list_all P (steps_write steps) ≡ true → AreFor P (gives steps sets before edge)
 gives_for P steps sets before edge writes = steps_give P sets _ (λ vector n w. refl) (λ vector r n w. refl) steps (first_work before (edge_scope edge)) writes tt
 
 none_from : (a b c : Bool) → not (a || b) ≡ true → (not b ≡ true → c ≡ true) → not a && c ≡ true

@@ -2,7 +2,7 @@
 use Rattle.std.proofs.Common.{◌≡◌, ℕ, zero, suc, ◌==◌, ℤ, pos, true, false, not, List, [], ◌∷◌, ◌++◌, slice_index_or, slice_set, ap, sym, ◌∙◌, refl, arith}
 use Rattle.std.proofs.lemmas.Bool.Decides.{nat_tests}
 use Rattle.edge_lists.specs.Edge.{Edge}
-use Rattle.typed_tree.specs.StepTree.{StepsTree}
+use Rattle.typed_tree.specs.FunctionStatementTree.{FunctionStatementsTree}
 use Rattle.algorithm_meaning.specs.Arithmetic.{reduced}
 use Rattle.algorithm_meaning.specs.Value.{reduce_at}
 use Rattle.algorithm_meaning.specs.EdgeApply.{all_give, with_given, after_edges}
@@ -68,7 +68,7 @@ abbrev pub given_along : (Edge → List Contribution) → List Edge → List (Li
 given_along F [] xs = xs
 given_along F (edge ∷ edges) xs = given_along F edges (with_given edge.1 (F edge) xs)
 
-pub edges_give : (functions : List StepsTree) (sets : List SetBinding) (before : List (List ℤ)) (edges : List Edge) (xs : List (List ℤ))
+pub edges_give : (functions : List FunctionStatementsTree) (sets : List SetBinding) (before : List (List ℤ)) (edges : List Edge) (xs : List (List ℤ))
     → after_edges functions sets before edges xs ≡ given_along (all_give functions sets before) edges xs
 edges_give functions sets before [] xs = refl
 edges_give functions sets before (edge ∷ edges) xs = edges_give functions sets before edges (with_given edge.1 (all_give functions sets before edge) xs)

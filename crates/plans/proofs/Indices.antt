@@ -2,7 +2,7 @@
 use Rattle.std.proofs.Common.{◌≡◌, ℕ, ◌+◌, ◌<◌, Bool, false, List, [], ◌∷◌, ◌++◌, length, Option, Some, slice_get, ap, ◌∙◌, refl, arith, subst, append_assoc, length-append}
 use Rattle.std.proofs.Math.Seq.{get_or-append_seam}
 use Rattle.std.proofs.lemmas.Option.{slice_get-get_or}
-use Rattle.typed_tree.specs.BlockTree.{ActionTree, DeclareInteger, DeclareCondition, SetInteger, SetCondition, ReduceInteger, SetEntry, ReduceEntry, DeclareSet, AssignSet, AddVertex, PrintInteger, PrintCondition, ApplyVertex, ApplyEdges, If, IfElse, While, For, BlockTree, Empty, Then}
+use Rattle.typed_tree.specs.BlockTree.{StatementKindTree, DeclareInteger, DeclareCondition, SetInteger, SetCondition, ReduceInteger, SetEntry, ReduceEntry, DeclareSet, AssignSet, AddVertex, PrintInteger, PrintCondition, ApplyVertex, ApplyEdges, If, IfElse, While, For, BlockTree, Empty, Then}
 use Rattle.typed_tree.specs.ProgramTree.{ProgramTree}
 use Rattle.apply_options.specs.ScheduleTree.{ScheduleTree}
 use Rattle.algorithm_meaning.specs.declared.state.Depth.{Depth}
@@ -48,7 +48,7 @@ length_in WithPrevious s number label d is n e = refl
 module _ (p : ProgramTree) (s : ScheduleTree) where
   mutual
     -- each statement has as many instructions as its size says
-    pub length-plan : (a : ActionTree) (index : ℕ) (d : Depth) (number : ℕ) (label : Option ℕ) → length (plan p s index d number label a) ≡ size p s d a
+    pub length-plan : (a : StatementKindTree) (index : ℕ) (d : Depth) (number : ℕ) (label : Option ℕ) → length (plan p s index d number label a) ≡ size p s d a
     length-plan (If c body) index d number label = omega (arith, length-plan_all body (index + 1) d false)
     length-plan (IfElse c body other) index d number label =
         let to = index + 1 + size_all p s d false body + 1 in

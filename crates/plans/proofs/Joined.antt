@@ -1,6 +1,6 @@
 -- What a pair of statements that one instruction does owes.
 use Rattle.std.proofs.Common.{◌≡◌, ℕ, ◌+◌, List, subst}
-use Rattle.typed_tree.specs.BlockTree.{ActionTree, BlockTree, Empty, Then}
+use Rattle.typed_tree.specs.BlockTree.{StatementKindTree, BlockTree, Empty, Then}
 use Rattle.typed_tree.specs.ProgramTree.{ProgramTree}
 use Rattle.algorithm_meaning.specs.State.{GraphValue, StateValue}
 use Rattle.algorithm_meaning.specs.Stand.{Live}
@@ -15,12 +15,12 @@ use Rattle.plans.proofs.Proper.{IsProper, HasNoBlock, Leaves, alone-leaves}
 
 module _ (p : ProgramTree) (g : GraphValue) where
   -- a statement without a block that always goes on, in this state
-  pub record IsFaultless (a : ActionTree) (f : StateValue → StateValue) : Type 0 where
+  pub record IsFaultless (a : StatementKindTree) (f : StateValue → StateValue) : Type 0 where
     pub alone : HasNoBlock a
     pub means : (number : ℕ) (s : StateValue) → after p g number a s ≡ Live (f s)
 
   -- an operation does two statements
-  pub record DoesBoth (operation : OperationTree) (d : Depth) (a b : ActionTree) : Type 0 where
+  pub record DoesBoth (operation : OperationTree) (d : Depth) (a b : StatementKindTree) : Type 0 where
     pub first : StateValue → StateValue
     pub second : StateValue → StateValue
     pub first_means : IsFaultless a first
@@ -29,12 +29,12 @@ module _ (p : ProgramTree) (g : GraphValue) where
         → act p g operation number shown index loops s ≡ At (index + 1) loops (second (first s))
 
   -- what holds of a statement in such company
-  abbrev pub IsGoodCompany : FusionRole → Depth → ActionTree → BlockTree → Type 0
+  abbrev pub IsGoodCompany : FusionRole → Depth → StatementKindTree → BlockTree → Type 0
   IsGoodCompany Alone d a rest = Unit {0}
   IsGoodCompany WithPrevious d a rest = ⊥
   IsGoodCompany (WithNext operation) d a Empty = ⊥
   IsGoodCompany (WithNext operation) d a (Then number label b rest) = DoesBoth operation d a b
 
-  pub faultless-proper : (a : ActionTree) (f : StateValue → StateValue) (d : Depth) (turns : ℕ) (s : StateValue) → IsFaultless a f → IsProper d turns s → IsProper (behind a d) turns (f s)
+  pub faultless-proper : (a : StatementKindTree) (f : StateValue → StateValue) (d : Depth) (turns : ℕ) (s : StateValue) → IsFaultless a f → IsProper d turns s → IsProper (behind a d) turns (f s)
   faultless-proper a f d turns s faultless q =
       subst (Leaves d (behind a d) turns) (faultless.means 0 s) (alone-leaves p g 0 d turns s q a faultless.alone)

@@ -3,11 +3,11 @@ use Rattle.std.proofs.Common.{◌≡◌, ℕ, ◌&&◌, ℤ, pos, Bool, true, fa
 use Rattle.apply_options.specs.declared.reduction.Reduction.{Reduction}
 use Rattle.typed_tree.specs.declared.expression.Endpoint.{Endpoint}
 use Rattle.typed_tree.specs.declared.expression.Endpoint.TheVariants as endpoint
-use Rattle.typed_tree.specs.IntegerTree as integer
-use Rattle.typed_tree.specs.IntegerTree.{IntegerTree}
-use Rattle.typed_tree.specs.ConditionTree as condition
-use Rattle.typed_tree.specs.ConditionTree.{ConditionTree}
-use Rattle.typed_tree.specs.StepTree.{StepTree, DeclareInteger, DeclareCondition, SetInteger, SetCondition, ReduceInteger, SetEntry, ReduceEntry, If, IfElse, StepsTree, NoStep, StepThen}
+use Rattle.typed_tree.specs.IntExpressionTree as integer
+use Rattle.typed_tree.specs.IntExpressionTree.{IntExpressionTree}
+use Rattle.typed_tree.specs.BoolExpressionTree as condition
+use Rattle.typed_tree.specs.BoolExpressionTree.{BoolExpressionTree}
+use Rattle.typed_tree.specs.FunctionStatementTree.{FunctionStatementTree, DeclareInteger, DeclareCondition, SetInteger, SetCondition, ReduceInteger, SetEntry, ReduceEntry, If, IfElse, FunctionStatementsTree, NoStep, StepThen}
 use Rattle.algorithm_meaning.specs.Arithmetic.{negative, arithmetic, compared, connected, reduced}
 use Rattle.algorithm_meaning.specs.State.{ScopeValue, vertex_scope}
 use Rattle.algorithm_meaning.specs.Value.{vertex_at, entry, with_entry, reduce_at, value, truth}
@@ -40,7 +40,7 @@ other_destination : (u : ℕ) (v w : WorkValue) → IsAlike u v w → w.scope.de
 other_destination u v w h = ap (λ (s : ScopeValue). s.destination) (sym h.scope) ∙ h.destination
 
 module _ (u : ℕ) (sets : List SetBinding) where
-  value_alike : (v w : WorkValue) → IsAlike u v w → (e : IntegerTree) → integer_is_local e ≡ true → value v.vectors sets v.scope e ≡ value w.vectors sets w.scope e
+  value_alike : (v w : WorkValue) → IsAlike u v w → (e : IntExpressionTree) → integer_is_local e ≡ true → value v.vectors sets v.scope e ≡ value w.vectors sets w.scope e
   value_alike v w h (integer.Number n) local = refl
   value_alike v w h (integer.Constant name n) local = refl
   value_alike v w h (integer.Variable slot) local = ap (λ (s : ScopeValue). slice_index_or s.integers slot.index (pos 0)) h.scope
@@ -59,7 +59,7 @@ module _ (u : ℕ) (sets : List SetBinding) where
       let y = value_alike v w h b both.1 in
       λ i. arithmetic o (x i) (y i)
 
-  truth_alike : (v w : WorkValue) → IsAlike u v w → (c : ConditionTree) → condition_is_local c ≡ true → truth v.vectors sets v.scope c ≡ truth w.vectors sets w.scope c
+  truth_alike : (v w : WorkValue) → IsAlike u v w → (c : BoolExpressionTree) → condition_is_local c ≡ true → truth v.vectors sets v.scope c ≡ truth w.vectors sets w.scope c
   truth_alike v w h (condition.Literal b) local = refl
   truth_alike v w h (condition.Constant name b) local = refl
   truth_alike v w h (condition.Variable slot) local = ap (λ (s : ScopeValue). slice_index_or s.conditions slot.index false) h.scope
@@ -122,7 +122,7 @@ module _ (u : ℕ) (sets : List SetBinding) (writing : _) (sets_at_once : (vecto
       (subst (λ (z : WorkValue). IsAlike u (record v { vectors = reduce_at v.vectors vector v.scope.source r x }) z) (sym (reduces_at_once vector r y w)) both)
 
   mutual
-    pub step_alike : (step : StepTree) (v w : WorkValue) → step_is_local step ≡ true → IsAlike u v w → IsAlike u (after_step writing sets step v) (after_step writing sets step w)
+    pub step_alike : (step : FunctionStatementTree) (v w : WorkValue) → step_is_local step ≡ true → IsAlike u v w → IsAlike u (after_step writing sets step v) (after_step writing sets step w)
     step_alike (DeclareInteger name e) v w local h =
         let x = value_alike u sets v w h e local in
         record { columns = h.columns; scope = λ i. new_integer (h.scope i) (x i); source = h.source; destination = h.destination }
@@ -154,19 +154,19 @@ module _ (u : ℕ) (sets : List SetBinding) (writing : _) (sets_at_once : (vecto
         (block_alike u sets v (after_steps writing sets body v) w (after_steps writing sets body w) h (steps_alike body v w blocks.0 h))
         (block_alike u sets v (after_steps writing sets other v) w (after_steps writing sets other w) h (steps_alike other v w blocks.1 h))
 
-    pub steps_alike : (steps : StepsTree) (v w : WorkValue) → steps_are_local steps ≡ true → IsAlike u v w → IsAlike u (after_steps writing sets steps v) (after_steps writing sets steps w)
+    pub steps_alike : (steps : FunctionStatementsTree) (v w : WorkValue) → steps_are_local steps ≡ true → IsAlike u v w → IsAlike u (after_steps writing sets steps v) (after_steps writing sets steps w)
     steps_alike NoStep v w local h = h
     steps_alike (StepThen step rest) v w local h =
         let both = and_parts (step_is_local step) (steps_are_local rest) local in
         steps_alike rest (after_step writing sets step v) (after_step writing sets step w) both.1 (step_alike step v w both.0 h)
 
-  columns_alike : (steps : StepsTree) (xs ys : List (List ℤ)) → steps_are_local steps ≡ true → column u xs ≡ column u ys
+  columns_alike : (steps : FunctionStatementsTree) (xs ys : List (List ℤ)) → steps_are_local steps ≡ true → column u xs ≡ column u ys
       → column u (after_steps writing sets steps (first_work xs (vertex_scope u))).vectors ≡ column u (after_steps writing sets steps (first_work ys (vertex_scope u))).vectors
   columns_alike steps xs ys local h =
       let r = steps_alike steps (first_work xs (vertex_scope u)) (first_work ys (vertex_scope u)) local (record { columns = h; scope = refl; source = refl; destination = refl }) in
       r.columns
 
 -- a function at a vertex works alike where the entries of the vertex are the same
-pub vertex_alike : (u : ℕ) (sets : List SetBinding) (steps : StepsTree) (xs ys : List (List ℤ)) → steps_are_local steps ≡ true → column u xs ≡ column u ys
+pub vertex_alike : (u : ℕ) (sets : List SetBinding) (steps : FunctionStatementsTree) (xs ys : List (List ℤ)) → steps_are_local steps ≡ true → column u xs ≡ column u ys
     → column u (after_vertex steps sets u xs) ≡ column u (after_vertex steps sets u ys)
 vertex_alike u sets steps xs ys local h = columns_alike u sets _ (λ vector n w. refl) (λ vector r n w. refl) steps xs ys local h

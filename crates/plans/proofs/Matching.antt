@@ -5,7 +5,7 @@ use Rattle.std.specs.List.{filter}
 use Rattle.typed_tree.specs.declared.statement.VertexFilter.{VertexFilter}
 use Rattle.typed_tree.specs.declared.statement.VertexFilter.TheVariants as end
 use Rattle.typed_tree.specs.declared.statement.ApplyEnds.{ApplyEnds}
-use Rattle.typed_tree.specs.StepTree.{FunctionTree}
+use Rattle.typed_tree.specs.FunctionStatementTree.{FunctionTree}
 use Rattle.algorithm_meaning.specs.State.{GraphValue, StateValue}
 use Rattle.algorithm_meaning.specs.Value.{members_of}
 use Rattle.algorithm_meaning.specs.Function.{steps_of}

@@ -1,7 +1,7 @@
 -- Functions that work on their own vertex leave other vertices alone.
 use Rattle.std.proofs.Common.{◌≡◌, ℕ, ◌==◌, ◌&&◌, ℤ, Bool, true, false, cond, List, Option, ap, ◌∙◌, refl}
 use Rattle.apply_options.specs.declared.reduction.Reduction.{Reduction}
-use Rattle.typed_tree.specs.StepTree.{StepTree, DeclareInteger, DeclareCondition, SetInteger, SetCondition, ReduceInteger, SetEntry, ReduceEntry, If, IfElse, StepsTree, NoStep, StepThen}
+use Rattle.typed_tree.specs.FunctionStatementTree.{FunctionStatementTree, DeclareInteger, DeclareCondition, SetInteger, SetCondition, ReduceInteger, SetEntry, ReduceEntry, If, IfElse, FunctionStatementsTree, NoStep, StepThen}
 use Rattle.algorithm_meaning.specs.Arithmetic.{reduced}
 use Rattle.algorithm_meaning.specs.State.{vertex_scope}
 use Rattle.algorithm_meaning.specs.Value.{entry, with_entry, reduce_at, value, truth}
@@ -22,7 +22,7 @@ module _ (u v : ℕ) (apart : (u == v) ≡ false) (sets : List SetBinding) (writ
   written_elsewhere w h vector x = ap (λ (y : ℕ). column v (with_entry w.vectors vector y x)) h.source ∙ column-elsewhere w.vectors vector u v x apart
 
   mutual
-    after_step_elsewhere : (step : StepTree) (w : WorkValue) → step_is_local step ≡ true → IsAlike u w w → column v (after_step writing sets step w).vectors ≡ column v w.vectors
+    after_step_elsewhere : (step : FunctionStatementTree) (w : WorkValue) → step_is_local step ≡ true → IsAlike u w w → column v (after_step writing sets step w).vectors ≡ column v w.vectors
     after_step_elsewhere (DeclareInteger name e) w local h = refl
     after_step_elsewhere (DeclareCondition name c) w local h = refl
     after_step_elsewhere (SetInteger slot e) w local h = refl
@@ -44,17 +44,17 @@ module _ (u v : ℕ) (apart : (u == v) ≡ false) (sets : List SetBinding) (writ
         either_column (truth w.vectors sets w.scope c) v (after_block w (after_steps writing sets body w)) (after_block w (after_steps writing sets other w)) (column v w.vectors)
         (after_steps_elsewhere body w blocks.0 h) (after_steps_elsewhere other w blocks.1 h)
 
-    after_steps_elsewhere : (steps : StepsTree) (w : WorkValue) → steps_are_local steps ≡ true → IsAlike u w w → column v (after_steps writing sets steps w).vectors ≡ column v w.vectors
+    after_steps_elsewhere : (steps : FunctionStatementsTree) (w : WorkValue) → steps_are_local steps ≡ true → IsAlike u w w → column v (after_steps writing sets steps w).vectors ≡ column v w.vectors
     after_steps_elsewhere NoStep w local h = refl
     after_steps_elsewhere (StepThen step rest) w local h =
         let both = and_parts (step_is_local step) (steps_are_local rest) local in
         after_steps_elsewhere rest (after_step writing sets step w) both.1 (step_alike u sets writing sets_at_once reduces_at_once step w w both.0 h)
         ∙ after_step_elsewhere step w both.0 h
 
-  column_elsewhere : (steps : StepsTree) (vectors : List (List ℤ)) → steps_are_local steps ≡ true
+  column_elsewhere : (steps : FunctionStatementsTree) (vectors : List (List ℤ)) → steps_are_local steps ≡ true
       → column v (after_steps writing sets steps (first_work vectors (vertex_scope u))).vectors ≡ column v vectors
   column_elsewhere steps vectors local = after_steps_elsewhere steps (first_work vectors (vertex_scope u)) local (record { columns = refl; scope = refl; source = refl; destination = refl })
 
-pub vertex_elsewhere : (u v : ℕ) → (u == v) ≡ false → (sets : List SetBinding) (steps : StepsTree) (vectors : List (List ℤ)) → steps_are_local steps ≡ true
+pub vertex_elsewhere : (u v : ℕ) → (u == v) ≡ false → (sets : List SetBinding) (steps : FunctionStatementsTree) (vectors : List (List ℤ)) → steps_are_local steps ≡ true
     → column v (after_vertex steps sets u vectors) ≡ column v vectors
 vertex_elsewhere u v apart sets steps vectors local = column_elsewhere u v apart sets _ (λ vector n w. refl) (λ vector r n w. refl) steps vectors local

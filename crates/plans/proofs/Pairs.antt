@@ -2,8 +2,8 @@
 use Rattle.std.proofs.Common.{◌≡◌, ℕ, ◌+◌, nat_eq, ◌&&◌, Bool, true, false, if◌then◌else◌, Option, Some, None, slice_get, ap, ◌∙◌, refl}
 use Rattle.std.proofs.lemmas.Bool.{eqb-true}
 use Rattle.typed_tree.specs.declared.statement.SetValue.TheVariants as set
-use Rattle.typed_tree.specs.BlockTree.{ActionTree, DeclareSet, AssignSet, ApplyVertex, ApplyEdges, BlockTree, Empty, Then}
-use Rattle.typed_tree.specs.StepTree.{FunctionTree}
+use Rattle.typed_tree.specs.BlockTree.{StatementKindTree, DeclareSet, AssignSet, ApplyVertex, ApplyEdges, BlockTree, Empty, Then}
+use Rattle.typed_tree.specs.FunctionStatementTree.{FunctionTree}
 use Rattle.typed_tree.specs.ProgramTree.{ProgramTree}
 use Rattle.algorithm_meaning.specs.State.{GraphValue, StateValue}
 use Rattle.algorithm_meaning.specs.Value.{members_of}
@@ -27,11 +27,11 @@ local_steps (Some f) h = h
 
 module _ (p : ProgramTree) (g : GraphValue) where
   -- the statement is this apply
-  abbrev IsEdgeApply : ActionTree → Option EdgeApplyTree → Type 0
+  abbrev IsEdgeApply : StatementKindTree → Option EdgeApplyTree → Type 0
   IsEdgeApply a None = Unit {0}
   IsEdgeApply a (Some x) = IsFaultless p g a (after_part p g x)
 
-  is_edge_apply : (a : ActionTree) → IsEdgeApply a (edge_apply_of a)
+  is_edge_apply : (a : StatementKindTree) → IsEdgeApply a (edge_apply_of a)
   is_edge_apply (ApplyEdges ends function) = record { alone = tt; means = λ number s. refl }
   is_edge_apply (DeclareSet name (set.Modified ends function vector)) = record { alone = tt; means = λ number s. refl }
   is_edge_apply (AssignSet slot (set.Modified ends function vector)) = record { alone = tt; means = λ number s. refl }
@@ -40,11 +40,11 @@ module _ (p : ProgramTree) (g : GraphValue) where
   abbrev after_vertex_apply : VertexApplyTree → StateValue → StateValue
   after_vertex_apply x s = after_apply_vertex p.vertex_functions x.set.index x.function s
 
-  abbrev IsVertexApply : ActionTree → Option VertexApplyTree → Type 0
+  abbrev IsVertexApply : StatementKindTree → Option VertexApplyTree → Type 0
   IsVertexApply a None = Unit {0}
   IsVertexApply a (Some x) = IsFaultless p g a (after_vertex_apply x)
 
-  is_vertex_apply : (a : ActionTree) → IsVertexApply a (vertex_apply_of a)
+  is_vertex_apply : (a : StatementKindTree) → IsVertexApply a (vertex_apply_of a)
   is_vertex_apply (ApplyVertex set function) = record { alone = tt; means = λ number s. refl }
   is_vertex_apply a = tt
 
@@ -61,11 +61,11 @@ module _ (p : ProgramTree) (g : GraphValue) where
       (eqb-true x.set.index y.set.index fits.0)
 
   -- an operation, if there is one, does both
-  abbrev DoesBothIf : Option OperationTree → Depth → ActionTree → ActionTree → Type 0
+  abbrev DoesBothIf : Option OperationTree → Depth → StatementKindTree → StatementKindTree → Type 0
   DoesBothIf None d a b = Unit {0}
   DoesBothIf (Some operation) d a b = DoesBoth p g operation d a b
 
-  edges_if : (d : Depth) (a b : ActionTree) (x y : EdgeApplyTree) (fits : Bool) → edges_fit p d x y ≡ fits → IsFaultless p g a (after_part p g x) → IsFaultless p g b (after_part p g y)
+  edges_if : (d : Depth) (a b : StatementKindTree) (x y : EdgeApplyTree) (fits : Bool) → edges_fit p d x y ≡ fits → IsFaultless p g a (after_part p g x) → IsFaultless p g b (after_part p g y)
       → DoesBothIf (if fits then Some (ApplyEdgesTogether x.ends x.part y.part) else None) d a b
   edges_if d a b x y false e h k = tt
   edges_if d a b x y true e h k = record {
@@ -76,7 +76,7 @@ module _ (p : ProgramTree) (g : GraphValue) where
     acts = λ number shown index loops turns s q. ap (At (index + 1) loops) (edges_at_once p g d x y s e (ap (λ (d : Depth). d.sets) q.deep));
   }
 
-  vertices_if : (d : Depth) (a b : ActionTree) (x y : VertexApplyTree) (fits : Bool) → vertices_fit p x y ≡ fits → IsFaultless p g a (after_vertex_apply x) → IsFaultless p g b (after_vertex_apply y)
+  vertices_if : (d : Depth) (a b : StatementKindTree) (x y : VertexApplyTree) (fits : Bool) → vertices_fit p x y ≡ fits → IsFaultless p g a (after_vertex_apply x) → IsFaultless p g b (after_vertex_apply y)
       → DoesBothIf (if fits then Some (ApplyVerticesTogether x.set x.function y.function) else None) d a b
   vertices_if d a b x y false e h k = tt
   vertices_if d a b x y true e h k = record {
@@ -87,38 +87,38 @@ module _ (p : ProgramTree) (g : GraphValue) where
     acts = λ number shown index loops turns s q. ap (At (index + 1) loops) (vertices_at_once x y d turns s e q);
   }
 
-  edges_do_both : (d : Depth) (a b : ActionTree) (x y : Option EdgeApplyTree) → IsEdgeApply a x → IsEdgeApply b y → DoesBothIf (edges_together p d x y) d a b
+  edges_do_both : (d : Depth) (a b : StatementKindTree) (x y : Option EdgeApplyTree) → IsEdgeApply a x → IsEdgeApply b y → DoesBothIf (edges_together p d x y) d a b
   edges_do_both d a b None y h k = tt
   edges_do_both d a b (Some x) None h k = tt
   edges_do_both d a b (Some x) (Some y) h k = edges_if d a b x y (edges_fit p d x y) refl h k
 
-  vertices_do_both : (d : Depth) (a b : ActionTree) (x y : Option VertexApplyTree) → IsVertexApply a x → IsVertexApply b y → DoesBothIf (vertices_together p x y) d a b
+  vertices_do_both : (d : Depth) (a b : StatementKindTree) (x y : Option VertexApplyTree) → IsVertexApply a x → IsVertexApply b y → DoesBothIf (vertices_together p x y) d a b
   vertices_do_both d a b None y h k = tt
   vertices_do_both d a b (Some x) None h k = tt
   vertices_do_both d a b (Some x) (Some y) h k = vertices_if d a b x y (vertices_fit p x y) refl h k
 
-  either_does_both : (o other : Option OperationTree) (d : Depth) (a b : ActionTree) → DoesBothIf o d a b → DoesBothIf other d a b → DoesBothIf (either o other) d a b
+  either_does_both : (o other : Option OperationTree) (d : Depth) (a b : StatementKindTree) → DoesBothIf o d a b → DoesBothIf other d a b → DoesBothIf (either o other) d a b
   either_does_both None other d a b h k = k
   either_does_both (Some operation) other d a b h k = h
 
-  together_does_both : (d : Depth) (a b : ActionTree) → DoesBothIf (together p d a b) d a b
+  together_does_both : (d : Depth) (a b : StatementKindTree) → DoesBothIf (together p d a b) d a b
   together_does_both d a b =
       either_does_both (edges_together p d (edge_apply_of a) (edge_apply_of b)) (vertices_together p (vertex_apply_of a) (vertex_apply_of b)) d a b
       (edges_do_both d a b (edge_apply_of a) (edge_apply_of b) (is_edge_apply a) (is_edge_apply b))
       (vertices_do_both d a b (vertex_apply_of a) (vertex_apply_of b) (is_vertex_apply a) (is_vertex_apply b))
 
-  good_with_next : (o : Option OperationTree) (d : Depth) (a b : ActionTree) (number : ℕ) (label : Option ℕ) (rest : BlockTree) → DoesBothIf o d a b
+  good_with_next : (o : Option OperationTree) (d : Depth) (a b : StatementKindTree) (number : ℕ) (label : Option ℕ) (rest : BlockTree) → DoesBothIf o d a b
       → IsGoodCompany p g (with_next o) d a (Then number label b rest)
   good_with_next None d a b number label rest h = tt
   good_with_next (Some operation) d a b number label rest h = h
 
-  good_if_fused : (fused : Bool) (o : Option OperationTree) (d : Depth) (a b : ActionTree) (number : ℕ) (label : Option ℕ) (rest : BlockTree) → DoesBothIf o d a b
+  good_if_fused : (fused : Bool) (o : Option OperationTree) (d : Depth) (a b : StatementKindTree) (number : ℕ) (label : Option ℕ) (rest : BlockTree) → DoesBothIf o d a b
       → IsGoodCompany p g (if fused then with_next o else Alone) d a (Then number label b rest)
   good_if_fused true o d a b number label rest h = good_with_next o d a b number label rest h
   good_if_fused false o d a b number label rest h = tt
 
   -- each statement is in good company
-  pub company_is_good : (schedule : ScheduleTree) (d : Depth) (label : Option ℕ) (a : ActionTree) (rest : BlockTree) → IsGoodCompany p g (fusion_role_of p schedule d false label a rest) d a rest
+  pub company_is_good : (schedule : ScheduleTree) (d : Depth) (label : Option ℕ) (a : StatementKindTree) (rest : BlockTree) → IsGoodCompany p g (fusion_role_of p schedule d false label a rest) d a rest
   company_is_good schedule d label a Empty = tt
   company_is_good schedule d label a (Then number other b rest) =
       good_if_fused (is_with (choice_at label schedule).fused other) (together p d a b) d a b number other rest (together_does_both d a b)

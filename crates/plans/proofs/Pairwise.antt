@@ -3,7 +3,7 @@ use Rattle.std.proofs.Common.{◌≡◌, ◌<◌, ◌+◌, ℕ, zero, suc, List,
 use Rattle.std.proofs.lemmas.List.{map-append, take_more}
 use Rattle.std.specs.Option.{unwrap_or}
 use Rattle.algorithm_meaning.specs.Function.{steps_of}
-use Rattle.typed_tree.specs.StepTree.{StepsTree, NoStep, FunctionTree}
+use Rattle.typed_tree.specs.FunctionStatementTree.{FunctionStatementsTree, NoStep, FunctionTree}
 use Rattle.plans.specs.Kernels.{ArePairwise}
 
 -- one more on either side
@@ -21,7 +21,7 @@ pairwise_append R (a ∷ xs) [] vs ws all more = absurd all
 pairwise_append R (a ∷ xs) (b ∷ ys) vs ws all more = (all.0, pairwise_append R xs ys vs ws all.1 more)
 
 -- the kernel at an index is that of the statements there, and what stands in for it that of none
-pub pairwise_at : {K : Type 0} (R : K → StepsTree → Type 0) (ks : List K) (fs : List FunctionTree) (nothing : K) → ArePairwise (λ k f. R k f.steps) ks fs → R nothing NoStep
+pub pairwise_at : {K : Type 0} (R : K → FunctionStatementsTree → Type 0) (ks : List K) (fs : List FunctionTree) (nothing : K) → ArePairwise (λ k f. R k f.steps) ks fs → R nothing NoStep
     → (index : ℕ) → R (unwrap_or (slice_get ks index) nothing) (steps_of (slice_get fs index))
 pairwise_at R [] [] nothing all none index = none
 pairwise_at R [] (f ∷ fs) nothing all none index = absurd all

@@ -3,7 +3,7 @@ use Rattle.std.proofs.Common.{◌≡◌, ℕ, zero, suc, ◌+◌, ◌≤◌, ℤ
 use Rattle.std.proofs.lemmas.List.{length-append, length-set}
 use Rattle.typed_tree.specs.declared.statement.SetValue.{SetValue}
 use Rattle.typed_tree.specs.declared.statement.SetValue.TheVariants as set
-use Rattle.typed_tree.specs.BlockTree.{ActionTree, DeclareInteger, DeclareCondition, SetInteger, SetCondition, ReduceInteger, SetEntry, ReduceEntry, DeclareSet, AssignSet, AddVertex, PrintInteger, PrintCondition, ApplyVertex, ApplyEdges, If, IfElse, While, For}
+use Rattle.typed_tree.specs.BlockTree.{StatementKindTree, DeclareInteger, DeclareCondition, SetInteger, SetCondition, ReduceInteger, SetEntry, ReduceEntry, DeclareSet, AssignSet, AddVertex, PrintInteger, PrintCondition, ApplyVertex, ApplyEdges, If, IfElse, While, For}
 use Rattle.typed_tree.specs.ProgramTree.{ProgramTree}
 use Rattle.algorithm_meaning.specs.State.{GraphValue, StateValue}
 use Rattle.algorithm_meaning.specs.Value.{members_of}
@@ -73,7 +73,7 @@ members-ascend p g (set.Modified ends function vector) s h =
     ascends_filter (is_modified vector s.vectors (after_edge_apply p.filters p.edge_functions g ends (function ∷ []) s)) 0 _ (ascends_range 0 g.vertices)
 
 -- a statement without a block
-abbrev pub HasNoBlock : ActionTree → Type 0
+abbrev pub HasNoBlock : StatementKindTree → Type 0
 HasNoBlock (If c body) = ⊥
 HasNoBlock (IfElse c body other) = ⊥
 HasNoBlock (While c body) = ⊥
@@ -128,7 +128,7 @@ module _ (p : ProgramTree) (g : GraphValue) (number : ℕ) (d : Depth) (turns : 
   sets_here : length s.sets ≡ d.sets
   sets_here = ap (λ (d : Depth). d.sets) proper.deep
 
-  pub alone-leaves : (a : ActionTree) → HasNoBlock a → Leaves d (behind a d) turns (after p g number a s)
+  pub alone-leaves : (a : StatementKindTree) → HasNoBlock a → Leaves d (behind a d) turns (after p g number a s)
   alone-leaves (DeclareInteger name e) alone =
       by_value (number_in g.vertices e s) d (behind (DeclareInteger name e) d) turns number s _ proper.deep (λ n. record {
         deep = λ i. record { integers = one_more s.scope.integers n d.integers integers_here i; conditions = conditions_here i; sets = sets_here i };

@@ -1,7 +1,7 @@
 -- The steps of the machine, one after the other.
 use Rattle.std.proofs.Common.{◌≡◌, ℕ, zero, suc, ◌+◌, ◌<◌, ◌≤◌, ℤ, Bool, true, false, List, [], ◌∷◌, length, Option, Some, None, slice_get, ap, sym, ◌∙◌, refl, arith, subst}
 use Rattle.std.proofs.lemmas.List.{take-append-le}
-use Rattle.typed_tree.specs.BlockTree.{ActionTree}
+use Rattle.typed_tree.specs.BlockTree.{StatementKindTree}
 use Rattle.typed_tree.specs.ProgramTree.{ProgramTree}
 use Rattle.algorithm_meaning.specs.declared.outcome.End.TheVariants.{TurnsOver, Fault}
 use Rattle.algorithm_meaning.specs.State.{GraphValue, StateValue}
@@ -94,7 +94,7 @@ module _ (p : ProgramTree) (g : GraphValue) (code : List InstructionTree) where
       by_step c (Ended t end) (Ended t end) (moves_on h (ap (λ (u : StateValue). Ended u end) (forgotten-all d t leaves))) here
 
   -- a statement without a block
-  pub alone_runs : (a : ActionTree) → HasNoBlock a → (index number : ℕ) (choice : ApplySchedule) (d : Depth) (turns : ℕ) (loops : List LoopCounter) (m s : StateValue)
+  pub alone_runs : (a : StatementKindTree) → HasNoBlock a → (index number : ℕ) (choice : ApplySchedule) (d : Depth) (turns : ℕ) (loops : List LoopCounter) (m s : StateValue)
       → slice_get code index ≡ Some (record { number = number; keep = d; shown = d; choice = choice; operation = Do a })
       → forget_beyond d m ≡ s → IsProper d turns s → Follows (index + 1) loops (behind a d) turns (after p g number a s) (At index loops m)
   alone_runs a alone index number choice d turns loops m s at same proper =

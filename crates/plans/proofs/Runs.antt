@@ -1,7 +1,7 @@
 -- Statements and blocks on the machine.
 use Rattle.std.proofs.Common.{◌≡◌, ℕ, ◌+◌, Bool, true, false, List, [], ◌∷◌, ◌++◌, Option, Some, None, slice_get, ap, sym, ◌∙◌, refl, arith, subst}
-use Rattle.typed_tree.specs.ConditionTree.{ConditionTree}
-use Rattle.typed_tree.specs.BlockTree.{ActionTree, DeclareInteger, DeclareCondition, SetInteger, SetCondition, ReduceInteger, SetEntry, ReduceEntry, DeclareSet, AssignSet, AddVertex, PrintInteger, PrintCondition, ApplyVertex, ApplyEdges, If, IfElse, While, For, BlockTree, Empty, Then}
+use Rattle.typed_tree.specs.BoolExpressionTree.{BoolExpressionTree}
+use Rattle.typed_tree.specs.BlockTree.{StatementKindTree, DeclareInteger, DeclareCondition, SetInteger, SetCondition, ReduceInteger, SetEntry, ReduceEntry, DeclareSet, AssignSet, AddVertex, PrintInteger, PrintCondition, ApplyVertex, ApplyEdges, If, IfElse, While, For, BlockTree, Empty, Then}
 use Rattle.typed_tree.specs.ProgramTree.{ProgramTree}
 use Rattle.algorithm_meaning.specs.State.{GraphValue, StateValue}
 use Rattle.algorithm_meaning.specs.Stand.{Stand, Live, Over, then_do, choice_in, with_value, choose}
@@ -50,7 +50,7 @@ module _ (p : ProgramTree) (g : GraphValue) (schedule : ScheduleTree) (code : Li
       follows_from p g code (leave (depth_of s) st) to loops d turns c c' (by_step p g code c c' c' e here)
       (leaving p g code st to loops d (behind_all b d) turns s c' q.deep (within_behind_all b d) f)
 
-  if_runs : (c : ConditionTree) (body : BlockTree) (index number to : ℕ) (d : Depth) (turns : ℕ) (loops : List LoopCounter) (m s : StateValue) (o : Option Bool)
+  if_runs : (c : BoolExpressionTree) (body : BlockTree) (index number to : ℕ) (d : Depth) (turns : ℕ) (loops : List LoopCounter) (m s : StateValue) (o : Option Bool)
       → slice_get code index ≡ Some (plain number d (Unless c to)) → forget_beyond d m ≡ s → IsProper d turns s → choice_in g.vertices c s ≡ o
       → Follows p g code to loops (behind_all body d) turns (after_all p g body s) (At (index + 1) loops s)
       → Follows p g code to loops d turns (with_value o number s (λ b. choose b (inside (after_all p g body) s) (Live s))) (At index loops m)
@@ -65,7 +65,7 @@ module _ (p : ProgramTree) (g : GraphValue) (schedule : ScheduleTree) (code : Li
     proper = q;
   }
 
-  if_else_runs : (c : ConditionTree) (body other : BlockTree) (index number back from to : ℕ) (d : Depth) (turns : ℕ) (loops : List LoopCounter) (m s : StateValue) (o : Option Bool)
+  if_else_runs : (c : BoolExpressionTree) (body other : BlockTree) (index number back from to : ℕ) (d : Depth) (turns : ℕ) (loops : List LoopCounter) (m s : StateValue) (o : Option Bool)
       → slice_get code index ≡ Some (plain number d (Unless c from)) → slice_get code back ≡ Some (plain number d (Jump to)) → forget_beyond d m ≡ s → IsProper d turns s → choice_in g.vertices c s ≡ o
       → Follows p g code back loops (behind_all body d) turns (after_all p g body s) (At (index + 1) loops s)
       → Follows p g code to loops (behind_all other d) turns (after_all p g other s) (At from loops s)
@@ -81,7 +81,7 @@ module _ (p : ProgramTree) (g : GraphValue) (schedule : ScheduleTree) (code : Li
       (unless_chooses p g code c index number from d loops m s false at same e) other_runs
 
   -- two statements that one instruction does
-  both_run : (operation : OperationTree) (a b : ActionTree) (index number : ℕ) (label : Option ℕ) (d : Depth) (turns : ℕ) (loops : List LoopCounter) (m s : StateValue) (both : DoesBoth p g operation d a b)
+  both_run : (operation : OperationTree) (a b : StatementKindTree) (index number : ℕ) (label : Option ℕ) (d : Depth) (turns : ℕ) (loops : List LoopCounter) (m s : StateValue) (both : DoesBoth p g operation d a b)
       → slice_get code index ≡ Some (chosen schedule number label d operation) → forget_beyond d m ≡ s → IsProper d turns s
       → Lands p g code (index + 1) loops (behind b (behind a d)) turns (both.second (both.first s)) (At index loops m)
   both_run operation a b index number label d turns loops m s both at same q =
@@ -94,7 +94,7 @@ module _ (p : ProgramTree) (g : GraphValue) (schedule : ScheduleTree) (code : Li
         proper = proper;
       }
 
-  both_mean : (a b : ActionTree) (number other : ℕ) (rest : BlockTree) (label : Option ℕ) (s : StateValue) (first second : StateValue → StateValue)
+  both_mean : (a b : StatementKindTree) (number other : ℕ) (rest : BlockTree) (label : Option ℕ) (s : StateValue) (first second : StateValue → StateValue)
       → IsFaultless p g a first → IsFaultless p g b second
       → after_all p g rest (second (first s)) ≡ then_do (after p g number a s) (after_all p g (Then other label b rest))
   both_mean a b number other rest label s first second a_means b_means =
@@ -102,7 +102,7 @@ module _ (p : ProgramTree) (g : GraphValue) (schedule : ScheduleTree) (code : Li
       ∙ ap (λ (st : Stand). then_do st (after_all p g (Then other label b rest))) (sym (a_means.means number s))
 
   -- the instruction of a statement without a block
-  single : (a : ActionTree) → HasNoBlock a → (index number : ℕ) (label : Option ℕ) (d : Depth) (turns : ℕ) (loops : List LoopCounter) (m s : StateValue)
+  single : (a : StatementKindTree) → HasNoBlock a → (index number : ℕ) (label : Option ℕ) (d : Depth) (turns : ℕ) (loops : List LoopCounter) (m s : StateValue)
       → HasAt code index (chosen schedule number label d (Do a) ∷ []) → forget_beyond d m ≡ s → IsProper d turns s
       → Follows p g code (index + 1) loops (behind a d) turns (after p g number a s) (At index loops m)
   single a alone index number label d turns loops m s at same q = alone_runs p g code a alone index number (choice_at label schedule) d turns loops m s at.0 same q
@@ -116,7 +116,7 @@ module _ (p : ProgramTree) (g : GraphValue) (schedule : ScheduleTree) (code : Li
       has_behind code index (size_all p schedule d false b) to (plan_all p schedule index d false b) rest (length-plan_all p schedule b index d false) e at
 
   -- a statement in such company, and what stands after it
-  joined_runs : (company : FusionRole) (action : ActionTree) (rest : BlockTree) (index number : ℕ) (label : Option ℕ) (d : Depth) (turns : ℕ) (loops : List LoopCounter) (m s : StateValue) → IsGoodCompany p g company d action rest
+  joined_runs : (company : FusionRole) (action : StatementKindTree) (rest : BlockTree) (index number : ℕ) (label : Option ℕ) (d : Depth) (turns : ℕ) (loops : List LoopCounter) (m s : StateValue) → IsGoodCompany p g company d action rest
       → HasAt code index (plan_in company schedule number label d (plan p schedule index d number label action)
       ++ plan_all p schedule (index + size_in company (size p schedule d action)) (behind action d) (takes_next company) rest)
       → forget_beyond d m ≡ s → IsProper d turns s
@@ -158,9 +158,9 @@ module _ (p : ProgramTree) (g : GraphValue) (schedule : ScheduleTree) (code : Li
       let e : index ≡ index + 0 = omega arith in
       subst (λ (x : ℕ). Lands p g code x loops d turns s (At index loops m)) e (record { there = m; reaches = here; same = same; proper = q })
 
-  module _ (good : (d : Depth) (label : Option ℕ) (a : ActionTree) (rest : BlockTree) → IsGoodCompany p g (fusion_role_of p schedule d false label a rest) d a rest) where
+  module _ (good : (d : Depth) (label : Option ℕ) (a : StatementKindTree) (rest : BlockTree) → IsGoodCompany p g (fusion_role_of p schedule d false label a rest) d a rest) where
     mutual
-      pub action_runs : (a : ActionTree) (index number : ℕ) (label : Option ℕ) (d : Depth) (turns : ℕ) (loops : List LoopCounter) (m s : StateValue)
+      pub action_runs : (a : StatementKindTree) (index number : ℕ) (label : Option ℕ) (d : Depth) (turns : ℕ) (loops : List LoopCounter) (m s : StateValue)
           → HasAt code index (plan p schedule index d number label a) → forget_beyond d m ≡ s → IsProper d turns s
           → Follows p g code (index + size p schedule d a) loops (behind a d) turns (after p g number a s) (At index loops m)
       action_runs (DeclareInteger name e) index number label d turns loops m s at same q = single (DeclareInteger name e) tt index number label d turns loops m s at same q

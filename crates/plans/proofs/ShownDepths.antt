@@ -1,6 +1,6 @@
 -- What an instruction shows it keeps.
 use Rattle.std.proofs.Common.{◌≡◌, ℕ, ◌+◌, false, List, [], ◌∷◌, Bool, Option, Some, slice_get, arith}
-use Rattle.typed_tree.specs.BlockTree.{ActionTree, DeclareInteger, DeclareCondition, SetInteger, SetCondition, ReduceInteger, SetEntry, ReduceEntry, DeclareSet, AssignSet, AddVertex, PrintInteger, PrintCondition, ApplyVertex, ApplyEdges, If, IfElse, While, For, BlockTree, Empty, Then}
+use Rattle.typed_tree.specs.BlockTree.{StatementKindTree, DeclareInteger, DeclareCondition, SetInteger, SetCondition, ReduceInteger, SetEntry, ReduceEntry, DeclareSet, AssignSet, AddVertex, PrintInteger, PrintCondition, ApplyVertex, ApplyEdges, If, IfElse, While, For, BlockTree, Empty, Then}
 use Rattle.typed_tree.specs.ProgramTree.{ProgramTree}
 use Rattle.apply_options.specs.ScheduleTree.{ScheduleTree}
 use Rattle.algorithm_meaning.specs.declared.state.Depth.{Depth}
@@ -24,7 +24,7 @@ in_company WithPrevious s number label d is own = tt
 
 module _ (p : ProgramTree) (s : ScheduleTree) where
   mutual
-    action_shows : (a : ActionTree) (index number : ℕ) (label : Option ℕ) (d : Depth) → AllOf ShowsWithin (plan p s index d number label a)
+    action_shows : (a : StatementKindTree) (index number : ℕ) (label : Option ℕ) (d : Depth) → AllOf ShowsWithin (plan p s index d number label a)
     action_shows (DeclareInteger name e) index number label d = (within_itself d, tt)
     action_shows (DeclareCondition name c) index number label d = (within_itself d, tt)
     action_shows (SetInteger slot e) index number label d = (within_itself d, tt)

@@ -1,6 +1,6 @@
 -- Where the instructions of a plan lead.
 use Rattle.std.proofs.Common.{◌≡◌, ℕ, ◌+◌, ◌<◌, Bool, true, false, List, [], ◌∷◌, ◌++◌, length, if◌then◌else◌, ◌⊎◌, inl, inr, Option, Some, None, slice_get, ap, sym, refl, arith, subst}
-use Rattle.typed_tree.specs.BlockTree.{ActionTree, DeclareInteger, DeclareCondition, SetInteger, SetCondition, ReduceInteger, SetEntry, ReduceEntry, DeclareSet, AssignSet, AddVertex, PrintInteger, PrintCondition, ApplyVertex, ApplyEdges, If, IfElse, While, For, BlockTree, Empty, Then}
+use Rattle.typed_tree.specs.BlockTree.{StatementKindTree, DeclareInteger, DeclareCondition, SetInteger, SetCondition, ReduceInteger, SetEntry, ReduceEntry, DeclareSet, AssignSet, AddVertex, PrintInteger, PrintCondition, ApplyVertex, ApplyEdges, If, IfElse, While, For, BlockTree, Empty, Then}
 use Rattle.typed_tree.specs.ProgramTree.{ProgramTree}
 use Rattle.apply_options.specs.ScheduleTree.{ScheduleTree, choice_at}
 use Rattle.algorithm_meaning.specs.declared.state.Depth.{Depth}
@@ -86,7 +86,7 @@ fused_for_two true None h = tt
 fused_for_two true (Some operation) h = h
 fused_for_two false o h = tt
 
-company_of_two : (p : ProgramTree) (schedule : ScheduleTree) (d : Depth) (is_done : Bool) (label : Option ℕ) (a : ActionTree) (rest : BlockTree) → IsCompanyOfTwo (fusion_role_of p schedule d is_done label a rest)
+company_of_two : (p : ProgramTree) (schedule : ScheduleTree) (d : Depth) (is_done : Bool) (label : Option ℕ) (a : StatementKindTree) (rest : BlockTree) → IsCompanyOfTwo (fusion_role_of p schedule d is_done label a rest)
 company_of_two p schedule d true label a rest = tt
 company_of_two p schedule d false label a Empty = tt
 company_of_two p schedule d false label a (Then number other b rest) =
@@ -111,7 +111,7 @@ module _ (p : ProgramTree) (schedule : ScheduleTree) (code : List InstructionTre
   turn_at index number keep shown e = ap is_turn e
 
   mutual
-    action_leads : (a : ActionTree) (index number : ℕ) (label : Option ℕ) (d : Depth) → HasAt code index (plan p schedule index d number label a) → AllLeadWell code index (plan p schedule index d number label a)
+    action_leads : (a : StatementKindTree) (index number : ℕ) (label : Option ℕ) (d : Depth) → HasAt code index (plan p schedule index d number label a) → AllLeadWell code index (plan p schedule index d number label a)
     action_leads (DeclareInteger name e) index number label d at = (tt, tt)
     action_leads (DeclareCondition name c) index number label d at = (tt, tt)
     action_leads (SetInteger slot e) index number label d at = (tt, tt)

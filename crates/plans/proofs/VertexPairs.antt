@@ -1,7 +1,7 @@
 -- Two vertex applies, vertex by vertex.
 use Rattle.std.proofs.Common.{◌≡◌, ℕ, ◌+◌, ◌<◌, ◌==◌, ℤ, Bool, true, false, List, [], ◌∷◌, ap, sym, ◌∙◌, refl, arith, subst}
 use Rattle.std.proofs.lemmas.Bool.Decides.{nat_tests}
-use Rattle.typed_tree.specs.StepTree.{StepsTree}
+use Rattle.typed_tree.specs.FunctionStatementTree.{FunctionStatementsTree}
 use Rattle.algorithm_meaning.specs.State.{StateValue}
 use Rattle.algorithm_meaning.specs.VertexApply.{after_vertex, after_vertices}
 use Rattle.plans.specs.Fusing.{steps_are_local}
@@ -15,7 +15,7 @@ use Rattle.plans.proofs.OtherColumns.{vertex_elsewhere}
 same_number : (m n : ℕ) → (m == n) ≡ true → m ≡ n
 same_number m n h = grind (arith, nat_tests)
 
-module _ (sets : List SetBinding) (f g : StepsTree) (f_local : steps_are_local f ≡ true) (g_local : steps_are_local g ≡ true) where
+module _ (sets : List SetBinding) (f g : FunctionStatementsTree) (f_local : steps_are_local f ≡ true) (g_local : steps_are_local g ≡ true) where
   at_first : (u v : ℕ) (xs : List (List ℤ)) → (u == v) ≡ false → (v == u) ≡ false
       → column u (after_vertex g sets v (after_vertex f sets u xs)) ≡ column u (after_vertex f sets u (after_vertex g sets v xs))
   at_first u v xs apart away =
@@ -67,6 +67,6 @@ module _ (sets : List SetBinding) (f g : StepsTree) (f_local : steps_are_local f
       ∙ ap (after_vertices g sets vs) (goes_last v (v + 1) vs (after_vertex f sets v xs) (omega arith) ascending.1)
 
 -- both at each vertex, or one after the other
-pub both_at_each : (f g : StepsTree) → steps_are_local f ≡ true → steps_are_local g ≡ true → (low : ℕ) (s : StateValue) (vs : List ℕ) (xs : List (List ℤ)) → AscendsFrom low vs
+pub both_at_each : (f g : FunctionStatementsTree) → steps_are_local f ≡ true → steps_are_local g ≡ true → (low : ℕ) (s : StateValue) (vs : List ℕ) (xs : List (List ℤ)) → AscendsFrom low vs
     → after_both f g s vs xs ≡ after_vertices g s.sets vs (after_vertices f s.sets vs xs)
 both_at_each f g f_local g_local low s vs xs ascending = both_members s.sets f g f_local g_local low s vs xs refl ascending

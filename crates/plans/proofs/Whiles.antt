@@ -1,7 +1,7 @@
 -- `while` and `for` on the machine.
 use Rattle.std.proofs.Common.{◌≡◌, ℕ, ◌+◌, ℤ, Bool, true, false, if◌then◌else◌, List, [], ◌∷◌, Option, Some, None, slice_get, ap, sym, ◌∙◌, refl, arith, subst}
 use Rattle.std.proofs.lemmas.List.{length-append}
-use Rattle.typed_tree.specs.ConditionTree.{ConditionTree}
+use Rattle.typed_tree.specs.BoolExpressionTree.{BoolExpressionTree}
 use Rattle.typed_tree.specs.ProgramTree.{ProgramTree}
 use Rattle.algorithm_meaning.specs.declared.outcome.End.TheVariants.{TurnsOver, Fault}
 use Rattle.algorithm_meaning.specs.State.{GraphValue, StateValue}
@@ -48,7 +48,7 @@ forgotten-pushed d turns s next end proper =
 
 module _ (p : ProgramTree) (g : GraphValue) (code : List InstructionTree) where
   -- the test of a loop or of a choice, which has no value, or fails
-  pub unless_faults : (c : ConditionTree) (index number to : ℕ) (d : Depth) (turns : ℕ) (loops : List LoopCounter) (m s : StateValue)
+  pub unless_faults : (c : BoolExpressionTree) (index number to : ℕ) (d : Depth) (turns : ℕ) (loops : List LoopCounter) (m s : StateValue)
       → slice_get code index ≡ Some (plain number d (Unless c to)) → forget_beyond d m ≡ s → IsProper d turns s → choice_in g.vertices c s ≡ None
       → Reaches p g code (At index loops m) (Ended s (Fault 401 number))
   unless_faults c index number to d turns loops m s at same proper e =
@@ -57,7 +57,7 @@ module _ (p : ProgramTree) (g : GraphValue) (code : List InstructionTree) where
       (ap (λ (o : Option Bool). after_unless o (index + 1) to loops number d s) e
       ∙ ap (λ (t : StateValue). Ended t (Fault 401 number)) (forgotten-all d s proper.deep))) here
 
-  pub unless_chooses : (c : ConditionTree) (index number to : ℕ) (d : Depth) (loops : List LoopCounter) (m s : StateValue) (b : Bool)
+  pub unless_chooses : (c : BoolExpressionTree) (index number to : ℕ) (d : Depth) (loops : List LoopCounter) (m s : StateValue) (b : Bool)
       → slice_get code index ≡ Some (plain number d (Unless c to)) → forget_beyond d m ≡ s → choice_in g.vertices c s ≡ Some b
       → Moves p g code (At index loops m) (At (if b then index + 1 else to) loops s)
   unless_chooses c index number to d loops m s b at same e =
@@ -79,7 +79,7 @@ module _ (p : ProgramTree) (g : GraphValue) (code : List InstructionTree) where
   )
   while_leads (Over u end) index number back d turns loops c at f = f
 
-  pub while_runs : (c : ConditionTree) (block : StateValue → Stand) (index number back to : ℕ) (d e : Depth) (turns : ℕ) (loops : List LoopCounter) (m s : StateValue)
+  pub while_runs : (c : BoolExpressionTree) (block : StateValue → Stand) (index number back to : ℕ) (d e : Depth) (turns : ℕ) (loops : List LoopCounter) (m s : StateValue)
       → slice_get code index ≡ Some (plain number d (Unless c to)) → slice_get code (index + 1) ≡ Some (plain number d Turn) → slice_get code back ≡ Some (plain number d (Jump index))
       → IsWithin d e → ((n : ℕ) (t : StateValue) → IsProper d n t → Follows p g code back loops e n (block t) (At (index + 2) loops t))
       → forget_beyond d m ≡ s → IsProper d turns s → Follows p g code to loops d turns (after_while g.vertices number c block s) (At index loops m)

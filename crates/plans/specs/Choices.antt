@@ -1,18 +1,18 @@
 -- By what edge applies go.
 use Rattle.std.specs.Prelude.{◌≡◌, ℕ, List, Option, Some, None, slice_get, ◌⊎◌}
-use Rattle.typed_tree.specs.BlockTree.{ActionTree, If, IfElse, While, For, BlockTree, Empty, Then}
+use Rattle.typed_tree.specs.BlockTree.{StatementKindTree, If, IfElse, While, For, BlockTree, Empty, Then}
 use Rattle.apply_options.specs.ScheduleTree.{ScheduleTree, choice_at}
 use Rattle.plans.specs.Instruction.{OperationTree, Do, ApplyEdgesTogether, InstructionTree}
 use Rattle.plans.specs.Fusing.{EdgeApplyTree, edge_apply_of}
 
 abbrev mutual
   -- the statement of this number and this label stands in the block, or in a statement of it
-  pub StandsIn : BlockTree → (number : ℕ) → (label : Option ℕ) → ActionTree → Type 0
+  pub StandsIn : BlockTree → (number : ℕ) → (label : Option ℕ) → StatementKindTree → Type 0
   StandsIn Empty number label action = ⊥
   StandsIn (Then n l a rest) number label action =
       ((n ≡ number) × (l ≡ label) × (a ≡ action)) ⊎ (StandsInside a number label action ⊎ StandsIn rest number label action)
 
-  pub StandsInside : ActionTree → (number : ℕ) → (label : Option ℕ) → ActionTree → Type 0
+  pub StandsInside : StatementKindTree → (number : ℕ) → (label : Option ℕ) → StatementKindTree → Type 0
   StandsInside (If c body) number label action = StandsIn body number label action
   StandsInside (IfElse c body other) number label action = StandsIn body number label action ⊎ StandsIn other number label action
   StandsInside (While c body) number label action = StandsIn body number label action
@@ -29,7 +29,7 @@ first_apply _ = None
 pub record ComesFrom (main : BlockTree) (s : ScheduleTree) (i : InstructionTree) (x : EdgeApplyTree) : Type 0 where
   pub number : ℕ
   pub label : Option ℕ
-  pub action : ActionTree
+  pub action : StatementKindTree
   pub stands : StandsIn main number label action
   pub applies : edge_apply_of action ≡ Some x
   pub numbered : i.number ≡ number

@@ -7,10 +7,10 @@ use Rattle.typed_tree.specs.declared.expression.VarRef.{VarRef}
 use Rattle.typed_tree.specs.declared.statement.VertexFilter.TheVariants as end
 use Rattle.typed_tree.specs.declared.statement.ApplyEnds.{ApplyEnds}
 use Rattle.typed_tree.specs.declared.statement.SetValue.TheVariants as set
-use Rattle.typed_tree.specs.IntegerTree.{IntegerTree, Number, EntryAt, SetSize}
-use Rattle.typed_tree.specs.ConditionTree.{ConditionTree, Compare}
-use Rattle.typed_tree.specs.StepTree as step
-use Rattle.typed_tree.specs.StepTree.{FunctionTree}
+use Rattle.typed_tree.specs.IntExpressionTree.{IntExpressionTree, Number, EntryAt, SetSize}
+use Rattle.typed_tree.specs.BoolExpressionTree.{BoolExpressionTree, Compare}
+use Rattle.typed_tree.specs.FunctionStatementTree as step
+use Rattle.typed_tree.specs.FunctionStatementTree.{FunctionTree}
 use Rattle.typed_tree.specs.BlockTree.{DeclareInteger, SetEntry, DeclareSet, AssignSet, AddVertex, PrintInteger, ApplyVertex, ApplyEdges, If, IfElse, While, For, BlockTree, Empty, Then}
 use Rattle.typed_tree.specs.ProgramTree.{ProgramTree}
 use Rattle.apply_options.specs.declared.apply_schedule.Fused.TheVariants.{With, Into}
@@ -49,7 +49,7 @@ HasPlanOfSearch p s frontier ends visit parent =
     ∷ []
 
 -- a loop over i with a choice in it, and a choice without `else` after it
-abbrev pub loop_with_choice : (i : ℕ) → (first end : IntegerTree) → ConditionTree → (e f : IntegerTree) → BlockTree
+abbrev pub loop_with_choice : (i : ℕ) → (first end : IntExpressionTree) → BoolExpressionTree → (e f : IntExpressionTree) → BlockTree
 loop_with_choice i first end c e f =
     Then 1 None (For i first end
     (Then 2 None (IfElse c (Then 3 None (PrintInteger e) Empty) (Then 4 None (PrintInteger f) Empty))
@@ -57,7 +57,7 @@ loop_with_choice i first end c e f =
     (Then 5 None (If c (Then 6 None (PrintInteger f) Empty))
     Empty)
 
-abbrev pub HasPlanOfLoop : ProgramTree → ScheduleTree → (i : ℕ) → (first end : IntegerTree) → ConditionTree → (e f : IntegerTree) → Type 0
+abbrev pub HasPlanOfLoop : ProgramTree → ScheduleTree → (i : ℕ) → (first end : IntExpressionTree) → BoolExpressionTree → (e f : IntExpressionTree) → Type 0
 HasPlanOfLoop p s i first end c e f =
     operations (plan_of (with_main p (loop_with_choice i first end c e f)) s)
     ≡ Do (DeclareInteger i first)

@@ -1,7 +1,7 @@
 -- Facts of two applies that a plan does together.
 use Rattle.std.specs.Prelude.{◌≡◌, ℕ, ℤ, true, List, slice_get, Some}
 use Rattle.std.specs.List.Sorted.{IsStrictlyIncreasing}
-use Rattle.typed_tree.specs.StepTree.{StepsTree}
+use Rattle.typed_tree.specs.FunctionStatementTree.{FunctionStatementsTree}
 use Rattle.typed_tree.specs.ProgramTree.{ProgramTree}
 use Rattle.algorithm_meaning.specs.Function.{steps_of}
 use Rattle.algorithm_meaning.specs.State.{StateValue}
@@ -11,7 +11,7 @@ use Rattle.plans.specs.Instruction.{OperationTree, Do, ApplyEdgesTogether, Apply
 use Rattle.plans.specs.Machine.{after_both}
 
 -- at ascending vertices it is one whether both functions run at each vertex, or the first at all of them and then the second
-abbrev pub IsOneAfterOther : (first second : StepsTree) → Type 0
+abbrev pub IsOneAfterOther : (first second : FunctionStatementsTree) → Type 0
 IsOneAfterOther first second =
     (m : StateValue) (vs : List ℕ) (vectors : List (List ℤ)) → IsStrictlyIncreasing vs
     → after_both first second m vs vectors ≡ after_vertices second m.sets vs (after_vertices first m.sets vs vectors)

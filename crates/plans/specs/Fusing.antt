@@ -8,11 +8,11 @@ use Rattle.typed_tree.specs.declared.statement.VertexFilter.TheVariants as end
 use Rattle.typed_tree.specs.declared.statement.ApplyEnds.{ApplyEnds}
 use Rattle.typed_tree.specs.declared.statement.SetValue.{SetValue}
 use Rattle.typed_tree.specs.declared.statement.SetValue.TheVariants as set
-use Rattle.typed_tree.specs.IntegerTree.{IntegerTree}
-use Rattle.typed_tree.specs.ConditionTree.{ConditionTree}
-use Rattle.typed_tree.specs.StepTree.{FunctionTree, StepTree, StepsTree}
+use Rattle.typed_tree.specs.IntExpressionTree.{IntExpressionTree}
+use Rattle.typed_tree.specs.BoolExpressionTree.{BoolExpressionTree}
+use Rattle.typed_tree.specs.FunctionStatementTree.{FunctionTree, FunctionStatementTree, FunctionStatementsTree}
 use Rattle.typed_tree.specs.BlockTree as block
-use Rattle.typed_tree.specs.BlockTree.{ActionTree, BlockTree, Empty, Then}
+use Rattle.typed_tree.specs.BlockTree.{StatementKindTree, BlockTree, Empty, Then}
 use Rattle.typed_tree.specs.ProgramTree.{ProgramTree}
 use Rattle.algorithm_meaning.specs.declared.state.Depth.{Depth}
 use Rattle.apply_options.specs.declared.apply_schedule.Fused.{Fused}
@@ -43,13 +43,13 @@ modifying result (set.Copy slot) = None
 modifying result (set.Filter slot function) = None
 
 -- the edge apply, or the vertex apply, that a statement is
-abbrev pub edge_apply_of : ActionTree → Option EdgeApplyTree
+abbrev pub edge_apply_of : StatementKindTree → Option EdgeApplyTree
 edge_apply_of (block.ApplyEdges ends function) = Some (record { ends = ends; part = record { function = function; result = Dropped } })
 edge_apply_of (block.DeclareSet name value) = modifying (Declared name) value
 edge_apply_of (block.AssignSet slot value) = modifying (Assigned slot) value
 edge_apply_of _ = None
 
-abbrev pub vertex_apply_of : ActionTree → Option VertexApplyTree
+abbrev pub vertex_apply_of : StatementKindTree → Option VertexApplyTree
 vertex_apply_of (block.ApplyVertex set function) = Some (record { set = set; function = function })
 vertex_apply_of _ = None
 
@@ -77,17 +77,17 @@ set_of (ReadSet index) = index ∷ []
 set_of (Write vector) = []
 
 -- the vertex sets of which an expression reads the size
-abbrev pub integer_sizes : IntegerTree → List ℕ
+abbrev pub integer_sizes : IntExpressionTree → List ℕ
 integer_sizes e = integer_fold (gathered set_of) e
 
-abbrev pub condition_sizes : ConditionTree → List ℕ
+abbrev pub condition_sizes : BoolExpressionTree → List ℕ
 condition_sizes c = condition_fold (gathered set_of) c
 
 -- the same of statements of functions
-abbrev pub step_sizes : StepTree → List ℕ
+abbrev pub step_sizes : FunctionStatementTree → List ℕ
 step_sizes step = step_fold (gathered set_of) step
 
-abbrev pub steps_sizes : StepsTree → List ℕ
+abbrev pub steps_sizes : FunctionStatementsTree → List ℕ
 steps_sizes steps = steps_fold (gathered set_of) steps
 
 -- the same of the function at an index
@@ -137,17 +137,17 @@ is_local (ReadSet index) = true
 is_local (Write vector) = true
 
 -- so are all those of an expression
-abbrev pub integer_is_local : IntegerTree → Bool
+abbrev pub integer_is_local : IntExpressionTree → Bool
 integer_is_local e = integer_fold (all_pass is_local) e
 
-abbrev pub condition_is_local : ConditionTree → Bool
+abbrev pub condition_is_local : BoolExpressionTree → Bool
 condition_is_local c = condition_fold (all_pass is_local) c
 
 -- the same of statements of vertex functions
-abbrev pub step_is_local : StepTree → Bool
+abbrev pub step_is_local : FunctionStatementTree → Bool
 step_is_local step = step_fold (all_pass is_local) step
 
-abbrev pub steps_are_local : StepsTree → Bool
+abbrev pub steps_are_local : FunctionStatementsTree → Bool
 steps_are_local steps = steps_fold (all_pass is_local) steps
 
 abbrev pub steps_are_local_where : Option FunctionTree → Bool
@@ -177,7 +177,7 @@ abbrev pub either : Option OperationTree → Option OperationTree → Option Ope
 either (Some o) other = Some o
 either None other = other
 
-abbrev pub together : ProgramTree → Depth → ActionTree → ActionTree → Option OperationTree
+abbrev pub together : ProgramTree → Depth → StatementKindTree → StatementKindTree → Option OperationTree
 together p d a b = either (edges_together p d (edge_apply_of a) (edge_apply_of b)) (vertices_together p (vertex_apply_of a) (vertex_apply_of b))
 
 -- the schedule fuses a statement with the one of a label
@@ -198,7 +198,7 @@ with_next None = Alone
 with_next (Some o) = WithNext o
 
 -- the first statement of a block that is not done already, where so much is visible
-abbrev pub fusion_role_of : ProgramTree → ScheduleTree → Depth → (is_done : Bool) → (label : Option ℕ) → ActionTree → BlockTree → FusionRole
+abbrev pub fusion_role_of : ProgramTree → ScheduleTree → Depth → (is_done : Bool) → (label : Option ℕ) → StatementKindTree → BlockTree → FusionRole
 fusion_role_of p s d true label action rest = WithPrevious
 fusion_role_of p s d false label action Empty = Alone
 fusion_role_of p s d false label action (Then number other next rest) =

@@ -2,9 +2,9 @@
 use Rattle.std.specs.Prelude.{ℕ}
 use Rattle.typed_tree.specs.declared.expression.VarRef.{VarRef}
 use Rattle.typed_tree.specs.declared.statement.ApplyEnds.{ApplyEnds}
-use Rattle.typed_tree.specs.IntegerTree.{IntegerTree}
-use Rattle.typed_tree.specs.ConditionTree.{ConditionTree}
-use Rattle.typed_tree.specs.BlockTree.{ActionTree}
+use Rattle.typed_tree.specs.IntExpressionTree.{IntExpressionTree}
+use Rattle.typed_tree.specs.BoolExpressionTree.{BoolExpressionTree}
+use Rattle.typed_tree.specs.BlockTree.{StatementKindTree}
 use Rattle.algorithm_meaning.specs.declared.state.Depth.{Depth}
 use Rattle.apply_options.specs.declared.apply_schedule.ApplySchedule.{ApplySchedule}
 
@@ -22,14 +22,14 @@ pub record EdgePartTree : Type 0 where
 -- what an instruction does; an index that it may go to is that of an instruction
 pub data OperationTree : Type 0 where
   -- a statement without a block
-  Do : ActionTree → OperationTree
+  Do : StatementKindTree → OperationTree
   -- two edge applies between the same ends, and two vertex applies to the same set
   ApplyEdgesTogether : ApplyEnds → (first second : EdgePartTree) → OperationTree
   ApplyVerticesTogether : (set : VarRef) → (first second : ℕ) → OperationTree
   -- goes on at the index unless the condition holds
-  Unless : ConditionTree → (to : ℕ) → OperationTree
+  Unless : BoolExpressionTree → (to : ℕ) → OperationTree
   -- `for` whose name, the last variable, has its first value: the second bound, which stands after the name
-  Enter : (name : ℕ) → (end : IntegerTree) → OperationTree
+  Enter : (name : ℕ) → (end : IntExpressionTree) → OperationTree
   -- leaves the loop for the index unless the name is below the bound
   UnlessBelow : (name to : ℕ) → OperationTree
   -- the name of the loop gets its next value

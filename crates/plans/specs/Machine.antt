@@ -1,7 +1,7 @@
 -- The machine that runs a plan.
 use Rattle.std.specs.Prelude.{ℕ, zero, suc, ◌+◌, ℤ, pos, int_lt, Bool, if◌then◌else◌, List, [], ◌∷◌, map, slice_get, slice_index_or, Option, Some, None}
 use Rattle.typed_tree.specs.declared.statement.ApplyEnds.{ApplyEnds}
-use Rattle.typed_tree.specs.StepTree.{StepsTree}
+use Rattle.typed_tree.specs.FunctionStatementTree.{FunctionStatementsTree}
 use Rattle.typed_tree.specs.ProgramTree.{ProgramTree}
 use Rattle.algorithm_meaning.specs.declared.outcome.End.{End as Ending}
 use Rattle.algorithm_meaning.specs.declared.outcome.End.TheVariants.{Finished, TurnsOver, Fault}
@@ -42,7 +42,7 @@ after_parts p g ends parts s =
     with_results g.vertices s.vectors vectors parts (with_vectors s vectors)
 
 -- two vertex functions, both at each vertex; the sets are those of a state
-abbrev pub after_both : (first second : StepsTree) → StateValue → List ℕ → List (List ℤ) → List (List ℤ)
+abbrev pub after_both : (first second : FunctionStatementsTree) → StateValue → List ℕ → List (List ℤ) → List (List ℤ)
 after_both first second s [] vectors = vectors
 after_both first second s (v ∷ vs) vectors =
     after_both first second s vs (after_vertex second s.sets v (after_vertex first s.sets v vectors))

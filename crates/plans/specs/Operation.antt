@@ -1,9 +1,9 @@
 -- Of which operation of a plan an operation is.
 use Rattle.std.specs.Prelude.{◌≡◌, List, Option, Some, None}
 use Rattle.typed_tree.specs.declared.statement.ApplyEnds.{ApplyEnds}
-use Rattle.typed_tree.specs.IntegerTree.{IntegerTree}
-use Rattle.typed_tree.specs.ConditionTree.{ConditionTree}
-use Rattle.typed_tree.specs.BlockTree.{ActionTree, DeclareInteger, DeclareCondition, SetInteger, SetCondition, ReduceInteger, SetEntry, ReduceEntry, DeclareSet, AssignSet, AddVertex, PrintInteger, PrintCondition, ApplyVertex}
+use Rattle.typed_tree.specs.IntExpressionTree.{IntExpressionTree}
+use Rattle.typed_tree.specs.BoolExpressionTree.{BoolExpressionTree}
+use Rattle.typed_tree.specs.BlockTree.{StatementKindTree, DeclareInteger, DeclareCondition, SetInteger, SetCondition, ReduceInteger, SetEntry, ReduceEntry, DeclareSet, AssignSet, AddVertex, PrintInteger, PrintCondition, ApplyVertex}
 use Rattle.kernels.specs.declared.expression.ExpressionKernel.{ExpressionKernel}
 use Rattle.kernels.specs.Expressions.{IsIntegerKernel, IsConditionKernel}
 use Rattle.algorithm_meaning.specs.declared.state.Depth.{Depth}
@@ -23,22 +23,22 @@ pub record IsFor (d : Depth) (k : ExpressionKernel) : Type 0 where
   pub conditions : k.frame.conditions ≡ d.conditions
 
 -- the operation is made of an expression, of which this is the kernel, where so much is visible
-pub record HasInteger (d : Depth) (k : ExpressionKernel) (make : IntegerTree → OperationTree) (o : OperationTree) : Type 0 where
-  pub tree : IntegerTree
+pub record HasInteger (d : Depth) (k : ExpressionKernel) (make : IntExpressionTree → OperationTree) (o : OperationTree) : Type 0 where
+  pub tree : IntExpressionTree
   pub is : o ≡ make tree
   pub kernel : IsIntegerKernel k tree
   pub visible : IsFor d k
 
-pub record HasCondition (d : Depth) (k : ExpressionKernel) (make : ConditionTree → OperationTree) (o : OperationTree) : Type 0 where
-  pub tree : ConditionTree
+pub record HasCondition (d : Depth) (k : ExpressionKernel) (make : BoolExpressionTree → OperationTree) (o : OperationTree) : Type 0 where
+  pub tree : BoolExpressionTree
   pub is : o ≡ make tree
   pub kernel : IsConditionKernel k tree
   pub visible : IsFor d k
 
 -- of an index and a value
-pub record HasEntry (d : Depth) (index value : ExpressionKernel) (make : IntegerTree → IntegerTree → OperationTree) (o : OperationTree) : Type 0 where
-  pub index_tree : IntegerTree
-  pub value_tree : IntegerTree
+pub record HasEntry (d : Depth) (index value : ExpressionKernel) (make : IntExpressionTree → IntExpressionTree → OperationTree) (o : OperationTree) : Type 0 where
+  pub index_tree : IntExpressionTree
+  pub value_tree : IntExpressionTree
   pub is : o ≡ make index_tree value_tree
   pub index_kernel : IsIntegerKernel index index_tree
   pub value_kernel : IsIntegerKernel value value_tree
@@ -47,7 +47,7 @@ pub record HasEntry (d : Depth) (index value : ExpressionKernel) (make : Integer
 
 -- the operation is a statement that is this edge apply
 pub record AppliesEdges (ends : ApplyEnds) (part : EdgePart) (o : OperationTree) : Type 0 where
-  pub action : ActionTree
+  pub action : StatementKindTree
   pub is : o ≡ Do action
   pub applies : edge_apply_of action ≡ Some (record { ends = ends; part = part_tree part })
 

@@ -1,6 +1,6 @@
 -- The bound on the steps of a run, read off its instructions.
 use Rattle.std.specs.Prelude.{ℕ, true, List, map}
-use Rattle.typed_tree.specs.ConditionTree.{Literal}
+use Rattle.typed_tree.specs.BoolExpressionTree.{Literal}
 use Rattle.plans.specs.Instruction.{OperationTree, Unless, UnlessBelow, Turn, End, InstructionTree}
 use Rattle.plans.specs.Machine.{Configuration}
 use Rattle.plans.specs.Bound.{most_steps}

@@ -1,6 +1,6 @@
 -- The plan of a program.
 use Rattle.std.specs.Prelude.{ℕ, ◌+◌, ◌≤◌, Bool, false, List, [], ◌∷◌, ◌++◌, length, Option}
-use Rattle.typed_tree.specs.BlockTree.{ActionTree, DeclareInteger, DeclareCondition, DeclareSet, If, IfElse, While, For, BlockTree, Empty, Then}
+use Rattle.typed_tree.specs.BlockTree.{StatementKindTree, DeclareInteger, DeclareCondition, DeclareSet, If, IfElse, While, For, BlockTree, Empty, Then}
 use Rattle.typed_tree.specs.ProgramTree.{ProgramTree}
 use Rattle.algorithm_meaning.specs.declared.state.Depth.{Depth}
 use Rattle.apply_options.specs.ScheduleTree.{ScheduleTree, choice_at, no_choice}
@@ -32,7 +32,7 @@ abbrev pub main_depth : ProgramTree → Depth
 main_depth p = record { integers = 0; conditions = 0; sets = length p.sets }
 
 -- after a statement of main, and after all of a block
-abbrev pub behind : ActionTree → Depth → Depth
+abbrev pub behind : StatementKindTree → Depth → Depth
 behind (DeclareInteger name e) d = with_integer d
 behind (DeclareCondition name c) d = with_condition d
 behind (DeclareSet name value) d = with_set d
@@ -67,7 +67,7 @@ plan_in WithPrevious s number label d is = []
 
 abbrev mutual
   -- how many instructions a statement has
-  pub size : ProgramTree → ScheduleTree → Depth → ActionTree → ℕ
+  pub size : ProgramTree → ScheduleTree → Depth → StatementKindTree → ℕ
   size p s d (If c body) = 1 + size_all p s d false body
   size p s d (IfElse c body other) = 1 + size_all p s d false body + 1 + size_all p s d false other
   size p s d (While c body) = 2 + size_all p s d false body + 1
@@ -83,7 +83,7 @@ abbrev mutual
 
 abbrev mutual
   -- the instructions of a statement, of which the first stands at this index
-  pub plan : ProgramTree → ScheduleTree → (index : ℕ) → Depth → (number : ℕ) → Option ℕ → ActionTree → List InstructionTree
+  pub plan : ProgramTree → ScheduleTree → (index : ℕ) → Depth → (number : ℕ) → Option ℕ → StatementKindTree → List InstructionTree
   plan p s index d number label (If c body) =
       plain number d (Unless c (index + 1 + size_all p s d false body))
       ∷ plan_all p s (index + 1) d false body

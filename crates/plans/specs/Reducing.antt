@@ -1,7 +1,7 @@
 -- By what edge applies give a vector numbers.
 use Rattle.std.specs.Prelude.{◌≡◌, ℕ, List, [], ◌∷◌, map, slice_get, Option, Some, None}
 use Rattle.apply_options.specs.declared.reduction.Reduction.{Reduction}
-use Rattle.typed_tree.specs.StepTree.{FunctionTree, StepsTree}
+use Rattle.typed_tree.specs.FunctionStatementTree.{FunctionTree, FunctionStatementsTree}
 use Rattle.typed_tree.specs.ProgramTree.{ProgramTree}
 use Rattle.algorithm_meaning.specs.Function.{steps_of}
 use Rattle.algorithm_meaning.specs.Laws.{IsGivenBy}
@@ -15,16 +15,16 @@ indices_of first None = first ∷ []
 indices_of first (Some second) = first ∷ second ∷ []
 
 -- the statements of the functions at these indices
-abbrev pub steps_at : List FunctionTree → List ℕ → List StepsTree
+abbrev pub steps_at : List FunctionTree → List ℕ → List FunctionStatementsTree
 steps_at functions indices = map (λ index. steps_of (slice_get functions index)) indices
 
 -- there is a reduction by which alone the functions give a vector numbers
-pub record IsReducedAlone (steps : List StepsTree) (m : StateValue) (vector : ℕ) : Type 0 where
+pub record IsReducedAlone (steps : List FunctionStatementsTree) (m : StateValue) (vector : ℕ) : Type 0 where
   pub reduction : Reduction
   pub alone : IsGivenBy reduction vector steps m.sets m.vectors
 
 -- so it is for each vector
-abbrev pub AreReduced : List StepsTree → StateValue → Type 0
+abbrev pub AreReduced : List FunctionStatementsTree → StateValue → Type 0
 AreReduced steps m = (vector : ℕ) → IsReducedAlone steps m vector
 
 -- whatever the state, the edge apply of an operation gives each vector numbers by one reduction

@@ -1,7 +1,7 @@
 //! Kernels by the indices of their functions.
 ghost use Rattle.std.specs.Prelude.{◌≡◌, ℕ, IfOk, map, slice_get};
 ghost use Rattle.algorithm_meaning.specs.Function.{steps_of};
-ghost use Rattle.typed_tree.specs.StepTree.{StepsTree, function_tree};
+ghost use Rattle.typed_tree.specs.FunctionStatementTree.{FunctionStatementsTree, function_tree};
 ghost use Rattle.kernels.specs.Meaning.{IsVertexCode};
 ghost use Rattle.kernels.specs.Kernels.{IsEdgeKernel, IsFilterKernel};
 ghost use Rattle.plans.specs.Kernels.{ArePairwise, kernel_at};
@@ -12,7 +12,7 @@ use typed_tree::Function;
 
 /// A kind of kernels.
 pub trait Kernel: Drop + Sized {
-    ghost is_of: { Self → StepsTree → Type 0 };
+    ghost is_of: { Self → FunctionStatementsTree → Type 0 };
 
     /// The kernel of a function. The only error is out of memory.
     fn of_function(alloc: Global, function: &Function) -> Result<Self, AllocError>

@@ -2,8 +2,8 @@
 ghost use Rattle.std.specs.Prelude.{ℕ};
 ghost use Rattle.typed_tree.specs.declared.expression.VarRef.{VarRef};
 ghost use Rattle.typed_tree.specs.declared.statement.ApplyEnds.{ApplyEnds};
-ghost use Rattle.typed_tree.specs.ConditionTree.{ConditionTree};
-ghost use Rattle.typed_tree.specs.IntegerTree.{IntegerTree};
+ghost use Rattle.typed_tree.specs.BoolExpressionTree.{BoolExpressionTree};
+ghost use Rattle.typed_tree.specs.IntExpressionTree.{IntExpressionTree};
 ghost use Rattle.typed_tree.specs.ProgramTree.{ProgramTree};
 ghost use Rattle.algorithm_meaning.specs.State.{GraphValue};
 ghost use Rattle.apply_options.specs.ScheduleTree.{ScheduleTree};
@@ -45,7 +45,7 @@ pub fn fused_applies_fit()
 pub fn examples_have_their_plans()
     ensures search { (p : ProgramTree) (s : ScheduleTree) (frontier : VarRef) (ends : ApplyEnds) (visit parent : ℕ)
         → HasPlanOfSearch p s frontier ends visit parent }
-    ensures loop_with_choice { (p : ProgramTree) (s : ScheduleTree) (i : ℕ) (first end : IntegerTree) (c : ConditionTree) (e f : IntegerTree)
+    ensures loop_with_choice { (p : ProgramTree) (s : ScheduleTree) (i : ℕ) (first end : IntExpressionTree) (c : BoolExpressionTree) (e f : IntExpressionTree)
         → HasPlanOfLoop p s i first end c e f }
     ensures vertex_pair { (p : ProgramTree) (name : ℕ) → HasPlanOfVertexPair p name }
     ensures edge_pair { (p : ProgramTree) → HasPlanOfEdgePair p }

@@ -7,7 +7,7 @@ use Rattle.std.specs.List.{filter}
 use Rattle.std.specs.Map.{keys_of, values_of}
 use Rattle.edge_lists.specs.Edge.{Edge}
 use Rattle.apply_options.specs.declared.reduction.Reduction.{Reduction}
-use Rattle.kernels.specs.StepTree.{StepsTree}
+use Rattle.kernels.specs.FunctionStatementTree.{FunctionStatementsTree}
 use Rattle.kernels.specs.EdgeApply.{is_member}
 use Rattle.kernels.specs.State.{StateValue}
 use Rattle.edge_fold.specs.declared.scratch.Scratch.{Scratch}
@@ -136,7 +136,7 @@ columns_are_edges r x v n g from to us es up agree =
     (into_columns v from es 0 us up ∙ agree_at from v (sources_of v es) (is_member v us) (to v) (agree v) ∙ sym (into_between v from to es))
     ∙ only_into r x v n g (edges_between from to es)
 
-pub folded_columns : (f : ApplyContext) (m : StateValue) (steps : List StepsTree) (from to : ℕ → Bool) (us : List ℕ) (es : List Edge) (s : Scratch) → Rises 0 us
+pub folded_columns : (f : ApplyContext) (m : StateValue) (steps : List FunctionStatementsTree) (from to : ℕ → Bool) (us : List ℕ) (es : List Edge) (s : Scratch) → Rises 0 us
     → ((u : ℕ) → 0 < length (sources_of u es) → is_member u us ≡ to u)
     → HasFolded f m steps (columns from es us) s → HasFolded f m steps (edges_between from to es) s
 folded_columns f m steps from to us es s up agree has = λ x r by.

@@ -3,7 +3,7 @@ use Rattle.std.proofs.Common.{◌≡◌, ℕ, ℤ, ◌<◌, ◌==◌, ◌⊎◌,
 use Rattle.std.specs.List.{filter, flat_map, range_with_len}
 use Rattle.std.specs.List.Sorted.{IsPermutation}
 use Rattle.edge_lists.specs.Edge.{Edge}
-use Rattle.kernels.specs.StepTree.{StepsTree}
+use Rattle.kernels.specs.FunctionStatementTree.{FunctionStatementsTree}
 use Rattle.kernels.specs.State.{StateValue}
 use Rattle.kernels.specs.Registers.{HasSizes}
 use Rattle.crew.specs.declared.piece_results.Found.{Found}
@@ -83,7 +83,7 @@ columns_of_all from to edges part (k ∷ ks) =
     ∙ sym (columns-append from edges (filter to (part k)) (filter to (flat_map part ks)))
     ∙ ap (columns from edges) (sym (filter-append to (part k) (flat_map part ks)))
 
-pub merged : (f : ApplyContext) (m : StateValue) (steps : List StepsTree) (g : Digraph) (from to : ℕ → Bool) (ends us ks : List ℕ) (s : Scratch) → IsDigraph g → AreEnds 0 (length us) ends → us ≡ range_with_len 0 g.vertices
+pub merged : (f : ApplyContext) (m : StateValue) (steps : List FunctionStatementsTree) (g : Digraph) (from to : ℕ → Bool) (ends us ks : List ℕ) (s : Scratch) → IsDigraph g → AreEnds 0 (length us) ends → us ≡ range_with_len 0 g.vertices
     → IsPermutation ks (range_with_len 1 (length ends))
     → HasFolded f m steps (flat_map (λ k. columns from g.edges (filter to (piece_of ends us k))) ks) s → HasFolded f m steps (edges_between from to g.edges) s
 merged f m steps g from to ends us ks s is whole all same has =
@@ -95,7 +95,7 @@ merged f m steps g from to ends us ks s is whole all same has =
     (folded_in_any_order f m steps edges_of ks (range_with_len 1 (length ends)) s same has))
 
 -- what the pieces answer, for one state
-pub each_gathered : (w : PullWork) (fs : List (Found Gathered)) (m : StateValue) (steps : List StepsTree) (from to : ℕ → Bool) → AreAnswers (GathersPiece w) fs
+pub each_gathered : (w : PullWork) (fs : List (Found Gathered)) (m : StateValue) (steps : List FunctionStatementsTree) (from to : ℕ → Bool) → AreAnswers (GathersPiece w) fs
     → w.apply.vectors.now.vectors ≡ m.vectors → HasSizes w.apply.sizes.now m → AreKernels w.apply.first.now w.apply.second steps → IsEndTest w.apply.from m from → IsEndTest w.apply.to m to
     → EachGathered w.apply.flat.now.vertices m steps (edges_into_piece w from to) fs
 each_gathered w [] m steps from to answers vectors sizes kernels is_from is_to = tt
@@ -109,7 +109,7 @@ gathers_pieces w (f ∷ fs) none answers = (subst (λ (o : Option ℕ). AnswersF
 
 -- what pieces of a pull of a shape that is known give
 pub pulled_parts : (w : PullWork) (fs : List (Found Gathered)) (y : ℕ) → shape_vector w.shape ≡ Some y → AreAnswers (Answers w) fs
-    → (m : StateValue) (steps : List StepsTree) (from to : ℕ → Bool) → w.apply.vectors.now.vectors ≡ m.vectors → HasSizes w.apply.sizes.now m → AreKernels w.apply.first.now w.apply.second steps → IsEndTest w.apply.from m from → IsEndTest w.apply.to m to
+    → (m : StateValue) (steps : List FunctionStatementsTree) (from to : ℕ → Bool) → w.apply.vectors.now.vectors ≡ m.vectors → HasSizes w.apply.sizes.now m → AreKernels w.apply.first.now w.apply.second steps → IsEndTest w.apply.from m from → IsEndTest w.apply.to m to
     → (r : Reduction) → IsReducedBy r y m steps
     → ListParts (told_in_piece (entry m.vectors y) (entry_after m steps y r (edges_between from to w.apply.flat.now.edges)) w.cuts) fs
 pulled_parts w [] y at answers m steps from to vectors sizes kernels is_from is_to r by = tt

@@ -1,7 +1,7 @@
 -- The range of a piece of a pull.
 use Rattle.std.specs.Prelude.{◌≡◌, ◌-◌, ◌≤◌, ℕ, Bool, List}
 use Rattle.crew.specs.Partition.{end_of}
-use Rattle.kernels.specs.StepTree.{StepsTree}
+use Rattle.kernels.specs.FunctionStatementTree.{FunctionStatementsTree}
 use Rattle.kernels.specs.State.{StateValue}
 use Rattle.edge_fold.specs.declared.apply_context.FoldStart.{FoldStart}
 use Rattle.edge_fold.specs.Ends.{IsEndTest}
@@ -18,7 +18,7 @@ pub record IsRangeOfPiece (w : PullWork) (start : FoldStart) (piece : ℕ) (p : 
   pub flat : p.flat.now ≡ w.apply.flat.now
   pub graph : IsDigraph w.apply.flat.now
   pub context : p.context ≡ context_of w.apply start
-  pub reads : (m : StateValue) (steps : List StepsTree) → IsApplyOf w.apply m steps → IsContextOf p.context m steps
+  pub reads : (m : StateValue) (steps : List FunctionStatementsTree) → IsApplyOf w.apply m steps → IsContextOf p.context m steps
   pub from : (v : ℕ) → passes_words p.from v ≡ is_source w.sources v
   pub to : (m : StateValue) (test : ℕ → Bool) → IsEndTest w.apply.to m test → IsEndTest p.to m test
   pub low : p.low ≡ end_of w.cuts (piece - 1)

@@ -3,7 +3,7 @@ use Rattle.std.specs.Prelude.{◌≡◌, ℕ, ◌-◌, Bool, Option, Some, None,
 use Rattle.std.specs.List.{All, filter, range_with_len}
 use Rattle.apply_options.specs.declared.reduction.Reduction.{Reduction}
 use Rattle.edge_lists.specs.Edge.{Edge}
-use Rattle.kernels.specs.StepTree.{StepsTree}
+use Rattle.kernels.specs.FunctionStatementTree.{FunctionStatementsTree}
 use Rattle.kernels.specs.State.{StateValue}
 use Rattle.kernels.specs.Registers.{HasSizes}
 use Rattle.vectors.specs.declared.changes.EntryChange.{EntryChange}
@@ -24,13 +24,13 @@ edges_into_piece w from to k = columns from w.apply.flat.now.edges (filter to (p
 
 -- a piece of an apply by any functions answers what its edges give
 abbrev pub GathersPiece : PullWork → (piece : ℕ) → Gathered → Type 0
-GathersPiece w k g = (m : StateValue) (steps : List StepsTree) (from to : ℕ → Bool) → w.apply.vectors.now.vectors ≡ m.vectors → HasSizes w.apply.sizes.now m
+GathersPiece w k g = (m : StateValue) (steps : List FunctionStatementsTree) (from to : ℕ → Bool) → w.apply.vectors.now.vectors ≡ m.vectors → HasSizes w.apply.sizes.now m
     → AreKernels w.apply.first.now w.apply.second steps → IsEndTest w.apply.from m from → IsEndTest w.apply.to m to
     → AreGathered w.apply.flat.now.vertices m steps (edges_into_piece w from to k) g
 
 -- where one function gives a vector by sources alone, a piece answers what the apply changes at its vertices, ascending
 abbrev pub IsPiecePulled : (vector : ℕ) → PullWork → (piece : ℕ) → List EntryChange → Type 0
-IsPiecePulled x w k cs = (m : StateValue) (steps : List StepsTree) (from to : ℕ → Bool) → w.apply.vectors.now.vectors ≡ m.vectors → HasSizes w.apply.sizes.now m
+IsPiecePulled x w k cs = (m : StateValue) (steps : List FunctionStatementsTree) (from to : ℕ → Bool) → w.apply.vectors.now.vectors ≡ m.vectors → HasSizes w.apply.sizes.now m
     → AreKernels w.apply.first.now w.apply.second steps → IsEndTest w.apply.from m from → IsEndTest w.apply.to m to
     → AreChangesFrom x (end_of w.cuts (k - 1)) (end_of w.cuts k - end_of w.cuts (k - 1)) (edges_between from to w.apply.flat.now.edges) m steps cs
 

@@ -1,7 +1,7 @@
 -- Ranges of destinations, and the changes of a pull into one.
 use Rattle.std.specs.Prelude.{◌≡◌, ℕ, ℤ, Bool, if◌then◌else◌, Option, Some, None, List, [], ◌∷◌, ◌++◌}
 use Rattle.apply_options.specs.declared.reduction.Reduction.{Reduction}
-use Rattle.kernels.specs.StepTree.{StepsTree}
+use Rattle.kernels.specs.FunctionStatementTree.{FunctionStatementsTree}
 use Rattle.kernels.specs.State.{StateValue}
 use Rattle.kernels.specs.Registers.{HasSizes}
 use Rattle.kernels.specs.Shapes.{HasShape}
@@ -53,15 +53,15 @@ shape_reduction (shape.EntryWith x r y o) = Some r
 
 -- what the functions give on every edge is what one of this shape gives
 abbrev pub IsShapeOfApply : Shape → EdgeKernel → Option (Bor EdgeKernel) → Type 0
-IsShapeOfApply t first second = (m : StateValue) (sizes : List ℤ) (steps : List StepsTree) → HasSizes sizes m → AreKernels first second steps
+IsShapeOfApply t first second = (m : StateValue) (sizes : List ℤ) (steps : List FunctionStatementsTree) → HasSizes sizes m → AreKernels first second steps
     → (edge : Edge) → HasShape t m edge (all_given m steps edge)
 
 -- the entry at a vertex after an apply to these edges
-abbrev pub entry_after : StateValue → List StepsTree → (x : ℕ) → Reduction → List Edge → ℕ → ℤ
+abbrev pub entry_after : StateValue → List FunctionStatementsTree → (x : ℕ) → Reduction → List Edge → ℕ → ℤ
 entry_after m steps x r es v = reduced_at r v (entry m.vectors x v) (given_on x (all_given m steps) es)
 
 -- the changes of a vector are those of an apply to these edges, at n vertices from one on
-abbrev pub AreChangesFrom : (vector low count : ℕ) → (edges : List Edge) → StateValue → List StepsTree → List EntryChange → Type 0
+abbrev pub AreChangesFrom : (vector low count : ℕ) → (edges : List Edge) → StateValue → List FunctionStatementsTree → List EntryChange → Type 0
 AreChangesFrom x low count es m steps cs = (r : Reduction) → IsReducedBy r x m steps → cs ≡ changed_from (entry m.vectors x) (entry_after m steps x r es) low count
 
 -- all that is listed, one vector after the other

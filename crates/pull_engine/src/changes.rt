@@ -1,6 +1,6 @@
 //! Whole applies by pull: into the destinations.
 ghost use Rattle.std.specs.Prelude.{◌≡◌, ℕ, ◌==◌, Bool, if◌then◌else◌, List, [], IfOk};
-ghost use Rattle.kernels.specs.StepTree.{StepsTree};
+ghost use Rattle.kernels.specs.FunctionStatementTree.{FunctionStatementsTree};
 ghost use Rattle.kernels.specs.State.{StateValue};
 ghost use Rattle.edge_fold.specs.Between.{edges_between};
 ghost use Rattle.edge_fold.specs.Changed.{AreApart, changes_of};
@@ -68,7 +68,7 @@ fn pull_folded(
     requires high { range.high ≡ range.flat.now.vertices }
     requires graph { IsDigraph range.flat.now }
     ensures once { IfOk result (λ c. AreApart c.vectors.items) }
-    ensures changes { IfOk result (λ c. (m : StateValue) (steps : List StepsTree) (test : ℕ → Bool) → IsContextOf range.entry.context m steps
+    ensures changes { IfOk result (λ c. (m : StateValue) (steps : List FunctionStatementsTree) (test : ℕ → Bool) → IsContextOf range.entry.context m steps
         → range.entry.context.vertices ≡ range.entry.flat.now.vertices → range.entry.context.start ≡ OldEntry → IsEndTest range.entry.to m test
         → AreChangesOn range.entry.flat.now.vertices (edges_between (passes_words range.entry.from) test range.entry.flat.now.edges) m steps c.vectors.items) }
 {

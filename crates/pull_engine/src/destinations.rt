@@ -3,7 +3,7 @@ ghost use Rattle.std.specs.Prelude.{◌≡◌, ℕ, ◌-◌, ◌*◌, ◌^◌, �
 ghost use Rattle.std.specs.List.{filter, range_with_len};
 ghost use Rattle.edge_lists.specs.Edge.{Edge};
 ghost use Rattle.kernels.specs.declared.columns.TheConstants.{PAIRS};
-ghost use Rattle.kernels.specs.StepTree.{StepsTree};
+ghost use Rattle.kernels.specs.FunctionStatementTree.{FunctionStatementsTree};
 ghost use Rattle.kernels.specs.State.{StateValue};
 ghost use Rattle.edge_fold.specs.Ends.{IsEndTest};
 ghost use Rattle.edge_fold.specs.Folded.{IsContextOf, HasFolded};
@@ -50,7 +50,7 @@ pub(crate) fn fold_range(
     scratch: &mut Scratch,
 ) -> Result<(), AllocError>
     requires { range.low ≤ range.high }
-    ensures { OnOk result ((m : StateValue) (steps : List StepsTree) (test : ℕ → Bool) → IsContextOf range.entry.context m steps → IsEndTest range.entry.to m test
+    ensures { OnOk result ((m : StateValue) (steps : List FunctionStatementsTree) (test : ℕ → Bool) → IsContextOf range.entry.context m steps → IsEndTest range.entry.to m test
         → HasFolded range.entry.context m steps
         (columns (passes_words range.entry.from) range.entry.flat.now.edges (filter test (range_with_len range.entry.low (range.entry.high - range.entry.low)))) scratch.new) }
 {
@@ -68,7 +68,7 @@ fn fold_words(
 ) -> Result<(), AllocError>
     requires order { range.low ≤ range.high }
     requires bits { IsInBits to.now }
-    ensures { OnOk result ((m : StateValue) (steps : List StepsTree) (edges : List Edge) → IsContextOf range.entry.context m steps
+    ensures { OnOk result ((m : StateValue) (steps : List FunctionStatementsTree) (edges : List Edge) → IsContextOf range.entry.context m steps
         → HasFolded range.entry.context m steps edges scratch.old
         → HasFolded range.entry.context m steps (edges ++ columns (passes_words range.entry.from) range.entry.flat.now.edges
         (filter (lets to.now) (range_with_len range.entry.low (range.entry.high - range.entry.low)))) scratch.new) }
@@ -98,7 +98,7 @@ fn fold_block(
     scratch: &mut Scratch,
 ) -> Result<(), AllocError>
     requires { block < 2 ^ 26 }
-    ensures { OnOk result ((m : StateValue) (steps : List StepsTree) (edges : List Edge) → IsContextOf input.entry.context m steps
+    ensures { OnOk result ((m : StateValue) (steps : List FunctionStatementsTree) (edges : List Edge) → IsContextOf input.entry.context m steps
         → HasFolded input.entry.context m steps edges scratch.old
         → HasFolded input.entry.context m steps (edges ++ columns (passes_words input.entry.from) input.entry.flat.now.edges
         (filter (in_word (64 * block) word) (range_with_len (64 * block) 64))) scratch.new) }
@@ -124,7 +124,7 @@ fn fold_column(
     room: &mut SourceBlock,
     scratch: &mut Scratch,
 ) -> Result<(), AllocError>
-    ensures { OnOk result ((m : StateValue) (steps : List StepsTree) (edges : List Edge) → IsContextOf input.entry.context m steps
+    ensures { OnOk result ((m : StateValue) (steps : List FunctionStatementsTree) (edges : List Edge) → IsContextOf input.entry.context m steps
         → HasFolded input.entry.context m steps edges scratch.old
         → HasFolded input.entry.context m steps (edges ++ column destination
         (passing (passes_words input.entry.from) (sources_of destination input.entry.flat.now.edges))) scratch.new) }
@@ -160,7 +160,7 @@ fn fold_sources(
 ) -> Result<(), AllocError>
     requires unweighted { input.context.weighted ≡ false }
     requires block { length block.old ≡ PAIRS }
-    ensures { OnOk result ((m : StateValue) (steps : List StepsTree) (edges : List Edge) → IsContextOf input.entry.context m steps
+    ensures { OnOk result ((m : StateValue) (steps : List FunctionStatementsTree) (edges : List Edge) → IsContextOf input.entry.context m steps
         → HasFolded input.entry.context m steps edges scratch.old
         → HasFolded input.entry.context m steps (edges ++ column destination (passing (passes_words input.entry.from) (listed sources.entry))) scratch.new) }
 {
@@ -186,7 +186,7 @@ fn fold_walk<W: NeighbourWalk + Drop>(
 ) -> Result<(), AllocError>
     requires unweighted { input.context.weighted ≡ false }
     requires block { length block.old ≡ PAIRS }
-    ensures { OnOk result ((m : StateValue) (steps : List StepsTree) (edges : List Edge) → IsContextOf input.entry.context m steps
+    ensures { OnOk result ((m : StateValue) (steps : List FunctionStatementsTree) (edges : List Edge) → IsContextOf input.entry.context m steps
         → HasFolded input.entry.context m steps edges scratch.old
         → HasFolded input.entry.context m steps (edges ++ column destination (passing (passes_words input.entry.from) (W.coming walk))) scratch.new) }
 {
@@ -210,7 +210,7 @@ fn fold_weighted_sources(
     requires weighted { input.columns.context.weighted ≡ true }
     requires block { length block.old ≡ PAIRS }
     requires weights { length weights.old ≡ PAIRS }
-    ensures { OnOk result ((m : StateValue) (steps : List StepsTree) (edges : List Edge) → IsContextOf input.entry.columns.context m steps
+    ensures { OnOk result ((m : StateValue) (steps : List FunctionStatementsTree) (edges : List Edge) → IsContextOf input.entry.columns.context m steps
         → HasFolded input.entry.columns.context m steps edges scratch.old
         → HasFolded input.entry.columns.context m steps
         (edges ++ column input.entry.destination (passing (passes_words input.entry.columns.from) (listed sources.entry))) scratch.new) }
@@ -240,7 +240,7 @@ fn fold_weighted_walk<W: NeighbourWalk + Drop>(
     requires weighted { input.columns.context.weighted ≡ true }
     requires block { length block.old ≡ PAIRS }
     requires weights { length weights.old ≡ PAIRS }
-    ensures { OnOk result ((m : StateValue) (steps : List StepsTree) (edges : List Edge) → IsContextOf input.entry.columns.context m steps
+    ensures { OnOk result ((m : StateValue) (steps : List FunctionStatementsTree) (edges : List Edge) → IsContextOf input.entry.columns.context m steps
         → HasFolded input.entry.columns.context m steps edges scratch.old
         → HasFolded input.entry.columns.context m steps
         (edges ++ column input.entry.destination (passing (passes_words input.entry.columns.from) (W.coming walk))) scratch.new) }

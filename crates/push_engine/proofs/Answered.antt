@@ -1,6 +1,6 @@
 -- What the pieces of an apply answer, for one state.
 use Rattle.std.proofs.Common.{◌≡◌, ℕ, Bool, List, [], ◌∷◌}
-use Rattle.kernels.specs.StepTree.{StepsTree}
+use Rattle.kernels.specs.FunctionStatementTree.{FunctionStatementsTree}
 use Rattle.kernels.specs.State.{StateValue}
 use Rattle.kernels.specs.Registers.{HasSizes}
 use Rattle.crew.specs.declared.piece_results.Found.{Found}
@@ -12,7 +12,7 @@ use Rattle.push_engine.specs.declared.work.PushWork.{PushWork}
 use Rattle.edge_apply.specs.Pieces.{EachAscending, EachGathered}
 use Rattle.push_engine.specs.Pieces.{Answers, edges_of_piece}
 
-pub each_gathered : (w : PushWork) (fs : List (Found Gathered)) (m : StateValue) (steps : List StepsTree) (from to : ℕ → Bool) → AreAnswers (Answers w) fs
+pub each_gathered : (w : PushWork) (fs : List (Found Gathered)) (m : StateValue) (steps : List FunctionStatementsTree) (from to : ℕ → Bool) → AreAnswers (Answers w) fs
     → w.apply.vectors.now.vectors ≡ m.vectors → HasSizes w.apply.sizes.now m → AreKernels w.apply.first.now w.apply.second steps → IsEndTest w.apply.from m from → IsEndTest w.apply.to m to
     → EachGathered w.apply.flat.now.vertices m steps (edges_of_piece w from to) fs
 each_gathered w [] m steps from to answers vectors sizes kernels is_from is_to = tt

@@ -2,7 +2,7 @@
 use Rattle.std.proofs.Common.{◌≡◌, ℕ, ◌<◌, Bool, true, cond, List, refl, sym, ap, ◌∙◌, subst}
 use Rattle.std.specs.List.{filter}
 use Rattle.edge_lists.specs.Edge.{Edge}
-use Rattle.kernels.specs.StepTree.{StepsTree}
+use Rattle.kernels.specs.FunctionStatementTree.{FunctionStatementsTree}
 use Rattle.kernels.specs.State.{StateValue}
 use Rattle.edge_fold.specs.declared.gathered.Gathered.{Gathered}
 use Rattle.edge_fold.specs.Gathered.{AreGathered}
@@ -11,7 +11,7 @@ use Rattle.edge_fold.proofs.Meaning.{filtered_edges}
 use Rattle.edge_apply.proofs.Listed.{filter_all}
 
 -- tests that agree on the vertices of a graph
-pub gathered_where : (n : ℕ) (m : StateValue) (steps : List StepsTree) (p q : ℕ → Bool) (es : List Edge) (g : Gathered) → ((v : ℕ) → v < n → p v ≡ q v)
+pub gathered_where : (n : ℕ) (m : StateValue) (steps : List FunctionStatementsTree) (p q : ℕ → Bool) (es : List Edge) (g : Gathered) → ((v : ℕ) → v < n → p v ≡ q v)
     → AreGathered n m steps (filter (λ e. p e.1) es) g → AreGathered n m steps (filter (λ e. q e.1) es) g
 gathered_where n m steps p q es g same are x r by =
     let of = all_given m steps in
@@ -26,10 +26,10 @@ gathered_where n m steps p q es g same are x r by =
     }
 
 -- all pass the second test, or the first
-pub gathered_first : (n : ℕ) (m : StateValue) (steps : List StepsTree) (p : ℕ → Bool) (es : List Edge) (g : Gathered)
+pub gathered_first : (n : ℕ) (m : StateValue) (steps : List FunctionStatementsTree) (p : ℕ → Bool) (es : List Edge) (g : Gathered)
     → AreGathered n m steps (filter (λ e. true) (filter (λ e. p e.1) es)) g → AreGathered n m steps (filter (λ e. p e.1) es) g
 gathered_first n m steps p es g are = subst (λ (ks : List Edge). AreGathered n m steps ks g) (filter_all (λ _. true) (filter (λ e. p e.1) es) (λ e. refl)) are
 
-pub gathered_second : (n : ℕ) (m : StateValue) (steps : List StepsTree) (p : ℕ → Bool) (es : List Edge) (g : Gathered)
+pub gathered_second : (n : ℕ) (m : StateValue) (steps : List FunctionStatementsTree) (p : ℕ → Bool) (es : List Edge) (g : Gathered)
     → AreGathered n m steps (filter (λ e. p e.1) (filter (λ e. true) es)) g → AreGathered n m steps (filter (λ e. p e.1) es) g
 gathered_second n m steps p es g are = subst (λ (ks : List Edge). AreGathered n m steps (filter (λ e. p e.1) ks) g) (filter_all (λ _. true) es (λ e. refl)) are

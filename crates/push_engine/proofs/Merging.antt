@@ -5,7 +5,7 @@ use Rattle.std.specs.List.{filter, flat_map, range_with_len}
 use Rattle.std.specs.List.Sorted.{IsPermutation}
 use Rattle.edge_lists.specs.Edge.{Edge}
 use Rattle.apply_options.specs.declared.reduction.Reduction.{Reduction}
-use Rattle.kernels.specs.StepTree.{StepsTree}
+use Rattle.kernels.specs.FunctionStatementTree.{FunctionStatementsTree}
 use Rattle.kernels.specs.State.{StateValue}
 use Rattle.edge_fold.specs.declared.apply_context.ApplyContext.{ApplyContext}
 use Rattle.edge_fold.specs.declared.scratch.Scratch.{Scratch}
@@ -69,7 +69,7 @@ merged_alike r x v g edges tested from to ends us ks whole are same n =
     ∙ ap (λ (es : List Edge). reduced_at r v n (given_on x g es)) all
     ∙ all_alike r x v g edges tested from to us are n
 
-pub merged : (f : ApplyContext) (m : StateValue) (steps : List StepsTree) (edges : List Edge) (tested : Bool) (from to : ℕ → Bool) (ends us ks : List ℕ) (s : Scratch) → AreEnds 0 (length us) ends → AreSources edges from tested us
+pub merged : (f : ApplyContext) (m : StateValue) (steps : List FunctionStatementsTree) (edges : List Edge) (tested : Bool) (from to : ℕ → Bool) (ends us ks : List ℕ) (s : Scratch) → AreEnds 0 (length us) ends → AreSources edges from tested us
     → IsPermutation ks (range_with_len 1 (length ends))
     → HasFolded f m steps (flat_map (λ k. edges_in edges tested from to (piece_of ends us k)) ks) s → HasFolded f m steps (edges_between from to edges) s
 merged f m steps edges tested from to ends us ks s whole are same has =

@@ -4,7 +4,7 @@ use Rattle.std.proofs.lemmas.List.{append-nil, map-append, take_more}
 use Rattle.std.proofs.lemmas.List.Elements.{filter-append}
 use Rattle.std.specs.List.{filter}
 use Rattle.edge_lists.specs.Edge.{Edge}
-use Rattle.kernels.specs.StepTree.{StepsTree}
+use Rattle.kernels.specs.FunctionStatementTree.{FunctionStatementsTree}
 use Rattle.kernels.specs.State.{StateValue}
 use Rattle.kernels.specs.declared.endpoint_filter.EndpointFilter.{EndpointFilter}
 use Rattle.edge_fold.specs.declared.apply_context.ApplyContext.{ApplyContext}
@@ -37,14 +37,14 @@ one_source f to edges u s t more m steps es are has =
     folded_along f m steps (es ++ row_to to u (destinations_of u edges)) (es ++ rows_to to edges (u ∷ [])) t (ap (λ ks. es ++ ks) (sym (one_row to edges u))) (more m steps es are has)
 
 -- the edges between the ends
-pub folded_edges : (f : ApplyContext) (m : StateValue) (steps : List StepsTree) (from to : ℕ → Bool) (us : List ℕ) (es : List Edge) (s : Scratch) → Rises 0 us → Agree from us es
+pub folded_edges : (f : ApplyContext) (m : StateValue) (steps : List FunctionStatementsTree) (from to : ℕ → Bool) (us : List ℕ) (es : List Edge) (s : Scratch) → Rises 0 us → Agree from us es
     → HasFolded f m steps (rows_to to es us) s → HasFolded f m steps (edges_between from to es) s
 folded_edges f m steps from to us es s up agree has = λ x r by.
     let was = has x r by in
     record { entries = λ v h l. was.entries v h l ∙ rows_to_are_edges r x v _ from to us up es agree _; reduction = was.reduction }
 
 pub walked_all : (f : ApplyContext) (edges : List Edge) (all left : List ℕ) (start s : Scratch) (from to : ℕ → Bool) → left ≡ [] → Rises 0 all → Agree from all edges → HasWalked f (rows_to to edges) all left start s
-    → (m : StateValue) (steps : List StepsTree) → IsContextOf f m steps → HasFolded f m steps [] start → HasFolded f m steps (edges_between from to edges) s
+    → (m : StateValue) (steps : List FunctionStatementsTree) → IsContextOf f m steps → HasFolded f m steps [] start → HasFolded f m steps (edges_between from to edges) s
 walked_all f edges all left start s from to none up agree w m steps are has =
     folded_edges f m steps from to all edges s up agree (walk_done f (rows_to to edges) all left start s none w m steps [] are has)
 
@@ -52,7 +52,7 @@ pub sources_agree : (edges : List Edge) (ds : List (ℕ × ℕ)) (from : ℕ →
 sources_agree edges ds from are all = agree_on_rows from (firsts ds) edges (λ u l. degree_listed (λ u. destinations_of u edges) ds u are l ∙ sym (all u))
 
 pub passed_all : (from : EndpointFilter) (f : ApplyContext) (to : ℕ → Bool) (edges : List Edge) (ds : List (ℕ × ℕ)) (left : List ℕ) (start s : Scratch) → left ≡ [] → AreDegreesOf (λ u. destinations_of u edges) ds → HasPassed from f (rows_to to edges) (firsts ds) left start s
-    → (m : StateValue) (steps : List StepsTree) (test : ℕ → Bool) → IsContextOf f m steps → IsTest from m test → HasFolded f m steps [] start → HasFolded f m steps (edges_between test to edges) s
+    → (m : StateValue) (steps : List FunctionStatementsTree) (test : ℕ → Bool) → IsContextOf f m steps → IsTest from m test → HasFolded f m steps [] start → HasFolded f m steps (edges_between test to edges) s
 passed_all from f to edges ds left start s none degrees w m steps test are is has =
     let neighbours = λ (u : ℕ). destinations_of u edges in
     let us = filter test (firsts ds) in

@@ -1,6 +1,6 @@
 //! Whole applies by push.
 ghost use Rattle.std.specs.Prelude.{◌≡◌, ◌<◌, ◌^◌, ℕ, List, [], nat_lt, IfOk, OnOk};
-ghost use Rattle.kernels.specs.StepTree.{StepsTree};
+ghost use Rattle.kernels.specs.FunctionStatementTree.{FunctionStatementsTree};
 ghost use Rattle.kernels.specs.State.{StateValue};
 ghost use Rattle.edge_fold.specs.Changed.{AreApart};
 ghost use Rattle.edge_fold.specs.Folded.{IsContextOf, HasFolded};
@@ -55,7 +55,7 @@ fn begin(
     work: usize,
     scratch: &mut Scratch,
 ) -> Result<(), AllocError>
-    ensures { OnOk result ((m : StateValue) (steps : List StepsTree) → IsContextOf context.entry m steps → HasFolded context.entry m steps [] scratch.new) }
+    ensures { OnOk result ((m : StateValue) (steps : List FunctionStatementsTree) → IsContextOf context.entry m steps → HasFolded context.entry m steps [] scratch.new) }
 {
     if work > context.vertices as usize {
         return scratch.begin_whole(alloc, context);

@@ -3,7 +3,7 @@ ghost use Rattle.std.specs.Prelude.{◌≡◌, ℕ, ◌<◌, ◌≤◌, Bool, Li
 ghost use Rattle.std.specs.List.{filter, flat_map, range_with_len};
 ghost use Rattle.std.specs.List.Sorted.{IsPermutation};
 ghost use Rattle.crew.specs.Pieces.{AreAnswers, pieces_of};
-ghost use Rattle.kernels.specs.StepTree.{StepsTree};
+ghost use Rattle.kernels.specs.FunctionStatementTree.{FunctionStatementsTree};
 ghost use Rattle.kernels.specs.State.{StateValue};
 ghost use Rattle.kernels.specs.Registers.{HasSizes};
 ghost use Rattle.crew.specs.Partition.{piece_of};
@@ -107,7 +107,7 @@ impl PushWork<'_> {
         requires some { 0 < piece }
         requires inside { piece ≤ length self.now.cuts }
         ensures ascending { IfOk result (λ g. AreAscending g.vectors.items) }
-        ensures given { IfOk result (λ g. (m : StateValue) (steps : List StepsTree) (from test : ℕ → Bool)
+        ensures given { IfOk result (λ g. (m : StateValue) (steps : List FunctionStatementsTree) (from test : ℕ → Bool)
             → self.now.apply.vectors.now.vectors ≡ m.vectors → HasSizes self.now.apply.sizes.now m
             → AreKernels self.now.apply.first.now self.now.apply.second steps → IsEndTest self.now.apply.from m from → IsEndTest to.entry m test
             → AreGathered self.now.apply.flat.now.vertices m steps
@@ -132,7 +132,7 @@ impl PushWork<'_> {
         to: Option<&[u64]>,
         scratch: &mut Scratch,
     ) -> Result<(), AllocError>
-        ensures { OnOk result ((m : StateValue) (steps : List StepsTree) (from : ℕ → Bool) → IsContextOf context.entry m steps
+        ensures { OnOk result ((m : StateValue) (steps : List FunctionStatementsTree) (from : ℕ → Bool) → IsContextOf context.entry m steps
             → IsEndTest self.now.apply.from m from
             → HasFolded context.entry m steps [] scratch.old
             → HasFolded context.entry m steps (rows_to (passes_words to.entry) self.now.apply.flat.now.edges
@@ -193,7 +193,7 @@ fn fold_passing_part(
     to: Option<&[u64]>,
     scratch: &mut Scratch,
 ) -> Result<(), AllocError>
-    ensures { OnOk result ((m : StateValue) (steps : List StepsTree) (test : ℕ → Bool) → IsContextOf context.entry m steps → IsEndTest apply.now.from m test
+    ensures { OnOk result ((m : StateValue) (steps : List FunctionStatementsTree) (test : ℕ → Bool) → IsContextOf context.entry m steps → IsEndTest apply.now.from m test
         → HasFolded context.entry m steps [] scratch.old → HasFolded context.entry m steps
         (rows_to (passes_words to.entry) apply.now.flat.now.edges (filter test part.now)) scratch.new) }
 {

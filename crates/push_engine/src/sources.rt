@@ -5,7 +5,7 @@ ghost use Rattle.std.specs.List.{filter, range_with_len};
 ghost use Rattle.std.specs.Map.{keys_of};
 ghost use Rattle.std.specs.Option.{option_copied};
 ghost use Rattle.edge_lists.specs.Edge.{Edge};
-ghost use Rattle.kernels.specs.StepTree.{StepsTree};
+ghost use Rattle.kernels.specs.FunctionStatementTree.{FunctionStatementsTree};
 ghost use Rattle.kernels.specs.EdgeApply.{is_member};
 ghost use Rattle.kernels.specs.State.{StateValue};
 ghost use Rattle.edge_fold.specs.Between.{edges_between};
@@ -50,7 +50,7 @@ pub(crate) fn fold_sources(
     scratch: &mut Scratch,
 ) -> Result<(), AllocError>
     requires { IsInBits from.now }
-    ensures { OnOk result ((m : StateValue) (steps : List StepsTree) (test : ℕ → Bool) → IsContextOf input.entry.context m steps
+    ensures { OnOk result ((m : StateValue) (steps : List FunctionStatementsTree) (test : ℕ → Bool) → IsContextOf input.entry.context m steps
         → ((n : ℕ) → AreTests n m test from.now)
         → HasFolded input.entry.context m steps [] scratch.old
         → HasFolded input.entry.context m steps (edges_between test (passes_words input.entry.to) input.entry.flat.now.edges)
@@ -82,7 +82,7 @@ fn fold_words(
     block: &mut NeighbourBlock,
     scratch: &mut Scratch,
 ) -> Result<(), AllocError>
-    ensures { OnOk result ((m : StateValue) (steps : List StepsTree) → IsContextOf input.entry.context m steps → HasFolded input.entry.context m steps [] scratch.old
+    ensures { OnOk result ((m : StateValue) (steps : List FunctionStatementsTree) → IsContextOf input.entry.context m steps → HasFolded input.entry.context m steps [] scratch.old
         → HasFolded input.entry.context m steps (edges_between (passes_words words.entry) (passes_words input.entry.to) input.entry.flat.now.edges)
         scratch.new) }
 {
@@ -103,7 +103,7 @@ fn fold_block(
     scratch: &mut Scratch,
 ) -> Result<(), AllocError>
     requires { number < 2 ^ 26 }
-    ensures { OnOk result ((m : StateValue) (steps : List StepsTree) (edges : List Edge) → IsContextOf input.entry.context m steps
+    ensures { OnOk result ((m : StateValue) (steps : List FunctionStatementsTree) (edges : List Edge) → IsContextOf input.entry.context m steps
         → HasFolded input.entry.context m steps edges scratch.old
         → HasFolded input.entry.context m steps (edges ++ rows_to (passes_words input.entry.to) input.entry.flat.now.edges
         (filter (passes_words words.entry) (range_with_len (64 * number) 64))) scratch.new) }
@@ -159,7 +159,7 @@ fn fold_members(
     block: &mut NeighbourBlock,
     scratch: &mut Scratch,
 ) -> Result<(), AllocError>
-    ensures { OnOk result ((m : StateValue) (steps : List StepsTree) (from : ℕ → Bool) → IsContextOf input.entry.context m steps
+    ensures { OnOk result ((m : StateValue) (steps : List FunctionStatementsTree) (from : ℕ → Bool) → IsContextOf input.entry.context m steps
         → ((v : ℕ) → from v ≡ is_member v set.now.members)
         → HasFolded input.entry.context m steps [] scratch.old
         → HasFolded input.entry.context m steps (edges_between from (passes_words input.entry.to) input.entry.flat.now.edges)
@@ -180,7 +180,7 @@ fn fold_passing(
     block: &mut NeighbourBlock,
     scratch: &mut Scratch,
 ) -> Result<(), AllocError>
-    ensures { OnOk result ((m : StateValue) (steps : List StepsTree) (test : ℕ → Bool) → IsContextOf input.entry.context m steps → IsTest from.entry m test
+    ensures { OnOk result ((m : StateValue) (steps : List FunctionStatementsTree) (test : ℕ → Bool) → IsContextOf input.entry.context m steps → IsTest from.entry m test
         → HasFolded input.entry.context m steps [] scratch.old
         → HasFolded input.entry.context m steps (edges_between test (passes_words input.entry.to) input.entry.flat.now.edges)
         scratch.new) }
@@ -207,7 +207,7 @@ pub(crate) fn fold_rows(
     block: &mut NeighbourBlock,
     scratch: &mut Scratch,
 ) -> Result<(), AllocError>
-    ensures { OnOk result ((m : StateValue) (steps : List StepsTree) (edges : List Edge) → IsContextOf input.entry.context m steps
+    ensures { OnOk result ((m : StateValue) (steps : List FunctionStatementsTree) (edges : List Edge) → IsContextOf input.entry.context m steps
         → HasFolded input.entry.context m steps edges scratch.old → HasFolded input.entry.context m steps (edges
         ++ rows_to (passes_words input.entry.to) input.entry.flat.now.edges sources.now) scratch.new) }
 {
@@ -228,7 +228,7 @@ fn fold_row(
     block: &mut NeighbourBlock,
     scratch: &mut Scratch,
 ) -> Result<(), AllocError>
-    ensures { OnOk result ((m : StateValue) (steps : List StepsTree) (edges : List Edge) → IsContextOf input.entry.context m steps
+    ensures { OnOk result ((m : StateValue) (steps : List FunctionStatementsTree) (edges : List Edge) → IsContextOf input.entry.context m steps
         → HasFolded input.entry.context m steps edges scratch.old → HasFolded input.entry.context m steps (edges
         ++ row source (filter (λ e. passes_words input.entry.to e.0) (neighbours_of (source % 64) (vertices_at (option_copied found.entry))))) scratch.new) }
 {
@@ -261,7 +261,7 @@ fn fold_list(
     block: &mut NeighbourBlock,
     scratch: &mut Scratch,
 ) -> Result<(), AllocError>
-    ensures { OnOk result ((m : StateValue) (steps : List StepsTree) (edges : List Edge) → IsContextOf input.entry.context m steps
+    ensures { OnOk result ((m : StateValue) (steps : List FunctionStatementsTree) (edges : List Edge) → IsContextOf input.entry.context m steps
         → HasFolded input.entry.context m steps edges scratch.old → HasFolded input.entry.context m steps (edges
         ++ row source (filter (λ e. passes_words input.entry.to e.0) list.entry)) scratch.new) }
 {
@@ -288,7 +288,7 @@ fn fold_narrow(
     scratch: &mut Scratch,
 ) -> Result<(), AllocError>
     requires { input.context.weighted ≡ false }
-    ensures { OnOk result ((m : StateValue) (steps : List StepsTree) (edges : List Edge) → IsContextOf input.entry.context m steps
+    ensures { OnOk result ((m : StateValue) (steps : List FunctionStatementsTree) (edges : List Edge) → IsContextOf input.entry.context m steps
         → HasFolded input.entry.context m steps edges scratch.old → HasFolded input.entry.context m steps (edges
         ++ row source (filter (λ e. passes_words input.entry.to e.0) list.now)) scratch.new) }
 {
@@ -309,7 +309,7 @@ fn fold_untested(
     list: &Neighbours<'_>,
     scratch: &mut Scratch,
 ) -> Result<bool, AllocError>
-    ensures folded { IfOk result (λ done. done ≡ true → (m : StateValue) (steps : List StepsTree) (edges : List Edge) → IsContextOf input.entry.context m steps
+    ensures folded { IfOk result (λ done. done ≡ true → (m : StateValue) (steps : List FunctionStatementsTree) (edges : List Edge) → IsContextOf input.entry.context m steps
         → HasFolded input.entry.context m steps edges scratch.old → HasFolded input.entry.context m steps (edges
         ++ row source (filter (λ e. passes_words input.entry.to e.0) list.now)) scratch.new) }
     ensures unchanged { IfOk result (λ done. done ≡ false → scratch.new ≡ scratch.old) }
@@ -331,7 +331,7 @@ fn fold_parts(
     scratch: &mut Scratch,
 ) -> Result<(), AllocError>
     requires { input.context.weighted ≡ false }
-    ensures { OnOk result ((m : StateValue) (steps : List StepsTree) (edges : List Edge) → IsContextOf input.entry.context m steps
+    ensures { OnOk result ((m : StateValue) (steps : List FunctionStatementsTree) (edges : List Edge) → IsContextOf input.entry.context m steps
         → HasFolded input.entry.context m steps edges scratch.old → HasFolded input.entry.context m steps (edges
         ++ row source (filter (λ e. passes_words input.entry.to e.0) list.now)) scratch.new) }
 {
@@ -382,7 +382,7 @@ fn fold_set(
     block: &mut NeighbourBlock,
     scratch: &mut Scratch,
 ) -> Result<(), AllocError>
-    ensures { OnOk result ((m : StateValue) (steps : List StepsTree) (edges : List Edge) → IsContextOf input.entry.context m steps
+    ensures { OnOk result ((m : StateValue) (steps : List FunctionStatementsTree) (edges : List Edge) → IsContextOf input.entry.context m steps
         → HasFolded input.entry.context m steps edges scratch.old → HasFolded input.entry.context m steps (edges
         ++ row source (filter (λ e. passes_words input.entry.to e.0) neighbours.entry)) scratch.new) }
 {
@@ -404,7 +404,7 @@ fn fold_walk<W: NeighbourWalk + Drop>(
     block: &mut NeighbourBlock,
     scratch: &mut Scratch,
 ) -> Result<(), AllocError>
-    ensures { OnOk result ((m : StateValue) (steps : List StepsTree) (edges : List Edge) → IsContextOf input.entry.context m steps
+    ensures { OnOk result ((m : StateValue) (steps : List FunctionStatementsTree) (edges : List Edge) → IsContextOf input.entry.context m steps
         → HasFolded input.entry.context m steps edges scratch.old → HasFolded input.entry.context m steps (edges
         ++ row source (filter (λ e. passes_words input.entry.to e.0) (W.coming walk))) scratch.new) }
 {
@@ -430,7 +430,7 @@ fn fold_weighted<W: NeighbourWalk + Drop>(
     scratch: &mut Scratch,
 ) -> Result<(), AllocError>
     requires { input.context.weighted ≡ true }
-    ensures { OnOk result ((m : StateValue) (steps : List StepsTree) (edges : List Edge) → IsContextOf input.entry.context m steps
+    ensures { OnOk result ((m : StateValue) (steps : List FunctionStatementsTree) (edges : List Edge) → IsContextOf input.entry.context m steps
         → HasFolded input.entry.context m steps edges scratch.old → HasFolded input.entry.context m steps (edges
         ++ row source (filter (λ e. passes_words input.entry.to e.0) (W.coming walk))) scratch.new) }
 {

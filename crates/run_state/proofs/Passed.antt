@@ -2,7 +2,7 @@
 use Rattle.std.proofs.Common.{◌≡◌, ℕ, zero, suc, ◌+◌, ◌<◌, ◌≤◌, ℤ, Bool, true, false, cond, List, [], ◌∷◌, ◌++◌, length, take, drop, get_or, ap, ap₂, sym, ◌∙◌, refl, inl, inr, arith, Contains}
 use Rattle.std.proofs.lemmas.List.{take-append-drop}
 use Rattle.std.specs.List.{filter}
-use Rattle.typed_tree.specs.StepTree.{StepsTree}
+use Rattle.typed_tree.specs.FunctionStatementTree.{FunctionStatementsTree}
 use Rattle.algorithm_meaning.specs.State.{StateValue}
 use Rattle.algorithm_meaning.specs.VertexApply.{after_vertex, after_vertices}
 use Rattle.kernels.specs.declared.block.Block.{Block}
@@ -24,7 +24,7 @@ rises_drop low zero xs up = up
 rises_drop low (suc k) [] up = tt
 rises_drop low (suc k) (x ∷ xs) up = rises_from_lower low (x + 1) (drop k xs) (omega (arith, up.0)) (rises_drop (x + 1) k xs up.1)
 
-pub after_vertices-append : (m : StateValue) (steps : StepsTree) (us vs : List ℕ) (vectors : List (List ℤ)) → after_vertices steps m.sets (us ++ vs) vectors ≡ after_vertices steps m.sets vs (after_vertices steps m.sets us vectors)
+pub after_vertices-append : (m : StateValue) (steps : FunctionStatementsTree) (us vs : List ℕ) (vectors : List (List ℤ)) → after_vertices steps m.sets (us ++ vs) vectors ≡ after_vertices steps m.sets vs (after_vertices steps m.sets us vectors)
 after_vertices-append m steps [] vs vectors = refl
 after_vertices-append m steps (u ∷ us) vs vectors = after_vertices-append m steps us vs (after_vertex steps m.sets u vectors)
 

@@ -1,7 +1,7 @@
 //! The members of a set that pass a filter.
 ghost use Rattle.std.specs.Prelude.{◌≡◌, ◌++◌, ◌∷◌, [], ℕ, ◌≤◌, ◌<◌, length, slice_index_or, if◌then◌else◌, Bool, IfOk, OnOk};
 ghost use Rattle.std.specs.List.{filter};
-ghost use Rattle.typed_tree.specs.StepTree.{StepsTree};
+ghost use Rattle.typed_tree.specs.FunctionStatementTree.{FunctionStatementsTree};
 ghost use Rattle.algorithm_meaning.specs.Filter.{result_of};
 ghost use Rattle.algorithm_meaning.specs.State.{StateValue};
 ghost use Rattle.kernels.specs.declared.columns.TheConstants.{PAIRS};
@@ -25,7 +25,7 @@ pub(crate) fn filtered(
     block: &mut Block,
 ) -> Result<VertexSet, AllocError>
     ensures vertices { IfOk result (λ s. s.vertices ≡ set.now.vertices) }
-    ensures members { IfOk result (λ s. (steps : StepsTree) (m : StateValue) → IsFilterKernel kernel.now steps → vectors.now.vectors ≡ m.vectors
+    ensures members { IfOk result (λ s. (steps : FunctionStatementsTree) (m : StateValue) → IsFilterKernel kernel.now steps → vectors.now.vectors ≡ m.vectors
         → HasSizes sizes.now m
         → s.members ≡ filter (result_of steps m.sets m.vectors) set.now.members) }
 {

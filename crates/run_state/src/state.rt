@@ -2,10 +2,10 @@
 ghost use Rattle.std.specs.Prelude.{◌≡◌, ℕ, pos, ◌+◌, ◌<◌, ◌≤◌, Bool, length, slice_get};
 ghost use Rattle.std.specs.Prelude.{slice_index_or, IfOk, IfSome, IsSomeAnd, IsTrue, MatchBool, OnErr, OnOk, None, option_and_then};
 ghost use Rattle.std.specs.Option.{ForSome};
-ghost use Rattle.typed_tree.specs.IntegerTree.{IntegerTree};
-ghost use Rattle.typed_tree.specs.ConditionTree.{ConditionTree};
+ghost use Rattle.typed_tree.specs.IntExpressionTree.{IntExpressionTree};
+ghost use Rattle.typed_tree.specs.BoolExpressionTree.{BoolExpressionTree};
 ghost use Rattle.typed_tree.specs.ProgramTree.{ProgramTree};
-ghost use Rattle.typed_tree.specs.StepTree.{StepsTree};
+ghost use Rattle.typed_tree.specs.FunctionStatementTree.{FunctionStatementsTree};
 ghost use Rattle.algorithm_meaning.specs.Entries.{with_vectors};
 ghost use Rattle.algorithm_meaning.specs.Print.{condition_line, integer_line, with_text};
 ghost use Rattle.algorithm_meaning.specs.Shown.{shown};
@@ -179,7 +179,7 @@ impl State {
         registers: &mut Registers,
     ) -> Result<Option<i64>, AllocError>
         requires { IsFor depth kernel.now }
-        ensures { IfOk result (λ n. (e : IntegerTree) → IsIntegerKernel kernel.now e
+        ensures { IfOk result (λ n. (e : IntExpressionTree) → IsIntegerKernel kernel.now e
             → n ≡ number_in self.now.vertices e (forget_beyond depth self.now.state)) }
     {
         kernel.eval_int(self.main_state(depth), registers)
@@ -193,7 +193,7 @@ impl State {
         registers: &mut Registers,
     ) -> Result<Option<bool>, AllocError>
         requires { IsFor depth kernel.now }
-        ensures { IfOk result (λ b. (c : ConditionTree) → IsConditionKernel kernel.now c
+        ensures { IfOk result (λ b. (c : BoolExpressionTree) → IsConditionKernel kernel.now c
             → b ≡ choice_in self.now.vertices c (forget_beyond depth self.now.state)) }
     {
         kernel.eval_bool(self.main_state(depth), registers)
@@ -208,7 +208,7 @@ impl State {
         registers: &mut Registers,
     ) -> Result<Option<u32>, AllocError>
         requires { IsFor depth kernel.now }
-        ensures vertex { IfOk result (λ v. (e : IntegerTree) → IsIntegerKernel kernel.now e
+        ensures vertex { IfOk result (λ v. (e : IntExpressionTree) → IsIntegerKernel kernel.now e
             → v ≡ vertex_in self.now.vertices e (forget_beyond depth self.now.state)) }
         ensures below { IfOk result (λ v. IfSome v (λ v. v < self.now.vertices)) }
     {
@@ -432,10 +432,10 @@ impl State {
     ) -> Result<(), AllocError>
         requires first { ∥ IsVertexKernel first.now ∥₁ }
         requires second { ForSome second (λ k. ∥ IsVertexKernel k.now ∥₁) }
-        ensures one { OnOk result ((steps : StepsTree) → IsVertexCode first.now.code.items steps → second.entry ≡ None
+        ensures one { OnOk result ((steps : FunctionStatementsTree) → IsVertexCode first.now.code.items steps → second.entry ≡ None
             → self.new ≡ with_state self.old (with_vectors self.old.state
             (after_vertices steps self.old.state.sets (members_of (slice_get self.old.state.sets set)) self.old.state.vectors))) }
-        ensures two { OnOk result ((a b : StepsTree) → IsVertexCode first.now.code.items a → IsSomeAnd second.entry (λ k. IsVertexCode k.now.code.items b)
+        ensures two { OnOk result ((a b : FunctionStatementsTree) → IsVertexCode first.now.code.items a → IsSomeAnd second.entry (λ k. IsVertexCode k.now.code.items b)
             → self.new ≡ with_state self.old (with_vectors self.old.state
             (after_vertices b self.old.state.sets (members_of (slice_get self.old.state.sets set))
             (after_vertices a self.old.state.sets (members_of (slice_get self.old.state.sets set)) self.old.state.vectors)))) }
@@ -463,7 +463,7 @@ impl State {
     fn apply(&mut self, set: usize, kernel: &VertexKernel, block: &mut Block)
         requires known { ∥ IsVertexKernel kernel.now ∥₁ }
         requires room { HasRegisters block.old kernel.now.room }
-        ensures applied { (steps : StepsTree) → IsVertexCode kernel.now.code.items steps
+        ensures applied { (steps : FunctionStatementsTree) → IsVertexCode kernel.now.code.items steps
             → self.new ≡ with_state self.old (with_vectors self.old.state
             (after_vertices steps self.old.state.sets (members_of (slice_get self.old.state.sets set)) self.old.state.vectors)) }
         ensures turns { self.new.state.turns ≡ self.old.state.turns }

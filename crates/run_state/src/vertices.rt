@@ -1,7 +1,7 @@
 //! Vertices in parts of at most a block, and vertex functions that run for them.
 ghost use Rattle.std.specs.Prelude.{◌≡◌, ℕ, List, ◌≤◌, length, take, drop, min};
 ghost use Rattle.std.specs.List.Sorted.{IsStrictlyIncreasing};
-ghost use Rattle.typed_tree.specs.StepTree.{StepsTree};
+ghost use Rattle.typed_tree.specs.FunctionStatementTree.{FunctionStatementsTree};
 ghost use Rattle.algorithm_meaning.specs.State.{StateValue};
 ghost use Rattle.algorithm_meaning.specs.VertexApply.{after_vertices};
 ghost use Rattle.kernels.specs.Registers.{HasSizes};
@@ -39,7 +39,7 @@ pub(crate) fn run_for_all(
 )
     requires room { HasRegisters block.old kernel.now.room }
     requires ascending { IsStrictlyIncreasing vertices }
-    ensures vectors { (steps : StepsTree) (m : StateValue) → IsVertexCode kernel.now.code.items steps → vectors.old.vectors ≡ m.vectors → HasSizes sizes.now m
+    ensures vectors { (steps : FunctionStatementsTree) (m : StateValue) → IsVertexCode kernel.now.code.items steps → vectors.old.vectors ≡ m.vectors → HasSizes sizes.now m
         → vectors.new.vectors ≡ after_vertices steps m.sets vertices.entry m.vectors }
     ensures groups { vectors.new.groups ≡ vectors.old.groups }
     ensures keeps { (other : RegisterCounts) → HasRegisters block.old other → HasRegisters block.new other }

@@ -5,7 +5,7 @@ use Rattle.std.proofs.lemmas.Bool.Decides.{nat_tests}
 use Rattle.std.specs.List.{filter}
 use Rattle.edge_lists.specs.Edge.{Edge}
 use Rattle.typed_tree.specs.declared.statement.ApplyEnds.{ApplyEnds}
-use Rattle.typed_tree.specs.StepTree.{FunctionTree, StepsTree}
+use Rattle.typed_tree.specs.FunctionStatementTree.{FunctionTree, FunctionStatementsTree}
 use Rattle.algorithm_meaning.specs.declared.contribution.Contribution.{Contribution}
 use Rattle.algorithm_meaning.specs.Arithmetic.{reduced}
 use Rattle.algorithm_meaning.specs.EdgeApply.{after_edges, all_give, is_end, matching, passes, with_given}
@@ -24,7 +24,7 @@ count_after_given u (c ∷ cs) vectors =
     ∙ count_after_entry vectors c.vector u (reduced c.reduction (entry vectors c.vector u) c.number)
 
 -- an apply keeps the number of vectors
-pub count_after_edges : (steps : List StepsTree) (m : StateValue) (before : List (List ℤ)) (edges : List Edge) (vectors : List (List ℤ))
+pub count_after_edges : (steps : List FunctionStatementsTree) (m : StateValue) (before : List (List ℤ)) (edges : List Edge) (vectors : List (List ℤ))
     → length (after_edges steps m.sets before edges vectors) ≡ length vectors
 count_after_edges steps m before [] vectors = refl
 count_after_edges steps m before (edge ∷ edges) vectors =
@@ -38,7 +38,7 @@ rows_after_given u (c ∷ cs) vectors x =
     ∙ length_stays vectors c.vector u (reduced c.reduction (entry vectors c.vector u) c.number) x
 
 -- and how many entries each has
-pub rows_after_edges : (steps : List StepsTree) (m : StateValue) (before : List (List ℤ)) (edges : List Edge) (vectors : List (List ℤ)) (x : ℕ)
+pub rows_after_edges : (steps : List FunctionStatementsTree) (m : StateValue) (before : List (List ℤ)) (edges : List Edge) (vectors : List (List ℤ)) (x : ℕ)
     → length (slice_index_or (after_edges steps m.sets before edges vectors) x []) ≡ length (slice_index_or vectors x [])
 rows_after_edges steps m before [] vectors x = refl
 rows_after_edges steps m before (edge ∷ edges) vectors x =
@@ -51,7 +51,7 @@ given_elsewhere u (c ∷ cs) vectors x v apart =
     given_elsewhere u cs (reduce_at vectors c.vector u c.reduction c.number) x v apart
     ∙ entry_elsewhere vectors c.vector u (reduced c.reduction (entry vectors c.vector u) c.number) x v apart
 
-one_edge : (steps : List StepsTree) (m : StateValue) (before : List (List ℤ)) (e : Edge) (es : List Edge) (vectors : List (List ℤ)) (x v : ℕ) (b : Bool)
+one_edge : (steps : List FunctionStatementsTree) (m : StateValue) (before : List (List ℤ)) (e : Edge) (es : List Edge) (vectors : List (List ℤ)) (x v : ℕ) (b : Bool)
     → (b ≡ true → (e.1 == v) ≡ false)
     → ((now : List (List ℤ)) → entry (after_edges steps m.sets before es now) x v ≡ entry now x v)
     → entry (after_edges steps m.sets before (cond b (e ∷ es) es) vectors) x v ≡ entry vectors x v
@@ -60,7 +60,7 @@ one_edge steps m before e es vectors x v true apart others =
 one_edge steps m before e es vectors x v false apart others = others vectors
 
 -- a vertex to which none of the edges leads keeps its entries
-entry_beyond : (steps : List StepsTree) (m : StateValue) (before : List (List ℤ)) (test : Edge → Bool) (edges : List Edge) (vectors : List (List ℤ)) (x v : ℕ)
+entry_beyond : (steps : List FunctionStatementsTree) (m : StateValue) (before : List (List ℤ)) (test : Edge → Bool) (edges : List Edge) (vectors : List (List ℤ)) (x v : ℕ)
     → ((e : Edge) → test e ≡ true → (e.1 == v) ≡ false) → entry (after_edges steps m.sets before (filter test edges) vectors) x v ≡ entry vectors x v
 entry_beyond steps m before test [] vectors x v apart = refl
 entry_beyond steps m before test (e ∷ es) vectors x v apart =
@@ -78,7 +78,7 @@ is_apart : (u v n : ℕ) → nat_lt u n ≡ true → n ≤ v → (u == v) ≡ fa
 is_apart u v n t h = grind (arith, nat_tests)
 
 -- what is no vertex of the graph keeps its entries
-pub entry_past : (filters : List FunctionTree) (g : GraphValue) (m : StateValue) (ends : ApplyEnds) (steps : List StepsTree) (x v : ℕ) → g.vertices ≤ v
+pub entry_past : (filters : List FunctionTree) (g : GraphValue) (m : StateValue) (ends : ApplyEnds) (steps : List FunctionStatementsTree) (x v : ℕ) → g.vertices ≤ v
     → entry (after_edges steps m.sets m.vectors (matching filters g m ends) m.vectors) x v ≡ entry m.vectors x v
 entry_past filters g m ends steps x v past =
     entry_beyond steps m m.vectors (λ e. is_end filters g m ends.from e.0 && is_end filters g m ends.to e.1) g.edges m.vectors x v (λ e t.

@@ -3,7 +3,7 @@ use Rattle.std.proofs.Common.{◌≡◌, ℕ, ℤ, ◌<◌, ◌≤◌, Some, Lis
 use Rattle.edge_lists.specs.Edge.{Edge}
 use Rattle.typed_tree.specs.declared.statement.ApplyEnds.{ApplyEnds}
 use Rattle.typed_tree.specs.ProgramTree.{ProgramTree}
-use Rattle.typed_tree.specs.StepTree.{StepsTree}
+use Rattle.typed_tree.specs.FunctionStatementTree.{FunctionStatementsTree}
 use Rattle.apply_options.specs.declared.reduction.Reduction.{Reduction}
 use Rattle.algorithm_meaning.specs.EdgeApply.{after_edge_apply, after_edges, matching, passes}
 use Rattle.algorithm_meaning.specs.Laws.{IsGivenBy}
@@ -26,7 +26,7 @@ use Rattle.runner.proofs.Between.{count_after_edges, entry_past, matching_betwee
 use Rattle.runner.proofs.WrittenChanges.{changes_make}
 
 -- for each vector that has an entry for each vertex and to which the functions give by one reduction, the entries that these edges change
-abbrev AreChangesAlong : (n : ℕ) → (edges : List Edge) → StateValue → List StepsTree → List VectorChanges → Type 0
+abbrev AreChangesAlong : (n : ℕ) → (edges : List Edge) → StateValue → List FunctionStatementsTree → List VectorChanges → Type 0
 AreChangesAlong n edges m steps cs = (x : ℕ) (r : Reduction) → IsGivenBy r x steps m.sets m.vectors → n ≤ length (slice_index_or m.vectors x [])
     → changes_of x cs ≡ changed n (entry m.vectors x) (entry (after_edges steps m.sets m.vectors edges m.vectors) x)
 

@@ -2,7 +2,7 @@
 use Rattle.std.proofs.Common.{◌≡◌, ℕ, Bool, List, refl, sym}
 use Rattle.algorithm_meaning.specs.EdgeApply.{is_member}
 use Rattle.algorithm_meaning.specs.State.{StateValue}
-use Rattle.typed_tree.specs.StepTree.{StepsTree}
+use Rattle.typed_tree.specs.FunctionStatementTree.{FunctionStatementsTree}
 use Rattle.kernels.specs.Registers.{HasSizes}
 use Rattle.vectors.specs.declared.changes.VectorChanges.{VectorChanges}
 use Rattle.vertex_sets.specs.VertexSet.{VertexSubset}
@@ -16,7 +16,7 @@ use Rattle.runner.specs.HybridSources.{HasSources}
 
 -- the changes are those of the apply from the members of a set
 abbrev pub AreChangesFrom : Apply → VertexSubset → List VectorChanges → Type 0
-AreChangesFrom a set cs = (m : StateValue) (steps : List StepsTree) (from to : ℕ → Bool) → a.vectors.now.vectors ≡ m.vectors → HasSizes a.sizes.now m
+AreChangesFrom a set cs = (m : StateValue) (steps : List FunctionStatementsTree) (from to : ℕ → Bool) → a.vectors.now.vectors ≡ m.vectors → HasSizes a.sizes.now m
     → AreKernels a.first.now a.second steps → ((v : ℕ) → from v ≡ is_member v set.members) → IsEndTest a.to m to
     → AreChangesOn a.flat.now.vertices (edges_between from to a.flat.now.edges) m steps cs
 

@@ -10,5 +10,5 @@ pub use Rattle.apply_options.specs.ScheduleTree
 pub use Rattle.apply_options.specs.declared.reduction.Reduction
 pub use Rattle.typed_tree.specs.Access
 pub use Rattle.typed_tree.specs.ProgramTree
-pub use Rattle.typed_tree.specs.StepTree
+pub use Rattle.typed_tree.specs.FunctionStatementTree
 pub mod inside

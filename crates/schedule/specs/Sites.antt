@@ -3,7 +3,7 @@ use Rattle.std.specs.Prelude.{ℕ, List, [], ◌∷◌, ◌++◌, nat_eq, Option
 use Rattle.std.specs.Map.{lookup}
 use Rattle.typed_tree.specs.declared.statement.SetValue.{SetValue}
 use Rattle.typed_tree.specs.declared.statement.SetValue.TheVariants as value
-use Rattle.typed_tree.specs.BlockTree.{BlockTree, ActionTree, Empty, Then, ApplyVertex, ApplyEdges, DeclareSet, AssignSet, If, IfElse, While, For}
+use Rattle.typed_tree.specs.BlockTree.{BlockTree, StatementKindTree, Empty, Then, ApplyVertex, ApplyEdges, DeclareSet, AssignSet, If, IfElse, While, For}
 use Rattle.typed_tree.specs.declared.apply.StatementApply.{StatementApply}
 use Rattle.typed_tree.specs.declared.apply.StatementApply.TheVariants.{Vertices, Edges}
 use Rattle.schedule.specs.declared.site.Site.{Site}
@@ -14,7 +14,7 @@ modifying_as name (value.Modified ends function vector) = Some (Edges ends funct
 modifying_as name _ = None
 
 -- what a statement applies
-abbrev pub apply_of : ActionTree → Option StatementApply
+abbrev pub apply_of : StatementKindTree → Option StatementApply
 apply_of (ApplyVertex set function) = Some (Vertices set function)
 apply_of (ApplyEdges ends function) = Some (Edges ends function None)
 apply_of (DeclareSet name set) = modifying_as name set
@@ -27,13 +27,13 @@ label_of Empty = None
 label_of (Then number label action rest) = label
 
 -- what a statement's label stands before, if it has one
-abbrev pub site_at : Option ℕ → ActionTree → BlockTree → List (ℕ × Site)
+abbrev pub site_at : Option ℕ → StatementKindTree → BlockTree → List (ℕ × Site)
 site_at None action rest = []
 site_at (Some label) action rest = (label, record { apply = apply_of action; next = label_of rest }) ∷ []
 
 abbrev mutual
   -- the labels in the blocks of a statement
-  pub sites_in : ActionTree → List (ℕ × Site)
+  pub sites_in : StatementKindTree → List (ℕ × Site)
   sites_in (If c body) = sites_of body
   sites_in (IfElse c body other) = sites_of body ++ sites_of other
   sites_in (While c body) = sites_of body

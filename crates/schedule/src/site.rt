@@ -1,7 +1,7 @@
 //! Label sites: what each label of a program stands before.
 ghost use Rattle.std.specs.Prelude.{◌≡◌, ◌++◌, drop, nat_eq, IfOk, OnOk};
 ghost use Rattle.std.specs.Map.{lookup};
-ghost use Rattle.typed_tree.specs.BlockTree.{action_tree, block_tree};
+ghost use Rattle.typed_tree.specs.BlockTree.{statement_kind_tree, block_tree};
 ghost use Rattle.schedule.specs.Sites.{apply_of, label_of, modifying_as, sites_in, sites_of};
 ghost use Rattle.schedule.specs.inside.Putting.{AreSites, PutsSite};
 
@@ -102,7 +102,7 @@ fn push_sites(
 /// The same of the statements in the blocks of a statement.
 #[cycle(sites)]
 fn push_inner(action: &StatementKind, sites: &mut Vec<(usize, Site)>) -> Result<(), AllocError>
-    ensures { OnOk result (sites.new.items ≡ sites.old.items ++ sites_in (action_tree action.now)) }
+    ensures { OnOk result (sites.new.items ≡ sites.old.items ++ sites_in (statement_kind_tree action.now)) }
 {
     match action {
         StatementKind::If(_, body) => push_sites(body, sites),
@@ -125,7 +125,7 @@ fn label_at(statements: &[MainStatement], index: usize) -> Option<usize>
 
 /// What a statement applies, if it does.
 fn applied_by(action: &StatementKind) -> Option<StatementApply>
-    ensures { result ≡ apply_of (action_tree action.now) }
+    ensures { result ≡ apply_of (statement_kind_tree action.now) }
 {
     match action {
         StatementKind::ApplyVertex(set, function) => Some(StatementApply::Vertices {

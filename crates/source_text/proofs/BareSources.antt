@@ -17,7 +17,7 @@ use Rattle.syntax.specs.declared.declaration.DeclaredType.{DeclaredType}
 use Rattle.syntax.specs.declared.declaration.DeclaredType.TheVariants as type
 use Rattle.apply_options.specs.declared.reduction.Reduction.{Reduction}
 use Rattle.apply_options.specs.declared.reduction.Reduction.TheVariants as reduction
-use Rattle.syntax.specs.SourceTrees.{EndsTree, InitialTree, NewSet, Load, Vertices, OutDegrees, Filter, ApplyModified, Value, ActionTree, Declare, While, For, If, IfElse, Print, Assign, Reduce, SetEntry, ReduceEntry, AddVertex, Apply, BlockTree, Empty, Then, ParameterTree, DeclarationTree, Constant, Function, CallTree, ChainTree, SourceTree}
+use Rattle.syntax.specs.SourceTrees.{EndsTree, InitialTree, NewSet, Load, Vertices, OutDegrees, Filter, ApplyModified, Value, StatementKindTree, Declare, While, For, If, IfElse, Print, Assign, Reduce, SetEntry, ReduceEntry, AddVertex, Apply, BlockTree, Empty, Then, ParameterTree, DeclarationTree, Constant, Function, CallTree, ChainTree, SourceTree}
 use Rattle.syntax.specs.SourceSpelling.{each_before, type_terminals, reduction_terminal, argument_terminals, end_terminals, ends_before, initial_before, typed_before, assigned_before, label_terminals, action_before, block_before, next_parameter_before, parameters_before, result_before, declaration_before, setting_keyword, next_text_before, call_before, next_call_before, chain_before, schedule_before, source_terminals}
 use Rattle.source_text.specs.Text.{bare}
 use Rattle.source_text.specs.Bare.{bare_name, bare_expression, bare_conjunction, bare_comparison, bare_sum, bare_term, bare_unary, bare_primary, bare_ends, bare_initial, bare_parameter, bare_action, bare_block, bare_declaration, bare_call, bare_chain, bare_source}
@@ -138,7 +138,7 @@ label_bare None rest = refl
 label_bare (Some label) rest = refl
 
 mutual
-  action_bare : (action : ActionTree) → BareBefore action_before bare_action action
+  action_bare : (action : StatementKindTree) → BareBefore action_before bare_action action
   action_bare (Declare at p initial) rest = ap (λ o. Opening (keyword.Var) 0 ∷ o) (typed_bare (p) ((assigned_before (initial) (rest)))) ∙ ap (λ o. Opening (keyword.Var) 0 ∷ (typed_before (bare_parameter p) (o))) (assigned_bare (initial) (rest))
   action_bare (While at test body) rest = ap (λ o. Opening (keyword.While) 0 ∷ o) (expression_bare (test) ((block_before (body) (OfKeyword keyword.End ∷ rest)))) ∙ ap (λ o. Opening (keyword.While) 0 ∷ (expression_terminals (bare_expression (test)) ++ (o))) (block_bare (body) (OfKeyword keyword.End ∷ rest))
   action_bare (For at name first limit body) rest = ap (λ o. Opening (keyword.For) 0 ∷ Name (bare_name (name)) ∷ OfKeyword keyword.In ∷ o) (expression_bare (first) (OfSymbol symbol.Colon ∷ (expression_terminals (limit) ++ ((block_before (body) (OfKeyword keyword.End ∷ rest)))))) ∙ ap (λ o. Opening (keyword.For) 0 ∷ Name (bare_name (name)) ∷ OfKeyword keyword.In ∷ (expression_terminals (bare_expression (first)) ++ (OfSymbol symbol.Colon ∷ o))) (expression_bare (limit) ((block_before (body) (OfKeyword keyword.End ∷ rest)))) ∙ ap (λ o. Opening (keyword.For) 0 ∷ Name (bare_name (name)) ∷ OfKeyword keyword.In ∷ (expression_terminals (bare_expression (first)) ++ (OfSymbol symbol.Colon ∷ (expression_terminals (bare_expression (limit)) ++ (o))))) (block_bare (body) (OfKeyword keyword.End ∷ rest))

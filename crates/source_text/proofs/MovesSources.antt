@@ -8,7 +8,7 @@ use Rattle.syntax.specs.declared.declaration.DeclaredType.{DeclaredType}
 use Rattle.syntax.specs.declared.declaration.DeclaredType.TheVariants as type
 use Rattle.apply_options.specs.declared.reduction.Reduction.{Reduction}
 use Rattle.apply_options.specs.declared.reduction.Reduction.TheVariants as reduction
-use Rattle.syntax.specs.SourceTrees.{EndsTree, InitialTree, NewSet, Load, Vertices, OutDegrees, Filter, ApplyModified, Value, ActionTree, Declare, While, For, If, IfElse, Print, Assign, Reduce, SetEntry, ReduceEntry, AddVertex, Apply, BlockTree, Empty, Then, ParameterTree, DeclarationTree, Constant, Function, CallTree, ChainTree, SourceTree}
+use Rattle.syntax.specs.SourceTrees.{EndsTree, InitialTree, NewSet, Load, Vertices, OutDegrees, Filter, ApplyModified, Value, StatementKindTree, Declare, While, For, If, IfElse, Print, Assign, Reduce, SetEntry, ReduceEntry, AddVertex, Apply, BlockTree, Empty, Then, ParameterTree, DeclarationTree, Constant, Function, CallTree, ChainTree, SourceTree}
 use Rattle.syntax.specs.SourceSpelling.{each_before, type_terminals, reduction_terminal, argument_terminals, end_terminals, ends_before, initial_before, typed_before, assigned_before, label_terminals, action_before, block_before, next_parameter_before, parameters_before, result_before, declaration_before, setting_keyword, next_text_before, call_before, next_call_before, chain_before, schedule_before, source_terminals}
 use Rattle.source_text.specs.Text.{AreAlike}
 use Rattle.source_text.proofs.Moves.{all_fixed, take_fixed, take_name, take_label, take_opening, Moves, MovesTerminals, move_expression}
@@ -102,7 +102,7 @@ move_label (Some label) rest ws same =
     (Some m0.0, m0.1, (m0.2), m0.3)
 
 mutual
-  move_action : (action : ActionTree) → Moves action_before action
+  move_action : (action : StatementKindTree) → Moves action_before action
   move_action (Declare at p initial) rest ws same =
       let m0 = take_opening (keyword.Var) (at) ((typed_before (p) ((assigned_before (initial) (rest))))) ws same in
       let m1 = move_typed (p) ((assigned_before (initial) (rest))) m0.1 m0.3 in

@@ -4,7 +4,7 @@ use Rattle.std.proofs.lemmas.List.{drop_all}
 use Rattle.syntax.specs.Terminals.{Terminal}
 use Rattle.syntax.specs.declared.statement.Statement.{Statement}
 use Rattle.syntax.specs.SourceSpelling.{each_before, label_terminals, action_before, block_before}
-use Rattle.syntax.specs.SourceViews.{action_tree, block_tree}
+use Rattle.syntax.specs.SourceViews.{statement_kind_tree, block_tree}
 use Rattle.source_text.specs.Text.{terminal_bytes, gap_behind, text_of}
 use Rattle.source_text.specs.inside.Written.{Completes, Puts, PutsUpTo}
 
@@ -67,11 +67,11 @@ completes_from bytes others whole terminals same h = subst (λ b. Completes b te
 
 -- statements one after the other
 abbrev pub statement_before : Statement → List Terminal → List Terminal
-statement_before s rest = label_terminals s.label ++ action_before (action_tree s.action) rest
+statement_before s rest = label_terminals s.label ++ action_before (statement_kind_tree s.action) rest
 
 pub block_before-each : (items : List Statement) (rest : List Terminal) → block_before (block_tree items) rest ≡ each_before statement_before items rest
 block_before-each [] rest = refl
-block_before-each (s ∷ items) rest = ap (λ r. label_terminals s.label ++ action_before (action_tree s.action) r) (block_before-each items rest)
+block_before-each (s ∷ items) rest = ap (λ r. label_terminals s.label ++ action_before (statement_kind_tree s.action) r) (block_before-each items rest)
 
 -- what stands before a last terminal is put down
 pub puts_all_but : (terminals : List Terminal) (last : Terminal) (old new : List ℕ) → Puts (λ rest. terminals ++ rest) old new

@@ -2,7 +2,7 @@
 use Rattle.std.specs.Prelude.{map, option_map}
 use Rattle.syntax.specs.Terminals.{Identifier}
 use Rattle.syntax.specs.ExpressionTrees.{ExpressionTree, ConjunctionTree, ComparisonTree, SumTree, TermTree, UnaryTree, PrimaryTree, LastConjunction, ConjunctionThen, LastComparison, ComparisonThen, OneSum, TwoSums, LastTerm, TermThen, LastUnary, UnaryThen, Bare, Signed, Literal, Truth, Variable, Entry, Size, Parentheses}
-use Rattle.syntax.specs.SourceTrees.{EndsTree, InitialTree, NewSet, Load, Vertices, OutDegrees, Filter, ApplyModified, Value, ActionTree, Declare, While, For, If, IfElse, Print, Assign, Reduce, SetEntry, ReduceEntry, AddVertex, Apply, BlockTree, Empty, Then, ParameterTree, DeclarationTree, Constant, Function, CallTree, ChainTree, SourceTree}
+use Rattle.syntax.specs.SourceTrees.{EndsTree, InitialTree, NewSet, Load, Vertices, OutDegrees, Filter, ApplyModified, Value, StatementKindTree, Declare, While, For, If, IfElse, Print, Assign, Reduce, SetEntry, ReduceEntry, AddVertex, Apply, BlockTree, Empty, Then, ParameterTree, DeclarationTree, Constant, Function, CallTree, ChainTree, SourceTree}
 
 abbrev pub bare_name : Identifier → Identifier
 bare_name name = record { bytes = name.bytes; at = 0 }
@@ -56,7 +56,7 @@ abbrev pub bare_parameter : ParameterTree → ParameterTree
 bare_parameter p = record { name = bare_name p.name; declared = p.declared }
 
 abbrev mutual
-  pub bare_action : ActionTree → ActionTree
+  pub bare_action : StatementKindTree → StatementKindTree
   bare_action (Declare at p initial) = Declare 0 (bare_parameter p) (bare_initial initial)
   bare_action (While at test body) = While 0 (bare_expression test) (bare_block body)
   bare_action (For at name first limit body) = For 0 (bare_name name) (bare_expression first) (bare_expression limit) (bare_block body)

@@ -5,7 +5,7 @@ ghost use Rattle.syntax.specs.Terminals.{OfSymbol, Name as terminal_name};
 ghost use Rattle.syntax.specs.ExpressionSpelling.{expression_terminals};
 ghost use Rattle.syntax.specs.SourceSpelling.{action_before, reduction_terminal};
 ghost use Rattle.syntax.specs.SourceTrees.{AddVertex, Apply, Assign, Declare, Print, Reduce, ReduceEntry, SetEntry};
-ghost use Rattle.syntax.specs.SourceViews.{action_tree, ends_tree, initial_tree, parameter_tree};
+ghost use Rattle.syntax.specs.SourceViews.{statement_kind_tree, ends_tree, initial_tree, parameter_tree};
 ghost use Rattle.source_text.specs.inside.Written.{IsSimple, Puts};
 
 use crate::expression::put_expression;
@@ -18,8 +18,8 @@ use syntax::{Action, Ends, Expression, Initial, Name, Parameter};
 
 /// Puts a simple statement down.
 pub(crate) fn put_simple(out: &mut Vec<u8>, action: &Action) -> Result<(), AllocError>
-    requires { IsSimple (action_tree action.now) }
-    ensures { OnOk result (Puts (action_before (action_tree action.now)) out.old.items out.new.items) }
+    requires { IsSimple (statement_kind_tree action.now) }
+    ensures { OnOk result (Puts (action_before (statement_kind_tree action.now)) out.old.items out.new.items) }
 {
     match action {
         Action::Declare {

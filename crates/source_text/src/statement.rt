@@ -5,7 +5,7 @@ ghost use Rattle.lexer.specs.declared.symbol.Symbol.TheVariants as symbol;
 ghost use Rattle.syntax.specs.Terminals.{OfSymbol, Name as terminal_name, Opening, OfKeyword};
 ghost use Rattle.syntax.specs.ExpressionSpelling.{expression_terminals};
 ghost use Rattle.syntax.specs.SourceSpelling.{action_before, block_before, label_terminals};
-ghost use Rattle.syntax.specs.SourceViews.{action_tree, block_tree};
+ghost use Rattle.syntax.specs.SourceViews.{statement_kind_tree, block_tree};
 ghost use Rattle.source_text.specs.inside.Written.{Puts};
 
 use crate::expression::put_expression;
@@ -28,7 +28,7 @@ pub(crate) fn put_block(out: &mut Vec<u8>, block: &[Statement]) -> Result<(), Al
 
 #[cycle(statements)]
 fn put_statement(out: &mut Vec<u8>, statement: &Statement) -> Result<(), AllocError>
-    ensures { OnOk result (Puts (λ rest. label_terminals statement.now.label ++ action_before (action_tree statement.now.action) rest) out.old.items
+    ensures { OnOk result (Puts (λ rest. label_terminals statement.now.label ++ action_before (statement_kind_tree statement.now.action) rest) out.old.items
         out.new.items) }
 {
     put_label_given(out, &statement.label)?;
@@ -37,7 +37,7 @@ fn put_statement(out: &mut Vec<u8>, statement: &Statement) -> Result<(), AllocEr
 
 #[cycle(statements)]
 fn put_action(out: &mut Vec<u8>, action: &Action) -> Result<(), AllocError>
-    ensures { OnOk result (Puts (action_before (action_tree action.now)) out.old.items out.new.items) }
+    ensures { OnOk result (Puts (action_before (statement_kind_tree action.now)) out.old.items out.new.items) }
 {
     match action {
         Action::While { test, body, .. } => {

@@ -8,7 +8,7 @@ use Rattle.syntax.specs.ExpressionReading.{Reader, ◌>>=◌}
 use Rattle.syntax.specs.ExpressionSpelling.{expression_terminals}
 use Rattle.apply_options.specs.declared.reduction.Reduction.{Reduction}
 use Rattle.apply_options.specs.declared.reduction.Reduction.TheVariants as reduction
-use Rattle.syntax.specs.SourceTrees.{ParameterTree, EndsTree, InitialTree, NewSet, Load, Vertices, OutDegrees, Filter, ApplyModified, Value, ActionTree, Declare, While, For, If, IfElse, Print, Assign, Reduce, SetEntry, ReduceEntry, AddVertex, Apply, BlockTree, Empty, Then}
+use Rattle.syntax.specs.SourceTrees.{ParameterTree, EndsTree, InitialTree, NewSet, Load, Vertices, OutDegrees, Filter, ApplyModified, Value, StatementKindTree, Declare, While, For, If, IfElse, Print, Assign, Reduce, SetEntry, ReduceEntry, AddVertex, Apply, BlockTree, Empty, Then}
 use Rattle.syntax.specs.SourceSpelling.{ends_before, initial_before, assigned_before, ended_before, end_terminals, reduction_terminal, label_terminals, action_before, block_before, each_before, typed_before, argument_terminals, type_terminals}
 use Rattle.syntax.specs.SourceReading.{expression, ends_at, method_at, initial_at, named_initial, modified_at, assigned_at, ended_at, entry_by, applied_at, argument_at, named_action, else_by, action_by, block_at, no_block, next_statement, statement_by, begins_statement, label_at, block_from, where_begins, each_at, closed, after_terminal, after_terminals, name_at}
 use Rattle.syntax.specs.inside.Fits.{Fits, FitsInitial, FitsAction, FitsBlock}
@@ -84,7 +84,7 @@ block_ends (Then None (Declare at p initial) others) rest ends = refl
 block_ends (Then None _ others) rest ends = refl
 
 abbrev pub LabelledAction : Type 0
-LabelledAction = Option Identifier × ActionTree
+LabelledAction = Option Identifier × StatementKindTree
 
 abbrev pub statement_before : LabelledAction → List Terminal → List Terminal
 statement_before s rest = label_terminals s.0 ++ action_before s.1 rest
@@ -102,12 +102,12 @@ block_before-items Empty rest = refl
 block_before-items (Then label action others) rest = ap (λ r. label_terminals label ++ action_before action r) (block_before-items others rest)
 
 -- a label before what a statement does, and what a statement begins with
-label_complete : (label : Option Identifier) (action : ActionTree) (rest : List Terminal) → label_at (label_terminals label ++ action_before action rest) ≡ (label, action_before action rest)
+label_complete : (label : Option Identifier) (action : StatementKindTree) (rest : List Terminal) → label_at (label_terminals label ++ action_before action rest) ≡ (label, action_before action rest)
 label_complete (Some label) action rest = refl
 label_complete None (Declare at p initial) rest = refl
 label_complete None _ rest = refl
 
-begins_complete : (label : Option Identifier) (action : ActionTree) (rest : List Terminal) → begins_statement (label_terminals label ++ action_before action rest) ≡ true
+begins_complete : (label : Option Identifier) (action : StatementKindTree) (rest : List Terminal) → begins_statement (label_terminals label ++ action_before action rest) ≡ true
 begins_complete (Some label) action rest = refl
 begins_complete None (Declare at p initial) rest = refl
 begins_complete None _ rest = refl
@@ -146,7 +146,7 @@ ended_longer : (e : ExpressionTree) (rest : List Terminal) → length rest ≤ l
 ended_longer e rest = omega (arith, append_longer (expression_terminals e) (OfSymbol symbol.Semicolon ∷ rest))
 
 mutual
-  action_longer : (action : ActionTree) (rest : List Terminal) → length rest < length (action_before action rest)
+  action_longer : (action : StatementKindTree) (rest : List Terminal) → length rest < length (action_before action rest)
   action_longer (Declare at p initial) rest =
       omega (arith, typed_longer p (assigned_before initial rest), initial_longer initial (OfSymbol symbol.Semicolon ∷ rest))
   action_longer (While at test body) rest =
@@ -202,7 +202,7 @@ pub block_at-by : (d : ℕ) (ws : List Terminal) → block_at d ws ≡ (each_at 
 block_at-by zero ws = refl
 block_at-by (suc d) ws = refl
 
-next_ends : (action : Reader ActionTree) (rest : List Terminal) → begins_statement rest ≡ false → next_statement action rest ≡ None
+next_ends : (action : Reader StatementKindTree) (rest : List Terminal) → begins_statement rest ≡ false → next_statement action rest ≡ None
 next_ends action rest ends = ap (λ b. where_begins b (statement_by action rest)) ends
 
 module _ (complete : (e : ExpressionTree) (rest : List Terminal) → Fits e → goes_on rest ≡ false → expression (expression_terminals e ++ rest) ≡ Some (e, rest)) where
@@ -244,7 +244,7 @@ module _ (complete : (e : ExpressionTree) (rest : List Terminal) → Fits e → 
   apply_step name (Some f) to ws = refl
 
   -- a statement, if what it does is read
-  statement_complete : (action : Reader ActionTree) (label : Option Identifier) (a : ActionTree) (rest : List Terminal)
+  statement_complete : (action : Reader StatementKindTree) (label : Option Identifier) (a : StatementKindTree) (rest : List Terminal)
       → action (action_before a rest) ≡ Some (a, rest) → next_statement action (statement_before (label, a) rest) ≡ Some (Some ((label, a), rest))
   statement_complete action label a rest is =
       ap (λ b. where_begins b (statement_by action (statement_before (label, a) rest))) (begins_complete label a rest)
@@ -262,7 +262,7 @@ module _ (complete : (e : ExpressionTree) (rest : List Terminal) → Fits e → 
       ∙ ap (λ x. Some (x, rest)) (block_from-items b)
 
   mutual
-    action_complete : (d : ℕ) (a : ActionTree) (rest : List Terminal) → FitsAction d a → action_by (inner d) (action_before a rest) ≡ Some (a, rest)
+    action_complete : (d : ℕ) (a : StatementKindTree) (rest : List Terminal) → FitsAction d a → action_by (inner d) (action_before a rest) ≡ Some (a, rest)
     action_complete d (Declare at p initial) rest fits =
         ap (λ r. r >>= λ n. assigned_at n.1 >>= λ i. Some (Declare at n.0 i.0, i.1)) (typed_complete p (assigned_before initial rest))
         ∙ ap (λ r. r >>= λ i. Some (Declare at p i.0, i.1)) (assigned_complete initial rest fits)

@@ -5,7 +5,7 @@ use Rattle.lexer.specs.declared.keyword.Keyword.TheVariants as keyword
 use Rattle.syntax.specs.Terminals.{Terminal, OfKeyword}
 use Rattle.syntax.specs.ExpressionTrees.{ExpressionTree}
 use Rattle.syntax.specs.ExpressionSpelling.{expression_terminals}
-use Rattle.syntax.specs.SourceTrees.{EndsTree, InitialTree, NewSet, Load, Vertices, OutDegrees, Filter, ApplyModified, Value, ActionTree, Declare, While, For, If, IfElse, Print, Assign, Reduce, SetEntry, ReduceEntry, AddVertex, Apply, BlockTree, Empty, Then, ParameterTree, DeclarationTree, Constant, Function, CallTree, ChainTree}
+use Rattle.syntax.specs.SourceTrees.{EndsTree, InitialTree, NewSet, Load, Vertices, OutDegrees, Filter, ApplyModified, Value, StatementKindTree, Declare, While, For, If, IfElse, Print, Assign, Reduce, SetEntry, ReduceEntry, AddVertex, Apply, BlockTree, Empty, Then, ParameterTree, DeclarationTree, Constant, Function, CallTree, ChainTree}
 use Rattle.syntax.specs.SourceSpelling.{action_before, assigned_before, block_before, call_before, chain_before, declaration_before, each_before, end_terminals, ended_before, ends_before, initial_before, label_terminals, next_call_before, next_parameter_before, next_text_before, parameters_before, result_before, type_terminals, typed_before}
 
 pub all_left : {A : Type 0} (P : A → Type 0) (xs ys : List A) → AllByRecursion P (xs ++ ys) → AllByRecursion P xs
@@ -51,7 +51,7 @@ ended_behind : (P : Terminal → Type 0) (e : ExpressionTree) (rest : List Termi
 ended_behind P e rest all = let behind = all_right P (expression_terminals e) _ all in behind.1
 
 mutual
-  pub action_behind : (P : Terminal → Type 0) (action : ActionTree) (rest : List Terminal) → AllByRecursion P (action_before action rest) → AllByRecursion P rest
+  pub action_behind : (P : Terminal → Type 0) (action : StatementKindTree) (rest : List Terminal) → AllByRecursion P (action_before action rest) → AllByRecursion P rest
   action_behind P (Declare at p initial) rest all = assigned_behind P initial rest (typed_behind P p (assigned_before initial rest) all.1)
   action_behind P (While at test body) rest all = let behind = block_behind P body (OfKeyword keyword.End ∷ rest) (all_right P (expression_terminals test) _ all.1) in behind.1
   action_behind P (For at name first limit body) rest all =

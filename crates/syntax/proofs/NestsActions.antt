@@ -10,7 +10,7 @@ use Rattle.syntax.specs.declared.declaration.DeclaredType.{DeclaredType}
 use Rattle.syntax.specs.declared.declaration.DeclaredType.TheVariants as type
 use Rattle.apply_options.specs.declared.reduction.Reduction.{Reduction}
 use Rattle.apply_options.specs.declared.reduction.Reduction.TheVariants as reduction
-use Rattle.syntax.specs.SourceTrees.{ParameterTree, InitialTree, NewSet, Load, Vertices, OutDegrees, Filter, ApplyModified, Value, ActionTree, Declare, While, For, If, IfElse, Print, Assign, Reduce, SetEntry, ReduceEntry, AddVertex, Apply, BlockTree, Empty, Then, DeclarationTree, Constant, Function, SourceTree}
+use Rattle.syntax.specs.SourceTrees.{ParameterTree, InitialTree, NewSet, Load, Vertices, OutDegrees, Filter, ApplyModified, Value, StatementKindTree, Declare, While, For, If, IfElse, Print, Assign, Reduce, SetEntry, ReduceEntry, AddVertex, Apply, BlockTree, Empty, Then, DeclarationTree, Constant, Function, SourceTree}
 use Rattle.syntax.specs.SourceSpelling.{type_terminals, initial_before, assigned_before, ended_before, end_terminals, reduction_terminal, label_terminals, action_before, block_before, each_before, typed_before, argument_terminals, parameters_before, next_parameter_before, result_before, declaration_before, schedule_before, source_terminals}
 use Rattle.syntax.specs.inside.Fits.{Fits, FitsInitial, FitsAction, FitsBlock, FitsDeclaration, FitDeclarations, FitsSource}
 use Rattle.syntax.specs.Nesting.{limit, nesting_behind, StaysWithin}
@@ -72,7 +72,7 @@ label_within None n rest within = within
 label_within (Some label) n rest within = within.1
 
 mutual
-  action_fits : (a : ActionTree) (d n : ℕ) (rest : List Terminal) → limit ≤ n + d → n ≤ limit → Within n (action_before a rest) → FitsAction d a × Within n rest
+  action_fits : (a : StatementKindTree) (d n : ℕ) (rest : List Terminal) → limit ≤ n + d → n ≤ limit → Within n (action_before a rest) → FitsAction d a × Within n rest
   action_fits (Declare at p initial) d n rest room small within =
       assigned_fits initial n rest small (typed_within p n (assigned_before initial rest) within.1)
   action_fits (While at test body) zero n rest room small within = absurd (omega (arith, within.0))

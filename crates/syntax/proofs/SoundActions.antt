@@ -7,7 +7,7 @@ use Rattle.syntax.specs.ExpressionTrees.{ExpressionTree}
 use Rattle.syntax.specs.ExpressionReading.{Reader}
 use Rattle.syntax.specs.ExpressionSpelling.{expression_terminals}
 use Rattle.apply_options.specs.declared.reduction.Reduction.TheVariants as reduction
-use Rattle.syntax.specs.SourceTrees.{InitialTree, NewSet, Load, Vertices, OutDegrees, Filter, ApplyModified, Value, ActionTree, Declare, While, For, If, IfElse, Print, Assign, Reduce, SetEntry, ReduceEntry, AddVertex, Apply, BlockTree, DeclarationTree, Constant, Function, ChainTree, SourceTree}
+use Rattle.syntax.specs.SourceTrees.{InitialTree, NewSet, Load, Vertices, OutDegrees, Filter, ApplyModified, Value, StatementKindTree, Declare, While, For, If, IfElse, Print, Assign, Reduce, SetEntry, ReduceEntry, AddVertex, Apply, BlockTree, DeclarationTree, Constant, Function, ChainTree, SourceTree}
 use Rattle.syntax.specs.SourceSpelling.{ends_before, initial_before, assigned_before, ended_before, end_terminals, reduction_terminal, label_terminals, action_before, block_before, each_before, typed_before, argument_terminals, parameters_before, result_before, declaration_before, chain_before, schedule_before, source_terminals}
 use Rattle.syntax.specs.SourceReading.{expression, value_at, name_at, number_at, end_at, end_by, ends_at, method_at, initial_at, named_initial, modified_at, assigned_at, ended_at, reduction_at, entry_by, added_at, applied_at, argument_at, reduced_at, named_action, method_by, else_by, action_by, block_by, block_at, block, no_block, next_statement, statement_by, begins_statement, label_at, block_from, where_begins, each_at, after_terminal, after_terminals, in_braces, in_parentheses, typed_at, parameters_at, result_by, declaration_by, next_declaration, begins_declaration, next_chain, schedule_by, whole, source_at, elements}
 use Rattle.syntax.specs.Nesting.{limit}
@@ -132,7 +132,7 @@ module _ (sound : IsSound expression (λ e rest. expression_terminals e ++ rest)
       ∙ closed-sound ended_before (λ r. expression_terminals x.0.0 ++ r) (OfSymbol symbol.Semicolon ∷ []) x.0.0 e x.0.1 rest (λ r. refl) x.2
 
   entry_sound : (vector : Identifier) (index : ExpressionTree) (ws : List Terminal) (found : Option (List Terminal)) → after_terminal (OfSymbol symbol.Assign) ws ≡ found
-      → (a : ActionTree) (rest : List Terminal) → entry_by vector index ws found ≡ Some (a, rest)
+      → (a : StatementKindTree) (rest : List Terminal) → entry_by vector index ws found ≡ Some (a, rest)
       → Name vector ∷ OfSymbol symbol.OpenBracket ∷ (expression_terminals index ++ OfSymbol symbol.CloseBracket ∷ ws) ≡ action_before a rest
   entry_sound vector index ws (Some after) there a rest is =
       let e = bind_some (ended_at after) _ _ is in
@@ -146,7 +146,7 @@ module _ (sound : IsSound expression (λ e rest. expression_terminals e ++ rest)
       ap front (reduction_sound ws r.0.0 r.0.1 r.1 ∙ ap (λ ws. reduction_terminal r.0.0 ∷ ws) (ended_sound r.0.1 e.0.0 e.0.1 e.1))
       ∙ same_before action_before (ReduceEntry vector index r.0.0 e.0.0) a e.0.1 rest e.2
 
-  added_sound : (set : Identifier) (ws : List Terminal) (a : ActionTree) (rest : List Terminal) → added_at set ws ≡ Some (a, rest)
+  added_sound : (set : Identifier) (ws : List Terminal) (a : StatementKindTree) (rest : List Terminal) → added_at set ws ≡ Some (a, rest)
       → Name set ∷ OfSymbol symbol.Dot ∷ OfKeyword keyword.AddVertex ∷ ws ≡ action_before a rest
   added_sound set ws a rest is =
       let o = bind_some (after_terminal (OfSymbol symbol.OpenParenthesis) ws) _ _ is in
@@ -156,7 +156,7 @@ module _ (sound : IsSound expression (λ e rest. expression_terminals e ++ rest)
       ∙ closed-sound action_before (λ r. front (OfSymbol symbol.OpenParenthesis ∷ (expression_terminals e.0.0 ++ r)))
       (OfSymbol symbol.CloseParenthesis ∷ OfSymbol symbol.Semicolon ∷ []) (AddVertex set e.0.0) a e.0.1 rest (λ r. refl) e.2
 
-  applied_sound : (target : Identifier) (ws : List Terminal) (a : ActionTree) (rest : List Terminal) → applied_at target ws ≡ Some (a, rest) → Name target ∷ ws ≡ action_before a rest
+  applied_sound : (target : Identifier) (ws : List Terminal) (a : StatementKindTree) (rest : List Terminal) → applied_at target ws ≡ Some (a, rest) → Name target ∷ ws ≡ action_before a rest
   applied_sound target ws a rest is =
       let e = bind_some (ends_at ws) _ _ is in
       let d = bind_some (after_terminals (OfSymbol symbol.Dot ∷ OfKeyword keyword.Apply ∷ []) e.0.1) _ _ e.2 in
@@ -168,12 +168,12 @@ module _ (sound : IsSound expression (λ e rest. expression_terminals e ++ rest)
       ∙ closed-sound action_before (λ r. front (argument_terminals f.0.0 ++ r)) (OfSymbol symbol.Semicolon ∷ []) (Apply target e.0.0 f.0.0) a f.0.1 rest (λ r. refl) f.2
 
   method_sound : (name : Identifier) (ws : List Terminal) (found : Option (List Terminal)) → after_terminals (OfSymbol symbol.Dot ∷ OfKeyword keyword.AddVertex ∷ []) ws ≡ found
-      → (a : ActionTree) (rest : List Terminal) → method_by name ws found ≡ Some (a, rest) → Name name ∷ ws ≡ action_before a rest
+      → (a : StatementKindTree) (rest : List Terminal) → method_by name ws found ≡ Some (a, rest) → Name name ∷ ws ≡ action_before a rest
   method_sound name ws (Some after) there a rest is =
       ap (λ r. Name name ∷ r) (after_terminals-sound (OfSymbol symbol.Dot ∷ OfKeyword keyword.AddVertex ∷ []) ws after there) ∙ added_sound name after a rest is
   method_sound name ws None there a rest is = applied_sound name ws a rest is
 
-  reduce_sound : (name : Identifier) (ws : List Terminal) (a : ActionTree) (rest : List Terminal)
+  reduce_sound : (name : Identifier) (ws : List Terminal) (a : StatementKindTree) (rest : List Terminal)
       → reduced_at name ws ≡ Some (a, rest) → Name name ∷ ws ≡ action_before a rest
   reduce_sound name ws a rest is =
       let r = bind_some (reduction_at ws) _ _ is in
@@ -181,7 +181,7 @@ module _ (sound : IsSound expression (λ e rest. expression_terminals e ++ rest)
       ap (λ ws. Name name ∷ ws) (reduction_sound ws r.0.0 r.0.1 r.1 ∙ ap (λ ws. reduction_terminal r.0.0 ∷ ws) (ended_sound r.0.1 e.0.0 e.0.1 e.1))
       ∙ same_before action_before (Reduce name r.0.0 e.0.0) a e.0.1 rest e.2
 
-  named_action_sound : (name : Identifier) (ws : List Terminal) (a : ActionTree) (rest : List Terminal) → named_action name ws ≡ Some (a, rest) → Name name ∷ ws ≡ action_before a rest
+  named_action_sound : (name : Identifier) (ws : List Terminal) (a : StatementKindTree) (rest : List Terminal) → named_action name ws ≡ Some (a, rest) → Name name ∷ ws ≡ action_before a rest
   named_action_sound name (OfSymbol symbol.Assign ∷ ws) a rest is =
       let i = bind_some (assigned_at (OfSymbol symbol.Assign ∷ ws)) _ _ is in
       ap (λ r. Name name ∷ r) (assigned_sound (OfSymbol symbol.Assign ∷ ws) i.0.0 i.0.1 i.1) ∙ same_before action_before (Assign name i.0.0) a i.0.1 rest i.2
@@ -197,7 +197,7 @@ module _ (sound : IsSound expression (λ e rest. expression_terminals e ++ rest)
 
   module _ (inside : Reader BlockTree) (inside_sound : IsSound inside block_before) where
     else_sound : (at : ℕ) (test : ExpressionTree) (body : BlockTree) (ws : List Terminal) (found : Option (List Terminal)) → after_terminal (OfKeyword keyword.Else) ws ≡ found
-        → (a : ActionTree) (rest : List Terminal) → else_by inside at test (body, ws) found ≡ Some (a, rest)
+        → (a : StatementKindTree) (rest : List Terminal) → else_by inside at test (body, ws) found ≡ Some (a, rest)
         → Opening keyword.If at ∷ (expression_terminals test ++ block_before body ws) ≡ action_before a rest
     else_sound at test body ws None there a rest is =
         closed-sound action_before (λ r. Opening keyword.If at ∷ (expression_terminals test ++ block_before body r)) (OfKeyword keyword.End ∷ []) (If at test body) a ws rest (λ r. refl) is

@@ -15,7 +15,7 @@ use Rattle.apply_options.specs.declared.setting.Setting.TheVariants as setting
 use Rattle.apply_options.specs.declared.reduction.Reduction.{Reduction}
 use Rattle.apply_options.specs.declared.reduction.Reduction.TheVariants as reduction
 use Rattle.syntax.specs.Nesting.{limit}
-use Rattle.syntax.specs.SourceTrees.{EndsTree, InitialTree, NewSet, Load, Vertices, OutDegrees, Filter, ApplyModified, Value, ActionTree, Declare, While, For, If, IfElse, Print, Assign, Reduce, SetEntry, ReduceEntry, AddVertex, Apply, BlockTree, Empty, Then, ParameterTree, DeclarationTree, Constant, Function, CallTree, ChainTree, SourceTree}
+use Rattle.syntax.specs.SourceTrees.{EndsTree, InitialTree, NewSet, Load, Vertices, OutDegrees, Filter, ApplyModified, Value, StatementKindTree, Declare, While, For, If, IfElse, Print, Assign, Reduce, SetEntry, ReduceEntry, AddVertex, Apply, BlockTree, Empty, Then, ParameterTree, DeclarationTree, Constant, Function, CallTree, ChainTree, SourceTree}
 
 -- `{` terminal `}`
 abbrev pub in_braces : Terminal → List Terminal
@@ -162,37 +162,37 @@ reduction_at (OfSymbol symbol.PlusAssign ∷ rest) = Some (reduction.Plus, rest)
 reduction_at _ = None
 
 -- what stands after `name [ index ]`
-abbrev pub entry_by : Identifier → ExpressionTree → List Terminal → Option (List Terminal) → Option (ActionTree × List Terminal)
+abbrev pub entry_by : Identifier → ExpressionTree → List Terminal → Option (List Terminal) → Option (StatementKindTree × List Terminal)
 entry_by vector index ws (Some after) = ended_at after >>= λ e. Some (SetEntry vector index e.0, e.1)
 entry_by vector index ws None = reduction_at ws >>= λ r. ended_at r.1 >>= λ e. Some (ReduceEntry vector index r.0 e.0, e.1)
 
-abbrev pub entry_at : Identifier → Reader ActionTree
+abbrev pub entry_at : Identifier → Reader StatementKindTree
 entry_at vector ws =
     expression ws >>= λ i. after_terminal (OfSymbol symbol.CloseBracket) i.1 >>= λ rest.
     entry_by vector i.0 rest (after_terminal (OfSymbol symbol.Assign) rest)
 
 -- `(`, the vertex, `)` and `;`
-abbrev pub added_at : Identifier → Reader ActionTree
+abbrev pub added_at : Identifier → Reader StatementKindTree
 added_at set ws =
     after_terminal (OfSymbol symbol.OpenParenthesis) ws >>= λ a. expression a >>= λ e.
     closed (OfSymbol symbol.CloseParenthesis ∷ OfSymbol symbol.Semicolon ∷ []) (AddVertex set e.0, e.1)
 
 -- the ends and the function of an apply
-abbrev pub applied_at : Identifier → Reader ActionTree
+abbrev pub applied_at : Identifier → Reader StatementKindTree
 applied_at target ws =
     ends_at ws >>= λ e. after_terminals (OfSymbol symbol.Dot ∷ OfKeyword keyword.Apply ∷ []) e.1 >>= λ a. argument_at a >>= λ f.
     closed (OfSymbol symbol.Semicolon ∷ []) (Apply target e.0 f.0, f.1)
 
-abbrev pub method_by : Identifier → List Terminal → Option (List Terminal) → Option (ActionTree × List Terminal)
+abbrev pub method_by : Identifier → List Terminal → Option (List Terminal) → Option (StatementKindTree × List Terminal)
 method_by name ws (Some after) = added_at name after
 method_by name ws None = applied_at name ws
 
 -- the reduction and its value
-abbrev pub reduced_at : Identifier → Reader ActionTree
+abbrev pub reduced_at : Identifier → Reader StatementKindTree
 reduced_at name ws = reduction_at ws >>= λ r. ended_at r.1 >>= λ e. Some (Reduce name r.0 e.0, e.1)
 
 -- what a statement does that begins with a name: the next terminal decides
-abbrev pub named_action : Identifier → Reader ActionTree
+abbrev pub named_action : Identifier → Reader StatementKindTree
 named_action name (OfSymbol symbol.Assign ∷ rest) = assigned_at (OfSymbol symbol.Assign ∷ rest) >>= λ i. Some (Assign name i.0, i.1)
 named_action name (OfSymbol symbol.OpenBracket ∷ rest) = entry_at name rest
 named_action name (OfSymbol symbol.Dot ∷ rest) =
@@ -200,11 +200,11 @@ named_action name (OfSymbol symbol.Dot ∷ rest) =
 named_action name ws = reduced_at name ws
 
 -- what stands after the test and the body of an `if`
-abbrev pub else_by : Reader BlockTree → ℕ → ExpressionTree → BlockTree × List Terminal → Option (List Terminal) → Option (ActionTree × List Terminal)
+abbrev pub else_by : Reader BlockTree → ℕ → ExpressionTree → BlockTree × List Terminal → Option (List Terminal) → Option (StatementKindTree × List Terminal)
 else_by block at test body None = closed (OfKeyword keyword.End ∷ []) (If at test body.0, body.1)
 else_by block at test body (Some after) = block after >>= λ b. closed (OfKeyword keyword.End ∷ []) (IfElse at test body.0 b.0, b.1)
 
-abbrev pub action_by : Reader BlockTree → Reader ActionTree
+abbrev pub action_by : Reader BlockTree → Reader StatementKindTree
 action_by block (Opening keyword.Var at ∷ rest) =
     typed_at rest >>= λ n. assigned_at n.1 >>= λ i. Some (Declare at n.0 i.0, i.1)
 action_by block (Opening keyword.While at ∷ rest) =
@@ -240,11 +240,11 @@ abbrev pub where_begins : {A : Type 0} → Bool → Option (A × List Terminal) 
 where_begins false read = None
 where_begins true read = Some read
 
-abbrev pub statement_by : Reader ActionTree → Reader (Option Identifier × ActionTree)
+abbrev pub statement_by : Reader StatementKindTree → Reader (Option Identifier × StatementKindTree)
 statement_by action ws = let l = label_at ws in action l.1 >>= λ a. Some ((l.0, a.0), a.1)
 
 -- a statement, where one begins
-abbrev pub next_statement : Reader ActionTree → List Terminal → Option (Option ((Option Identifier × ActionTree) × List Terminal))
+abbrev pub next_statement : Reader StatementKindTree → List Terminal → Option (Option ((Option Identifier × StatementKindTree) × List Terminal))
 next_statement action ws = where_begins (begins_statement ws) (statement_by action ws)
 
 -- as many trees as follow one another
@@ -252,11 +252,11 @@ abbrev pub each_at : {A : Type 0} → (List Terminal → Option (Option (A × Li
 each_at next ws = links_by next (suc (length ws)) ws
 
 -- statements in order, as a block
-abbrev pub block_from : List (Option Identifier × ActionTree) → BlockTree
+abbrev pub block_from : List (Option Identifier × StatementKindTree) → BlockTree
 block_from [] = Empty
 block_from (s ∷ others) = Then s.0 s.1 (block_from others)
 
-abbrev pub block_by : Reader ActionTree → Reader BlockTree
+abbrev pub block_by : Reader StatementKindTree → Reader BlockTree
 block_by action ws = each_at (next_statement action) ws >>= λ b. Some (block_from b.0, b.1)
 
 -- a block in which no block may stand

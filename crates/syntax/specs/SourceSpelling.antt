@@ -12,7 +12,7 @@ use Rattle.apply_options.specs.declared.setting.Setting.{Setting}
 use Rattle.apply_options.specs.declared.setting.Setting.TheVariants as setting
 use Rattle.apply_options.specs.declared.reduction.Reduction.{Reduction}
 use Rattle.apply_options.specs.declared.reduction.Reduction.TheVariants as reduction
-use Rattle.syntax.specs.SourceTrees.{EndsTree, InitialTree, NewSet, Load, Vertices, OutDegrees, Filter, ApplyModified, Value, ActionTree, Declare, While, For, If, IfElse, Print, Assign, Reduce, SetEntry, ReduceEntry, AddVertex, Apply, BlockTree, Empty, Then, ParameterTree, DeclarationTree, Constant, Function, CallTree, ChainTree, SourceTree}
+use Rattle.syntax.specs.SourceTrees.{EndsTree, InitialTree, NewSet, Load, Vertices, OutDegrees, Filter, ApplyModified, Value, StatementKindTree, Declare, While, For, If, IfElse, Print, Assign, Reduce, SetEntry, ReduceEntry, AddVertex, Apply, BlockTree, Empty, Then, ParameterTree, DeclarationTree, Constant, Function, CallTree, ChainTree, SourceTree}
 
 -- the terminals of each tree in order, and then the rest
 abbrev pub each_before : {A : Type 0} → (A → List Terminal → List Terminal) → List A → List Terminal → List Terminal
@@ -93,7 +93,7 @@ label_terminals (Some label) = Label label ∷ []
 
 abbrev mutual
   -- body
-  pub action_before : ActionTree → List Terminal → List Terminal
+  pub action_before : StatementKindTree → List Terminal → List Terminal
   action_before (Declare at p initial) rest = Opening keyword.Var at ∷ typed_before p (assigned_before initial rest)
   action_before (While at test body) rest = Opening keyword.While at ∷ (expression_terminals test ++ block_before body (OfKeyword keyword.End ∷ rest))
   action_before (For at name first limit body) rest =

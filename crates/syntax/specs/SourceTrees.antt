@@ -28,24 +28,24 @@ pub data InitialTree : Type 0 where
 
 mutual
   -- what a statement does
-  pub data ActionTree : Type 0 where
-    Declare : (at : ℕ) → ParameterTree → InitialTree → ActionTree
-    While : (at : ℕ) → (test : ExpressionTree) → (body : BlockTree) → ActionTree
-    For : (at : ℕ) → (name : Identifier) → (first limit : ExpressionTree) → (body : BlockTree) → ActionTree
-    If : (at : ℕ) → (test : ExpressionTree) → (body : BlockTree) → ActionTree
-    IfElse : (at : ℕ) → (test : ExpressionTree) → (body otherwise : BlockTree) → ActionTree
-    Print : (at : ℕ) → ExpressionTree → ActionTree
-    Assign : (name : Identifier) → InitialTree → ActionTree
-    Reduce : (name : Identifier) → Reduction → ExpressionTree → ActionTree
-    SetEntry : (vector : Identifier) → (index value : ExpressionTree) → ActionTree
-    ReduceEntry : (vector : Identifier) → (index : ExpressionTree) → Reduction → (value : ExpressionTree) → ActionTree
-    AddVertex : (set : Identifier) → ExpressionTree → ActionTree
-    Apply : (target : Identifier) → EndsTree → (function : Identifier) → ActionTree
+  pub data StatementKindTree : Type 0 where
+    Declare : (at : ℕ) → ParameterTree → InitialTree → StatementKindTree
+    While : (at : ℕ) → (test : ExpressionTree) → (body : BlockTree) → StatementKindTree
+    For : (at : ℕ) → (name : Identifier) → (first limit : ExpressionTree) → (body : BlockTree) → StatementKindTree
+    If : (at : ℕ) → (test : ExpressionTree) → (body : BlockTree) → StatementKindTree
+    IfElse : (at : ℕ) → (test : ExpressionTree) → (body otherwise : BlockTree) → StatementKindTree
+    Print : (at : ℕ) → ExpressionTree → StatementKindTree
+    Assign : (name : Identifier) → InitialTree → StatementKindTree
+    Reduce : (name : Identifier) → Reduction → ExpressionTree → StatementKindTree
+    SetEntry : (vector : Identifier) → (index value : ExpressionTree) → StatementKindTree
+    ReduceEntry : (vector : Identifier) → (index : ExpressionTree) → Reduction → (value : ExpressionTree) → StatementKindTree
+    AddVertex : (set : Identifier) → ExpressionTree → StatementKindTree
+    Apply : (target : Identifier) → EndsTree → (function : Identifier) → StatementKindTree
 
   -- statements in order, each with its label where it has one
   pub data BlockTree : Type 0 where
     Empty : BlockTree
-    Then : (label : Option Identifier) → ActionTree → BlockTree → BlockTree
+    Then : (label : Option Identifier) → StatementKindTree → BlockTree → BlockTree
 
 pub data DeclarationTree : Type 0 where
   Constant : (at : ℕ) → ParameterTree → InitialTree → DeclarationTree

@@ -15,7 +15,7 @@ use Rattle.syntax.specs.declared.statement.Action.{Action}
 use Rattle.syntax.specs.declared.statement.Action.TheVariants as action
 use Rattle.syntax.specs.declared.statement.Action as row
 use Rattle.syntax.specs.declared.statement.Statement.{Statement}
-use Rattle.syntax.specs.SourceTrees.{EndsTree, InitialTree, NewSet, Load, Vertices, OutDegrees, Filter, ApplyModified, Value, ActionTree, Declare, While, For, If, IfElse, Print, Assign, Reduce, SetEntry, ReduceEntry, AddVertex, Apply, BlockTree, Empty, Then, ParameterTree, DeclarationTree, Constant, Function, CallTree, ChainTree, SourceTree}
+use Rattle.syntax.specs.SourceTrees.{EndsTree, InitialTree, NewSet, Load, Vertices, OutDegrees, Filter, ApplyModified, Value, StatementKindTree, Declare, While, For, If, IfElse, Print, Assign, Reduce, SetEntry, ReduceEntry, AddVertex, Apply, BlockTree, Empty, Then, ParameterTree, DeclarationTree, Constant, Function, CallTree, ChainTree, SourceTree}
 
 abbrev pub parameter_tree : Parameter → ParameterTree
 parameter_tree p = record { name = p.name; declared = p.declared }
@@ -33,30 +33,30 @@ initial_tree (initial.ApplyModified edges ends function vector) = ApplyModified 
 initial_tree (initial.Value e) = Value e
 
 abbrev mutual
-  pub action_tree : Action → ActionTree
-  action_tree (action.Declare at variable initial) = Declare at (parameter_tree variable) (initial_tree initial)
-  action_tree (action.While' at test m body) = While at test (rows_tree body)
-  action_tree (action.For' at name first last m body) = For at name first last (rows_tree body)
-  action_tree (action.If' at test m body) = If at test (rows_tree body)
-  action_tree (action.IfElse' at test m body n otherwise) = IfElse at test (rows_tree body) (rows_tree otherwise)
-  action_tree (action.Print at e) = Print at e
-  action_tree (action.Assign name value) = Assign name (initial_tree value)
-  action_tree (action.Reduce name reduction value) = Reduce name reduction value
-  action_tree (action.SetEntry vector index value) = SetEntry vector index value
-  action_tree (action.ReduceEntry vector index reduction value) = ReduceEntry vector index reduction value
-  action_tree (action.AddVertex set vertex) = AddVertex set vertex
-  action_tree (action.Apply target ends function) = Apply target (ends_tree ends) function
+  pub statement_kind_tree : Action → StatementKindTree
+  statement_kind_tree (action.Declare at variable initial) = Declare at (parameter_tree variable) (initial_tree initial)
+  statement_kind_tree (action.While' at test m body) = While at test (rows_tree body)
+  statement_kind_tree (action.For' at name first last m body) = For at name first last (rows_tree body)
+  statement_kind_tree (action.If' at test m body) = If at test (rows_tree body)
+  statement_kind_tree (action.IfElse' at test m body n otherwise) = IfElse at test (rows_tree body) (rows_tree otherwise)
+  statement_kind_tree (action.Print at e) = Print at e
+  statement_kind_tree (action.Assign name value) = Assign name (initial_tree value)
+  statement_kind_tree (action.Reduce name reduction value) = Reduce name reduction value
+  statement_kind_tree (action.SetEntry vector index value) = SetEntry vector index value
+  statement_kind_tree (action.ReduceEntry vector index reduction value) = ReduceEntry vector index reduction value
+  statement_kind_tree (action.AddVertex set vertex) = AddVertex set vertex
+  statement_kind_tree (action.Apply target ends function) = Apply target (ends_tree ends) function
 
   pub rows_tree : {m : _} → row.Row_of-Statement m → BlockTree
   rows_tree row.end_of-Statement = Empty
-  rows_tree (row.more_of-Statement label action rest) = Then label (action_tree action) (rows_tree rest)
+  rows_tree (row.more_of-Statement label action rest) = Then label (statement_kind_tree action) (rows_tree rest)
 
-abbrev pub statement_of : Statement → Option Identifier × ActionTree
-statement_of s = (s.label, action_tree s.action)
+abbrev pub statement_of : Statement → Option Identifier × StatementKindTree
+statement_of s = (s.label, statement_kind_tree s.action)
 
 abbrev pub block_tree : List Statement → BlockTree
 block_tree [] = Empty
-block_tree (s ∷ others) = Then s.label (action_tree s.action) (block_tree others)
+block_tree (s ∷ others) = Then s.label (statement_kind_tree s.action) (block_tree others)
 
 abbrev pub declaration_tree : Declaration → DeclarationTree
 declaration_tree (declaration.Constant at constant initial) = Constant at (parameter_tree constant) (initial_tree initial)

@@ -84,7 +84,7 @@ module _ (n count : ℕ) (out into : List (ℕ × Block)) (ok : IsGraph n count 
       (neighbours_ascend v (lists_of into) (neighbour_lists into ok.into.blocks))
       (λ u. source_weight (edges_of (lists_of out)) u v ∙ edge_weights 0 (2 ^ 24) (lists_of out) (u, v) (graph_rises out ok.out) ∙ sym (ok.converse u v))
 
-  module _ (batch : List Entry) (inside : misfits n batch ≡ false) (us turned : List (EdgeUpdate × ℤ)) (same : (e : Ends) → decided_weight us e ≡ decision batch e) (turns : (e : Ends) → decided_weight turned e ≡ decided_weight us (e.1, e.0)) (outs ins : Changed VertexBlock) (out_made : IsChangedTree us out outs) (into_made : IsChangedTree turned into ins) where
+  module _ (batch : List Entry) (inside : misfits n batch ≡ false) (us transposed : List (EdgeUpdate × ℤ)) (same : (e : Ends) → decided_weight us e ≡ decision batch e) (turns : (e : Ends) → decided_weight transposed e ≡ decided_weight us (e.1, e.0)) (outs ins : Changed VertexBlock) (out_made : IsChangedTree us out outs) (into_made : IsChangedTree transposed into ins) where
     abbrev out' : List (ℕ × Block)
     out' = outs.tree.entries
 
@@ -98,7 +98,7 @@ module _ (n count : ℕ) (out into : List (ℕ × Block)) (ok : IsGraph n count 
     out_members = members_changed us out outs ok.out out_made
 
     into_members : (e : Ends) → weight_between (lists_of into') e ≡ unwrap_or (decided_weight us (e.1, e.0)) (weight_between (lists_of into) e)
-    into_members e = members_changed turned into ins ok.into into_made e ∙ ap (λ o. unwrap_or o (weight_between (lists_of into) e)) (turns e)
+    into_members e = members_changed transposed into ins ok.into into_made e ∙ ap (λ o. unwrap_or o (weight_between (lists_of into) e)) (turns e)
 
     ascending : IsAscending (edges_of (lists_of out'))
     ascending =
@@ -123,7 +123,7 @@ module _ (n count : ℕ) (out into : List (ℕ × Block)) (ok : IsGraph n count 
     graph_made m new_count grown is = record {
       graph = subst (λ k. IsDigraph (digraph k (edges_of (lists_of out')))) (sym grown) (digraph_after old batch (edges_of (lists_of out')) ok.graph inside edges_after);
       out = out_ok;
-      into = blocks_changed turned into ins ok.into into_made;
+      into = blocks_changed transposed into ins ok.into into_made;
       converse = λ u v. into_members (v, u) ∙ ap (λ h. unwrap_or (decided_weight us (u, v)) h) (ok.converse u v) ∙ sym (out_members (u, v));
       count = omega (arith, is, ok.count, edges_grew us out outs ok.out out_made, few);
     }

@@ -106,8 +106,8 @@ impl Graph {
         let size = self.chunk_size;
         let updates = updates(alloc, batch)?;
         let out = updates.change(alloc, &self.outgoing, size)?;
-        let turned = updates.turned(alloc)?;
-        let into = turned.change(alloc, &self.incoming, size)?;
+        let transposed = updates.transposed(alloc)?;
+        let into = transposed.change(alloc, &self.incoming, size)?;
         Ok(Graph {
             vertices: batch.vertices_after(self.vertices),
             chunk_size: self.chunk_size,
@@ -149,8 +149,8 @@ impl Graph {
         };
         let updates = updates_forked(rt, alloc, batch)?;
         let outs = updates.change_forked(rt, alloc, &self.outgoing, size, &forking)?;
-        let turned = updates.turned_forked(rt, alloc)?;
-        let ins = turned.change_forked(rt, alloc, &self.incoming, size, &forking)?;
+        let transposed = updates.transposed_forked(rt, alloc)?;
+        let ins = transposed.change_forked(rt, alloc, &self.incoming, size, &forking)?;
         Ok(Graph {
             vertices: batch.vertices_after(self.vertices),
             chunk_size: self.chunk_size,

@@ -11,7 +11,7 @@
 //! whether it is there and with which weight, and the greatest number of vertices that is asked for
 //! counts, and leaves the old graph as it is. The entries are sorted by source and destination, and the
 //! last of each edge is kept; a batch in which every added edge has weight 1 is sorted without weights.
-//! These updates are cut by blocks, where they lie, and made in one pass over the tree; turned and
+//! These updates are cut by blocks, where they lie, and made in one pass over the tree; transposed and
 //! sorted again, they are made the other way round. What a batch does not reach, the graphs share.
 //! `Graph::apply_forked` gives the same graph: it sorts by threads, and does a pass by halves of the
 //! updates that go to two threads.
@@ -29,7 +29,7 @@ mod graph;
 mod laws;
 mod middle;
 mod neighbours;
-mod turned;
+mod transposed;
 mod updates;
 mod vertices;
 

@@ -6,7 +6,7 @@ use Rattle.syntax.specs.Terminals.{Identifier}
 use Rattle.syntax.specs.ExpressionTrees as tree
 use Rattle.syntax.specs.ExpressionTrees.{ExpressionTree, ConjunctionTree, ComparisonTree, SumTree, TermTree, UnaryTree, PrimaryTree}
 use Rattle.syntax.specs.SourceTrees as source
-use Rattle.syntax.specs.SourceTrees.{ActionTree, BlockTree, DeclarationTree, EndsTree, InitialTree, ParameterTree, SourceTree}
+use Rattle.syntax.specs.SourceTrees.{StatementKindTree, BlockTree, DeclarationTree, EndsTree, InitialTree, ParameterTree, SourceTree}
 use Rattle.typed_tree.specs.declared.expression.Endpoint.{Endpoint}
 use Rattle.typed_tree.specs.declared.expression.Endpoint.TheVariants as endpoint
 use Rattle.expression_types.specs.declared.fault.Fault.{Fault}
@@ -138,7 +138,7 @@ label_broken f c label = by_parts f (Label c label) tt
 
 -- statements
 mutual
-  main_broken : (f : Fault) (c : CheckerTree) (action : ActionTree) → IsBroken f (MainStatement c action)
+  main_broken : (f : Fault) (c : CheckerTree) (action : StatementKindTree) → IsBroken f (MainStatement c action)
   main_broken f c (source.Declare at p initial) = by_parts f (MainStatement c (source.Declare at p initial)) (initial_broken f c at initial, (new_broken f c.scope p.name, tt))
   main_broken f c (source.While at test body) = by_parts f (MainStatement c (source.While at test body)) (bool_broken f c.scope at test, (main_block_broken f _ body, tt))
   main_broken f c (source.For at name first limit body) =
@@ -164,7 +164,7 @@ mutual
       by_parts f (MainBlock c (source.Then label action others)) (label_broken f c label, (main_broken f _ action, (main_block_broken f _ others, tt)))
 
 mutual
-  function_broken : (f : Fault) (c : CheckerTree) (action : ActionTree) → IsBroken f (FunctionStatement c action)
+  function_broken : (f : Fault) (c : CheckerTree) (action : StatementKindTree) → IsBroken f (FunctionStatement c action)
   function_broken f c (source.Declare at p initial) = by_parts f (FunctionStatement c (source.Declare at p initial)) (initial_broken f c at initial, (new_broken f c.scope p.name, tt))
   function_broken f c (source.While at test body) = by_parts f (FunctionStatement c (source.While at test body)) (bool_broken f c.scope at test, (function_block_broken f _ body, tt))
   function_broken f c (source.For at name first limit body) =

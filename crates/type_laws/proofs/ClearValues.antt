@@ -10,7 +10,7 @@ use Rattle.typed_tree.specs.declared.expression.ComparisonOperator.TheVariants a
 use Rattle.typed_tree.specs.declared.expression.Connective.{Connective}
 use Rattle.typed_tree.specs.declared.expression.Connective.TheVariants as connective
 use Rattle.typed_tree.specs.declared.expression.Operator.{Operator}
-use Rattle.typed_tree.specs.IntegerTree.{IntegerTree, Entry}
+use Rattle.typed_tree.specs.IntExpressionTree.{IntExpressionTree, Entry}
 use Rattle.expression_types.specs.declared.fault.TypeRule.{TypeRule}
 use Rattle.expression_types.specs.declared.fault.TypeRule.TheVariants as rule
 use Rattle.expression_types.specs.declared.scope.Entity.{Entity}
@@ -202,7 +202,7 @@ entry_parts i at e (Set slot) clear none = (no_left (as_vector at e).faults _ no
 entry_parts i at e ErrorValue clear none = absurd clear
 
 -- entries
-index_clear : (b : Bool) (at vector : ℕ) (e : IntegerTree) → (if b then fault_at at rule.WrongIndex ErrorValue else sure (Integer (Entry vector e))).faults ≡ []
+index_clear : (b : Bool) (at vector : ℕ) (e : IntExpressionTree) → (if b then fault_at at rule.WrongIndex ErrorValue else sure (Integer (Entry vector e))).faults ≡ []
     → IsClear (if b then fault_at at rule.WrongIndex ErrorValue else sure (Integer (Entry vector e))).value
 index_clear true at vector e none = absurd (not_empty _ _ none)
 index_clear false at vector e none = tt

@@ -13,8 +13,8 @@ use Rattle.apply_options.specs.declared.reduction.Reduction.{Reduction}
 use Rattle.syntax.specs.SourceTrees as source
 use Rattle.typed_tree.specs.declared.expression.Endpoint.{Endpoint}
 use Rattle.typed_tree.specs.Access.{step_writes, steps_write}
-use Rattle.typed_tree.specs.IntegerTree.{IntegerTree}
-use Rattle.typed_tree.specs.StepTree.{StepTree, StepsTree, NoStep, StepThen}
+use Rattle.typed_tree.specs.IntExpressionTree.{IntExpressionTree}
+use Rattle.typed_tree.specs.FunctionStatementTree.{FunctionStatementTree, FunctionStatementsTree, NoStep, StepThen}
 use Rattle.expression_types.specs.declared.scope.Inside.TheVariants as inside
 use Rattle.expression_types.specs.Expression.{index_value, value_of, vector_index}
 use Rattle.expression_types.specs.Names.{found}
@@ -57,18 +57,18 @@ one_more : (vector index : ℕ) (by : Reduction) (writes : Writes) → is_writte
 one_more vector index by [] is = inr (eqb-true vector index (last_is (nat_eq vector index) by is))
 one_more vector index by (w ∷ writes) is = first_or_last (nat_eq vector w.0) w.1 by vector index writes is (one_more vector index by writes)
 
-reduced_adds : (at vector : ℕ) (by : Reduction) (writes : Writes) (b : Bool) (x : IntegerTree) → (reduced_as at b writes).faults ≡ []
+reduced_adds : (at vector : ℕ) (by : Reduction) (writes : Writes) (b : Bool) (x : IntExpressionTree) → (reduced_as at b writes).faults ≡ []
     → Adds writes (reduced_as at b writes).value.1 (step_writes (reduction_step (reduced_as at b writes).value.0 true (Some vector) by x))
 reduced_adds at vector by writes true x none v is = inl is
 reduced_adds at vector by writes false x none v is = absurd (not_empty _ _ none)
 
-with_adds : (at vector : ℕ) (by : Reduction) (writes : Writes) (before : Option Reduction) (x : IntegerTree) → (written_with at vector by writes before).faults ≡ []
+with_adds : (at vector : ℕ) (by : Reduction) (writes : Writes) (before : Option Reduction) (x : IntExpressionTree) → (written_with at vector by writes before).faults ≡ []
     → Adds writes (written_with at vector by writes before).value.1 (step_writes (reduction_step (written_with at vector by writes before).value.0 true (Some vector) by x))
 with_adds at vector by writes None x none v is =
     elim (one_more v vector by writes is) [ inl old ↦ inl old | inr same ↦ inr (0, omega arith, sym same) ]
 with_adds at vector by writes (Some first) x none v is = reduced_adds at vector by writes (same_reduction first by) x none v is
 
-one_adds : (at : ℕ) (vector : Option ℕ) (by : Reduction) (writes : Writes) (own : Bool) (x : IntegerTree) → own ≡ true → (one_reduction at vector by writes).faults ≡ []
+one_adds : (at : ℕ) (vector : Option ℕ) (by : Reduction) (writes : Writes) (own : Bool) (x : IntExpressionTree) → own ≡ true → (one_reduction at vector by writes).faults ≡ []
     → Adds writes (one_reduction at vector by writes).value.1 (step_writes (reduction_step (one_reduction at vector by writes).value.0 own vector by x))
 one_adds at None by writes own x is_own none v is = inl is
 one_adds at (Some vector) by writes true x is_own none v is = with_adds at vector by writes (lookup (nat_eq vector) writes) x none v is
@@ -107,7 +107,7 @@ declare_adds c at name initializer declared.WeightedEdgeSet = refl
 same_adds : (old new : Writes) (vectors : List ℕ) → new ≡ old → Adds old new vectors
 same_adds old new vectors same vector is = inl (subst (λ writes. is_written writes vector ≡ true) same is)
 
-behind_writes : (so_far : StepsTree) (step : StepTree) (vector : ℕ) → Contains (steps_write so_far) vector ⊎ Contains (step_writes step) vector → Contains (steps_write (step_behind so_far step)) vector
+behind_writes : (so_far : FunctionStatementsTree) (step : FunctionStatementTree) (vector : ℕ) → Contains (steps_write so_far) vector ⊎ Contains (step_writes step) vector → Contains (steps_write (step_behind so_far step)) vector
 behind_writes NoStep step vector (inl (k, within, is)) = absurd (omega (arith, within))
 behind_writes NoStep step vector (inr is) = Contains-append_left (step_writes step) [] vector is
 behind_writes (StepThen s others) step vector (inl is) =
@@ -137,7 +137,7 @@ module _ {At : Vertices} {Read Write : ExpressionTree → Type 0} (body : Body A
       (sym known.0) (one_adds at index.value by c.writes w.value x own) (no_left may.faults _ behind_vector)
 
   mutual
-    step_adds : (c : CheckerTree) (action : source.ActionTree) → IsKnown At inside.EdgeFunction c.scope → (step_typed c action).faults ≡ []
+    step_adds : (c : CheckerTree) (action : source.StatementKindTree) → IsKnown At inside.EdgeFunction c.scope → (step_typed c action).faults ≡ []
         → Adds c.writes (step_typed c action).value.1.writes (step_writes (step_typed c action).value.0)
     step_adds c (source.Declare at x initial) known none = same_adds _ _ _ (declare_adds c at x.name (initializer_of c at initial).value x.declared)
     step_adds c (source.While at test inner) known none = absurd (not_empty _ _ none)
@@ -169,7 +169,7 @@ module _ {At : Vertices} {Read Write : ExpressionTree → Type 0} (body : Body A
     step_adds c (source.AddVertex set e) known none = absurd (not_empty _ _ none)
     step_adds c (source.Apply target ends function) known none = absurd (not_empty _ _ none)
 
-    pub steps_add : (start : Writes) (c : CheckerTree) (so_far : StepsTree) (block : source.BlockTree) → IsKnown At inside.EdgeFunction c.scope → (steps_typed c so_far block).faults ≡ []
+    pub steps_add : (start : Writes) (c : CheckerTree) (so_far : FunctionStatementsTree) (block : source.BlockTree) → IsKnown At inside.EdgeFunction c.scope → (steps_typed c so_far block).faults ≡ []
         → Adds start c.writes (steps_write so_far) → Adds start (steps_typed c so_far block).value.1.writes (steps_write (steps_typed c so_far block).value.0)
     steps_add start c so_far source.Empty known none adds = adds
     steps_add start c so_far (source.Then label action others) known none adds =

@@ -7,9 +7,9 @@ use Rattle.syntax.specs.SourceTrees as source
 use Rattle.syntax.specs.SourceTrees.{InitialTree, ParameterTree, DeclarationTree, SourceTree}
 use Rattle.typed_tree.specs.declared.expression.Endpoint.{Endpoint}
 use Rattle.typed_tree.specs.declared.expression.Endpoint.TheVariants as endpoint
-use Rattle.typed_tree.specs.IntegerTree.{Entry, IntegerTree}
+use Rattle.typed_tree.specs.IntExpressionTree.{Entry, IntExpressionTree}
 use Rattle.typed_tree.specs.BlockTree.{BlockTree, Empty}
-use Rattle.typed_tree.specs.StepTree.{StepsTree, NoStep}
+use Rattle.typed_tree.specs.FunctionStatementTree.{FunctionStatementsTree, NoStep}
 use Rattle.expression_types.specs.declared.fault.TypeRule.TheVariants as rule
 use Rattle.expression_types.specs.declared.scope.Entity.TheVariants as entity
 use Rattle.expression_types.specs.declared.scope.Inside.{Inside}
@@ -65,7 +65,7 @@ condition_reads scope at r e none = (expression_reads scope at r e (no_left (val
 
 -- statements of functions
 mutual
-  step_accesses : {At : Vertices} {i : Inside} {Read Write : ExpressionTree → Type 0} → Body At i Read Write → (c : CheckerTree) (action : source.ActionTree) → IsKnown At i c.scope
+  step_accesses : {At : Vertices} {i : Inside} {Read Write : ExpressionTree → Type 0} → Body At i Read Write → (c : CheckerTree) (action : source.StatementKindTree) → IsKnown At i c.scope
       → (step_typed c action).faults ≡ [] → ActionAccesses Read Write action
   step_accesses body c (source.Declare at x initial) known none =
       initializer_reads c at (body.reads c.scope at known) initial (no_left (initializer_of c at initial).faults _ none)
@@ -116,7 +116,7 @@ mutual
   step_accesses body c (source.AddVertex set e) known none = absurd (not_empty _ _ none)
   step_accesses body c (source.Apply target ends function) known none = absurd (not_empty _ _ none)
 
-  steps_access : {At : Vertices} {i : Inside} {Read Write : ExpressionTree → Type 0} → Body At i Read Write → (c : CheckerTree) (so_far : StepsTree) (block : source.BlockTree)
+  steps_access : {At : Vertices} {i : Inside} {Read Write : ExpressionTree → Type 0} → Body At i Read Write → (c : CheckerTree) (so_far : FunctionStatementsTree) (block : source.BlockTree)
       → IsKnown At i c.scope → (steps_typed c so_far block).faults ≡ [] → BlockAccesses Read Write block
   steps_access body c so_far source.Empty known none = tt
   steps_access {At = At} {i = i} body c so_far (source.Then label action others) known none =
@@ -131,7 +131,7 @@ mutual
       )
 
 -- an index of main
-if_plain : (b : Bool) (at vector : ℕ) (e : IntegerTree) → (if b then fault_at at rule.WrongIndex ErrorValue else sure (Integer (Entry vector e))).faults ≡ [] → b ≡ false
+if_plain : (b : Bool) (at vector : ℕ) (e : IntExpressionTree) → (if b then fault_at at rule.WrongIndex ErrorValue else sure (Integer (Entry vector e))).faults ≡ [] → b ≡ false
 if_plain true at vector e none = absurd (not_empty _ _ none)
 if_plain false at vector e none = refl
 
@@ -142,7 +142,7 @@ read_index_is_plain at vector (Vertex p) clear none = tt
 read_index_is_plain at vector (Set slot) clear none = tt
 read_index_is_plain at vector ErrorValue clear none = clear
 
-if_unread : (b : Bool) (at : ℕ) (e : IntegerTree) → (if b then fault_at at rule.WrongIndex None else sure (Some e)).faults ≡ [] → b ≡ false
+if_unread : (b : Bool) (at : ℕ) (e : IntExpressionTree) → (if b then fault_at at rule.WrongIndex None else sure (Some e)).faults ≡ [] → b ≡ false
 if_unread true at e none = absurd (not_empty _ _ none)
 if_unread false at e none = refl
 
@@ -176,7 +176,7 @@ main_writes scope at index known sound none =
 
 -- statements of main
 mutual
-  action_accesses : (c : CheckerTree) (action : source.ActionTree) → IsKnown nowhere inside.Main c.scope → (action_typed c action).faults ≡ []
+  action_accesses : (c : CheckerTree) (action : source.StatementKindTree) → IsKnown nowhere inside.Main c.scope → (action_typed c action).faults ≡ []
       → ActionAccesses HasNoEntry HasNoEntry action
   action_accesses c (source.Declare at x initial) known none = initializer_reads c at (main_reads c.scope at known) initial (no_left (initializer_of c at initial).faults _ none)
   action_accesses c (source.While at test body) known none =

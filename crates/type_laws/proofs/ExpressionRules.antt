@@ -18,9 +18,9 @@ use Rattle.typed_tree.specs.declared.expression.Connective.TheVariants as connec
 use Rattle.typed_tree.specs.declared.expression.Endpoint.{Endpoint}
 use Rattle.typed_tree.specs.declared.expression.Operator.{Operator}
 use Rattle.typed_tree.specs.declared.expression.VarRef.{VarRef}
-use Rattle.typed_tree.specs.ConditionTree.{ConditionTree}
-use Rattle.typed_tree.specs.IntegerTree as integer
-use Rattle.typed_tree.specs.IntegerTree.{IntegerTree}
+use Rattle.typed_tree.specs.BoolExpressionTree.{BoolExpressionTree}
+use Rattle.typed_tree.specs.IntExpressionTree as integer
+use Rattle.typed_tree.specs.IntExpressionTree.{IntExpressionTree}
 use Rattle.expression_types.specs.declared.fault.Fault.{Fault}
 use Rattle.expression_types.specs.declared.fault.TypeRule.TheVariants as rule
 use Rattle.expression_types.specs.declared.scope.Entity.{Entity}
@@ -263,7 +263,7 @@ if_entry_sound i at e v =
     if names_error e || (is_error v || false) then []
     else entry_faults at (not (is_some (named_vector e) && takes_index i v)) (is_some (named_vector e) && not (may_be_index i v))
 
-integer_own : (at vector : ℕ) (e : IntegerTree) (reads : Bool) → (if reads then fault_at at rule.WrongIndex ErrorValue else sure (Integer (integer.Entry vector e))).faults ≡ entry_faults at false (not (not reads))
+integer_own : (at vector : ℕ) (e : IntExpressionTree) (reads : Bool) → (if reads then fault_at at rule.WrongIndex ErrorValue else sure (Integer (integer.Entry vector e))).faults ≡ entry_faults at false (not (not reads))
 integer_own at vector e true = refl
 integer_own at vector e false = refl
 
@@ -290,11 +290,11 @@ vector_own inside.Filter at vector (Vertex p) sound = refl
 vector_own inside.Filter at vector (Set slot) sound = refl
 vector_own i at vector ErrorValue sound = absurd cc
 
-integer_index_own : (i : Inside) (at : ℕ) (e : Entity) (x : IntegerTree) → (entry_of i at e (Integer x)).faults ≡ if_entry_sound i at e (Integer x)
+integer_index_own : (i : Inside) (at : ℕ) (e : Entity) (x : IntExpressionTree) → (entry_of i at e (Integer x)).faults ≡ if_entry_sound i at e (Integer x)
 integer_index_own i at (entity.Vector vector) x = vector_own i at vector (Integer x) refl
 integer_index_own i at _ x = refl
 
-condition_index_own : (i : Inside) (at : ℕ) (e : Entity) (c : ConditionTree) → (entry_of i at e (Condition c)).faults ≡ if_entry_sound i at e (Condition c)
+condition_index_own : (i : Inside) (at : ℕ) (e : Entity) (c : BoolExpressionTree) → (entry_of i at e (Condition c)).faults ≡ if_entry_sound i at e (Condition c)
 condition_index_own i at (entity.Vector vector) c = vector_own i at vector (Condition c) refl
 condition_index_own i at _ c = refl
 

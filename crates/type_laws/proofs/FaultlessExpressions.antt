@@ -16,7 +16,7 @@ use Rattle.typed_tree.specs.declared.expression.Connective.{Connective}
 use Rattle.typed_tree.specs.declared.expression.Connective.TheVariants as connective
 use Rattle.typed_tree.specs.declared.expression.Endpoint.{Endpoint}
 use Rattle.typed_tree.specs.declared.expression.Operator.{Operator}
-use Rattle.typed_tree.specs.IntegerTree.{IntegerTree, Entry}
+use Rattle.typed_tree.specs.IntExpressionTree.{IntExpressionTree, Entry}
 use Rattle.expression_types.specs.declared.fault.TypeRule.TheVariants as rule
 use Rattle.expression_types.specs.declared.scope.Entity.{Entity}
 use Rattle.expression_types.specs.declared.scope.Entity.TheVariants as entity
@@ -333,7 +333,7 @@ negated_typed Has at type (value.Set slot) has is none = absurd (not_empty _ _ n
 negated_typed Has at type value.ErrorValue has is none = absurd ((first_no_error type value.ErrorValue is).0)
 
 -- entries
-if_unread : (at vector : ℕ) (e : IntegerTree) (b : Bool) → reads_entry e ≡ b → (if b then fault_at at rule.WrongIndex value.ErrorValue else sure (value.Integer (Entry vector e))).faults ≡ []
+if_unread : (at vector : ℕ) (e : IntExpressionTree) (b : Bool) → reads_entry e ≡ b → (if b then fault_at at rule.WrongIndex value.ErrorValue else sure (value.Integer (Entry vector e))).faults ≡ []
     → (reads_entry e ≡ false) × IsOf Number (if b then fault_at at rule.WrongIndex value.ErrorValue else sure (value.Integer (Entry vector e))).value
 if_unread at vector e true is none = absurd (not_empty _ _ none)
 if_unread at vector e false is none = (is, tt)

@@ -16,7 +16,7 @@ use Rattle.typed_tree.specs.declared.program.InitialValue.TheVariants as beginni
 use Rattle.typed_tree.specs.declared.statement.ApplyEnds.{ApplyEnds}
 use Rattle.typed_tree.specs.declared.statement.SetValue.TheVariants as set
 use Rattle.typed_tree.specs.BlockTree.{BlockTree, Empty}
-use Rattle.typed_tree.specs.StepTree.{NoStep}
+use Rattle.typed_tree.specs.FunctionStatementTree.{NoStep}
 use Rattle.expression_types.specs.declared.fault.TypeRule.TheVariants as rule
 use Rattle.expression_types.specs.declared.scope.Entity.{Entity}
 use Rattle.expression_types.specs.declared.scope.Entity.TheVariants as entity

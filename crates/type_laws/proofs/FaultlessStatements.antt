@@ -17,7 +17,7 @@ use Rattle.apply_options.specs.declared.reduction.Reduction.{Reduction}
 use Rattle.typed_tree.specs.declared.expression.VarRef.{VarRef}
 use Rattle.typed_tree.specs.declared.statement.SetValue.TheVariants as set
 use Rattle.typed_tree.specs.BlockTree.{BlockTree, Empty}
-use Rattle.typed_tree.specs.IntegerTree.{IntegerTree}
+use Rattle.typed_tree.specs.IntExpressionTree.{IntExpressionTree}
 use Rattle.expression_types.specs.declared.fault.TypeRule.TheVariants as rule
 use Rattle.expression_types.specs.declared.scope.Entity.{Entity}
 use Rattle.expression_types.specs.declared.scope.Entity.TheVariants as entity
@@ -538,7 +538,7 @@ add_keeps c k s at name e none =
     (x.0, value_number inside.Main c k s at e (no_left v.faults _ behind_u) x.1)
 
 -- entries
-if_plain_index : (at : ℕ) (e : IntegerTree) (b : Bool) → reads_entry e ≡ b → (if b then fault_at at rule.WrongIndex None else sure (Some e)).faults ≡ [] → reads_entry e ≡ false
+if_plain_index : (at : ℕ) (e : IntExpressionTree) (b : Bool) → reads_entry e ≡ b → (if b then fault_at at rule.WrongIndex None else sure (Some e)).faults ≡ [] → reads_entry e ≡ false
 if_plain_index at e true is none = absurd (not_empty _ _ none)
 if_plain_index at e false is none = is
 
@@ -698,7 +698,7 @@ reduced_some inside.EdgeFunction k vector by some = some
 reduced_some inside.VertexFunction k vector by some = some
 reduced_some inside.Filter k vector by some = some
 
-pub behind_some : (i : Inside) (k : Known) (action : source.ActionTree) → AreSome k.names → ActionKeeps i k action → AreSome (known_behind i k action).names
+pub behind_some : (i : Inside) (k : Known) (action : source.StatementKindTree) → AreSome k.names → ActionKeeps i k action → AreSome (known_behind i k action).names
 behind_some i k (source.Declare at p initial) some keeps = more_some k.names p.name.bytes (variable_meaning p.declared) some (variable_some i k p.declared initial keeps.0)
 behind_some i k (source.While at test body) some keeps = some
 behind_some i k (source.For at name first limit body) some keeps = some
@@ -722,7 +722,7 @@ labelled_sees i c k s label none =
     (new, record { matches = (labelled_kept i c k s.matches label new).1; some = label_some k label s.some })
 
 mutual
-  pub action_keeps : (c : CheckerTree) (k : Known) → Sees inside.Main c k → (action : source.ActionTree) → (action_typed c action).faults ≡ [] → ActionKeeps inside.Main k action
+  pub action_keeps : (c : CheckerTree) (k : Known) → Sees inside.Main c k → (action : source.StatementKindTree) → (action_typed c action).faults ≡ [] → ActionKeeps inside.Main k action
   action_keeps c k s (source.Declare at p initial) none = declare_keeps c k s at p.name initial p.declared none
   action_keeps c k s (source.While at test body) none =
       let t = condition_in c.scope at test in

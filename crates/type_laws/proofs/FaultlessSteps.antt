@@ -9,7 +9,7 @@ use Rattle.syntax.specs.declared.declaration.DeclaredType.{DeclaredType}
 use Rattle.syntax.specs.declared.declaration.DeclaredType.TheVariants as declared
 use Rattle.apply_options.specs.declared.reduction.Reduction.{Reduction}
 use Rattle.apply_options.specs.declared.reduction.Reduction.TheVariants as reduction
-use Rattle.typed_tree.specs.StepTree.{NoStep, StepsTree}
+use Rattle.typed_tree.specs.FunctionStatementTree.{NoStep, FunctionStatementsTree}
 use Rattle.typed_tree.specs.declared.expression.Endpoint.{Endpoint}
 use Rattle.typed_tree.specs.declared.expression.Endpoint.TheVariants as endpoint
 use Rattle.expression_types.specs.declared.scope.Entity.{Entity}
@@ -200,7 +200,7 @@ reduce_entry_keeps i c k user s at name subscript by e none =
     record { index = there.vector; means = there.means; may = reduces; at = reduced_at i k there.vector by subscript user reduces both.0; value = both.1 }
 
 mutual
-  pub step_keeps : (i : Inside) (c : CheckerTree) (k : Known) → IsUser i → Sees i c k → (action : source.ActionTree) → (step_typed c action).faults ≡ [] → ActionKeeps i k action
+  pub step_keeps : (i : Inside) (c : CheckerTree) (k : Known) → IsUser i → Sees i c k → (action : source.StatementKindTree) → (step_typed c action).faults ≡ [] → ActionKeeps i k action
   step_keeps i c k user s (source.Declare at p initial) none = declare_step_keeps i c k s at p.name initial p.declared none
   step_keeps i c k user s (source.While at test body) none = absurd (not_empty _ _ none)
   step_keeps i c k user s (source.For at name first limit body) none = absurd (not_empty _ _ none)
@@ -236,7 +236,7 @@ mutual
   step_keeps i c k user s (source.AddVertex set e) none = absurd (not_empty _ _ none)
   step_keeps i c k user s (source.Apply target ends function) none = absurd (not_empty _ _ none)
 
-  pub steps_keep : (i : Inside) (c : CheckerTree) (k : Known) → IsUser i → Sees i c k → (so_far : StepsTree) (block : source.BlockTree) → (steps_typed c so_far block).faults ≡ [] → BlockKeeps i k block
+  pub steps_keep : (i : Inside) (c : CheckerTree) (k : Known) → IsUser i → Sees i c k → (so_far : FunctionStatementsTree) (block : source.BlockTree) → (steps_typed c so_far block).faults ≡ [] → BlockKeeps i k block
   steps_keep i c k user s so_far source.Empty none = tt
   steps_keep i c k user s so_far (source.Then label action others) none =
       let l = labelled c label in

@@ -9,8 +9,8 @@ use Rattle.typed_tree.specs.declared.expression.Connective.{Connective}
 use Rattle.typed_tree.specs.declared.expression.Connective.TheVariants as connective
 use Rattle.typed_tree.specs.declared.expression.Operator.{Operator}
 use Rattle.typed_tree.specs.declared.expression.VarRef.{VarRef}
-use Rattle.typed_tree.specs.IntegerTree as integer
-use Rattle.typed_tree.specs.IntegerTree.{IntegerTree}
+use Rattle.typed_tree.specs.IntExpressionTree as integer
+use Rattle.typed_tree.specs.IntExpressionTree.{IntExpressionTree}
 use Rattle.expression_types.specs.declared.fault.Fault.{Fault}
 use Rattle.expression_types.specs.declared.fault.TypeRule.TheVariants as rule
 use Rattle.expression_types.specs.declared.scope.Entity.{Entity}
@@ -90,7 +90,7 @@ no_vector_stays : (i : Inside) (at : ℕ) (o : Option ℕ) (v : ValueTree) → i
 no_vector_stays i at None v is = refl
 no_vector_stays i at (Some vector) v is = absurd cc
 
-if_faulty : (b : Bool) (at vector : ℕ) (e : IntegerTree) → FaultyOrNone is_error (if b then fault_at at rule.WrongIndex ErrorValue else sure (Integer (integer.Entry vector e)))
+if_faulty : (b : Bool) (at vector : ℕ) (e : IntExpressionTree) → FaultyOrNone is_error (if b then fault_at at rule.WrongIndex ErrorValue else sure (Integer (integer.Entry vector e)))
 if_faulty true at vector e = inr refl
 if_faulty false at vector e = inl refl
 

@@ -5,7 +5,7 @@ use Rattle.syntax.specs.Terminals.{Identifier}
 use Rattle.syntax.specs.SourceTrees as source
 use Rattle.syntax.specs.SourceTrees.{InitialTree, ParameterTree, DeclarationTree, SourceTree}
 use Rattle.typed_tree.specs.BlockTree.{BlockTree, Empty}
-use Rattle.typed_tree.specs.StepTree.{StepsTree, NoStep}
+use Rattle.typed_tree.specs.FunctionStatementTree.{FunctionStatementsTree, NoStep}
 use Rattle.expression_types.specs.declared.scope.Entity.TheVariants as entity
 use Rattle.expression_types.specs.Expression.{used}
 use Rattle.types.specs.Block.{action_typed, behind, closed, statements_typed}
@@ -42,7 +42,7 @@ initializer_fits c at (source.Value e) none = tt
 
 -- statements of functions
 mutual
-  step_initials_fit : (c : CheckerTree) (action : source.ActionTree) → (step_typed c action).faults ≡ [] → ActionInitialsFit action
+  step_initials_fit : (c : CheckerTree) (action : source.StatementKindTree) → (step_typed c action).faults ≡ [] → ActionInitialsFit action
   step_initials_fit c (source.Declare at x initial) none = initializer_fits c at initial (no_left (initializer_of c at initial).faults _ none)
   step_initials_fit c (source.While at test body) none = absurd (not_empty _ _ none)
   step_initials_fit c (source.For at name first limit body) none = absurd (not_empty _ _ none)
@@ -67,7 +67,7 @@ mutual
   step_initials_fit c (source.AddVertex set e) none = tt
   step_initials_fit c (source.Apply target ends function) none = tt
 
-  steps_initials_fit : (c : CheckerTree) (so_far : StepsTree) (block : source.BlockTree) → (steps_typed c so_far block).faults ≡ [] → BlockInitialsFit block
+  steps_initials_fit : (c : CheckerTree) (so_far : FunctionStatementsTree) (block : source.BlockTree) → (steps_typed c so_far block).faults ≡ [] → BlockInitialsFit block
   steps_initials_fit c so_far source.Empty none = tt
   steps_initials_fit c so_far (source.Then label action others) none =
       let l = labelled c label in
@@ -80,7 +80,7 @@ mutual
 
 -- statements of main
 mutual
-  action_initials_fit : (c : CheckerTree) (action : source.ActionTree) → (action_typed c action).faults ≡ [] → ActionInitialsFit action
+  action_initials_fit : (c : CheckerTree) (action : source.StatementKindTree) → (action_typed c action).faults ≡ [] → ActionInitialsFit action
   action_initials_fit c (source.Declare at x initial) none = initializer_fits c at initial (no_left (initializer_of c at initial).faults _ none)
   action_initials_fit c (source.While at test body) none =
       let b = statements_typed c Empty body in

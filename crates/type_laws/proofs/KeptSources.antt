@@ -11,7 +11,7 @@ use Rattle.syntax.specs.declared.declaration.DeclaredType.TheVariants as declare
 use Rattle.typed_tree.specs.declared.expression.Endpoint.{Endpoint}
 use Rattle.typed_tree.specs.declared.expression.Endpoint.TheVariants as endpoint
 use Rattle.typed_tree.specs.BlockTree.{BlockTree, Empty}
-use Rattle.typed_tree.specs.StepTree.{NoStep}
+use Rattle.typed_tree.specs.FunctionStatementTree.{NoStep}
 use Rattle.expression_types.specs.declared.scope.Entity.{Entity}
 use Rattle.expression_types.specs.declared.scope.Entity.TheVariants as entity
 use Rattle.expression_types.specs.declared.scope.Inside.{Inside}
@@ -39,7 +39,7 @@ label_written k (Some label) = refl
 
 -- what edge functions before it do stands after a statement as it was
 mutual
-  behind_written : (i : Inside) (k : Known) (action : source.ActionTree) → (known_behind i k action).written ≡ k.written
+  behind_written : (i : Inside) (k : Known) (action : source.StatementKindTree) → (known_behind i k action).written ≡ k.written
   behind_written i k (source.Declare at p initial) = refl
   behind_written i k (source.While at test body) = after_written i k body
   behind_written i k (source.For at name first limit body) = after_written i (with_name k name meaning.LoopName) body

@@ -9,8 +9,8 @@ use Rattle.syntax.specs.SourceTrees.{InitialTree, EndsTree}
 use Rattle.syntax.specs.declared.declaration.DeclaredType.{DeclaredType}
 use Rattle.syntax.specs.declared.declaration.DeclaredType.TheVariants as declared
 use Rattle.apply_options.specs.declared.reduction.Reduction.{Reduction}
-use Rattle.typed_tree.specs.BlockTree.{ActionTree, BlockTree, Empty, DeclareCondition, DeclareInteger, DeclareSet}
-use Rattle.typed_tree.specs.IntegerTree.{IntegerTree}
+use Rattle.typed_tree.specs.BlockTree.{StatementKindTree, BlockTree, Empty, DeclareCondition, DeclareInteger, DeclareSet}
+use Rattle.typed_tree.specs.IntExpressionTree.{IntExpressionTree}
 use Rattle.typed_tree.specs.declared.statement.SetValue.TheVariants as set
 use Rattle.expression_types.specs.declared.fault.TypeRule.TheVariants as rule
 use Rattle.expression_types.specs.declared.scope.Entity.{Entity}
@@ -258,7 +258,7 @@ reduce_kept c k m at name by e means number =
     (subst (λ n. (reduced at by v.value n).faults ≡ []) (sym is.1) (both_none (as_integer at v.value).faults [] (numeric_integer at v.value x.is) refl)))
 
 -- an index of main at which an entry is written
-unread_fine : (at : ℕ) (e : IntegerTree) → reads_entry e ≡ false → (unread at e).faults ≡ []
+unread_fine : (at : ℕ) (e : IntExpressionTree) → reads_entry e ≡ false → (unread at e).faults ≡ []
 unread_fine at e plain = subst (λ b. (if b then fault_at at rule.WrongIndex None else sure (Some e)).faults ≡ []) (sym plain) refl
 
 index_fits : (at : ℕ) (v : ValueTree) → IsNumeric v → ReadsNone v → (as_index at v).faults ≡ []
@@ -312,7 +312,7 @@ print_kept c k m at e has =
     ]
 
 -- applies
-if_applied : (at : ℕ) (m : WithFaults ActionTree) (b : Bool) → b ≡ false → m.faults ≡ [] → (if b then fault_at at rule.WrongType no_action else m).faults ≡ []
+if_applied : (at : ℕ) (m : WithFaults StatementKindTree) (b : Bool) → b ≡ false → m.faults ≡ [] → (if b then fault_at at rule.WrongType no_action else m).faults ≡ []
 if_applied at m true is none = absurd cc
 if_applied at m false is none = none
 
@@ -370,11 +370,11 @@ apply_kept c k m at target ends function (AppliesVertices set from to means) =
     (set_applied_fine at (used c.scope target).value x y is.0 t.1))))))
 
 -- a statement that declares nothing
-in_place_kept : (c : CheckerTree) (k : Known) → Matches inside.Main c k → (action : WithFaults ActionTree) → action.faults ≡ [] → Keeps inside.Main (in_place c action) k
+in_place_kept : (c : CheckerTree) (k : Known) → Matches inside.Main c k → (action : WithFaults StatementKindTree) → action.faults ≡ [] → Keeps inside.Main (in_place c action) k
 in_place_kept c k m action none = (both_none action.faults [] none refl, m)
 
 mutual
-  pub action_kept : (c : CheckerTree) (k : Known) → Matches inside.Main c k → (action : source.ActionTree) → ActionKeeps inside.Main k action
+  pub action_kept : (c : CheckerTree) (k : Known) → Matches inside.Main c k → (action : source.StatementKindTree) → ActionKeeps inside.Main k action
       → Keeps inside.Main (action_typed c action) (known_behind inside.Main k action)
   action_kept c k m (source.Declare at p initial) keeps = declare_kept c k m at p.name initial p.declared keeps.0 keeps.1
   action_kept c k m (source.While at test body) keeps =

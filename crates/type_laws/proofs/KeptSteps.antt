@@ -9,7 +9,7 @@ use Rattle.syntax.specs.declared.declaration.DeclaredType.{DeclaredType}
 use Rattle.syntax.specs.declared.declaration.DeclaredType.TheVariants as declared
 use Rattle.apply_options.specs.declared.reduction.Reduction.{Reduction}
 use Rattle.apply_options.specs.declared.reduction.Reduction.TheVariants as reduction
-use Rattle.typed_tree.specs.StepTree.{DeclareCondition, DeclareInteger, NoStep, StepTree, StepsTree}
+use Rattle.typed_tree.specs.FunctionStatementTree.{DeclareCondition, DeclareInteger, NoStep, FunctionStatementTree, FunctionStatementsTree}
 use Rattle.typed_tree.specs.declared.expression.Endpoint.{Endpoint}
 use Rattle.typed_tree.specs.declared.expression.Endpoint.TheVariants as endpoint
 use Rattle.expression_types.specs.declared.scope.Entity.TheVariants as entity
@@ -188,7 +188,7 @@ reduce_entry_kept i c k user m at name subscript by e keeps =
       with_reduced i c k name by may.value.1 m is.writes_are,
     )
 
-step_in_place_kept : (i : Inside) (c : CheckerTree) (k : Known) → Matches i c k → (step : WithFaults StepTree) → step.faults ≡ [] → StepKeeps i (step_in_place c step) k
+step_in_place_kept : (i : Inside) (c : CheckerTree) (k : Known) → Matches i c k → (step : WithFaults FunctionStatementTree) → step.faults ≡ [] → StepKeeps i (step_in_place c step) k
 step_in_place_kept i c k m step none = (both_none step.faults [] none refl, m)
 
 not_main : {A : Type 0} (i : Inside) → IsUser i → IsMain i → A
@@ -198,7 +198,7 @@ not_main inside.VertexFunction user main = absurd main
 not_main inside.Filter user main = absurd main
 
 mutual
-  pub step_kept : (i : Inside) (c : CheckerTree) (k : Known) → IsUser i → Matches i c k → (action : source.ActionTree) → ActionKeeps i k action
+  pub step_kept : (i : Inside) (c : CheckerTree) (k : Known) → IsUser i → Matches i c k → (action : source.StatementKindTree) → ActionKeeps i k action
       → StepKeeps i (step_typed c action) (known_behind i k action)
   step_kept i c k user m (source.Declare at p initial) keeps = declare_step_kept i c k user m at p.name initial p.declared keeps.0 keeps.1
   step_kept i c k user m (source.While at test body) keeps = not_main i user keeps.0
@@ -228,7 +228,7 @@ mutual
   step_kept i c k user m (source.AddVertex set e) keeps = not_main i user keeps.0
   step_kept i c k user m (source.Apply target ends function) keeps = not_main i user keeps.0
 
-  pub steps_kept : (i : Inside) (c : CheckerTree) (k : Known) → IsUser i → Matches i c k → (so_far : StepsTree) (block : source.BlockTree) → BlockKeeps i k block
+  pub steps_kept : (i : Inside) (c : CheckerTree) (k : Known) → IsUser i → Matches i c k → (so_far : FunctionStatementsTree) (block : source.BlockTree) → BlockKeeps i k block
       → StepKeeps i (steps_typed c so_far block) (known_after i k block)
   steps_kept i c k user m so_far source.Empty keeps = (refl, m)
   steps_kept i c k user m so_far (source.Then label action others) keeps =

@@ -8,7 +8,7 @@ use Rattle.syntax.specs.SourceTrees.{ParameterTree, InitialTree, DeclarationTree
 use Rattle.typed_tree.specs.declared.expression.Endpoint.{Endpoint}
 use Rattle.typed_tree.specs.declared.expression.Endpoint.TheVariants as endpoint
 use Rattle.typed_tree.specs.BlockTree.{BlockTree, Empty}
-use Rattle.typed_tree.specs.StepTree.{StepsTree, NoStep}
+use Rattle.typed_tree.specs.FunctionStatementTree.{FunctionStatementsTree, NoStep}
 use Rattle.expression_types.specs.declared.scope.Entity.{Entity}
 use Rattle.expression_types.specs.declared.scope.Entity.TheVariants as entity
 use Rattle.expression_types.specs.declared.scope.Inside.{Inside}
@@ -126,7 +126,7 @@ constant_known d at name initial declared.WeightedEdgeSet initializer known none
     name_known d name (entity.Edges true) known tt
     (no_left (declare_name d name (entity.Edges true)).faults [] (no_right only.faults ((declare_name d name (entity.Edges true)).faults ++ []) (no_right (loads at initializer).faults _ none)))
 
-function_known : (d : DeclaredTree) (at : ℕ) (kind : FunctionKindTree) (name : Identifier) (steps : StepsTree) → IsUserKind kind → (kind_fits at kind).faults ≡ [] → AllKnown d
+function_known : (d : DeclaredTree) (at : ℕ) (kind : FunctionKindTree) (name : Identifier) (steps : FunctionStatementsTree) → IsUserKind kind → (kind_fits at kind).faults ≡ [] → AllKnown d
     → (function_declared d kind name steps).faults ≡ [] → AllKnown (function_declared d kind name steps).value
 function_known d at (MainKind fits) name steps user sound known none = absurd user
 function_known d at (EdgeKind weighted) name steps user sound known none =

@@ -117,7 +117,7 @@ declare_step_known At i c at name initializer declared.Vector known none = absur
 declare_step_known At i c at name initializer declared.EdgeSet known none = absurd (not_empty _ _ none)
 declare_step_known At i c at name initializer declared.WeightedEdgeSet known none = absurd (not_empty _ _ none)
 
-pub step_known : (At : Vertices) (i : Inside) (c : CheckerTree) (action : source.ActionTree) → IsKnown At i c.scope → (step_typed c action).faults ≡ []
+pub step_known : (At : Vertices) (i : Inside) (c : CheckerTree) (action : source.StatementKindTree) → IsKnown At i c.scope → (step_typed c action).faults ≡ []
     → IsKnown At i (step_typed c action).value.1.scope
 step_known At i c (source.Declare at x initial) known none =
     let initializer = initializer_of c at initial in declare_step_known At i c at x.name initializer.value x.declared known (no_right initializer.faults _ none)
@@ -150,7 +150,7 @@ declare_known At i c at name initializer declared.Vector known none = absurd (no
 declare_known At i c at name initializer declared.EdgeSet known none = absurd (not_empty _ _ none)
 declare_known At i c at name initializer declared.WeightedEdgeSet known none = absurd (not_empty _ _ none)
 
-pub action_known : (At : Vertices) (i : Inside) (c : CheckerTree) (action : source.ActionTree) → IsKnown At i c.scope → (action_typed c action).faults ≡ []
+pub action_known : (At : Vertices) (i : Inside) (c : CheckerTree) (action : source.StatementKindTree) → IsKnown At i c.scope → (action_typed c action).faults ≡ []
     → IsKnown At i (action_typed c action).value.1.scope
 action_known At i c (source.Declare at x initial) known none =
     let initializer = initializer_of c at initial in declare_known At i c at x.name initializer.value x.declared known (no_right initializer.faults _ none)

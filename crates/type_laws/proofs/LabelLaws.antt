@@ -15,7 +15,7 @@ use Rattle.syntax.specs.SourceTrees.{ParameterTree, InitialTree, DeclarationTree
 use Rattle.typed_tree.specs.declared.expression.Endpoint.{Endpoint}
 use Rattle.typed_tree.specs.declared.expression.Endpoint.TheVariants as endpoint
 use Rattle.typed_tree.specs.BlockTree.{BlockTree, Empty}
-use Rattle.typed_tree.specs.StepTree.{StepsTree, NoStep}
+use Rattle.typed_tree.specs.FunctionStatementTree.{FunctionStatementsTree, NoStep}
 use Rattle.expression_types.specs.declared.scope.Entity.TheVariants as entity
 use Rattle.expression_types.specs.Names.{found}
 use Rattle.expression_types.specs.ScopeTree.{entered}
@@ -125,7 +125,7 @@ meets_inside : (c d : CheckerTree) (xs : List (List ℕ)) → Meets c d xs → M
 meets_inside c d xs all = meets_like c d c (with_scope d c.scope) xs refl refl refl refl all
 
 mutual
-  step_meets : (c : CheckerTree) (action : source.ActionTree) → (step_typed c action).faults ≡ [] → Meets c (step_typed c action).value.1 (inner_labels action)
+  step_meets : (c : CheckerTree) (action : source.StatementKindTree) → (step_typed c action).faults ≡ [] → Meets c (step_typed c action).value.1 (inner_labels action)
   step_meets c (source.Declare at x initial) none = declare_step_meets c at x.name (initializer_of c at initial).value x.declared
   step_meets c (source.While at test body) none = absurd (not_empty _ _ none)
   step_meets c (source.For at name first limit body) none = absurd (not_empty _ _ none)
@@ -148,7 +148,7 @@ mutual
   step_meets c (source.AddVertex set e) none = meets_none c
   step_meets c (source.Apply target ends function) none = meets_none c
 
-  steps_meet : (c : CheckerTree) (so_far : StepsTree) (block : source.BlockTree) → (steps_typed c so_far block).faults ≡ []
+  steps_meet : (c : CheckerTree) (so_far : FunctionStatementsTree) (block : source.BlockTree) → (steps_typed c so_far block).faults ≡ []
       → Meets c (steps_typed c so_far block).value.1 (block_labels block)
   steps_meet c so_far source.Empty none = meets_none c
   steps_meet c so_far (source.Then label action others) none =
@@ -161,7 +161,7 @@ mutual
       meets_then c l.value.1 rest.value.1 (own_label label) (inner_labels action ++ block_labels others) (labelled_meets c label (no_left l.faults (s.faults ++ rest.faults) none)) last
 
 mutual
-  action_meets : (c : CheckerTree) (action : source.ActionTree) → (action_typed c action).faults ≡ [] → Meets c (action_typed c action).value.1 (inner_labels action)
+  action_meets : (c : CheckerTree) (action : source.StatementKindTree) → (action_typed c action).faults ≡ [] → Meets c (action_typed c action).value.1 (inner_labels action)
   action_meets c (source.Declare at x initial) none = declare_meets c at x.name (initializer_of c at initial).value x.declared
   action_meets c (source.While at test body) none =
       let b = statements_typed c Empty body in
@@ -224,7 +224,7 @@ opened_meets c kind parameters result =
     let all = meets_then e d (result_declared d kind result).value [] [] (parameters_meet (takes_weight kind) e endpoint.Source parameters) (result_meets d kind result) in
     meets_like e (result_declared d kind result).value c (result_declared d kind result).value [] refl refl refl refl all
 
-function_meets : (d : DeclaredTree) (kind : FunctionKindTree) (name : Identifier) (steps : StepsTree) → Meets d.checker (function_declared d kind name steps).value.checker []
+function_meets : (d : DeclaredTree) (kind : FunctionKindTree) (name : Identifier) (steps : FunctionStatementsTree) → Meets d.checker (function_declared d kind name steps).value.checker []
 function_meets d (MainKind fits) name steps = meets_nothing d.checker _ refl refl
 function_meets d (EdgeKind weighted) name steps = meets_nothing d.checker _ refl refl
 function_meets d VertexKind name steps = meets_nothing d.checker _ refl refl

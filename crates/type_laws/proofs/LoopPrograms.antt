@@ -8,7 +8,7 @@ use Rattle.syntax.specs.SourceTrees.{ParameterTree, InitialTree, DeclarationTree
 use Rattle.typed_tree.specs.declared.expression.Endpoint.{Endpoint}
 use Rattle.typed_tree.specs.declared.expression.Endpoint.TheVariants as endpoint
 use Rattle.typed_tree.specs.BlockTree.{BlockTree, Empty}
-use Rattle.typed_tree.specs.StepTree.{StepsTree, NoStep}
+use Rattle.typed_tree.specs.FunctionStatementTree.{FunctionStatementsTree, NoStep}
 use Rattle.expression_types.specs.declared.scope.Entity.{Entity}
 use Rattle.expression_types.specs.declared.scope.Entity.TheVariants as entity
 use Rattle.expression_types.specs.declared.scope.Inside.TheVariants as inside
@@ -61,7 +61,7 @@ constant_fits d at name initial declared.WeightedEdgeSet initializer none fits =
     name_declared d name (entity.Edges true) (no_left e.faults [] (no_right only.faults (e.faults ++ []) (no_right (loads at initializer).faults _ none))) fits refl tt
 
 -- functions of users, after their statements
-function_fits : (d : DeclaredTree) (kind : FunctionKindTree) (name : Identifier) (steps : StepsTree) → (function_declared d kind name steps).faults ≡ [] → DeclaredFits d
+function_fits : (d : DeclaredTree) (kind : FunctionKindTree) (name : Identifier) (steps : FunctionStatementsTree) → (function_declared d kind name steps).faults ≡ [] → DeclaredFits d
     → DeclaredFits (function_declared d kind name steps).value
 function_fits d (MainKind fits) name steps none all = name_declared d name entity.Error none all refl tt
 function_fits d (EdgeKind weighted) name steps none all =

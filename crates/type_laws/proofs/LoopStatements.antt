@@ -7,8 +7,8 @@ use Rattle.syntax.specs.declared.declaration.DeclaredType.TheVariants as declare
 use Rattle.apply_options.specs.declared.reduction.Reduction.{Reduction}
 use Rattle.syntax.specs.SourceTrees as source
 use Rattle.typed_tree.specs.declared.expression.VarRef.{VarRef}
-use Rattle.typed_tree.specs.BlockTree.{ActionTree, BlockTree, Empty, Then}
-use Rattle.typed_tree.specs.IntegerTree.{IntegerTree}
+use Rattle.typed_tree.specs.BlockTree.{StatementKindTree, BlockTree, Empty, Then}
+use Rattle.typed_tree.specs.IntExpressionTree.{IntExpressionTree}
 use Rattle.expression_types.specs.declared.scope.Entity.{Entity}
 use Rattle.expression_types.specs.declared.scope.Entity.TheVariants as entity
 use Rattle.expression_types.specs.Expression.{used, value_of, vector_index}
@@ -100,11 +100,11 @@ used_outside : (is : List ℕ) (n : ℕ) (scope : ScopeTree) (name : Identifier)
 used_outside is n scope name fits = used_among (EntityIsOutside is n) tt name scope.visible fits.known
 
 -- a statement that declares nothing and has no block
-abbrev Plain : List ℕ → ℕ → ActionTree → Type 0
+abbrev Plain : List ℕ → ℕ → StatementKindTree → Type 0
 Plain is n a = KeepsInside n is a × (integers_behind a n ≡ n)
 
 module _ (is : List ℕ) (n : ℕ) where
-  if_plain : (b : Bool) (x y : WithFaults ActionTree) → Plain is n x.value → Plain is n y.value → Plain is n (if b then x else y).value
+  if_plain : (b : Bool) (x y : WithFaults StatementKindTree) → Plain is n x.value → Plain is n y.value → Plain is n (if b then x else y).value
   if_plain true x y first other = first
   if_plain false x y first other = other
 
@@ -120,12 +120,12 @@ module _ (is : List ℕ) (n : ℕ) where
   added_plain at x (entity.Edges weights) = (tt, refl)
   added_plain at x _ = (tt, refl)
 
-  set_plain : (vector : Option ℕ) (subscript : Option IntegerTree) (e : IntegerTree) → Plain is n (entry_set vector subscript e)
+  set_plain : (vector : Option ℕ) (subscript : Option IntExpressionTree) (e : IntExpressionTree) → Plain is n (entry_set vector subscript e)
   set_plain None subscript e = (tt, refl)
   set_plain (Some vector) None e = (tt, refl)
   set_plain (Some vector) (Some subscript) e = (tt, refl)
 
-  entry_plain : (vector : Option ℕ) (subscript : Option IntegerTree) (by : Reduction) (e : IntegerTree) → Plain is n (entry_reduced vector subscript by e)
+  entry_plain : (vector : Option ℕ) (subscript : Option IntExpressionTree) (by : Reduction) (e : IntExpressionTree) → Plain is n (entry_reduced vector subscript by e)
   entry_plain None subscript by e = (tt, refl)
   entry_plain (Some vector) None by e = (tt, refl)
   entry_plain (Some vector) (Some subscript) by e = (tt, refl)
@@ -161,24 +161,24 @@ abbrev pub all_behind : BlockTree → ℕ → ℕ
 all_behind Empty n = n
 all_behind (Then number label action others) n = all_behind others (integers_behind action n)
 
-keeps_then : (is : List ℕ) (n : ℕ) (so_far : BlockTree) (number : ℕ) (label : Option ℕ) (action : ActionTree) → KeepsLoops n is so_far → KeepsInside (all_behind so_far n) is action
+keeps_then : (is : List ℕ) (n : ℕ) (so_far : BlockTree) (number : ℕ) (label : Option ℕ) (action : StatementKindTree) → KeepsLoops n is so_far → KeepsInside (all_behind so_far n) is action
     → KeepsLoops n is (behind so_far number label action)
 keeps_then is n Empty number label action keeps own = (own, tt)
 keeps_then is n (Then m l a others) number label action keeps own = (keeps.0, keeps_then is (integers_behind a n) others number label action keeps.1 own)
 
-behind_then : (n : ℕ) (so_far : BlockTree) (number : ℕ) (label : Option ℕ) (action : ActionTree)
+behind_then : (n : ℕ) (so_far : BlockTree) (number : ℕ) (label : Option ℕ) (action : StatementKindTree)
     → all_behind (behind so_far number label action) n ≡ integers_behind action (all_behind so_far n)
 behind_then n Empty number label action = refl
 behind_then n (Then m l a others) number label action = behind_then (integers_behind a n) others number label action
 
 -- statements, and what is visible after them
-abbrev ActionFits : List ℕ → ℕ → ActionTree × CheckerTree → Type 0
+abbrev ActionFits : List ℕ → ℕ → StatementKindTree × CheckerTree → Type 0
 ActionFits is n r = KeepsInside n is r.0 × LoopsFit is (integers_behind r.0 n) r.1.scope
 
 abbrev pub BlockFits : List ℕ → ℕ → BlockTree × CheckerTree → Type 0
 BlockFits is n r = KeepsLoops n is r.0 × LoopsFit is (all_behind r.0 n) r.1.scope
 
-plain_fits : (is : List ℕ) (n : ℕ) (c : CheckerTree) (a : ActionTree) → LoopsFit is n c.scope → Plain is n a → ActionFits is n (a, c)
+plain_fits : (is : List ℕ) (n : ℕ) (c : CheckerTree) (a : StatementKindTree) → LoopsFit is n c.scope → Plain is n a → ActionFits is n (a, c)
 plain_fits is n c a fits plain = (plain.0, subst (λ m. LoopsFit is m c.scope) (sym plain.1) fits)
 
 declare_fits : (is : List ℕ) (n : ℕ) (c : CheckerTree) (at : ℕ) (name : Identifier) (initializer : InitializerTree) (type : DeclaredType)
@@ -198,7 +198,7 @@ declare_fits is n c at name initializer declared.EdgeSet none fits = absurd (not
 declare_fits is n c at name initializer declared.WeightedEdgeSet none fits = absurd (not_empty _ _ none)
 
 mutual
-  action_fits : (is : List ℕ) (n : ℕ) (c : CheckerTree) (action : source.ActionTree) → (action_typed c action).faults ≡ [] → LoopsFit is n c.scope
+  action_fits : (is : List ℕ) (n : ℕ) (c : CheckerTree) (action : source.StatementKindTree) → (action_typed c action).faults ≡ [] → LoopsFit is n c.scope
       → ActionFits is n (action_typed c action).value
   action_fits is n c (source.Declare at x initial) none fits =
       let initializer = initializer_of c at initial in declare_fits is n c at x.name initializer.value x.declared (no_right initializer.faults _ none) fits

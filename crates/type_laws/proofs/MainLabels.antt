@@ -8,8 +8,8 @@ use Rattle.apply_options.specs.declared.reduction.Reduction.{Reduction}
 use Rattle.syntax.specs.SourceTrees as source
 use Rattle.syntax.specs.SourceTrees.{ParameterTree, InitialTree, DeclarationTree, SourceTree}
 use Rattle.typed_tree.specs.declared.expression.VarRef.{VarRef}
-use Rattle.typed_tree.specs.IntegerTree.{IntegerTree}
-use Rattle.typed_tree.specs.BlockTree.{ActionTree, BlockTree, Empty, Then}
+use Rattle.typed_tree.specs.IntExpressionTree.{IntExpressionTree}
+use Rattle.typed_tree.specs.BlockTree.{StatementKindTree, BlockTree, Empty, Then}
 use Rattle.expression_types.specs.declared.scope.Entity.{Entity}
 use Rattle.expression_types.specs.declared.scope.Entity.TheVariants as entity
 use Rattle.expression_types.specs.Expression.{used, value_of, vector_index}
@@ -46,7 +46,7 @@ then_labels a b c xs ys first second =
       count = omega (arith, h, k, length-append xs ys);
     }
 
-indices_behind : (so_far : BlockTree) (number : ℕ) (label : Option ℕ) (action : ActionTree)
+indices_behind : (so_far : BlockTree) (number : ℕ) (label : Option ℕ) (action : StatementKindTree)
     → label_indices (behind so_far number label action) ≡ label_indices so_far ++ (own_index label ++ (inner_indices action ++ []))
 indices_behind Empty number label action = refl
 indices_behind (Then n l a others) number label action =
@@ -55,10 +55,10 @@ indices_behind (Then n l a others) number label action =
     ∙ sym (append_assoc (own_index l) (inner_indices a ++ label_indices others) (own_index label ++ (inner_indices action ++ [])))
 
 -- no statement is in it
-abbrev Plain : ActionTree → Type 0
+abbrev Plain : StatementKindTree → Type 0
 Plain a = inner_indices a ≡ []
 
-if_plain : (b : Bool) (x y : WithFaults ActionTree) → Plain x.value → Plain y.value → Plain (if b then x else y).value
+if_plain : (b : Bool) (x y : WithFaults StatementKindTree) → Plain x.value → Plain y.value → Plain (if b then x else y).value
 if_plain true x y first second = first
 if_plain false x y first second = second
 
@@ -74,12 +74,12 @@ added_plain : (at : ℕ) (v : ValueTree) (e : Entity) → Plain (added at v e).v
 added_plain at v (entity.Edges weights) = refl
 added_plain at v _ = refl
 
-set_plain : (vector : Option ℕ) (index : Option IntegerTree) (e : IntegerTree) → Plain (entry_set vector index e)
+set_plain : (vector : Option ℕ) (index : Option IntExpressionTree) (e : IntExpressionTree) → Plain (entry_set vector index e)
 set_plain None index e = refl
 set_plain (Some vector) None e = refl
 set_plain (Some vector) (Some index) e = refl
 
-entry_plain : (vector : Option ℕ) (index : Option IntegerTree) (by : Reduction) (e : IntegerTree) → Plain (entry_reduced vector index by e)
+entry_plain : (vector : Option ℕ) (index : Option IntExpressionTree) (by : Reduction) (e : IntExpressionTree) → Plain (entry_reduced vector index by e)
 entry_plain None index by e = refl
 entry_plain (Some vector) None by e = refl
 entry_plain (Some vector) (Some index) by e = refl
@@ -115,13 +115,13 @@ applied_plain at t a b ends f =
 abbrev met : CheckerTree → ℕ
 met c = length c.labels
 
-abbrev ActionFollows : ℕ → ActionTree × CheckerTree → Type 0
+abbrev ActionFollows : ℕ → StatementKindTree × CheckerTree → Type 0
 ActionFollows n r = Follow n (inner_indices r.0) (met r.1)
 
 abbrev BlockFollows : ℕ → BlockTree × CheckerTree → Type 0
 BlockFollows n b = Follow n (label_indices b.0) (met b.1)
 
-plain_follows : (n : ℕ) (a : ActionTree) → Plain a → Follow n (inner_indices a) n
+plain_follows : (n : ℕ) (a : StatementKindTree) → Plain a → Follow n (inner_indices a) n
 plain_follows n a plain = subst (λ ls. Follow n ls n) (sym plain) (no_labels n)
 
 new_label_follows : (c : CheckerTree) (label : Identifier) (index : Option ℕ) → (new_label c label index).faults ≡ []
@@ -143,7 +143,7 @@ declare_follows c at name initializer declared.EdgeSet = no_labels (met c)
 declare_follows c at name initializer declared.WeightedEdgeSet = no_labels (met c)
 
 mutual
-  action_follows : (c : CheckerTree) (action : source.ActionTree) → (action_typed c action).faults ≡ [] → ActionFollows (met c) (action_typed c action).value
+  action_follows : (c : CheckerTree) (action : source.StatementKindTree) → (action_typed c action).faults ≡ [] → ActionFollows (met c) (action_typed c action).value
   action_follows c (source.Declare at p initial) none = declare_follows c at p.name (initializer_of c at initial).value p.declared
   action_follows c (source.While at test body) none =
       let b = statements_typed c Empty body in

@@ -14,8 +14,8 @@ use Rattle.syntax.specs.SourceTrees.{ParameterTree, InitialTree, DeclarationTree
 use Rattle.typed_tree.specs.declared.expression.Endpoint.{Endpoint}
 use Rattle.typed_tree.specs.declared.expression.Endpoint.TheVariants as endpoint
 use Rattle.typed_tree.specs.Access.{function_writes, steps_write, steps_write_where}
-use Rattle.typed_tree.specs.BlockTree.{ActionTree, BlockTree, Empty, Then, If, IfElse, While, For}
-use Rattle.typed_tree.specs.StepTree.{FunctionTree, StepsTree, NoStep}
+use Rattle.typed_tree.specs.BlockTree.{StatementKindTree, BlockTree, Empty, Then, If, IfElse, While, For}
+use Rattle.typed_tree.specs.FunctionStatementTree.{FunctionTree, FunctionStatementsTree, NoStep}
 use Rattle.typed_tree.specs.ProgramTree.{ProgramTree}
 use Rattle.expression_types.specs.declared.scope.Entity.{Entity}
 use Rattle.expression_types.specs.declared.scope.Entity.TheVariants as entity
@@ -51,7 +51,7 @@ declare_written c at name initializer declared.EdgeSet = refl
 declare_written c at name initializer declared.WeightedEdgeSet = refl
 
 mutual
-  step_written : (c : CheckerTree) (action : source.ActionTree) → (step_typed c action).value.1.written ≡ c.written
+  step_written : (c : CheckerTree) (action : source.StatementKindTree) → (step_typed c action).value.1.written ≡ c.written
   step_written c (source.Declare at x initial) = declare_written c at x.name (initializer_of c at initial).value x.declared
   step_written c (source.While at test body) = steps_written c NoStep body
   step_written c (source.For at name first limit body) = steps_written (declared_in c name (entity.LoopVariable (integer_slot c))).value NoStep body
@@ -66,7 +66,7 @@ mutual
   step_written c (source.AddVertex set e) = refl
   step_written c (source.Apply target ends function) = refl
 
-  steps_written : (c : CheckerTree) (so_far : StepsTree) (block : source.BlockTree) → (steps_typed c so_far block).value.1.written ≡ c.written
+  steps_written : (c : CheckerTree) (so_far : FunctionStatementsTree) (block : source.BlockTree) → (steps_typed c so_far block).value.1.written ≡ c.written
   steps_written c so_far source.Empty = refl
   steps_written c so_far (source.Then label action others) =
       let l = (labelled c label).value in
@@ -202,7 +202,7 @@ module _ (p : ProgramTree) where
   constant_within d at name initial declared.EdgeSet initializer x = record { names = λ k n is. x.names k n (get_before d.checker.names (name.bytes ∷ []) k n is); sets = x.sets; functions = x.functions }
   constant_within d at name initial declared.WeightedEdgeSet initializer x = record { names = λ k n is. x.names k n (get_before d.checker.names (name.bytes ∷ []) k n is); sets = x.sets; functions = x.functions }
 
-  function_within : (d : DeclaredTree) (kind : FunctionKindTree) (name : Identifier) (steps : StepsTree) → IsWithin (function_declared d kind name steps).value → IsWithin d
+  function_within : (d : DeclaredTree) (kind : FunctionKindTree) (name : Identifier) (steps : FunctionStatementsTree) → IsWithin (function_declared d kind name steps).value → IsWithin d
   function_within d (MainKind fits) name steps x = record { names = λ k n is. x.names k n (get_before d.checker.names (name.bytes ∷ []) k n is); sets = x.sets; functions = x.functions }
   function_within d (EdgeKind weighted) name steps x = record {
     names = λ k n is. x.names k n (get_before d.checker.names (name.bytes ∷ []) k n is);
@@ -371,7 +371,7 @@ module _ (p : ProgramTree) where
   IsEdgeKind NoKind = ⊥
 
   -- functions, after their statements
-  function_fits : (d : DeclaredTree) (kind : FunctionKindTree) (name : Identifier) (steps : StepsTree) → (function_declared d kind name steps).faults ≡ []
+  function_fits : (d : DeclaredTree) (kind : FunctionKindTree) (name : Identifier) (steps : FunctionStatementsTree) → (function_declared d kind name steps).faults ≡ []
       → IsWithin (function_declared d kind name steps).value → AllKnown (function_declared d kind name steps).value → CheckerFits d.sets (length d.edge_functions) d.checker → MainHolds d.main
       → (IsEdgeKind kind → Adds [] d.checker.writes (steps_write steps)) → DeclaredFits (function_declared d kind name steps).value
   function_fits d (MainKind fits) name steps none within known all main adds =
@@ -404,7 +404,7 @@ module _ (p : ProgramTree) where
       own_writes function vector f there same has =
           subst (λ (vectors : List ℕ). Contains vectors vector) (sym (ap (λ k. function_writes p.edge_functions k) same ∙ ap steps_write_where there)) has
 
-      steps_write_of : (steps : StepsTree) (vector : ℕ) → Adds [] d.checker.writes (steps_write steps) → is_written d.checker.writes vector ≡ true → Contains (steps_write steps) vector
+      steps_write_of : (steps : FunctionStatementsTree) (vector : ℕ) → Adds [] d.checker.writes (steps_write steps) → is_written d.checker.writes vector ≡ true → Contains (steps_write steps) vector
       steps_write_of steps vector adds is = elim (adds vector is) [ inl old ↦ absurd cc | inr new ↦ new ]
   function_fits d VertexKind name steps none within known all main adds =
       let e = entity.VertexFunction (length d.vertex_functions) in
@@ -598,9 +598,9 @@ module _ (p : ProgramTree) where
   main_holds length (Some main) holds = holds
 
 -- what holds of each statement, with less said
-module _ (P : SetNames → ActionTree → Type 0) (Q : SetNames → ActionTree → Type 0) (less : (names : SetNames) (a : ActionTree) → P names a → Q names a) where
+module _ (P : SetNames → StatementKindTree → Type 0) (Q : SetNames → StatementKindTree → Type 0) (less : (names : SetNames) (a : StatementKindTree) → P names a → Q names a) where
   mutual
-    inside_less : (a : ActionTree) (names : SetNames) → HoldsInside P names a → HoldsInside Q names a
+    inside_less : (a : StatementKindTree) (names : SetNames) → HoldsInside P names a → HoldsInside Q names a
     inside_less (If c body) names all = each_less body names all
     inside_less (IfElse c body other) names all = (each_less body names all.0, each_less other names all.1)
     inside_less (While c body) names all = each_less body names all

@@ -15,9 +15,9 @@ use Rattle.typed_tree.specs.declared.expression.VarRef.{VarRef}
 use Rattle.typed_tree.specs.declared.statement.ApplyEnds.{ApplyEnds}
 use Rattle.typed_tree.specs.declared.statement.SetValue.TheVariants as set
 use Rattle.typed_tree.specs.Access.{function_writes}
-use Rattle.typed_tree.specs.BlockTree.{ActionTree, BlockTree, Empty, Then}
+use Rattle.typed_tree.specs.BlockTree.{StatementKindTree, BlockTree, Empty, Then}
 use Rattle.typed_tree.specs.Independence.{are_same, name_at, or_empty}
-use Rattle.typed_tree.specs.IntegerTree.{IntegerTree}
+use Rattle.typed_tree.specs.IntExpressionTree.{IntExpressionTree}
 use Rattle.typed_tree.specs.ProgramTree.{ProgramTree}
 use Rattle.expression_types.specs.declared.scope.Entity.{Entity}
 use Rattle.expression_types.specs.declared.scope.Entity.TheVariants as entity
@@ -190,7 +190,7 @@ module _ (p : ProgramTree) where
     pub written : WrittenFits functions c.written
 
   -- what holds of a statement
-  abbrev pub Holds : SetNames → ActionTree → Type 0
+  abbrev pub Holds : SetNames → StatementKindTree → Type 0
   Holds names a = NamesSets p names a × AsksForWritten p a
 
   -- what is visible after statements
@@ -301,10 +301,10 @@ module _ (p : ProgramTree) where
     members_stand names at ErrorInitializer is = (tt, tt)
 
     -- a statement that declares nothing and has no block
-    abbrev Plain : SetNames → ActionTree → Type 0
+    abbrev Plain : SetNames → StatementKindTree → Type 0
     Plain names a = (SetsAreVisible p names a × AsksForWritten p a) × HoldsInside Holds names a × (names_behind a names ≡ names)
 
-    if_plain : (names : SetNames) (b : Bool) (x y : WithFaults ActionTree) → Plain names x.value → Plain names y.value → Plain names (if b then x else y).value
+    if_plain : (names : SetNames) (b : Bool) (x y : WithFaults StatementKindTree) → Plain names x.value → Plain names y.value → Plain names (if b then x else y).value
     if_plain names true x y first other = first
     if_plain names false x y first other = other
 
@@ -321,12 +321,12 @@ module _ (p : ProgramTree) where
     added_plain names at x (entity.SetVariable slot) is = ((is, tt), tt, refl)
     added_plain names at x _ is = ((tt, tt), tt, refl)
 
-    set_plain : (names : SetNames) (vector : Option ℕ) (subscript : Option IntegerTree) (e : IntegerTree) → Plain names (entry_set vector subscript e)
+    set_plain : (names : SetNames) (vector : Option ℕ) (subscript : Option IntExpressionTree) (e : IntExpressionTree) → Plain names (entry_set vector subscript e)
     set_plain names None subscript e = ((tt, tt), tt, refl)
     set_plain names (Some vector) None e = ((tt, tt), tt, refl)
     set_plain names (Some vector) (Some subscript) e = ((tt, tt), tt, refl)
 
-    entry_plain : (names : SetNames) (vector : Option ℕ) (subscript : Option IntegerTree) (by : Reduction) (e : IntegerTree) → Plain names (entry_reduced vector subscript by e)
+    entry_plain : (names : SetNames) (vector : Option ℕ) (subscript : Option IntExpressionTree) (by : Reduction) (e : IntExpressionTree) → Plain names (entry_reduced vector subscript by e)
     entry_plain names None subscript by e = ((tt, tt), tt, refl)
     entry_plain names (Some vector) None by e = ((tt, tt), tt, refl)
     entry_plain names (Some vector) (Some subscript) by e = ((tt, tt), tt, refl)
@@ -361,23 +361,23 @@ module _ (p : ProgramTree) where
         (if_plain names (is_wrong a || is_wrong b || lacks_weights t f) _ _ ((tt, tt), tt, refl) (edges_plain names at a b (names_error f) (edge_function f) from to))
         (set_applied_plain names at ends f (named_set t) (named_visible names t target)))
 
-    each_then : (names : SetNames) (so_far : BlockTree) (number : ℕ) (label : Option ℕ) (action : ActionTree) → HoldsOfEach Holds names so_far → Holds (all_behind so_far names) action
+    each_then : (names : SetNames) (so_far : BlockTree) (number : ℕ) (label : Option ℕ) (action : StatementKindTree) → HoldsOfEach Holds names so_far → Holds (all_behind so_far names) action
         → HoldsInside Holds (all_behind so_far names) action → HoldsOfEach Holds names (behind so_far number label action)
     each_then names Empty number label action all own inner = (own, inner, tt)
     each_then names (Then n l a others) number label action all own inner = (all.0, all.1, each_then (names_behind a names) others number label action all.2 own inner)
 
-    behind_then : (names : SetNames) (so_far : BlockTree) (number : ℕ) (label : Option ℕ) (action : ActionTree)
+    behind_then : (names : SetNames) (so_far : BlockTree) (number : ℕ) (label : Option ℕ) (action : StatementKindTree)
         → all_behind (behind so_far number label action) names ≡ names_behind action (all_behind so_far names)
     behind_then names Empty number label action = refl
     behind_then names (Then n l a others) number label action = behind_then (names_behind a names) others number label action
 
-    abbrev ActionFits : SetNames → ActionTree × CheckerTree → Type 0
+    abbrev ActionFits : SetNames → StatementKindTree × CheckerTree → Type 0
     ActionFits names r = Holds names r.0 × HoldsInside Holds names r.0 × MainFits functions (names_behind r.0 names) r.1
 
     abbrev pub BlockFits : SetNames → BlockTree × CheckerTree → Type 0
     BlockFits names r = HoldsOfEach Holds names r.0 × MainFits functions (all_behind r.0 names) r.1
 
-    plain_fits : (names : SetNames) (c : CheckerTree) (a : ActionTree) → MainFits functions names c → Plain names a → ActionFits names (a, c)
+    plain_fits : (names : SetNames) (c : CheckerTree) (a : StatementKindTree) → MainFits functions names c → Plain names a → ActionFits names (a, c)
     plain_fits names c a fits plain = (((fits.sets.apart, plain.0.0), plain.0.1), plain.1, subst (λ ns. MainFits functions ns c) (sym plain.2) fits)
 
     -- a name that is no set's
@@ -456,7 +456,7 @@ module _ (p : ProgramTree) where
     left_again names others c d fits inner = record { sets = fits.sets; count = fits.count; low = fits.low; written = inner.written }
 
     mutual
-      action_fits : (names : SetNames) (c : CheckerTree) (action : source.ActionTree) → (action_typed c action).faults ≡ [] → Begins (action_typed c action).value.1.names p.names → MainFits functions names c
+      action_fits : (names : SetNames) (c : CheckerTree) (action : source.StatementKindTree) → (action_typed c action).faults ≡ [] → Begins (action_typed c action).value.1.names p.names → MainFits functions names c
           → ActionFits names (action_typed c action).value
       action_fits names c (source.Declare at x initial) none begins fits =
           let initializer = initializer_of c at initial in

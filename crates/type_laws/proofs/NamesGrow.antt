@@ -9,7 +9,7 @@ use Rattle.syntax.specs.SourceTrees.{ParameterTree, InitialTree, DeclarationTree
 use Rattle.typed_tree.specs.declared.expression.Endpoint.{Endpoint}
 use Rattle.typed_tree.specs.declared.expression.Endpoint.TheVariants as endpoint
 use Rattle.typed_tree.specs.BlockTree.{BlockTree, Empty}
-use Rattle.typed_tree.specs.StepTree.{StepsTree, NoStep}
+use Rattle.typed_tree.specs.FunctionStatementTree.{FunctionStatementsTree, NoStep}
 use Rattle.expression_types.specs.declared.scope.Entity.{Entity}
 use Rattle.expression_types.specs.declared.scope.Entity.TheVariants as entity
 use Rattle.expression_types.specs.Names.{found}
@@ -51,7 +51,7 @@ declare_grow c at name initializer declared.EdgeSet k x is = get_before c.names 
 declare_grow c at name initializer declared.WeightedEdgeSet k x is = get_before c.names (name.bytes ∷ []) k x is
 
 mutual
-  pub action_grow : (c : CheckerTree) (action : source.ActionTree) → Grow c (action_typed c action).value.1
+  pub action_grow : (c : CheckerTree) (action : source.StatementKindTree) → Grow c (action_typed c action).value.1
   action_grow c (source.Declare at v initial) k x is = declare_grow c at v.name (initializer_of c at initial).value v.declared k x is
   action_grow c (source.While at test body) k x is = statements_grow c Empty body k x is
   action_grow c (source.For at name first limit body) k x is =
@@ -85,7 +85,7 @@ declare_step_grow c at name initializer declared.EdgeSet k x is = get_before c.n
 declare_step_grow c at name initializer declared.WeightedEdgeSet k x is = get_before c.names (name.bytes ∷ []) k x is
 
 mutual
-  step_grow : (c : CheckerTree) (action : source.ActionTree) → Grow c (step_typed c action).value.1
+  step_grow : (c : CheckerTree) (action : source.StatementKindTree) → Grow c (step_typed c action).value.1
   step_grow c (source.Declare at v initial) k x is = declare_step_grow c at v.name (initializer_of c at initial).value v.declared k x is
   step_grow c (source.While at test body) k x is = steps_grow c NoStep body k x is
   step_grow c (source.For at name first limit body) k x is =
@@ -101,7 +101,7 @@ mutual
   step_grow c (source.AddVertex set e) k x is = is
   step_grow c (source.Apply target ends function) k x is = is
 
-  pub steps_grow : (c : CheckerTree) (so_far : StepsTree) (block : source.BlockTree) → Grow c (steps_typed c so_far block).value.1
+  pub steps_grow : (c : CheckerTree) (so_far : FunctionStatementsTree) (block : source.BlockTree) → Grow c (steps_typed c so_far block).value.1
   steps_grow c so_far source.Empty k x is = is
   steps_grow c so_far (source.Then label action others) k x is =
       let l = (labelled c label).value in

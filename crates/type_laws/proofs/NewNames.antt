@@ -14,7 +14,7 @@ use Rattle.syntax.specs.SourceTrees.{ParameterTree, InitialTree, DeclarationTree
 use Rattle.typed_tree.specs.declared.expression.Endpoint.{Endpoint}
 use Rattle.typed_tree.specs.declared.expression.Endpoint.TheVariants as endpoint
 use Rattle.typed_tree.specs.BlockTree.{BlockTree, Empty}
-use Rattle.typed_tree.specs.StepTree.{StepsTree, NoStep}
+use Rattle.typed_tree.specs.FunctionStatementTree.{FunctionStatementsTree, NoStep}
 use Rattle.expression_types.specs.declared.scope.Entity.{Entity}
 use Rattle.expression_types.specs.declared.scope.Entity.TheVariants as entity
 use Rattle.expression_types.specs.Names.{found}
@@ -80,7 +80,7 @@ declare_step_new c at name initializer declared.EdgeSet none = absurd (not_empty
 declare_step_new c at name initializer declared.WeightedEdgeSet none = absurd (not_empty _ _ none)
 
 mutual
-  pub step_new : (c : CheckerTree) (action : source.ActionTree) → (step_typed c action).faults ≡ []
+  pub step_new : (c : CheckerTree) (action : source.StatementKindTree) → (step_typed c action).faults ≡ []
       → ActionDeclaresNew (names c) action × (names (step_typed c action).value.1 ≡ names_behind (names c) action)
   step_new c (source.Declare at x initial) none =
       let initializer = initializer_of c at initial in declare_step_new c at x.name initializer.value x.declared (no_right initializer.faults _ none)
@@ -108,7 +108,7 @@ mutual
   step_new c (source.AddVertex set e) none = (tt, refl)
   step_new c (source.Apply target ends function) none = (tt, refl)
 
-  steps_new : (c : CheckerTree) (so_far : StepsTree) (block : source.BlockTree) → (steps_typed c so_far block).faults ≡ [] → BlockDeclaresNew (names c) block
+  steps_new : (c : CheckerTree) (so_far : FunctionStatementsTree) (block : source.BlockTree) → (steps_typed c so_far block).faults ≡ [] → BlockDeclaresNew (names c) block
   steps_new c so_far source.Empty none = tt
   steps_new c so_far (source.Then label action others) none =
       let l = labelled c label in
@@ -138,7 +138,7 @@ declare_new c at name initializer declared.EdgeSet none = absurd (not_empty _ _ 
 declare_new c at name initializer declared.WeightedEdgeSet none = absurd (not_empty _ _ none)
 
 mutual
-  pub action_new : (c : CheckerTree) (action : source.ActionTree) → (action_typed c action).faults ≡ []
+  pub action_new : (c : CheckerTree) (action : source.StatementKindTree) → (action_typed c action).faults ≡ []
       → ActionDeclaresNew (names c) action × (names (action_typed c action).value.1 ≡ names_behind (names c) action)
   action_new c (source.Declare at x initial) none =
       let initializer = initializer_of c at initial in declare_new c at x.name initializer.value x.declared (no_right initializer.faults _ none)
@@ -247,7 +247,7 @@ constant_new d at name initial declared.WeightedEdgeSet initializer none =
     name_new d name (entity.Edges true)
     (no_left (declare_name d name (entity.Edges true)).faults [] (no_right only.faults ((declare_name d name (entity.Edges true)).faults ++ []) (no_right (loads at initializer).faults _ none)))
 
-function_new : (d : DeclaredTree) (kind : FunctionKindTree) (name : Identifier) (steps : StepsTree) → (function_declared d kind name steps).faults ≡ []
+function_new : (d : DeclaredTree) (kind : FunctionKindTree) (name : Identifier) (steps : FunctionStatementsTree) → (function_declared d kind name steps).faults ≡ []
     → New d name (function_declared d kind name steps).value
 function_new d (MainKind fits) name steps none = name_new d name entity.Error none
 function_new d (EdgeKind weighted) name steps none =

@@ -8,8 +8,8 @@ use Rattle.apply_options.specs.declared.reduction.Reduction.{Reduction}
 use Rattle.syntax.specs.SourceTrees as source
 use Rattle.syntax.specs.SourceTrees.{ParameterTree, InitialTree, DeclarationTree, SourceTree}
 use Rattle.typed_tree.specs.declared.expression.VarRef.{VarRef}
-use Rattle.typed_tree.specs.IntegerTree.{IntegerTree}
-use Rattle.typed_tree.specs.BlockTree.{ActionTree, BlockTree, Empty, Then}
+use Rattle.typed_tree.specs.IntExpressionTree.{IntExpressionTree}
+use Rattle.typed_tree.specs.BlockTree.{StatementKindTree, BlockTree, Empty, Then}
 use Rattle.expression_types.specs.declared.scope.Entity.{Entity}
 use Rattle.expression_types.specs.declared.scope.Entity.TheVariants as entity
 use Rattle.expression_types.specs.Expression.{used, value_of, vector_index}
@@ -55,7 +55,7 @@ one_number a c xs rest =
     let k : c ≡ length xs + suc a = rest.count in
     record { ordered = (refl, rest.ordered); count = omega (arith, k) }
 
-numbers_behind : (so_far : BlockTree) (number : ℕ) (label : Option ℕ) (action : ActionTree)
+numbers_behind : (so_far : BlockTree) (number : ℕ) (label : Option ℕ) (action : StatementKindTree)
     → numbers (behind so_far number label action) ≡ numbers so_far ++ (number ∷ (inner_numbers action ++ []))
 numbers_behind Empty number label action = refl
 numbers_behind (Then n l a others) number label action =
@@ -63,10 +63,10 @@ numbers_behind (Then n l a others) number label action =
     ∙ ap (λ ns. n ∷ ns) (sym (append_assoc (inner_numbers a) (numbers others) (number ∷ (inner_numbers action ++ []))))
 
 -- no statement is in it
-abbrev Plain : ActionTree → Type 0
+abbrev Plain : StatementKindTree → Type 0
 Plain a = inner_numbers a ≡ []
 
-if_plain : (b : Bool) (x y : WithFaults ActionTree) → Plain x.value → Plain y.value → Plain (if b then x else y).value
+if_plain : (b : Bool) (x y : WithFaults StatementKindTree) → Plain x.value → Plain y.value → Plain (if b then x else y).value
 if_plain true x y first second = first
 if_plain false x y first second = second
 
@@ -82,12 +82,12 @@ added_plain : (at : ℕ) (v : ValueTree) (e : Entity) → Plain (added at v e).v
 added_plain at v (entity.Edges weights) = refl
 added_plain at v _ = refl
 
-set_plain : (vector : Option ℕ) (index : Option IntegerTree) (e : IntegerTree) → Plain (entry_set vector index e)
+set_plain : (vector : Option ℕ) (index : Option IntExpressionTree) (e : IntExpressionTree) → Plain (entry_set vector index e)
 set_plain None index e = refl
 set_plain (Some vector) None e = refl
 set_plain (Some vector) (Some index) e = refl
 
-entry_plain : (vector : Option ℕ) (index : Option IntegerTree) (by : Reduction) (e : IntegerTree) → Plain (entry_reduced vector index by e)
+entry_plain : (vector : Option ℕ) (index : Option IntExpressionTree) (by : Reduction) (e : IntExpressionTree) → Plain (entry_reduced vector index by e)
 entry_plain None index by e = refl
 entry_plain (Some vector) None by e = refl
 entry_plain (Some vector) (Some index) by e = refl
@@ -120,13 +120,13 @@ applied_plain at t a b ends f =
     (set_applied_plain at ends f (named_set t)))
 
 -- what a statement is, and the checker after it
-abbrev ActionCounts : ℕ → ActionTree × CheckerTree → Type 0
+abbrev ActionCounts : ℕ → StatementKindTree × CheckerTree → Type 0
 ActionCounts n r = Counts n (inner_numbers r.0) r.1.statements
 
 abbrev BlockCounts : ℕ → BlockTree × CheckerTree → Type 0
 BlockCounts n b = Counts n (numbers b.0) b.1.statements
 
-plain_counts : (n : ℕ) (a : ActionTree) → Plain a → Counts n (inner_numbers a) n
+plain_counts : (n : ℕ) (a : StatementKindTree) → Plain a → Counts n (inner_numbers a) n
 plain_counts n a plain = subst (λ ns. Counts n ns n) (sym plain) (no_numbers n)
 
 new_label_same : (c : CheckerTree) (label : Identifier) (index : Option ℕ) → (new_label c label index).value.1.statements ≡ c.statements
@@ -147,7 +147,7 @@ declare_counts c at name initializer declared.EdgeSet = no_numbers c.statements
 declare_counts c at name initializer declared.WeightedEdgeSet = no_numbers c.statements
 
 mutual
-  action_counts : (c : CheckerTree) (action : source.ActionTree) → ActionCounts c.statements (action_typed c action).value
+  action_counts : (c : CheckerTree) (action : source.StatementKindTree) → ActionCounts c.statements (action_typed c action).value
   action_counts c (source.Declare at p initial) = declare_counts c at p.name (initializer_of c at initial).value p.declared
   action_counts c (source.While at test body) = statements_count c.statements c Empty body (no_numbers c.statements)
   action_counts c (source.For at name first limit body) =

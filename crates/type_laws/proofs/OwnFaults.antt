@@ -12,8 +12,8 @@ use Rattle.typed_tree.specs.declared.expression.Endpoint.{Endpoint}
 use Rattle.typed_tree.specs.declared.expression.VarRef.{VarRef}
 use Rattle.typed_tree.specs.declared.program.InitialValue.{InitialValue}
 use Rattle.typed_tree.specs.declared.program.InitialValue.TheVariants as beginning
-use Rattle.typed_tree.specs.BlockTree.{ActionTree, BlockTree}
-use Rattle.typed_tree.specs.IntegerTree.{IntegerTree}
+use Rattle.typed_tree.specs.BlockTree.{StatementKindTree, BlockTree}
+use Rattle.typed_tree.specs.IntExpressionTree.{IntExpressionTree}
 use Rattle.expression_types.specs.declared.fault.Fault.{Fault}
 use Rattle.expression_types.specs.declared.fault.TypeRule.{TypeRule}
 use Rattle.expression_types.specs.declared.fault.TypeRule.TheVariants as rule
@@ -69,7 +69,7 @@ as_members_own at (Vertex p) = refl
 as_members_own at (Set slot) = refl
 as_members_own at ErrorValue = refl
 
-unread_own : (at : ℕ) (e : IntegerTree) (reads : Bool) → (if reads then fault_at at rule.WrongIndex None else sure (Some e)).faults ≡ fault_if at rule.WrongIndex reads
+unread_own : (at : ℕ) (e : IntExpressionTree) (reads : Bool) → (if reads then fault_at at rule.WrongIndex None else sure (Some e)).faults ≡ fault_if at rule.WrongIndex reads
 unread_own at e true = refl
 unread_own at e false = refl
 
@@ -215,7 +215,7 @@ as_vector_own at entity.Error = refl
 as_vector_own at _ = refl
 
 -- applies
-edges_some : (x y : ActionTree) (at : ℕ) (faulty error : Bool) → (if faulty then sure x else sure y).faults ≡ fault_if at rule.WrongType (not (error || true))
+edges_some : (x y : StatementKindTree) (at : ℕ) (faulty error : Bool) → (if faulty then sure x else sure y).faults ≡ fault_if at rule.WrongType (not (error || true))
 edges_some x y at true true = refl
 edges_some x y at true false = refl
 edges_some x y at false true = refl
@@ -232,7 +232,7 @@ vertices_own at slot false None = refl
 vertices_own at slot true (Some function) = refl
 vertices_own at slot false (Some function) = refl
 
-set_if : (at : ℕ) (has fits : Bool) (m : WithFaults ActionTree) → m.faults ≡ fault_if at rule.WrongType (not fits)
+set_if : (at : ℕ) (has fits : Bool) (m : WithFaults StatementKindTree) → m.faults ≡ fault_if at rule.WrongType (not fits)
     → (if has then fault_at at rule.WrongType no_action else m).faults ≡ fault_if at rule.WrongType (not (not has && fits))
 set_if at true fits m is = refl
 set_if at false fits m is = is
@@ -243,7 +243,7 @@ set_own at has f None = refl
 set_own at has f (Some slot) =
     set_if at has (names_error f || is_some (vertex_function f)) (vertices_applied at slot (names_error f) (vertex_function f)) (vertices_own at slot (names_error f) (vertex_function f))
 
-applied_if : (at : ℕ) (faulty edges wrong fits set_fits : Bool) (m n : WithFaults ActionTree) → m.faults ≡ fault_if at rule.WrongType (not fits) → n.faults ≡ fault_if at rule.WrongType (not set_fits)
+applied_if : (at : ℕ) (faulty edges wrong fits set_fits : Bool) (m n : WithFaults StatementKindTree) → m.faults ≡ fault_if at rule.WrongType (not fits) → n.faults ≡ fault_if at rule.WrongType (not set_fits)
     → (if faulty then sure no_action else (if edges then (if wrong then fault_at at rule.WrongType no_action else m) else n)).faults
     ≡ fault_if at rule.WrongType (not (faulty || (if edges then not wrong && fits else set_fits)))
 applied_if at true edges wrong fits set_fits m n one other = refl

@@ -5,13 +5,13 @@ use Rattle.std.specs.List.{Contains}
 use Rattle.std.proofs.lemmas.List.{append-nil, append_assoc}
 use Rattle.syntax.specs.Terminals.{Identifier}
 use Rattle.syntax.specs.SourceTrees as source
-use Rattle.syntax.specs.SourceTrees.{ActionTree, BlockTree, DeclarationTree, EndsTree, InitialTree, ParameterTree, SourceTree}
+use Rattle.syntax.specs.SourceTrees.{StatementKindTree, BlockTree, DeclarationTree, EndsTree, InitialTree, ParameterTree, SourceTree}
 use Rattle.syntax.specs.declared.declaration.DeclaredType.{DeclaredType}
 use Rattle.syntax.specs.declared.declaration.DeclaredType.TheVariants as declared_type
 use Rattle.typed_tree.specs.declared.expression.Endpoint.{Endpoint}
 use Rattle.typed_tree.specs.declared.expression.Endpoint.TheVariants as endpoint
 use Rattle.typed_tree.specs.BlockTree as block
-use Rattle.typed_tree.specs.StepTree as step
+use Rattle.typed_tree.specs.FunctionStatementTree as step
 use Rattle.expression_types.specs.declared.fault.Fault.{Fault}
 use Rattle.expression_types.specs.declared.fault.TypeRule.{TypeRule}
 use Rattle.expression_types.specs.declared.fault.TypeRule.TheVariants as rule
@@ -152,7 +152,7 @@ for_parts c name e first limit body = ap (λ fs. first ++ (limit ++ (fs ++ (body
 entry_parts_are : (vector index mine value : List Fault) → vector ++ (index ++ (mine ++ (value ++ []))) ≡ vector ++ ((index ++ mine) ++ (value ++ []))
 entry_parts_are vector index mine value = ap (λ fs. vector ++ fs) (sym (append_assoc index mine (value ++ [])))
 
-main_statement_splits : (c : CheckerTree) (action : ActionTree)
+main_statement_splits : (c : CheckerTree) (action : StatementKindTree)
     → Splits (faults (MainStatement c action)) (faults_of_parts (parts_of (MainStatement c action))) (broken (MainStatement c action) all_rules)
 main_statement_splits c (source.Declare at p initial) =
     let x = initializer_of c at initial in after x.faults _ (faults (NewName c.scope p.name) ++ []) _ (declare_splits c at p.name x.value p.declared)
@@ -198,7 +198,7 @@ main_statement_splits c (source.Apply target sides function) =
     (end_splits c.scope target.at sides.from (name_before sides.to forms) _ _ (end_splits c.scope target.at sides.to forms _ _
     (value_splits f.faults _ _ (applied_own target.at t.value (end_of c.scope sides.from).value (end_of c.scope sides.to).value (has_ends sides) f.value)))))
 
-function_statement_splits : (c : CheckerTree) (action : ActionTree)
+function_statement_splits : (c : CheckerTree) (action : StatementKindTree)
     → Splits (faults (FunctionStatement c action)) (faults_of_parts (parts_of (FunctionStatement c action))) (broken (FunctionStatement c action) all_rules)
 function_statement_splits c (source.Declare at p initial) =
     let x = initializer_of c at initial in after x.faults _ (faults (NewName c.scope p.name) ++ []) _ (declare_step_splits c at p.name x.value p.declared)
@@ -249,7 +249,7 @@ mutual
       let a = action_typed (counted l.value.1) action in
       ap (λ fs. l.faults ++ (a.faults ++ fs)) (statements_same a.value.1 (behind s (suc l.value.1.statements) l.value.0 a.value.0) (behind t (suc l.value.1.statements) l.value.0 a.value.0) others)
 
-  steps_same : (c : CheckerTree) (s t : step.StepsTree) (statements : BlockTree) → (steps_typed c s statements).faults ≡ (steps_typed c t statements).faults
+  steps_same : (c : CheckerTree) (s t : step.FunctionStatementsTree) (statements : BlockTree) → (steps_typed c s statements).faults ≡ (steps_typed c t statements).faults
   steps_same c s t source.Empty = refl
   steps_same c s t (source.Then label action others) =
       let l = labelled c label in

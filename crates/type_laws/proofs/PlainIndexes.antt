@@ -13,7 +13,7 @@ use Rattle.typed_tree.specs.declared.expression.ComparisonOperator.TheVariants a
 use Rattle.typed_tree.specs.declared.expression.Connective.{Connective}
 use Rattle.typed_tree.specs.declared.expression.Connective.TheVariants as connective
 use Rattle.typed_tree.specs.declared.expression.Operator.{Operator}
-use Rattle.typed_tree.specs.IntegerTree.{IntegerTree, Entry}
+use Rattle.typed_tree.specs.IntExpressionTree.{IntExpressionTree, Entry}
 use Rattle.expression_types.specs.declared.fault.TypeRule.{TypeRule}
 use Rattle.expression_types.specs.declared.fault.TypeRule.TheVariants as rule
 use Rattle.expression_types.specs.declared.scope.Inside.{Inside}
@@ -153,7 +153,7 @@ value_signed_plain prefix.Not ErrorValue plain = plain
 true_is_not_false : true ≡ false → ⊥
 true_is_not_false is = false_is_not_true (sym is)
 
-index_not_plain : (b : Bool) (at vector : ℕ) (e : IntegerTree) → IsPlain (if b then fault_at at rule.WrongIndex ErrorValue else sure (Integer (Entry vector e))).value → ⊥
+index_not_plain : (b : Bool) (at vector : ℕ) (e : IntExpressionTree) → IsPlain (if b then fault_at at rule.WrongIndex ErrorValue else sure (Integer (Entry vector e))).value → ⊥
 index_not_plain true at vector e plain = plain
 index_not_plain false at vector e plain = true_is_not_false plain
 

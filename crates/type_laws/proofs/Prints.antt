@@ -4,7 +4,7 @@ use Rattle.std.specs.List.{AllByRecursion}
 use Rattle.syntax.specs.Terminals.{Identifier}
 use Rattle.syntax.specs.SourceTrees as source
 use Rattle.syntax.specs.SourceTrees.{ParameterTree, DeclarationTree, SourceTree}
-use Rattle.typed_tree.specs.StepTree.{StepsTree, NoStep}
+use Rattle.typed_tree.specs.FunctionStatementTree.{FunctionStatementsTree, NoStep}
 use Rattle.types.specs.Checker.{CheckerTree, labelled}
 use Rattle.types.specs.Declaration.{DeclaredTree, FunctionKindTree, declaration_typed, declarations_typed, kind_fits, kind_of, opened, steps_declared}
 use Rattle.type_laws.specs.Prints.{ActionPrintsNothing, BlockPrintsNothing, PrintsInMainAlone}
@@ -15,7 +15,7 @@ use Rattle.type_laws.proofs.EachDeclaration.{each_declaration, user_declared}
 use Rattle.type_laws.proofs.Faultless.{no_left, no_right, not_empty}
 
 mutual
-  step_prints_nothing : (c : CheckerTree) (action : source.ActionTree) → (step_typed c action).faults ≡ [] → ActionPrintsNothing action
+  step_prints_nothing : (c : CheckerTree) (action : source.StatementKindTree) → (step_typed c action).faults ≡ [] → ActionPrintsNothing action
   step_prints_nothing c (source.Declare at x initial) none = tt
   step_prints_nothing c (source.While at test body) none = absurd (not_empty _ _ none)
   step_prints_nothing c (source.For at name first limit body) none = absurd (not_empty _ _ none)
@@ -38,7 +38,7 @@ mutual
   step_prints_nothing c (source.AddVertex set e) none = tt
   step_prints_nothing c (source.Apply target ends function) none = tt
 
-  steps_print_nothing : (c : CheckerTree) (so_far : StepsTree) (block : source.BlockTree) → (steps_typed c so_far block).faults ≡ [] → BlockPrintsNothing block
+  steps_print_nothing : (c : CheckerTree) (so_far : FunctionStatementsTree) (block : source.BlockTree) → (steps_typed c so_far block).faults ≡ [] → BlockPrintsNothing block
   steps_print_nothing c so_far source.Empty none = tt
   steps_print_nothing c so_far (source.Then label action others) none =
       let l = labelled c label in

@@ -12,7 +12,7 @@ use Rattle.typed_tree.specs.declared.expression.Endpoint.{Endpoint}
 use Rattle.typed_tree.specs.declared.expression.Endpoint.TheVariants as endpoint
 use Rattle.typed_tree.specs.declared.program.Vector.{Vector}
 use Rattle.typed_tree.specs.BlockTree.{BlockTree, Empty}
-use Rattle.typed_tree.specs.StepTree.{StepsTree, NoStep}
+use Rattle.typed_tree.specs.FunctionStatementTree.{FunctionStatementsTree, NoStep}
 use Rattle.typed_tree.specs.ProgramTree.{ProgramTree}
 use Rattle.typed_tree.specs.Resolved.{VisibleTree, BlockIsResolved, EdgeFunctionIsResolved, EdgesAreResolved, FilterIsResolved, IsName, IsResolved, IsVertex, StepsAreResolved, VectorIsResolved, VertexFunctionIsResolved, in_edge_function, in_filter, in_main, in_vertex_function}
 use Rattle.expression_types.specs.declared.scope.Entity.{Entity}
@@ -342,7 +342,7 @@ constant_fits p d at name initial declared.WeightedEdgeSet initializer none with
     )
 
 -- what the statements of a function of each kind have to be
-abbrev StepsFitKind : ProgramTree → FunctionKindTree → StepsTree → Type 0
+abbrev StepsFitKind : ProgramTree → FunctionKindTree → FunctionStatementsTree → Type 0
 StepsFitKind p (MainKind fits) steps = Unit {0}
 StepsFitKind p (EdgeKind weighted) steps = StepsAreResolved p (in_edge_function p) steps
 StepsFitKind p VertexKind steps = StepsAreResolved p (in_vertex_function p) steps
@@ -350,7 +350,7 @@ StepsFitKind p FilterKind steps = (result : ℕ) × IsName p result × StepsAreR
 StepsFitKind p NoKind steps = Unit {0}
 
 -- functions, after their statements
-function_before : (p : ProgramTree) (d : DeclaredTree) (kind : FunctionKindTree) (name : Identifier) (steps : StepsTree)
+function_before : (p : ProgramTree) (d : DeclaredTree) (kind : FunctionKindTree) (name : Identifier) (steps : FunctionStatementsTree)
     → WithinProgram p (function_declared d kind name steps).value → WithinProgram p d
 function_before p d (MainKind fits) name steps within =
     (declared_before p d.checker name entity.Error within.0, within.1, within.2, within.3, within.4, within.5)
@@ -381,7 +381,7 @@ function_before p d FilterKind name steps within = (
 function_before p d NoKind name steps within =
     (declared_before p d.checker name entity.Error within.0, within.1, within.2, within.3, within.4, within.5)
 
-function_fits : (p : ProgramTree) (d : DeclaredTree) (kind : FunctionKindTree) (name : Identifier) (steps : StepsTree) → (function_declared d kind name steps).faults ≡ []
+function_fits : (p : ProgramTree) (d : DeclaredTree) (kind : FunctionKindTree) (name : Identifier) (steps : FunctionStatementsTree) → (function_declared d kind name steps).faults ≡ []
     → WithinProgram p (function_declared d kind name steps).value → DeclaredFits p d → StepsFitKind p kind steps
     → DeclaredFits p (function_declared d kind name steps).value
 function_fits p d (MainKind fits) name steps none within all resolved =

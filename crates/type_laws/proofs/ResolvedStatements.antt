@@ -7,8 +7,8 @@ use Rattle.syntax.specs.declared.declaration.DeclaredType.TheVariants as declare
 use Rattle.apply_options.specs.declared.reduction.Reduction.{Reduction}
 use Rattle.syntax.specs.SourceTrees as source
 use Rattle.typed_tree.specs.declared.expression.VarRef.{VarRef}
-use Rattle.typed_tree.specs.IntegerTree.{IntegerTree}
-use Rattle.typed_tree.specs.BlockTree.{ActionTree, BlockTree, Empty, Then}
+use Rattle.typed_tree.specs.IntExpressionTree.{IntExpressionTree}
+use Rattle.typed_tree.specs.BlockTree.{StatementKindTree, BlockTree, Empty, Then}
 use Rattle.typed_tree.specs.ProgramTree.{ProgramTree}
 use Rattle.typed_tree.specs.Resolved.{VisibleTree, ActionIsResolved, BlockIsResolved, IntegerIsResolved, IsEdgeFunction, IsLabel, IsSet, IsVector, IsVertexFunction, behind_action, in_loop, with_set}
 use Rattle.expression_types.specs.declared.scope.Entity.{Entity}
@@ -74,7 +74,7 @@ declare_before p c at name initializer declared.EdgeSet within = declared_before
 declare_before p c at name initializer declared.WeightedEdgeSet within = declared_before p c name entity.Error within
 
 mutual
-  action_before : (p : ProgramTree) (c : CheckerTree) (action : source.ActionTree) → Within p (action_typed c action).value.1 → Within p c
+  action_before : (p : ProgramTree) (c : CheckerTree) (action : source.StatementKindTree) → Within p (action_typed c action).value.1 → Within p c
   action_before p c (source.Declare at v initial) within = declare_before p c at v.name (initializer_of c at initial).value v.declared within
   action_before p c (source.While at test body) within = statements_before p c Empty body within
   action_before p c (source.For at name first limit body) within =
@@ -105,22 +105,22 @@ abbrev pub behind_block : BlockTree → VisibleTree → VisibleTree
 behind_block Empty v = v
 behind_block (Then number label action others) v = behind_block others (behind_action action v)
 
-block_then : (p : ProgramTree) (v : VisibleTree) (so_far : BlockTree) (number : ℕ) (label : Option ℕ) (action : ActionTree) → BlockIsResolved p v so_far → IsLabel p label
+block_then : (p : ProgramTree) (v : VisibleTree) (so_far : BlockTree) (number : ℕ) (label : Option ℕ) (action : StatementKindTree) → BlockIsResolved p v so_far → IsLabel p label
     → ActionIsResolved p (behind_block so_far v) action → BlockIsResolved p v (behind so_far number label action)
 block_then p v Empty number label action resolved there last = (there, last, tt)
 block_then p v (Then n l a others) number label action resolved there last =
     (resolved.0, resolved.1, block_then p (behind_action a v) others number label action resolved.2 there last)
 
-behind_then : (v : VisibleTree) (so_far : BlockTree) (number : ℕ) (label : Option ℕ) (action : ActionTree)
+behind_then : (v : VisibleTree) (so_far : BlockTree) (number : ℕ) (label : Option ℕ) (action : StatementKindTree)
     → behind_block (behind so_far number label action) v ≡ behind_action action (behind_block so_far v)
 behind_then v Empty number label action = refl
 behind_then v (Then n l a others) number label action = behind_then (behind_action a v) others number label action
 
 -- a statement that declares nothing
-abbrev PlainAction : ProgramTree → VisibleTree → ActionTree → Type 0
+abbrev PlainAction : ProgramTree → VisibleTree → StatementKindTree → Type 0
 PlainAction p v action = ActionIsResolved p v action × (behind_action action v ≡ v)
 
-if_plain : (p : ProgramTree) (v : VisibleTree) (b : Bool) (x y : WithFaults ActionTree) → PlainAction p v x.value → PlainAction p v y.value
+if_plain : (p : ProgramTree) (v : VisibleTree) (b : Bool) (x y : WithFaults StatementKindTree) → PlainAction p v x.value → PlainAction p v y.value
     → PlainAction p v (if b then x else y).value
 if_plain p v true x y first other = first
 if_plain p v false x y first other = other
@@ -142,13 +142,13 @@ added_plain : (p : ProgramTree) (v : VisibleTree) (at : ℕ) (x : ValueTree) (e 
 added_plain p v at x (entity.SetVariable slot) value is = ((is, as_integer_resolved p v at x value), refl)
 added_plain p v at x _ value is = (tt, refl)
 
-set_plain : (p : ProgramTree) (v : VisibleTree) (vector : Option ℕ) (index : Option IntegerTree) (e : IntegerTree) → MaybeVariable (IsVector p) vector → MaybeIndex p v index
+set_plain : (p : ProgramTree) (v : VisibleTree) (vector : Option ℕ) (index : Option IntExpressionTree) (e : IntExpressionTree) → MaybeVariable (IsVector p) vector → MaybeIndex p v index
     → IntegerIsResolved p v e → PlainAction p v (entry_set vector index e)
 set_plain p v None index e is at value = (tt, refl)
 set_plain p v (Some vector) None e is at value = (tt, refl)
 set_plain p v (Some vector) (Some index) e is at value = ((is, at, value), refl)
 
-entry_plain : (p : ProgramTree) (v : VisibleTree) (vector : Option ℕ) (index : Option IntegerTree) (by : Reduction) (e : IntegerTree) → MaybeVariable (IsVector p) vector
+entry_plain : (p : ProgramTree) (v : VisibleTree) (vector : Option ℕ) (index : Option IntExpressionTree) (by : Reduction) (e : IntExpressionTree) → MaybeVariable (IsVector p) vector
     → MaybeIndex p v index → IntegerIsResolved p v e → PlainAction p v (entry_reduced vector index by e)
 entry_plain p v None index by e is at value = (tt, refl)
 entry_plain p v (Some vector) None by e is at value = (tt, refl)
@@ -188,13 +188,13 @@ applied_plain p v at t a b ends f target from to is =
     (set_applied_plain p v at ends f (named_set t) is (named_set_resolved p v t target)))
 
 -- a statement, and what is known after it
-abbrev ActionFits : ProgramTree → VisibleTree → ActionTree × CheckerTree → Type 0
+abbrev ActionFits : ProgramTree → VisibleTree → StatementKindTree × CheckerTree → Type 0
 ActionFits p v r = ActionIsResolved p v r.0 × CheckerFits p (behind_action r.0 v) r.1
 
 abbrev pub BlockFits : ProgramTree → VisibleTree → BlockTree × CheckerTree → Type 0
 BlockFits p v r = BlockIsResolved p v r.0 × CheckerFits p (behind_block r.0 v) r.1
 
-plain_fits : (p : ProgramTree) (v : VisibleTree) (c : CheckerTree) (action : ActionTree) → CheckerFits p v c → PlainAction p v action → ActionFits p v (action, c)
+plain_fits : (p : ProgramTree) (v : VisibleTree) (c : CheckerTree) (action : StatementKindTree) → CheckerFits p v c → PlainAction p v action → ActionFits p v (action, c)
 plain_fits p v c action fits plain = (plain.0, subst (λ w. CheckerFits p w c) (sym plain.1) fits)
 
 declare_fits : (p : ProgramTree) (v : VisibleTree) (c : CheckerTree) (at : ℕ) (name : Identifier) (initializer : InitializerTree) (type : DeclaredType)
@@ -218,7 +218,7 @@ declare_fits p v c at name initializer declared.EdgeSet none within fits value =
 declare_fits p v c at name initializer declared.WeightedEdgeSet none within fits value = absurd (not_empty _ _ none)
 
 mutual
-  action_fits : (p : ProgramTree) (v : VisibleTree) (c : CheckerTree) (action : source.ActionTree) → (action_typed c action).faults ≡ [] → Within p (action_typed c action).value.1
+  action_fits : (p : ProgramTree) (v : VisibleTree) (c : CheckerTree) (action : source.StatementKindTree) → (action_typed c action).faults ≡ [] → Within p (action_typed c action).value.1
       → CheckerFits p v c → ActionFits p v (action_typed c action).value
   action_fits p v c (source.Declare at x initial) none within fits =
       let initializer = initializer_of c at initial in

@@ -6,8 +6,8 @@ use Rattle.syntax.specs.declared.declaration.DeclaredType.{DeclaredType}
 use Rattle.syntax.specs.declared.declaration.DeclaredType.TheVariants as declared
 use Rattle.apply_options.specs.declared.reduction.Reduction.{Reduction}
 use Rattle.syntax.specs.SourceTrees as source
-use Rattle.typed_tree.specs.IntegerTree.{IntegerTree}
-use Rattle.typed_tree.specs.StepTree.{StepTree, StepsTree, NoStep, StepThen}
+use Rattle.typed_tree.specs.IntExpressionTree.{IntExpressionTree}
+use Rattle.typed_tree.specs.FunctionStatementTree.{FunctionStatementTree, FunctionStatementsTree, NoStep, StepThen}
 use Rattle.typed_tree.specs.ProgramTree.{ProgramTree}
 use Rattle.typed_tree.specs.Resolved.{VisibleTree, IntegerIsResolved, IsVector, StepIsResolved, StepsAreResolved, behind_step, with_condition, with_integer}
 use Rattle.expression_types.specs.declared.scope.Entity.{Entity}
@@ -68,7 +68,7 @@ declare_before p c at name initializer declared.EdgeSet within = declared_before
 declare_before p c at name initializer declared.WeightedEdgeSet within = declared_before p c name entity.Error within
 
 mutual
-  step_before : (p : ProgramTree) (c : CheckerTree) (action : source.ActionTree) → Within p (step_typed c action).value.1 → Within p c
+  step_before : (p : ProgramTree) (c : CheckerTree) (action : source.StatementKindTree) → Within p (step_typed c action).value.1 → Within p c
   step_before p c (source.Declare at v initial) within = declare_before p c at v.name (initializer_of c at initial).value v.declared within
   step_before p c (source.While at test body) within = steps_before p c NoStep body within
   step_before p c (source.For at name first limit body) within =
@@ -86,7 +86,7 @@ mutual
   step_before p c (source.AddVertex set e) within = within
   step_before p c (source.Apply target ends function) within = within
 
-  pub steps_before : (p : ProgramTree) (c : CheckerTree) (so_far : StepsTree) (block : source.BlockTree) → Within p (steps_typed c so_far block).value.1 → Within p c
+  pub steps_before : (p : ProgramTree) (c : CheckerTree) (so_far : FunctionStatementsTree) (block : source.BlockTree) → Within p (steps_typed c so_far block).value.1 → Within p c
   steps_before p c so_far source.Empty within = within
   steps_before p c so_far (source.Then label action others) within =
       let l = (labelled c label).value in
@@ -94,21 +94,21 @@ mutual
       labelled_before p c label (step_before p l.1 action (steps_before p s.1 (step_behind so_far s.0) others within))
 
 -- what is visible after statements
-abbrev pub behind_steps : StepsTree → VisibleTree → VisibleTree
+abbrev pub behind_steps : FunctionStatementsTree → VisibleTree → VisibleTree
 behind_steps NoStep v = v
 behind_steps (StepThen step others) v = behind_steps others (behind_step step v)
 
-steps_then : (p : ProgramTree) (v : VisibleTree) (so_far : StepsTree) (step : StepTree) → StepsAreResolved p v so_far → StepIsResolved p (behind_steps so_far v) step
+steps_then : (p : ProgramTree) (v : VisibleTree) (so_far : FunctionStatementsTree) (step : FunctionStatementTree) → StepsAreResolved p v so_far → StepIsResolved p (behind_steps so_far v) step
     → StepsAreResolved p v (step_behind so_far step)
 steps_then p v NoStep step resolved last = (last, tt)
 steps_then p v (StepThen s others) step resolved last = (resolved.0, steps_then p (behind_step s v) others step resolved.1 last)
 
-behind_then : (v : VisibleTree) (so_far : StepsTree) (step : StepTree) → behind_steps (step_behind so_far step) v ≡ behind_step step (behind_steps so_far v)
+behind_then : (v : VisibleTree) (so_far : FunctionStatementsTree) (step : FunctionStatementTree) → behind_steps (step_behind so_far step) v ≡ behind_step step (behind_steps so_far v)
 behind_then v NoStep step = refl
 behind_then v (StepThen s others) step = behind_then (behind_step s v) others step
 
 -- a statement that declares nothing
-abbrev PlainStep : ProgramTree → VisibleTree → StepTree → Type 0
+abbrev PlainStep : ProgramTree → VisibleTree → FunctionStatementTree → Type 0
 PlainStep p v step = StepIsResolved p v step × (behind_step step v ≡ v)
 
 assigned_plain : (p : ProgramTree) (v : VisibleTree) (at : ℕ) (initializer : InitializerTree) (e : Entity) → InitializerIsResolved p v initializer → EntityIsResolved p v e
@@ -122,14 +122,14 @@ reduced_plain : (p : ProgramTree) (v : VisibleTree) (at : ℕ) (by : Reduction) 
 reduced_plain p v at by x (entity.IntegerVariable slot) value is = ((is, as_integer_resolved p v at x value), refl)
 reduced_plain p v at by x _ value is = ((tt, tt), refl)
 
-set_plain : (p : ProgramTree) (v : VisibleTree) (may own : Bool) (vector : Option ℕ) (e : IntegerTree) → MaybeVariable (IsVector p) vector → IntegerIsResolved p v e
+set_plain : (p : ProgramTree) (v : VisibleTree) (may own : Bool) (vector : Option ℕ) (e : IntExpressionTree) → MaybeVariable (IsVector p) vector → IntegerIsResolved p v e
     → PlainStep p v (entry_step may own vector e)
 set_plain p v may own None e is value = ((tt, tt), refl)
 set_plain p v false own (Some vector) e is value = ((tt, tt), refl)
 set_plain p v true false (Some vector) e is value = ((tt, tt), refl)
 set_plain p v true true (Some vector) e is value = ((is, value), refl)
 
-reduction_plain : (p : ProgramTree) (v : VisibleTree) (may own : Bool) (vector : Option ℕ) (by : Reduction) (e : IntegerTree) → MaybeVariable (IsVector p) vector → IntegerIsResolved p v e
+reduction_plain : (p : ProgramTree) (v : VisibleTree) (may own : Bool) (vector : Option ℕ) (by : Reduction) (e : IntExpressionTree) → MaybeVariable (IsVector p) vector → IntegerIsResolved p v e
     → PlainStep p v (reduction_step may own vector by e)
 reduction_plain p v may own None by e is value = ((tt, tt), refl)
 reduction_plain p v false own (Some vector) by e is value = ((tt, tt), refl)
@@ -137,13 +137,13 @@ reduction_plain p v true false (Some vector) by e is value = ((tt, tt), refl)
 reduction_plain p v true true (Some vector) by e is value = ((is, value), refl)
 
 -- a statement, and what is known after it
-abbrev StepFits : ProgramTree → VisibleTree → StepTree × CheckerTree → Type 0
+abbrev StepFits : ProgramTree → VisibleTree → FunctionStatementTree × CheckerTree → Type 0
 StepFits p v r = StepIsResolved p v r.0 × CheckerFits p (behind_step r.0 v) r.1
 
-abbrev pub StepsFit : ProgramTree → VisibleTree → StepsTree × CheckerTree → Type 0
+abbrev pub StepsFit : ProgramTree → VisibleTree → FunctionStatementsTree × CheckerTree → Type 0
 StepsFit p v r = StepsAreResolved p v r.0 × CheckerFits p (behind_steps r.0 v) r.1
 
-plain_fits : (p : ProgramTree) (v : VisibleTree) (c : CheckerTree) (step : StepTree) → CheckerFits p v c → PlainStep p v step → StepFits p v (step, c)
+plain_fits : (p : ProgramTree) (v : VisibleTree) (c : CheckerTree) (step : FunctionStatementTree) → CheckerFits p v c → PlainStep p v step → StepFits p v (step, c)
 plain_fits p v c step fits plain = (plain.0, subst (λ w. CheckerFits p w c) (sym plain.1) fits)
 
 declare_fits : (p : ProgramTree) (v : VisibleTree) (c : CheckerTree) (at : ℕ) (name : Identifier) (initializer : InitializerTree) (type : DeclaredType)
@@ -164,7 +164,7 @@ declare_fits p v c at name initializer declared.EdgeSet none within fits value =
 declare_fits p v c at name initializer declared.WeightedEdgeSet none within fits value = absurd (not_empty _ _ none)
 
 mutual
-  step_fits : (p : ProgramTree) (v : VisibleTree) (c : CheckerTree) (action : source.ActionTree) → (step_typed c action).faults ≡ [] → Within p (step_typed c action).value.1
+  step_fits : (p : ProgramTree) (v : VisibleTree) (c : CheckerTree) (action : source.StatementKindTree) → (step_typed c action).faults ≡ [] → Within p (step_typed c action).value.1
       → CheckerFits p v c → StepFits p v (step_typed c action).value
   step_fits p v c (source.Declare at x initial) none within fits =
       let initializer = initializer_of c at initial in
@@ -207,7 +207,7 @@ mutual
   step_fits p v c (source.AddVertex set e) none within fits = absurd (not_empty _ _ none)
   step_fits p v c (source.Apply target ends function) none within fits = absurd (not_empty _ _ none)
 
-  pub steps_fit : (p : ProgramTree) (v : VisibleTree) (c : CheckerTree) (so_far : StepsTree) (block : source.BlockTree) → (steps_typed c so_far block).faults ≡ []
+  pub steps_fit : (p : ProgramTree) (v : VisibleTree) (c : CheckerTree) (so_far : FunctionStatementsTree) (block : source.BlockTree) → (steps_typed c so_far block).faults ≡ []
       → Within p (steps_typed c so_far block).value.1 → StepsAreResolved p v so_far → CheckerFits p (behind_steps so_far v) c
       → StepsFit p v (steps_typed c so_far block).value
   steps_fit p v c so_far source.Empty none within resolved fits = (resolved, fits)

@@ -21,7 +21,7 @@ use Rattle.typed_tree.specs.declared.expression.Operator.{Operator}
 use Rattle.typed_tree.specs.declared.expression.VarRef.{VarRef}
 use Rattle.typed_tree.specs.declared.statement.ApplyEnds.{ApplyEnds}
 use Rattle.typed_tree.specs.declared.statement.SetValue.TheVariants as set
-use Rattle.typed_tree.specs.IntegerTree.{IntegerTree}
+use Rattle.typed_tree.specs.IntExpressionTree.{IntExpressionTree}
 use Rattle.typed_tree.specs.ProgramTree.{ProgramTree}
 use Rattle.typed_tree.specs.Resolved.{VisibleTree, ConditionIsResolved, EndIsResolved, EndsAreResolved, IntegerIsResolved, IsCondition, IsEdgeFunction, IsFilter, IsInteger, IsName, IsSet, IsVector, IsVertex, IsVertexFunction, SetIsResolved}
 use Rattle.expression_types.specs.declared.fault.TypeRule.{TypeRule}
@@ -413,11 +413,11 @@ pub condition_in_resolved : (p : ProgramTree) (v : VisibleTree) (scope : ScopeTr
 condition_in_resolved p v scope at known e = as_condition_resolved p v at (value_of scope at e).value (value_resolved p v scope at known e)
 
 -- an index, where there is one
-abbrev pub MaybeIndex : ProgramTree → VisibleTree → Option IntegerTree → Type 0
+abbrev pub MaybeIndex : ProgramTree → VisibleTree → Option IntExpressionTree → Type 0
 MaybeIndex p v None = Unit {0}
 MaybeIndex p v (Some e) = IntegerIsResolved p v e
 
-if_index : (p : ProgramTree) (v : VisibleTree) (b : Bool) (x y : WithFaults (Option IntegerTree)) → MaybeIndex p v x.value → MaybeIndex p v y.value
+if_index : (p : ProgramTree) (v : VisibleTree) (b : Bool) (x y : WithFaults (Option IntExpressionTree)) → MaybeIndex p v x.value → MaybeIndex p v y.value
     → MaybeIndex p v (if b then x else y).value
 if_index p v true x y first other = first
 if_index p v false x y first other = other

@@ -16,7 +16,7 @@ use Rattle.typed_tree.specs.declared.expression.Connective.{Connective}
 use Rattle.typed_tree.specs.declared.expression.Connective.TheVariants as connective
 use Rattle.typed_tree.specs.declared.expression.Endpoint.{Endpoint}
 use Rattle.typed_tree.specs.declared.expression.Operator.{Operator}
-use Rattle.typed_tree.specs.IntegerTree.{IntegerTree, Entry}
+use Rattle.typed_tree.specs.IntExpressionTree.{IntExpressionTree, Entry}
 use Rattle.expression_types.specs.declared.fault.TypeRule.TheVariants as rule
 use Rattle.expression_types.specs.declared.scope.Entity.{Entity}
 use Rattle.expression_types.specs.declared.scope.Entity.TheVariants as entity
@@ -401,7 +401,7 @@ index_is_value scope at index type has =
     ap (λ b. if b then sure no_vertex else value_of scope at index) (index_has_value scope.inside scope at index type has)
 
 -- entries
-if_plain_entry : (at vector : ℕ) (e : IntegerTree) → reads_entry e ≡ false → Fine (main_entry at vector (value.Integer e)) Number
+if_plain_entry : (at vector : ℕ) (e : IntExpressionTree) → reads_entry e ≡ false → Fine (main_entry at vector (value.Integer e)) Number
 if_plain_entry at vector e plain = subst (λ b. Fine (if b then fault_at at rule.WrongIndex value.ErrorValue else sure (value.Integer (Entry vector e))) Number) (sym plain) (record { none = refl; is = tt })
 
 main_entry_fine : (at vector : ℕ) (v : ValueTree) → IsNumeric v → ReadsNone v → Fine (main_entry at vector v) Number

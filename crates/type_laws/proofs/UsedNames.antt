@@ -11,7 +11,7 @@ use Rattle.syntax.specs.ExpressionTrees.{ExpressionTree, ConjunctionTree, Compar
 use Rattle.syntax.specs.SourceTrees as source
 use Rattle.syntax.specs.SourceTrees.{InitialTree, ParameterTree, DeclarationTree, SourceTree}
 use Rattle.typed_tree.specs.BlockTree.{BlockTree, Empty}
-use Rattle.typed_tree.specs.StepTree.{StepsTree, NoStep}
+use Rattle.typed_tree.specs.FunctionStatementTree.{FunctionStatementsTree, NoStep}
 use Rattle.expression_types.specs.declared.scope.Entity.{Entity}
 use Rattle.expression_types.specs.declared.scope.Entity.TheVariants as entity
 use Rattle.expression_types.specs.declared.scope.Inside.{Inside}
@@ -232,7 +232,7 @@ initializer_visible c at (source.Value e) none = expression_visible c.scope at e
 
 -- statements of functions
 mutual
-  step_visible : (c : CheckerTree) (action : source.ActionTree) → (step_typed c action).faults ≡ [] → ActionUsesVisible (seen c.scope) action
+  step_visible : (c : CheckerTree) (action : source.StatementKindTree) → (step_typed c action).faults ≡ [] → ActionUsesVisible (seen c.scope) action
   step_visible c (source.Declare at x initial) none = initializer_visible c at initial (no_left (initializer_of c at initial).faults _ none)
   step_visible c (source.While at test body) none = absurd (not_empty _ _ none)
   step_visible c (source.For at name first limit body) none = absurd (not_empty _ _ none)
@@ -283,7 +283,7 @@ mutual
   step_visible c (source.AddVertex set e) none = absurd (not_empty _ _ none)
   step_visible c (source.Apply target ends function) none = absurd (not_empty _ _ none)
 
-  steps_visible : (c : CheckerTree) (so_far : StepsTree) (block : source.BlockTree) → (steps_typed c so_far block).faults ≡ [] → BlockUsesVisible (seen c.scope) block
+  steps_visible : (c : CheckerTree) (so_far : FunctionStatementsTree) (block : source.BlockTree) → (steps_typed c so_far block).faults ≡ [] → BlockUsesVisible (seen c.scope) block
   steps_visible c so_far source.Empty none = tt
   steps_visible c so_far (source.Then label action others) none =
       let l = labelled c label in
@@ -297,7 +297,7 @@ mutual
 
 -- statements of main
 mutual
-  action_visible : (c : CheckerTree) (action : source.ActionTree) → (action_typed c action).faults ≡ [] → ActionUsesVisible (seen c.scope) action
+  action_visible : (c : CheckerTree) (action : source.StatementKindTree) → (action_typed c action).faults ≡ [] → ActionUsesVisible (seen c.scope) action
   action_visible c (source.Declare at x initial) none = initializer_visible c at initial (no_left (initializer_of c at initial).faults _ none)
   action_visible c (source.While at test body) none =
       let t = condition_in c.scope at test in

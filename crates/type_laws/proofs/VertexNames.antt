@@ -12,7 +12,7 @@ use Rattle.typed_tree.specs.declared.expression.ComparisonOperator.TheVariants a
 use Rattle.typed_tree.specs.declared.expression.Connective.{Connective}
 use Rattle.typed_tree.specs.declared.expression.Connective.TheVariants as connective
 use Rattle.typed_tree.specs.declared.expression.Endpoint.{Endpoint}
-use Rattle.typed_tree.specs.IntegerTree.{IntegerTree, Entry}
+use Rattle.typed_tree.specs.IntExpressionTree.{IntExpressionTree, Entry}
 use Rattle.expression_types.specs.declared.fault.TypeRule.{TypeRule}
 use Rattle.expression_types.specs.declared.fault.TypeRule.TheVariants as rule
 use Rattle.expression_types.specs.declared.scope.Entity.{Entity}
@@ -110,7 +110,7 @@ size_no_vertex So at (entity.ConstantSet slot) is = is
 size_no_vertex So at (entity.SetVariable slot) is = is
 size_no_vertex So at _ is = is
 
-index_no_vertex : (So : Endpoint → Type 0) (b : Bool) (at vector : ℕ) (e : IntegerTree)
+index_no_vertex : (So : Endpoint → Type 0) (b : Bool) (at vector : ℕ) (e : IntExpressionTree)
     → IsVertexSo So (if b then fault_at at rule.WrongIndex ErrorValue else sure (Integer (Entry vector e))).value → ⊥
 index_no_vertex So true at vector e is = is
 index_no_vertex So false at vector e is = is

@@ -12,7 +12,7 @@ use Rattle.typed_tree.specs.declared.expression.VarRef.{VarRef}
 use Rattle.typed_tree.specs.declared.program.InitialValue.TheVariants as beginning
 use Rattle.typed_tree.specs.declared.statement.ApplyEnds.{ApplyEnds}
 use Rattle.typed_tree.specs.declared.statement.SetValue.TheVariants as set
-use Rattle.typed_tree.specs.StepTree.{StepsTree, NoStep}
+use Rattle.typed_tree.specs.FunctionStatementTree.{FunctionStatementsTree, NoStep}
 use Rattle.expression_types.specs.declared.fault.TypeRule.TheVariants as rule
 use Rattle.expression_types.specs.declared.scope.Entity.{Entity}
 use Rattle.expression_types.specs.declared.scope.Entity.TheVariants as entity
@@ -59,7 +59,7 @@ variable_inside c at name initializer declared.Vector = (declared_goes c name en
 variable_inside c at name initializer declared.EdgeSet = (declared_goes c name entity.Error).0
 variable_inside c at name initializer declared.WeightedEdgeSet = (declared_goes c name entity.Error).0
 
-step_inside : (c : CheckerTree) (action : source.ActionTree) → (step_typed c action).value.1.scope.inside ≡ c.scope.inside
+step_inside : (c : CheckerTree) (action : source.StatementKindTree) → (step_typed c action).value.1.scope.inside ≡ c.scope.inside
 step_inside c (source.Declare at x initial) = variable_inside c at x.name (initializer_of c at initial).value x.declared
 step_inside c (source.While at test body) = refl
 step_inside c (source.For at name first limit body) = refl
@@ -79,7 +79,7 @@ pub record May (i : Inside) (Sets Reduces : Type 0) : Type 0 where
   pub reduces : (at : ℕ) (vector : Option ℕ) (by : Reduction) (writes : List (ℕ × Reduction)) → (may_reduce at i vector by writes).faults ≡ [] → Reduces
 
 mutual
-  step_fits_kind : {i : Inside} {Sets Reduces : Type 0} → May i Sets Reduces → (c : CheckerTree) (action : source.ActionTree) → c.scope.inside ≡ i → (step_typed c action).faults ≡ []
+  step_fits_kind : {i : Inside} {Sets Reduces : Type 0} → May i Sets Reduces → (c : CheckerTree) (action : source.StatementKindTree) → c.scope.inside ≡ i → (step_typed c action).faults ≡ []
       → ActionFits Sets Reduces action
   step_fits_kind may c (source.Declare at x initial) is none =
       let initializer = initializer_of c at initial in variable_fits c at x.name initializer.value x.declared (no_right initializer.faults _ none)
@@ -111,7 +111,7 @@ mutual
   step_fits_kind may c (source.AddVertex set e) is none = absurd (not_empty _ _ none)
   step_fits_kind may c (source.Apply target ends function) is none = absurd (not_empty _ _ none)
 
-  steps_fit_kind : {i : Inside} {Sets Reduces : Type 0} → May i Sets Reduces → (c : CheckerTree) (so_far : StepsTree) (block : source.BlockTree) → c.scope.inside ≡ i
+  steps_fit_kind : {i : Inside} {Sets Reduces : Type 0} → May i Sets Reduces → (c : CheckerTree) (so_far : FunctionStatementsTree) (block : source.BlockTree) → c.scope.inside ≡ i
       → (steps_typed c so_far block).faults ≡ [] → BlockFits Sets Reduces block
   steps_fit_kind may c so_far source.Empty is none = tt
   steps_fit_kind may c so_far (source.Then label action others) is none =

@@ -3,7 +3,7 @@ use Rattle.std.specs.List.{Contains}
 use Rattle.typed_tree.specs.declared.statement.SetValue.{SetValue}
 use Rattle.typed_tree.specs.declared.statement.SetValue.TheVariants as set
 use Rattle.typed_tree.specs.Access.{function_writes}
-use Rattle.typed_tree.specs.BlockTree.{ActionTree, DeclareInteger, DeclareCondition, SetInteger, SetCondition, ReduceInteger, SetEntry, ReduceEntry, DeclareSet, AssignSet, AddVertex, PrintInteger, PrintCondition, ApplyVertex, ApplyEdges, If, IfElse, While, For}
+use Rattle.typed_tree.specs.BlockTree.{StatementKindTree, DeclareInteger, DeclareCondition, SetInteger, SetCondition, ReduceInteger, SetEntry, ReduceEntry, DeclareSet, AssignSet, AddVertex, PrintInteger, PrintCondition, ApplyVertex, ApplyEdges, If, IfElse, While, For}
 use Rattle.typed_tree.specs.ProgramTree.{ProgramTree}
 use Rattle.type_laws.specs.EachStatement.{SetNames, HoldsOfEach}
 
@@ -16,7 +16,7 @@ ValueAsksForWritten p (set.Filter slot index) = Unit {0}
 ValueAsksForWritten p (set.Modified ends function vector) = Contains (function_writes p.edge_functions function) vector
 
 -- so it is in a statement
-abbrev pub AsksForWritten : ProgramTree → ActionTree → Type 0
+abbrev pub AsksForWritten : ProgramTree → StatementKindTree → Type 0
 AsksForWritten p (DeclareInteger name e) = Unit {0}
 AsksForWritten p (DeclareCondition name c) = Unit {0}
 AsksForWritten p (SetInteger slot e) = Unit {0}

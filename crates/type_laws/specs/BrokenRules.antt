@@ -5,7 +5,7 @@ use Rattle.std.specs.Map.{lookup}
 use Rattle.apply_options.specs.declared.reduction.Reduction.{Reduction}
 use Rattle.syntax.specs.Terminals.{Identifier}
 use Rattle.syntax.specs.SourceTrees as source
-use Rattle.syntax.specs.SourceTrees.{ActionTree, DeclarationTree, EndsTree, InitialTree, SourceTree}
+use Rattle.syntax.specs.SourceTrees.{StatementKindTree, DeclarationTree, EndsTree, InitialTree, SourceTree}
 use Rattle.syntax.specs.declared.declaration.DeclaredType.{DeclaredType}
 use Rattle.syntax.specs.declared.declaration.DeclaredType.TheVariants as declared
 use Rattle.typed_tree.specs.declared.expression.Endpoint.{Endpoint}
@@ -196,7 +196,7 @@ redeclares (Declaration d (source.Constant at p initial)) = is_edgeset p.declare
 redeclares _ = false
 
 -- 223: what is written has the type that its place takes
-abbrev pub main_statement_fits : CheckerTree → ActionTree → Bool
+abbrev pub main_statement_fits : CheckerTree → StatementKindTree → Bool
 main_statement_fits c (source.Declare at p initial) = declares_in_main p.declared (initializer_of c at initial).value
 main_statement_fits c (source.Print at e) = may_be_int (value_of c.scope at e).value || may_be_bool (value_of c.scope at e).value
 main_statement_fits c (source.Assign name initial) = assigns_in_main (used c.scope name).value (initializer_of c name.at initial).value
@@ -206,7 +206,7 @@ main_statement_fits c (source.Apply target ends function) =
     applies (used c.scope target).value (end_of c.scope ends.from).value (end_of c.scope ends.to).value (has_ends ends) (used c.scope function).value
 main_statement_fits c _ = true
 
-abbrev pub function_statement_fits : CheckerTree → ActionTree → Bool
+abbrev pub function_statement_fits : CheckerTree → StatementKindTree → Bool
 function_statement_fits c (source.Declare at p initial) = declares_in_function p.declared (initializer_of c at initial).value
 function_statement_fits c (source.While at test body) = false
 function_statement_fits c (source.For at name first limit body) = false
@@ -279,7 +279,7 @@ breaks_itself part rule.NoMain = lacks_main part
 breaks_itself part rule.BadLabel = repeats_label part
 
 -- the first token of a statement, its label aside
-abbrev pub statement_place : ActionTree → ℕ
+abbrev pub statement_place : StatementKindTree → ℕ
 statement_place (source.Declare at p initial) = at
 statement_place (source.While at test body) = at
 statement_place (source.For at name first limit body) = at

@@ -1,6 +1,6 @@
 -- Facts of each statement of main, by the names of the vertex sets that are visible there.
 use Rattle.std.specs.Prelude.{ℕ, zero, suc, List, [], ◌∷◌, ◌++◌, Option, Some, None}
-use Rattle.typed_tree.specs.BlockTree.{ActionTree, DeclareInteger, DeclareCondition, SetInteger, SetCondition, ReduceInteger, SetEntry, ReduceEntry, DeclareSet, AssignSet, AddVertex, PrintInteger, PrintCondition, ApplyVertex, ApplyEdges, If, IfElse, While, For, BlockTree, Empty, Then}
+use Rattle.typed_tree.specs.BlockTree.{StatementKindTree, DeclareInteger, DeclareCondition, SetInteger, SetCondition, ReduceInteger, SetEntry, ReduceEntry, DeclareSet, AssignSet, AddVertex, PrintInteger, PrintCondition, ApplyVertex, ApplyEdges, If, IfElse, While, For, BlockTree, Empty, Then}
 
 -- at each index of a vertex set its name, where it is visible by it
 abbrev pub SetNames : Type 0
@@ -13,7 +13,7 @@ names_before zero (name ∷ sets) = None ∷ names_before zero sets
 names_before (suc count) (name ∷ sets) = Some name ∷ names_before count sets
 
 -- after a statement: a declared set is visible to the end of its block
-abbrev pub names_behind : ActionTree → SetNames → SetNames
+abbrev pub names_behind : StatementKindTree → SetNames → SetNames
 names_behind (DeclareInteger name e) names = names
 names_behind (DeclareCondition name c) names = names
 names_behind (SetInteger slot e) names = names
@@ -35,7 +35,7 @@ names_behind (For name first end body) names = names
 
 abbrev mutual
   -- P holds of each statement in the blocks of a statement
-  pub HoldsInside : (P : SetNames → ActionTree → Type 0) → SetNames → ActionTree → Type 0
+  pub HoldsInside : (P : SetNames → StatementKindTree → Type 0) → SetNames → StatementKindTree → Type 0
   HoldsInside P names (DeclareInteger name e) = Unit {0}
   HoldsInside P names (DeclareCondition name c) = Unit {0}
   HoldsInside P names (SetInteger slot e) = Unit {0}
@@ -56,6 +56,6 @@ abbrev mutual
   HoldsInside P names (For name first end body) = HoldsOfEach P names body
 
   -- P holds of each statement of a block, at the names that are visible before it
-  pub HoldsOfEach : (P : SetNames → ActionTree → Type 0) → SetNames → BlockTree → Type 0
+  pub HoldsOfEach : (P : SetNames → StatementKindTree → Type 0) → SetNames → BlockTree → Type 0
   HoldsOfEach P names Empty = Unit {0}
   HoldsOfEach P names (Then number label action others) = P names action × HoldsInside P names action × HoldsOfEach P (names_behind action names) others

@@ -4,7 +4,7 @@ use Rattle.std.specs.List.{Contains}
 use Rattle.syntax.specs.ExpressionTrees as tree
 use Rattle.syntax.specs.ExpressionTrees.{ExpressionTree, ConjunctionTree, ComparisonTree, SumTree, TermTree, UnaryTree, PrimaryTree}
 use Rattle.syntax.specs.SourceTrees as source
-use Rattle.syntax.specs.SourceTrees.{InitialTree, ParameterTree, ActionTree, BlockTree, DeclarationTree}
+use Rattle.syntax.specs.SourceTrees.{InitialTree, ParameterTree, StatementKindTree, BlockTree, DeclarationTree}
 use Rattle.syntax.specs.Terminals.{Identifier}
 use Rattle.expression_types.specs.BareNames.{bare_name}
 use Rattle.types.specs.Declaration.{main_bytes}
@@ -96,7 +96,7 @@ InitialReadsAt Index (source.Value e) = ExpressionReadsAt Index e
 
 abbrev mutual
   -- each entry that a statement reads is at an index of the first kind, and each that it writes at one of the second
-  pub ActionAccesses : (Read Write : ExpressionTree → Type 0) → ActionTree → Type 0
+  pub ActionAccesses : (Read Write : ExpressionTree → Type 0) → StatementKindTree → Type 0
   ActionAccesses Read Write (source.Declare at variable initial) = InitialReadsAt Read initial
   ActionAccesses Read Write (source.While at test body) = ExpressionReadsAt Read test × BlockAccesses Read Write body
   ActionAccesses Read Write (source.For at name first limit body) =

@@ -1,6 +1,6 @@
 -- Sources in which each `new vertexset` has no member and each `load` reads the first argument.
 use Rattle.std.specs.Prelude.{◌≡◌, pos}
-use Rattle.syntax.specs.SourceTrees.{InitialTree, NewSet, Load, Vertices, OutDegrees, Filter, ApplyModified, Value, ActionTree, Declare, While, For, If, IfElse, Print, Assign, Reduce, SetEntry, ReduceEntry, AddVertex, Apply, BlockTree, Empty, Then, DeclarationTree, Constant, Function}
+use Rattle.syntax.specs.SourceTrees.{InitialTree, NewSet, Load, Vertices, OutDegrees, Filter, ApplyModified, Value, StatementKindTree, Declare, While, For, If, IfElse, Print, Assign, Reduce, SetEntry, ReduceEntry, AddVertex, Apply, BlockTree, Empty, Then, DeclarationTree, Constant, Function}
 
 abbrev pub InitialFits : InitialTree → Type 0
 InitialFits (NewSet size) = size ≡ pos 0
@@ -13,7 +13,7 @@ InitialFits (Value e) = Unit {0}
 
 abbrev mutual
   -- each initial or assigned value in a statement is so
-  pub ActionInitialsFit : ActionTree → Type 0
+  pub ActionInitialsFit : StatementKindTree → Type 0
   ActionInitialsFit (Declare at variable initial) = InitialFits initial
   ActionInitialsFit (While at test body) = BlockInitialsFit body
   ActionInitialsFit (For at name first limit body) = BlockInitialsFit body

@@ -5,7 +5,7 @@ use Rattle.std.specs.Map.{lookup}
 use Rattle.syntax.specs.Terminals.{Identifier}
 use Rattle.syntax.specs.ExpressionTrees.{ExpressionTree}
 use Rattle.syntax.specs.SourceTrees as source
-use Rattle.syntax.specs.SourceTrees.{InitialTree, EndsTree, ParameterTree, ActionTree, BlockTree, DeclarationTree, SourceTree}
+use Rattle.syntax.specs.SourceTrees.{InitialTree, EndsTree, ParameterTree, StatementKindTree, BlockTree, DeclarationTree, SourceTree}
 use Rattle.syntax.specs.declared.declaration.DeclaredType.{DeclaredType}
 use Rattle.syntax.specs.declared.declaration.DeclaredType.TheVariants as declared
 use Rattle.apply_options.specs.declared.reduction.Reduction.{Reduction}
@@ -149,7 +149,7 @@ IsMain inside.Filter = ⊥
 
 abbrev mutual
   -- a statement of main or of a function of a user, its label aside
-  pub ActionKeeps : Inside → Known → ActionTree → Type 0
+  pub ActionKeeps : Inside → Known → StatementKindTree → Type 0
   ActionKeeps i k (source.Declare at p initial) = VariableFits i k p.declared initial × IsNew k p.name
   ActionKeeps i k (source.While at test body) = IsMain i × IsTruth k.names i test × BlockKeeps i k body
   ActionKeeps i k (source.For at name first limit body) =

@@ -1,6 +1,6 @@
 -- The labels of the statements of main, as indices among all labels.
 use Rattle.std.specs.Prelude.{ℕ, List, [], ◌∷◌, ◌++◌, Option, Some, None}
-use Rattle.typed_tree.specs.BlockTree.{ActionTree, DeclareInteger, DeclareCondition, SetInteger, SetCondition, ReduceInteger, SetEntry, ReduceEntry, DeclareSet, AssignSet, AddVertex, PrintInteger, PrintCondition, ApplyVertex, ApplyEdges, If, IfElse, While, For, BlockTree, Empty, Then}
+use Rattle.typed_tree.specs.BlockTree.{StatementKindTree, DeclareInteger, DeclareCondition, SetInteger, SetCondition, ReduceInteger, SetEntry, ReduceEntry, DeclareSet, AssignSet, AddVertex, PrintInteger, PrintCondition, ApplyVertex, ApplyEdges, If, IfElse, While, For, BlockTree, Empty, Then}
 use Rattle.typed_tree.specs.ProgramTree.{ProgramTree}
 use Rattle.type_laws.specs.Numbers.{InOrder}
 
@@ -11,7 +11,7 @@ own_index (Some label) = label ∷ []
 
 abbrev mutual
   -- those of the statements inside a statement
-  pub inner_indices : ActionTree → List ℕ
+  pub inner_indices : StatementKindTree → List ℕ
   inner_indices (DeclareInteger name e) = []
   inner_indices (DeclareCondition name c) = []
   inner_indices (SetInteger slot e) = []

@@ -1,7 +1,7 @@
 -- The labels of a source, with `#` at both ends, in the order of the text: that of a statement before those inside it.
 use Rattle.std.specs.Prelude.{ℕ, List, [], ◌∷◌, ◌++◌, Option, Some, None}
 use Rattle.syntax.specs.Terminals.{Identifier}
-use Rattle.syntax.specs.SourceTrees.{ActionTree, Declare, While, For, If, IfElse, Print, Assign, Reduce, SetEntry, ReduceEntry, AddVertex, Apply, BlockTree, Empty, Then, DeclarationTree, Constant, Function}
+use Rattle.syntax.specs.SourceTrees.{StatementKindTree, Declare, While, For, If, IfElse, Print, Assign, Reduce, SetEntry, ReduceEntry, AddVertex, Apply, BlockTree, Empty, Then, DeclarationTree, Constant, Function}
 
 -- the label of a statement, where it has one
 abbrev pub own_label : Option Identifier → List (List ℕ)
@@ -10,7 +10,7 @@ own_label (Some label) = label.bytes ∷ []
 
 abbrev mutual
   -- those of the statements inside a statement
-  pub inner_labels : ActionTree → List (List ℕ)
+  pub inner_labels : StatementKindTree → List (List ℕ)
   inner_labels (Declare at variable initial) = []
   inner_labels (While at test body) = block_labels body
   inner_labels (For at name first limit body) = block_labels body

@@ -1,6 +1,6 @@
 -- Programs with no statement that assigns a variable of a `for` around it.
 use Rattle.std.specs.Prelude.{◌≢◌, ℕ, ◌+◌, List, [], ◌∷◌}
-use Rattle.typed_tree.specs.BlockTree.{ActionTree, DeclareInteger, DeclareCondition, SetInteger, SetCondition, ReduceInteger, SetEntry, ReduceEntry, DeclareSet, AssignSet, AddVertex, PrintInteger, PrintCondition, ApplyVertex, ApplyEdges, If, IfElse, While, For, BlockTree, Empty, Then}
+use Rattle.typed_tree.specs.BlockTree.{StatementKindTree, DeclareInteger, DeclareCondition, SetInteger, SetCondition, ReduceInteger, SetEntry, ReduceEntry, DeclareSet, AssignSet, AddVertex, PrintInteger, PrintCondition, ApplyVertex, ApplyEdges, If, IfElse, While, For, BlockTree, Empty, Then}
 use Rattle.typed_tree.specs.ProgramTree.{ProgramTree}
 
 -- An integer is no variable of these loops, and no bound. A loop has its variable at its index and its bound at the next one.
@@ -9,14 +9,14 @@ IsOutside [] x = Unit {0}
 IsOutside (i ∷ is) x = (x ≢ i) × (x ≢ i + 1) × IsOutside is x
 
 -- how many integers are visible after a statement, if n are visible before it
-abbrev pub integers_behind : ActionTree → ℕ → ℕ
+abbrev pub integers_behind : StatementKindTree → ℕ → ℕ
 integers_behind (DeclareInteger name e) n = n + 1
 integers_behind _ n = n
 
 abbrev mutual
   -- A statement assigns no variable of the loops around it, and neither do those in it. If n integers are visible before a loop, its
   -- variable has the index n.
-  pub KeepsInside : (integers : ℕ) → (indices : List ℕ) → ActionTree → Type 0
+  pub KeepsInside : (integers : ℕ) → (indices : List ℕ) → StatementKindTree → Type 0
   KeepsInside n is (DeclareInteger name e) = Unit {0}
   KeepsInside n is (DeclareCondition name c) = Unit {0}
   KeepsInside n is (SetInteger slot e) = IsOutside is slot.index

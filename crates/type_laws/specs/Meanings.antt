@@ -4,7 +4,7 @@ use Rattle.std.specs.List.{Contains}
 use Rattle.std.specs.Map.{lookup}
 use Rattle.syntax.specs.Terminals.{Identifier}
 use Rattle.syntax.specs.SourceTrees as source
-use Rattle.syntax.specs.SourceTrees.{ActionTree, BlockTree}
+use Rattle.syntax.specs.SourceTrees.{StatementKindTree, BlockTree}
 use Rattle.syntax.specs.declared.declaration.DeclaredType.{DeclaredType}
 use Rattle.syntax.specs.declared.declaration.DeclaredType.TheVariants as declared
 use Rattle.apply_options.specs.declared.reduction.Reduction.{Reduction}
@@ -98,7 +98,7 @@ reduced_in inside.Filter k vector by = k
 
 abbrev mutual
   -- what is known after a statement
-  pub known_behind : Inside → Known → ActionTree → Known
+  pub known_behind : Inside → Known → StatementKindTree → Known
   known_behind i k (source.Declare at p initial) = with_name k p.name (variable_meaning p.declared)
   known_behind i k (source.While at test body) = closed_known k (known_after i k body)
   known_behind i k (source.For at name first limit body) = closed_known k (known_after i (with_name k name LoopName) body)

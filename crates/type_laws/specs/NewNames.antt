@@ -4,7 +4,7 @@ use Rattle.std.specs.List.{AllByRecursion}
 use Rattle.syntax.specs.Terminals.{Identifier}
 use Rattle.syntax.specs.declared.declaration.DeclaredType.{DeclaredType}
 use Rattle.syntax.specs.declared.declaration.DeclaredType.TheVariants as declared
-use Rattle.syntax.specs.SourceTrees.{ParameterTree, ActionTree, Declare, While, For, If, IfElse, Print, Assign, Reduce, SetEntry, ReduceEntry, AddVertex, Apply, BlockTree, Empty, Then, DeclarationTree, Constant, Function}
+use Rattle.syntax.specs.SourceTrees.{ParameterTree, StatementKindTree, Declare, While, For, If, IfElse, Print, Assign, Reduce, SetEntry, ReduceEntry, AddVertex, Apply, BlockTree, Empty, Then, DeclarationTree, Constant, Function}
 
 -- the visible names with one more
 abbrev pub with_new : List (List ℕ) → Identifier → List (List ℕ)
@@ -15,7 +15,7 @@ abbrev pub IsNew : List (List ℕ) → Identifier → Type 0
 IsNew visible name = AllByRecursion (λ other. name.bytes ≢ other) visible
 
 -- what is visible after a statement: a declared variable, to the end of its block
-abbrev pub names_behind : List (List ℕ) → ActionTree → List (List ℕ)
+abbrev pub names_behind : List (List ℕ) → StatementKindTree → List (List ℕ)
 names_behind visible (Declare at variable initial) = with_new visible variable.name
 names_behind visible (While at test body) = visible
 names_behind visible (For at name first limit body) = visible
@@ -31,7 +31,7 @@ names_behind visible (Apply target ends function) = visible
 
 abbrev mutual
   -- each name that is declared in a statement is new where it is
-  pub ActionDeclaresNew : List (List ℕ) → ActionTree → Type 0
+  pub ActionDeclaresNew : List (List ℕ) → StatementKindTree → Type 0
   ActionDeclaresNew visible (Declare at variable initial) = IsNew visible variable.name
   ActionDeclaresNew visible (While at test body) = BlockDeclaresNew visible body
   ActionDeclaresNew visible (For at name first limit body) = IsNew visible name × BlockDeclaresNew (with_new visible name) body

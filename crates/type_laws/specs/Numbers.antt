@@ -1,10 +1,10 @@
 -- The numbers of the statements of main.
 use Rattle.std.specs.Prelude.{◌≡◌, ℕ, suc, List, [], ◌∷◌, ◌++◌}
-use Rattle.typed_tree.specs.BlockTree.{ActionTree, DeclareInteger, DeclareCondition, SetInteger, SetCondition, ReduceInteger, SetEntry, ReduceEntry, DeclareSet, AssignSet, AddVertex, PrintInteger, PrintCondition, ApplyVertex, ApplyEdges, If, IfElse, While, For, BlockTree, Empty, Then}
+use Rattle.typed_tree.specs.BlockTree.{StatementKindTree, DeclareInteger, DeclareCondition, SetInteger, SetCondition, ReduceInteger, SetEntry, ReduceEntry, DeclareSet, AssignSet, AddVertex, PrintInteger, PrintCondition, ApplyVertex, ApplyEdges, If, IfElse, While, For, BlockTree, Empty, Then}
 
 abbrev mutual
   -- those in what a statement does
-  pub inner_numbers : ActionTree → List ℕ
+  pub inner_numbers : StatementKindTree → List ℕ
   inner_numbers (DeclareInteger name e) = []
   inner_numbers (DeclareCondition name c) = []
   inner_numbers (SetInteger slot e) = []

@@ -1,11 +1,11 @@
 -- Sources in which no function but main prints.
 use Rattle.std.specs.Prelude.{◌≢◌}
-use Rattle.syntax.specs.SourceTrees.{ActionTree, Declare, While, For, If, IfElse, Print, Assign, Reduce, SetEntry, ReduceEntry, AddVertex, Apply, BlockTree, Empty, Then, DeclarationTree, Constant, Function}
+use Rattle.syntax.specs.SourceTrees.{StatementKindTree, Declare, While, For, If, IfElse, Print, Assign, Reduce, SetEntry, ReduceEntry, AddVertex, Apply, BlockTree, Empty, Then, DeclarationTree, Constant, Function}
 use Rattle.types.specs.Declaration.{main_bytes}
 
 abbrev mutual
   -- there is no `print` in what a statement does, at any depth
-  pub ActionPrintsNothing : ActionTree → Type 0
+  pub ActionPrintsNothing : StatementKindTree → Type 0
   ActionPrintsNothing (Declare at variable initial) = Unit {0}
   ActionPrintsNothing (While at test body) = BlockPrintsNothing body
   ActionPrintsNothing (For at name first limit body) = BlockPrintsNothing body

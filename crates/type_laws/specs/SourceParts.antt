@@ -3,12 +3,12 @@
 use Rattle.std.specs.Prelude.{ℕ, Bool, List, [], ◌∷◌, map, Option, Some, None}
 use Rattle.syntax.specs.ExpressionTrees.{ExpressionTree}
 use Rattle.syntax.specs.SourceTrees as source
-use Rattle.syntax.specs.SourceTrees.{ActionTree, BlockTree, DeclarationTree, EndsTree, InitialTree, ParameterTree, SourceTree}
+use Rattle.syntax.specs.SourceTrees.{StatementKindTree, BlockTree, DeclarationTree, EndsTree, InitialTree, ParameterTree, SourceTree}
 use Rattle.syntax.specs.Terminals.{Identifier}
 use Rattle.typed_tree.specs.declared.expression.Endpoint.{Endpoint}
 use Rattle.typed_tree.specs.declared.expression.Endpoint.TheVariants as endpoint
 use Rattle.typed_tree.specs.BlockTree.{Empty}
-use Rattle.typed_tree.specs.StepTree.{NoStep}
+use Rattle.typed_tree.specs.FunctionStatementTree.{NoStep}
 use Rattle.expression_types.specs.declared.scope.Entity.TheVariants as entity
 use Rattle.expression_types.specs.ScopeTree.{ScopeTree, entered}
 use Rattle.types.specs.Block.{action_typed, closed, statements_typed}
@@ -25,9 +25,9 @@ pub data Part : Type 0 where
   Declaration : DeclaredTree → DeclarationTree → Part
   Parameters : (weighted : Bool) → FunctionKindTree → CheckerTree → Endpoint → List ParameterTree → (result : Option ParameterTree) → Part
   MainBlock : CheckerTree → BlockTree → Part
-  MainStatement : CheckerTree → ActionTree → Part
+  MainStatement : CheckerTree → StatementKindTree → Part
   FunctionBlock : CheckerTree → BlockTree → Part
-  FunctionStatement : CheckerTree → ActionTree → Part
+  FunctionStatement : CheckerTree → StatementKindTree → Part
   Label : CheckerTree → Option Identifier → Part
   NewName : ScopeTree → Identifier → Part
   Initial : CheckerTree → ℕ → InitialTree → Part
@@ -69,7 +69,7 @@ apply_forms target ends function = form.Name target ∷ ends_before ends (form.N
 abbrev pub in_for : CheckerTree → Identifier → CheckerTree
 in_for c name = (declared_in c name (entity.LoopVariable (integer_slot c))).value
 
-abbrev pub main_statement_parts : CheckerTree → ActionTree → List Part
+abbrev pub main_statement_parts : CheckerTree → StatementKindTree → List Part
 main_statement_parts c (source.Declare at p initial) = Initial c at initial ∷ NewName c.scope p.name ∷ []
 main_statement_parts c (source.While at test body) = BoolWanted c.scope at test ∷ MainBlock c body ∷ []
 main_statement_parts c (source.For at name first limit body) =
@@ -88,7 +88,7 @@ main_statement_parts c (source.AddVertex set e) = name_of c.scope set.at set ∷
 main_statement_parts c (source.Apply target ends function) = map (InExpression c.scope target.at) (apply_forms target ends function)
 
 -- in a function of a user no part of a `print` is looked at
-abbrev pub function_statement_parts : CheckerTree → ActionTree → List Part
+abbrev pub function_statement_parts : CheckerTree → StatementKindTree → List Part
 function_statement_parts c (source.Declare at p initial) = Initial c at initial ∷ NewName c.scope p.name ∷ []
 function_statement_parts c (source.While at test body) = BoolWanted c.scope at test ∷ FunctionBlock c body ∷ []
 function_statement_parts c (source.For at name first limit body) =

@@ -5,7 +5,7 @@ use Rattle.syntax.specs.Terminals.{Identifier}
 use Rattle.syntax.specs.ExpressionTrees as tree
 use Rattle.syntax.specs.ExpressionTrees.{ExpressionTree, ConjunctionTree, ComparisonTree, SumTree, TermTree, UnaryTree, PrimaryTree}
 use Rattle.syntax.specs.SourceTrees as source
-use Rattle.syntax.specs.SourceTrees.{EndsTree, InitialTree, ActionTree, BlockTree, DeclarationTree}
+use Rattle.syntax.specs.SourceTrees.{EndsTree, InitialTree, StatementKindTree, BlockTree, DeclarationTree}
 use Rattle.type_laws.specs.NewNames.{names_behind, names_inside, with_declaration, with_new}
 
 abbrev pub IsVisible : List (List ℕ) → Identifier → Type 0
@@ -65,7 +65,7 @@ InitialUsesVisible visible (source.ApplyModified edges ends function vector) =
 InitialUsesVisible visible (source.Value e) = ExpressionUsesVisible visible e
 
 abbrev mutual
-  pub ActionUsesVisible : List (List ℕ) → ActionTree → Type 0
+  pub ActionUsesVisible : List (List ℕ) → StatementKindTree → Type 0
   ActionUsesVisible visible (source.Declare at variable initial) = InitialUsesVisible visible initial
   ActionUsesVisible visible (source.While at test body) = ExpressionUsesVisible visible test × BlockUsesVisible visible body
   ActionUsesVisible visible (source.For at name first limit body) =

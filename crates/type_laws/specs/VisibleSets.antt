@@ -6,7 +6,7 @@ use Rattle.typed_tree.specs.declared.statement.VertexFilter.TheVariants as filte
 use Rattle.typed_tree.specs.declared.statement.ApplyEnds.{ApplyEnds}
 use Rattle.typed_tree.specs.declared.statement.SetValue.{SetValue}
 use Rattle.typed_tree.specs.declared.statement.SetValue.TheVariants as set
-use Rattle.typed_tree.specs.BlockTree.{ActionTree, DeclareInteger, DeclareCondition, SetInteger, SetCondition, ReduceInteger, SetEntry, ReduceEntry, DeclareSet, AssignSet, AddVertex, PrintInteger, PrintCondition, ApplyVertex, ApplyEdges, If, IfElse, While, For}
+use Rattle.typed_tree.specs.BlockTree.{StatementKindTree, DeclareInteger, DeclareCondition, SetInteger, SetCondition, ReduceInteger, SetEntry, ReduceEntry, DeclareSet, AssignSet, AddVertex, PrintInteger, PrintCondition, ApplyVertex, ApplyEdges, If, IfElse, While, For}
 use Rattle.typed_tree.specs.Independence.{are_same}
 use Rattle.typed_tree.specs.ProgramTree.{ProgramTree}
 use Rattle.type_laws.specs.EachStatement.{SetNames, HoldsOfEach, names_before}
@@ -41,7 +41,7 @@ ValueIsVisible names (set.Modified ends function vector) = EndsAreVisible names 
 
 -- Each set is visible that a statement changes, filters, applies a vertex function to or has as an end of an edge apply; and one that it
 -- changes is a variable.
-abbrev pub SetsAreVisible : ProgramTree → SetNames → ActionTree → Type 0
+abbrev pub SetsAreVisible : ProgramTree → SetNames → StatementKindTree → Type 0
 SetsAreVisible p names (DeclareInteger name e) = Unit {0}
 SetsAreVisible p names (DeclareCondition name c) = Unit {0}
 SetsAreVisible p names (SetInteger slot e) = Unit {0}
@@ -62,7 +62,7 @@ SetsAreVisible p names (While c body) = Unit {0}
 SetsAreVisible p names (For name first end body) = Unit {0}
 
 -- so it is at a statement
-abbrev pub NamesSets : ProgramTree → SetNames → ActionTree → Type 0
+abbrev pub NamesSets : ProgramTree → SetNames → StatementKindTree → Type 0
 NamesSets p names action = AreApart p names × SetsAreVisible p names action
 
 -- and at each statement of main

@@ -4,7 +4,7 @@ use Rattle.std.specs.Prelude.{◌≡◌, ◌≢◌, ◌⊎◌, pos, List, [], �
 use Rattle.syntax.specs.declared.declaration.DeclaredType.{DeclaredType}
 use Rattle.syntax.specs.declared.declaration.DeclaredType.TheVariants as declared
 use Rattle.syntax.specs.SourceTrees as source
-use Rattle.syntax.specs.SourceTrees.{InitialTree, ParameterTree, ActionTree, BlockTree, DeclarationTree}
+use Rattle.syntax.specs.SourceTrees.{InitialTree, ParameterTree, StatementKindTree, BlockTree, DeclarationTree}
 use Rattle.types.specs.Declaration.{main_bytes}
 use Rattle.types.specs.Literal.{literal_condition, literal_integer}
 
@@ -60,7 +60,7 @@ IsNumberOrTruth declared.WeightedEdgeSet = ⊥
 
 abbrev mutual
   -- A function of a user holds declarations, `if`, assignments and reductions. It sets entries of vectors, or reduces them, where its kind may.
-  pub ActionFits : (Sets Reduces : Type 0) → ActionTree → Type 0
+  pub ActionFits : (Sets Reduces : Type 0) → StatementKindTree → Type 0
   ActionFits Sets Reduces (source.Declare at variable initial) = IsNumberOrTruth variable.declared
   ActionFits Sets Reduces (source.While at test body) = ⊥
   ActionFits Sets Reduces (source.For at name first limit body) = ⊥

@@ -7,11 +7,11 @@ use Rattle.typed_tree.specs.declared.accesses.Access.{Access}
 use Rattle.typed_tree.specs.declared.accesses.Access.TheVariants.{ReadAtVertex, ReadAtIndex, ReadSet, Write}
 use Rattle.typed_tree.specs.declared.statement.VertexFilter.{VertexFilter}
 use Rattle.typed_tree.specs.declared.statement.VertexFilter.TheVariants as end
-use Rattle.typed_tree.specs.IntegerTree.{IntegerTree}
-use Rattle.typed_tree.specs.IntegerTree as integer
-use Rattle.typed_tree.specs.ConditionTree.{ConditionTree}
-use Rattle.typed_tree.specs.ConditionTree as condition
-use Rattle.typed_tree.specs.StepTree.{FunctionTree, StepTree, StepsTree, DeclareInteger, DeclareCondition, SetInteger, SetCondition, ReduceInteger, SetEntry, ReduceEntry, If, IfElse, NoStep, StepThen}
+use Rattle.typed_tree.specs.IntExpressionTree.{IntExpressionTree}
+use Rattle.typed_tree.specs.IntExpressionTree as integer
+use Rattle.typed_tree.specs.BoolExpressionTree.{BoolExpressionTree}
+use Rattle.typed_tree.specs.BoolExpressionTree as condition
+use Rattle.typed_tree.specs.FunctionStatementTree.{FunctionTree, FunctionStatementTree, FunctionStatementsTree, DeclareInteger, DeclareCondition, SetInteger, SetCondition, ReduceInteger, SetEntry, ReduceEntry, If, IfElse, NoStep, StepThen}
 use Rattle.typed_tree.specs.Fold.{all_pass, condition_fold, end_fold, function_fold, gathered, integer_fold, step_fold, steps_fold, steps_fold_where}
 
 -- an access passes where all that it gives passes
@@ -19,7 +19,7 @@ module _ (passes : Access → Bool) (gives : Access → List ℕ) (P : ℕ → B
   two : (a b : Bool) (xs ys : List ℕ) → a ≡ list_all P xs → b ≡ list_all P ys → a && b ≡ list_all P (xs ++ ys)
   two a b xs ys first second = (λ i. first i && second i) ∙ sym (list_all-append P xs ys)
 
-  pub integer_gathered : (e : IntegerTree) → integer_fold (all_pass passes) e ≡ list_all P (integer_fold (gathered gives) e)
+  pub integer_gathered : (e : IntExpressionTree) → integer_fold (all_pass passes) e ≡ list_all P (integer_fold (gathered gives) e)
   integer_gathered (integer.Number n) = refl
   integer_gathered (integer.Constant name n) = refl
   integer_gathered (integer.Variable slot) = refl
@@ -31,7 +31,7 @@ module _ (passes : Access → Bool) (gives : Access → List ℕ) (P : ℕ → B
   integer_gathered (integer.Negative e) = integer_gathered e
   integer_gathered (integer.Arithmetic operator a b) = two _ _ (integer_fold (gathered gives) a) (integer_fold (gathered gives) b) (integer_gathered a) (integer_gathered b)
 
-  pub condition_gathered : (c : ConditionTree) → condition_fold (all_pass passes) c ≡ list_all P (condition_fold (gathered gives) c)
+  pub condition_gathered : (c : BoolExpressionTree) → condition_fold (all_pass passes) c ≡ list_all P (condition_fold (gathered gives) c)
   condition_gathered (condition.Literal b) = refl
   condition_gathered (condition.Constant name b) = refl
   condition_gathered (condition.Variable slot) = refl
@@ -40,7 +40,7 @@ module _ (passes : Access → Bool) (gives : Access → List ℕ) (P : ℕ → B
   condition_gathered (condition.Connect connective a b) = two _ _ (condition_fold (gathered gives) a) (condition_fold (gathered gives) b) (condition_gathered a) (condition_gathered b)
 
   mutual
-    pub step_gathered : (step : StepTree) → step_fold (all_pass passes) step ≡ list_all P (step_fold (gathered gives) step)
+    pub step_gathered : (step : FunctionStatementTree) → step_fold (all_pass passes) step ≡ list_all P (step_fold (gathered gives) step)
     step_gathered (DeclareInteger name e) = integer_gathered e
     step_gathered (DeclareCondition name c) = condition_gathered c
     step_gathered (SetInteger slot e) = integer_gathered e
@@ -53,7 +53,7 @@ module _ (passes : Access → Bool) (gives : Access → List ℕ) (P : ℕ → B
         two _ _ (condition_fold (gathered gives) c) (steps_fold (gathered gives) body ++ steps_fold (gathered gives) other) (condition_gathered c)
         (two _ _ (steps_fold (gathered gives) body) (steps_fold (gathered gives) other) (steps_gathered body) (steps_gathered other))
 
-    pub steps_gathered : (steps : StepsTree) → steps_fold (all_pass passes) steps ≡ list_all P (steps_fold (gathered gives) steps)
+    pub steps_gathered : (steps : FunctionStatementsTree) → steps_fold (all_pass passes) steps ≡ list_all P (steps_fold (gathered gives) steps)
     steps_gathered NoStep = refl
     steps_gathered (StepThen step rest) = two _ _ (step_fold (gathered gives) step) (steps_fold (gathered gives) rest) (step_gathered step) (steps_gathered rest)
 

@@ -4,8 +4,8 @@ use Rattle.typed_tree.specs.declared.accesses.Access.{Access}
 use Rattle.typed_tree.specs.declared.expression.Operand.{Operand}
 use Rattle.typed_tree.specs.declared.expression.Connective.{Connective}
 use Rattle.typed_tree.specs.declared.expression.BoolExpression.{BoolExpression}
-use Rattle.typed_tree.specs.IntegerTree.{IntegerTree, Arithmetic, integer_tree, negated, operands_tree}
-use Rattle.typed_tree.specs.ConditionTree.{ConditionTree, Connect, condition_tree, turned, conditions_tree}
+use Rattle.typed_tree.specs.IntExpressionTree.{IntExpressionTree, Arithmetic, int_expression_tree, negated, operands_tree}
+use Rattle.typed_tree.specs.BoolExpressionTree.{BoolExpressionTree, Connect, bool_expression_tree, turned, conditions_tree}
 use Rattle.typed_tree.specs.Fold.{all_pass, condition_fold, conditions_fold, integer_fold, operands_fold}
 
 and_true : (b : Bool) → b && true ≡ b
@@ -17,24 +17,24 @@ and_assoc true b c = refl
 and_assoc false b c = refl
 
 module _ (passes : Access → Bool) where
-  pub passes_negated : (signs : ℕ) (e : IntegerTree) → integer_fold (all_pass passes) e ≡ integer_fold (all_pass passes) (negated signs e)
+  pub passes_negated : (signs : ℕ) (e : IntExpressionTree) → integer_fold (all_pass passes) e ≡ integer_fold (all_pass passes) (negated signs e)
   passes_negated zero e = refl
   passes_negated (suc n) e = passes_negated n e
 
-  pub passes_turned : (turns : ℕ) (c : ConditionTree) → condition_fold (all_pass passes) c ≡ condition_fold (all_pass passes) (turned turns c)
+  pub passes_turned : (turns : ℕ) (c : BoolExpressionTree) → condition_fold (all_pass passes) c ≡ condition_fold (all_pass passes) (turned turns c)
   passes_turned zero c = refl
   passes_turned (suc n) c = passes_turned n c
 
-  pub passes_operands : (left : IntegerTree) (operands : List Operand)
+  pub passes_operands : (left : IntExpressionTree) (operands : List Operand)
       → integer_fold (all_pass passes) left && operands_fold (all_pass passes) operands ≡ integer_fold (all_pass passes) (operands_tree left operands)
   passes_operands left [] = and_true (integer_fold (all_pass passes) left)
   passes_operands left (o ∷ os) =
-      and_assoc (integer_fold (all_pass passes) left) (integer_fold (all_pass passes) (integer_tree o.integer)) (operands_fold (all_pass passes) os)
-      ∙ passes_operands (Arithmetic o.operator left (integer_tree o.integer)) os
+      and_assoc (integer_fold (all_pass passes) left) (integer_fold (all_pass passes) (int_expression_tree o.integer)) (operands_fold (all_pass passes) os)
+      ∙ passes_operands (Arithmetic o.operator left (int_expression_tree o.integer)) os
 
-  pub passes_conditions : (connective : Connective) (left : ConditionTree) (conditions : List BoolExpression)
+  pub passes_conditions : (connective : Connective) (left : BoolExpressionTree) (conditions : List BoolExpression)
       → condition_fold (all_pass passes) left && conditions_fold (all_pass passes) conditions ≡ condition_fold (all_pass passes) (conditions_tree connective left conditions)
   passes_conditions connective left [] = and_true (condition_fold (all_pass passes) left)
   passes_conditions connective left (c ∷ cs) =
-      and_assoc (condition_fold (all_pass passes) left) (condition_fold (all_pass passes) (condition_tree c)) (conditions_fold (all_pass passes) cs)
-      ∙ passes_conditions connective (Connect connective left (condition_tree c)) cs
+      and_assoc (condition_fold (all_pass passes) left) (condition_fold (all_pass passes) (bool_expression_tree c)) (conditions_fold (all_pass passes) cs)
+      ∙ passes_conditions connective (Connect connective left (bool_expression_tree c)) cs

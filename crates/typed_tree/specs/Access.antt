@@ -4,9 +4,9 @@ use Rattle.std.specs.Prelude.{◌==◌, ℕ, Bool, not, List, [], ◌∷◌, Opt
 use Rattle.typed_tree.specs.declared.accesses.Access.{Access}
 use Rattle.typed_tree.specs.declared.accesses.Access.TheVariants.{ReadAtVertex, ReadAtIndex, ReadSet, Write}
 use Rattle.typed_tree.specs.declared.statement.VertexFilter.{VertexFilter}
-use Rattle.typed_tree.specs.IntegerTree.{IntegerTree}
-use Rattle.typed_tree.specs.ConditionTree.{ConditionTree}
-use Rattle.typed_tree.specs.StepTree.{FunctionTree, StepTree, StepsTree}
+use Rattle.typed_tree.specs.IntExpressionTree.{IntExpressionTree}
+use Rattle.typed_tree.specs.BoolExpressionTree.{BoolExpressionTree}
+use Rattle.typed_tree.specs.FunctionStatementTree.{FunctionTree, FunctionStatementTree, FunctionStatementsTree}
 use Rattle.typed_tree.specs.Fold.{Fold, condition_fold, end_fold, function_fold, integer_fold, gathered, step_fold, steps_fold, steps_fold_where}
 
 -- the vector of which an entry is read or written
@@ -25,24 +25,24 @@ abbrev pub written : Fold (List ℕ)
 written = record used { expression = λ reads. [] }
 
 -- the vectors of which the expression reads entries
-abbrev pub integer_reads : IntegerTree → List ℕ
+abbrev pub integer_reads : IntExpressionTree → List ℕ
 integer_reads e = integer_fold used e
 
-abbrev pub condition_reads : ConditionTree → List ℕ
+abbrev pub condition_reads : BoolExpressionTree → List ℕ
 condition_reads c = condition_fold used c
 
 -- the vectors of which statements read or write entries
-abbrev pub step_uses : StepTree → List ℕ
+abbrev pub step_uses : FunctionStatementTree → List ℕ
 step_uses step = step_fold used step
 
-abbrev pub steps_use : StepsTree → List ℕ
+abbrev pub steps_use : FunctionStatementsTree → List ℕ
 steps_use steps = steps_fold used steps
 
 -- the vectors of which statements write entries
-abbrev pub step_writes : StepTree → List ℕ
+abbrev pub step_writes : FunctionStatementTree → List ℕ
 step_writes step = step_fold written step
 
-abbrev pub steps_write : StepsTree → List ℕ
+abbrev pub steps_write : FunctionStatementsTree → List ℕ
 steps_write steps = steps_fold written steps
 
 -- the same of the function at an index

@@ -7,63 +7,63 @@ use Rattle.typed_tree.specs.declared.statement.StatementKind.TheVariants as rust
 use Rattle.typed_tree.specs.declared.statement.ApplyEnds.{ApplyEnds}
 use Rattle.typed_tree.specs.declared.statement.SetValue.{SetValue}
 use Rattle.typed_tree.specs.declared.statement.MainStatement.{MainStatement}
-use Rattle.typed_tree.specs.IntegerTree.{IntegerTree, integer_tree}
-use Rattle.typed_tree.specs.ConditionTree.{ConditionTree, condition_tree}
+use Rattle.typed_tree.specs.IntExpressionTree.{IntExpressionTree, int_expression_tree}
+use Rattle.typed_tree.specs.BoolExpressionTree.{BoolExpressionTree, bool_expression_tree}
 
 mutual
   -- what a statement does
-  pub data ActionTree : Type 0 where
-    DeclareInteger : (name : ℕ) → IntegerTree → ActionTree
-    DeclareCondition : (name : ℕ) → ConditionTree → ActionTree
-    SetInteger : VarRef → IntegerTree → ActionTree
-    SetCondition : VarRef → ConditionTree → ActionTree
-    ReduceInteger : VarRef → Reduction → IntegerTree → ActionTree
-    SetEntry : (vector : ℕ) → (index value : IntegerTree) → ActionTree
-    ReduceEntry : (vector : ℕ) → (index : IntegerTree) → Reduction → (value : IntegerTree) → ActionTree
-    DeclareSet : (name : ℕ) → SetValue → ActionTree
-    AssignSet : VarRef → SetValue → ActionTree
-    AddVertex : VarRef → IntegerTree → ActionTree
-    PrintInteger : IntegerTree → ActionTree
-    PrintCondition : ConditionTree → ActionTree
-    ApplyVertex : (set : VarRef) → (function : ℕ) → ActionTree
-    ApplyEdges : ApplyEnds → (function : ℕ) → ActionTree
-    If : ConditionTree → BlockTree → ActionTree
-    IfElse : ConditionTree → (body other : BlockTree) → ActionTree
-    While : ConditionTree → BlockTree → ActionTree
-    For : (name : ℕ) → (first end : IntegerTree) → BlockTree → ActionTree
+  pub data StatementKindTree : Type 0 where
+    DeclareInteger : (name : ℕ) → IntExpressionTree → StatementKindTree
+    DeclareCondition : (name : ℕ) → BoolExpressionTree → StatementKindTree
+    SetInteger : VarRef → IntExpressionTree → StatementKindTree
+    SetCondition : VarRef → BoolExpressionTree → StatementKindTree
+    ReduceInteger : VarRef → Reduction → IntExpressionTree → StatementKindTree
+    SetEntry : (vector : ℕ) → (index value : IntExpressionTree) → StatementKindTree
+    ReduceEntry : (vector : ℕ) → (index : IntExpressionTree) → Reduction → (value : IntExpressionTree) → StatementKindTree
+    DeclareSet : (name : ℕ) → SetValue → StatementKindTree
+    AssignSet : VarRef → SetValue → StatementKindTree
+    AddVertex : VarRef → IntExpressionTree → StatementKindTree
+    PrintInteger : IntExpressionTree → StatementKindTree
+    PrintCondition : BoolExpressionTree → StatementKindTree
+    ApplyVertex : (set : VarRef) → (function : ℕ) → StatementKindTree
+    ApplyEdges : ApplyEnds → (function : ℕ) → StatementKindTree
+    If : BoolExpressionTree → BlockTree → StatementKindTree
+    IfElse : BoolExpressionTree → (body other : BlockTree) → StatementKindTree
+    While : BoolExpressionTree → BlockTree → StatementKindTree
+    For : (name : ℕ) → (first end : IntExpressionTree) → BlockTree → StatementKindTree
 
   -- statements in order, each with its number and its label
   pub data BlockTree : Type 0 where
     Empty : BlockTree
-    Then : (number : ℕ) → (label : Option ℕ) → ActionTree → BlockTree → BlockTree
+    Then : (number : ℕ) → (label : Option ℕ) → StatementKindTree → BlockTree → BlockTree
 
 -- the tree that a Rust tree is
 abbrev mutual
-  pub action_tree : StatementKind → ActionTree
-  action_tree (rust.DeclareInteger name e) = DeclareInteger name (integer_tree e)
-  action_tree (rust.DeclareCondition name c) = DeclareCondition name (condition_tree c)
-  action_tree (rust.SetInteger slot e) = SetInteger slot (integer_tree e)
-  action_tree (rust.SetCondition slot c) = SetCondition slot (condition_tree c)
-  action_tree (rust.ReduceInteger slot reduction e) = ReduceInteger slot reduction (integer_tree e)
-  action_tree (rust.SetEntry vector index value) = SetEntry vector (integer_tree index) (integer_tree value)
-  action_tree (rust.ReduceEntry vector index reduction value) = ReduceEntry vector (integer_tree index) reduction (integer_tree value)
-  action_tree (rust.DeclareSet name set) = DeclareSet name set
-  action_tree (rust.AssignSet slot set) = AssignSet slot set
-  action_tree (rust.AddVertex slot e) = AddVertex slot (integer_tree e)
-  action_tree (rust.PrintInteger e) = PrintInteger (integer_tree e)
-  action_tree (rust.PrintCondition c) = PrintCondition (condition_tree c)
-  action_tree (rust.ApplyVertex set function) = ApplyVertex set function
-  action_tree (rust.ApplyEdges ends function) = ApplyEdges ends function
-  action_tree (rust.If' c shape body) = If (condition_tree c) (row_tree body)
-  action_tree (rust.IfElse' c shape body shape' other) = IfElse (condition_tree c) (row_tree body) (row_tree other)
-  action_tree (rust.While' c shape body) = While (condition_tree c) (row_tree body)
-  action_tree (rust.For' name first end shape body) = For name (integer_tree first) (integer_tree end) (row_tree body)
+  pub statement_kind_tree : StatementKind → StatementKindTree
+  statement_kind_tree (rust.DeclareInteger name e) = DeclareInteger name (int_expression_tree e)
+  statement_kind_tree (rust.DeclareCondition name c) = DeclareCondition name (bool_expression_tree c)
+  statement_kind_tree (rust.SetInteger slot e) = SetInteger slot (int_expression_tree e)
+  statement_kind_tree (rust.SetCondition slot c) = SetCondition slot (bool_expression_tree c)
+  statement_kind_tree (rust.ReduceInteger slot reduction e) = ReduceInteger slot reduction (int_expression_tree e)
+  statement_kind_tree (rust.SetEntry vector index value) = SetEntry vector (int_expression_tree index) (int_expression_tree value)
+  statement_kind_tree (rust.ReduceEntry vector index reduction value) = ReduceEntry vector (int_expression_tree index) reduction (int_expression_tree value)
+  statement_kind_tree (rust.DeclareSet name set) = DeclareSet name set
+  statement_kind_tree (rust.AssignSet slot set) = AssignSet slot set
+  statement_kind_tree (rust.AddVertex slot e) = AddVertex slot (int_expression_tree e)
+  statement_kind_tree (rust.PrintInteger e) = PrintInteger (int_expression_tree e)
+  statement_kind_tree (rust.PrintCondition c) = PrintCondition (bool_expression_tree c)
+  statement_kind_tree (rust.ApplyVertex set function) = ApplyVertex set function
+  statement_kind_tree (rust.ApplyEdges ends function) = ApplyEdges ends function
+  statement_kind_tree (rust.If' c shape body) = If (bool_expression_tree c) (row_tree body)
+  statement_kind_tree (rust.IfElse' c shape body shape' other) = IfElse (bool_expression_tree c) (row_tree body) (row_tree other)
+  statement_kind_tree (rust.While' c shape body) = While (bool_expression_tree c) (row_tree body)
+  statement_kind_tree (rust.For' name first end shape body) = For name (int_expression_tree first) (int_expression_tree end) (row_tree body)
 
   -- the statements of a block inside a statement
   pub row_tree : {n : _} → Row_of-MainStatement n → BlockTree
   row_tree end_of-MainStatement = Empty
-  row_tree (more_of-MainStatement number label action rest) = Then number label (action_tree action) (row_tree rest)
+  row_tree (more_of-MainStatement number label action rest) = Then number label (statement_kind_tree action) (row_tree rest)
 
 abbrev pub block_tree : List MainStatement → BlockTree
 block_tree [] = Empty
-block_tree (s ∷ rest) = Then s.number s.label (action_tree s.action) (block_tree rest)
+block_tree (s ∷ rest) = Then s.number s.label (statement_kind_tree s.action) (block_tree rest)

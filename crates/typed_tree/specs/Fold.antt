@@ -6,11 +6,11 @@ use Rattle.typed_tree.specs.declared.expression.Operand.{Operand}
 use Rattle.typed_tree.specs.declared.expression.BoolExpression.{BoolExpression}
 use Rattle.typed_tree.specs.declared.statement.VertexFilter.{VertexFilter}
 use Rattle.typed_tree.specs.declared.statement.VertexFilter.TheVariants as end
-use Rattle.typed_tree.specs.IntegerTree.{IntegerTree, integer_tree}
-use Rattle.typed_tree.specs.IntegerTree as integer
-use Rattle.typed_tree.specs.ConditionTree.{ConditionTree, condition_tree}
-use Rattle.typed_tree.specs.ConditionTree as condition
-use Rattle.typed_tree.specs.StepTree.{FunctionTree, StepTree, StepsTree, DeclareInteger, DeclareCondition, SetInteger, SetCondition, ReduceInteger, SetEntry, ReduceEntry, If, IfElse, NoStep, StepThen}
+use Rattle.typed_tree.specs.IntExpressionTree.{IntExpressionTree, int_expression_tree}
+use Rattle.typed_tree.specs.IntExpressionTree as integer
+use Rattle.typed_tree.specs.BoolExpressionTree.{BoolExpressionTree, bool_expression_tree}
+use Rattle.typed_tree.specs.BoolExpressionTree as condition
+use Rattle.typed_tree.specs.FunctionStatementTree.{FunctionTree, FunctionStatementTree, FunctionStatementsTree, DeclareInteger, DeclareCondition, SetInteger, SetCondition, ReduceInteger, SetEntry, ReduceEntry, If, IfElse, NoStep, StepThen}
 
 -- what a walk gives
 pub record Fold (R : Type 0) : Type 0 where
@@ -32,7 +32,7 @@ abbrev pub all_pass : (Access → Bool) → Fold Bool
 all_pass passes = record { none = true; access = passes; join = λ a b. a && b; expression = λ a. a }
 
 module _ {R : Type 0} (f : Fold R) where
-  abbrev pub integer_fold : IntegerTree → R
+  abbrev pub integer_fold : IntExpressionTree → R
   integer_fold (integer.Number n) = f.none
   integer_fold (integer.Constant name n) = f.none
   integer_fold (integer.Variable slot) = f.none
@@ -44,7 +44,7 @@ module _ {R : Type 0} (f : Fold R) where
   integer_fold (integer.Negative e) = integer_fold e
   integer_fold (integer.Arithmetic operator a b) = f.join (integer_fold a) (integer_fold b)
 
-  abbrev pub condition_fold : ConditionTree → R
+  abbrev pub condition_fold : BoolExpressionTree → R
   condition_fold (condition.Literal b) = f.none
   condition_fold (condition.Constant name b) = f.none
   condition_fold (condition.Variable slot) = f.none
@@ -53,7 +53,7 @@ module _ {R : Type 0} (f : Fold R) where
   condition_fold (condition.Connect connective a b) = f.join (condition_fold a) (condition_fold b)
 
   abbrev mutual
-    pub step_fold : StepTree → R
+    pub step_fold : FunctionStatementTree → R
     step_fold (DeclareInteger name e) = f.expression (integer_fold e)
     step_fold (DeclareCondition name c) = f.expression (condition_fold c)
     step_fold (SetInteger slot e) = f.expression (integer_fold e)
@@ -64,7 +64,7 @@ module _ {R : Type 0} (f : Fold R) where
     step_fold (If c body) = f.join (f.expression (condition_fold c)) (steps_fold body)
     step_fold (IfElse c body other) = f.join (f.expression (condition_fold c)) (f.join (steps_fold body) (steps_fold other))
 
-    pub steps_fold : StepsTree → R
+    pub steps_fold : FunctionStatementsTree → R
     steps_fold NoStep = f.none
     steps_fold (StepThen step rest) = f.join (step_fold step) (steps_fold rest)
 
@@ -85,8 +85,8 @@ module _ {R : Type 0} (f : Fold R) where
   -- for proofs only: the same of operands, and of conditions, in a row
   abbrev pub operands_fold : List Operand → R
   operands_fold [] = f.none
-  operands_fold (o ∷ os) = f.join (integer_fold (integer_tree o.integer)) (operands_fold os)
+  operands_fold (o ∷ os) = f.join (integer_fold (int_expression_tree o.integer)) (operands_fold os)
 
   abbrev pub conditions_fold : List BoolExpression → R
   conditions_fold [] = f.none
-  conditions_fold (c ∷ cs) = f.join (condition_fold (condition_tree c)) (conditions_fold cs)
+  conditions_fold (c ∷ cs) = f.join (condition_fold (bool_expression_tree c)) (conditions_fold cs)

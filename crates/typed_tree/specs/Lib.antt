@@ -1,6 +1,6 @@
-pub mod IntegerTree
-pub mod ConditionTree
-pub mod StepTree
+pub mod IntExpressionTree
+pub mod BoolExpressionTree
+pub mod FunctionStatementTree
 pub mod BlockTree
 pub mod ProgramTree
 pub mod Resolved

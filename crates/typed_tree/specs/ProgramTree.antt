@@ -4,7 +4,7 @@ use Rattle.apply_options.specs.declared.setting.Setting.{Setting}
 use Rattle.typed_tree.specs.declared.program.Typed.{Typed}
 use Rattle.typed_tree.specs.declared.program.Vector.{Vector}
 use Rattle.typed_tree.specs.declared.program.ScheduleCall.{ScheduleCall}
-use Rattle.typed_tree.specs.StepTree.{FunctionTree, function_tree}
+use Rattle.typed_tree.specs.FunctionStatementTree.{FunctionTree, function_tree}
 use Rattle.typed_tree.specs.BlockTree.{BlockTree, block_tree}
 
 -- a call of the schedule, at the offset of its first token

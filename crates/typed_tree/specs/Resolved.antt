@@ -10,14 +10,14 @@ use Rattle.typed_tree.specs.declared.statement.VertexFilter.TheVariants as filte
 use Rattle.typed_tree.specs.declared.statement.ApplyEnds.{ApplyEnds}
 use Rattle.typed_tree.specs.declared.statement.SetValue.{SetValue}
 use Rattle.typed_tree.specs.declared.statement.SetValue.TheVariants as set
-use Rattle.typed_tree.specs.IntegerTree as integer
-use Rattle.typed_tree.specs.IntegerTree.{IntegerTree}
-use Rattle.typed_tree.specs.ConditionTree as condition
-use Rattle.typed_tree.specs.ConditionTree.{ConditionTree}
-use Rattle.typed_tree.specs.StepTree as step
-use Rattle.typed_tree.specs.StepTree.{FunctionTree, StepTree, StepsTree}
+use Rattle.typed_tree.specs.IntExpressionTree as integer
+use Rattle.typed_tree.specs.IntExpressionTree.{IntExpressionTree}
+use Rattle.typed_tree.specs.BoolExpressionTree as condition
+use Rattle.typed_tree.specs.BoolExpressionTree.{BoolExpressionTree}
+use Rattle.typed_tree.specs.FunctionStatementTree as step
+use Rattle.typed_tree.specs.FunctionStatementTree.{FunctionTree, FunctionStatementTree, FunctionStatementsTree}
 use Rattle.typed_tree.specs.BlockTree as action
-use Rattle.typed_tree.specs.BlockTree.{ActionTree, BlockTree}
+use Rattle.typed_tree.specs.BlockTree.{StatementKindTree, BlockTree}
 use Rattle.typed_tree.specs.ProgramTree.{ProgramTree}
 
 -- What is visible at a point of a program, at its index: the names of the integers, of the conditions and of the vertex sets, of which
@@ -93,7 +93,7 @@ IsLabel p None = Unit {0}
 IsLabel p (Some label) = label < length p.labels
 
 -- all that an expression speaks of is there; an edge's weight is where the edge has a destination
-abbrev pub IntegerIsResolved : ProgramTree → VisibleTree → IntegerTree → Type 0
+abbrev pub IntegerIsResolved : ProgramTree → VisibleTree → IntExpressionTree → Type 0
 IntegerIsResolved p v (integer.Number n) = Unit {0}
 IntegerIsResolved p v (integer.Constant name n) = IsName p name
 IntegerIsResolved p v (integer.Variable slot) = IsInteger p v slot
@@ -105,7 +105,7 @@ IntegerIsResolved p v (integer.SetSize slot) = IsSet p v slot
 IntegerIsResolved p v (integer.Negative e) = IntegerIsResolved p v e
 IntegerIsResolved p v (integer.Arithmetic operator left right) = IntegerIsResolved p v left × IntegerIsResolved p v right
 
-abbrev pub ConditionIsResolved : ProgramTree → VisibleTree → ConditionTree → Type 0
+abbrev pub ConditionIsResolved : ProgramTree → VisibleTree → BoolExpressionTree → Type 0
 ConditionIsResolved p v (condition.Literal b) = Unit {0}
 ConditionIsResolved p v (condition.Constant name b) = IsName p name
 ConditionIsResolved p v (condition.Variable slot) = IsCondition p v slot
@@ -131,7 +131,7 @@ SetIsResolved p v (set.Filter slot index) = IsSet p v slot × IsFilter p index
 SetIsResolved p v (set.Modified ends function vector) = EndsAreResolved p v ends × IsEdgeFunction p function × IsVector p vector
 
 -- after a statement of a function
-abbrev pub behind_step : StepTree → VisibleTree → VisibleTree
+abbrev pub behind_step : FunctionStatementTree → VisibleTree → VisibleTree
 behind_step (step.DeclareInteger name e) v = with_integer name v
 behind_step (step.DeclareCondition name c) v = with_condition name v
 behind_step (step.SetInteger slot e) v = v
@@ -143,7 +143,7 @@ behind_step (step.If c body) v = v
 behind_step (step.IfElse c body other) v = v
 
 abbrev mutual
-  pub StepIsResolved : ProgramTree → VisibleTree → StepTree → Type 0
+  pub StepIsResolved : ProgramTree → VisibleTree → FunctionStatementTree → Type 0
   StepIsResolved p v (step.DeclareInteger name e) = IsName p name × IntegerIsResolved p v e
   StepIsResolved p v (step.DeclareCondition name c) = IsName p name × ConditionIsResolved p v c
   StepIsResolved p v (step.SetInteger slot e) = IsInteger p v slot × IntegerIsResolved p v e
@@ -155,12 +155,12 @@ abbrev mutual
   StepIsResolved p v (step.IfElse c body other) = ConditionIsResolved p v c × StepsAreResolved p v body × StepsAreResolved p v other
 
   -- each statement, at what is visible after those before it
-  pub StepsAreResolved : ProgramTree → VisibleTree → StepsTree → Type 0
+  pub StepsAreResolved : ProgramTree → VisibleTree → FunctionStatementsTree → Type 0
   StepsAreResolved p v step.NoStep = Unit {0}
   StepsAreResolved p v (step.StepThen first others) = StepIsResolved p v first × StepsAreResolved p (behind_step first v) others
 
 -- after a statement of main
-abbrev pub behind_action : ActionTree → VisibleTree → VisibleTree
+abbrev pub behind_action : StatementKindTree → VisibleTree → VisibleTree
 behind_action (action.DeclareInteger name e) v = with_integer name v
 behind_action (action.DeclareCondition name c) v = with_condition name v
 behind_action (action.SetInteger slot e) v = v
@@ -181,7 +181,7 @@ behind_action (action.While c body) v = v
 behind_action (action.For name first end body) v = v
 
 abbrev mutual
-  pub ActionIsResolved : ProgramTree → VisibleTree → ActionTree → Type 0
+  pub ActionIsResolved : ProgramTree → VisibleTree → StatementKindTree → Type 0
   ActionIsResolved p v (action.DeclareInteger name e) = IsName p name × IntegerIsResolved p v e
   ActionIsResolved p v (action.DeclareCondition name c) = IsName p name × ConditionIsResolved p v c
   ActionIsResolved p v (action.SetInteger slot e) = IsInteger p v slot × IntegerIsResolved p v e

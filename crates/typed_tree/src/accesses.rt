@@ -1,9 +1,9 @@
 //! Accesses of functions: what they read and write besides their own variables.
 ghost use Rattle.std.specs.Prelude.{◌≡◌, ◌++◌, Bool, map, OnOk};
 ghost use Rattle.typed_tree.specs.declared.accesses.Access.{Access};
-ghost use Rattle.typed_tree.specs.IntegerTree.{integer_tree};
-ghost use Rattle.typed_tree.specs.ConditionTree.{condition_tree};
-ghost use Rattle.typed_tree.specs.StepTree.{function_tree, step_tree, steps_tree};
+ghost use Rattle.typed_tree.specs.IntExpressionTree.{int_expression_tree};
+ghost use Rattle.typed_tree.specs.BoolExpressionTree.{bool_expression_tree};
+ghost use Rattle.typed_tree.specs.FunctionStatementTree.{function_tree, function_statement_tree, function_statements_tree};
 ghost use Rattle.typed_tree.specs.Fold.{all_pass, condition_fold, conditions_fold, end_fold, function_fold, integer_fold, operands_fold, step_fold, steps_fold};
 ghost use Rattle.typed_tree.specs.Access.{function_writes, step_writes, steps_write};
 
@@ -38,7 +38,7 @@ pub trait AccessTest {
 #[cycle(integers)]
 #[tactic(auto, using(crate::proofs::Rows::passes_negated))]
 fn integer_passes<T: AccessTest>(e: &IntExpression, test: &T) -> bool
-    ensures { result ≡ integer_fold (all_pass (T.passes test.now)) (integer_tree e.now) }
+    ensures { result ≡ integer_fold (all_pass (T.passes test.now)) (int_expression_tree e.now) }
 {
     match e {
         IntExpression::Number(_)
@@ -75,7 +75,7 @@ fn operands_pass<T: AccessTest>(operands: &[Operand], test: &T) -> bool
 #[cycle(conditions)]
 #[tactic(auto, using(crate::proofs::Rows::passes_turned))]
 fn condition_passes<T: AccessTest>(c: &BoolExpression, test: &T) -> bool
-    ensures { result ≡ condition_fold (all_pass (T.passes test.now)) (condition_tree c.now) }
+    ensures { result ≡ condition_fold (all_pass (T.passes test.now)) (bool_expression_tree c.now) }
 {
     match c {
         BoolExpression::Literal(_) | BoolExpression::Constant(_, _) | BoolExpression::Variable(_) =>
@@ -106,7 +106,7 @@ fn conditions_pass<T: AccessTest>(conditions: &[BoolExpression], test: &T) -> bo
 /// Whether each access of the statements passes.
 #[cycle(steps)]
 fn steps_pass<T: AccessTest>(steps: &[FunctionStatement], test: &T) -> bool
-    ensures { result ≡ steps_fold (all_pass (T.passes test.now)) (steps_tree steps.now) }
+    ensures { result ≡ steps_fold (all_pass (T.passes test.now)) (function_statements_tree steps.now) }
 {
     'steps: for step in steps {
         if !step_passes(step, test) {
@@ -119,7 +119,7 @@ fn steps_pass<T: AccessTest>(steps: &[FunctionStatement], test: &T) -> bool
 /// The same of one statement.
 #[cycle(steps)]
 fn step_passes<T: AccessTest>(step: &FunctionStatement, test: &T) -> bool
-    ensures { result ≡ step_fold (all_pass (T.passes test.now)) (step_tree step.now) }
+    ensures { result ≡ step_fold (all_pass (T.passes test.now)) (function_statement_tree step.now) }
 {
     match step {
         FunctionStatement::DeclareInteger(_, e)
@@ -178,7 +178,7 @@ fn push_written_by_all(
     steps: &[FunctionStatement],
     vectors: &mut Vec<usize>,
 ) -> Result<(), AllocError>
-    ensures { OnOk result (vectors.new.items ≡ vectors.old.items ++ steps_write (steps_tree steps.now)) }
+    ensures { OnOk result (vectors.new.items ≡ vectors.old.items ++ steps_write (function_statements_tree steps.now)) }
 {
     'steps: for step in steps {
         push_written_by(step, vectors)?;
@@ -188,7 +188,7 @@ fn push_written_by_all(
 
 #[cycle(writes)]
 fn push_written_by(step: &FunctionStatement, vectors: &mut Vec<usize>) -> Result<(), AllocError>
-    ensures { OnOk result (vectors.new.items ≡ vectors.old.items ++ step_writes (step_tree step.now)) }
+    ensures { OnOk result (vectors.new.items ≡ vectors.old.items ++ step_writes (function_statement_tree step.now)) }
 {
     match step {
         FunctionStatement::SetEntry(vector, _) | FunctionStatement::ReduceEntry(vector, _, _) => {

@@ -8,7 +8,7 @@
 //! A named constant keeps its name beside its value, and a statement its number and its label.
 //!
 //! Each Rust type is plain data. Contracts speak of pure trees, which have no pointers: each file of
-//! `specs/` defines one kind, as `IntegerTree` or `BlockTree`, and says which one a Rust tree is. A
+//! `specs/` defines one kind, as `IntExpressionTree` or `BlockTree`, and says which one a Rust tree is. A
 //! [`Sequence`] is a `Vec` that contracts see as a list. Operators in a row are one list in the Rust tree, and
 //! signs in a row one count, so that no code recurses by their number; the pure trees nest.
 //!

@@ -16,8 +16,8 @@ use Rattle.syntax.specs.SourceTrees.{ParameterTree, InitialTree, DeclarationTree
 use Rattle.typed_tree.specs.declared.expression.Endpoint.{Endpoint}
 use Rattle.typed_tree.specs.declared.expression.Endpoint.TheVariants as endpoint
 use Rattle.typed_tree.specs.BlockTree.{BlockTree, Empty}
-use Rattle.typed_tree.specs.IntegerTree.{IntegerTree}
-use Rattle.typed_tree.specs.StepTree.{FunctionTree, StepTree, StepsTree, DeclareInteger, DeclareCondition, SetInteger, SetCondition, ReduceInteger, SetEntry, ReduceEntry, If, IfElse, NoStep, StepThen}
+use Rattle.typed_tree.specs.IntExpressionTree.{IntExpressionTree}
+use Rattle.typed_tree.specs.FunctionStatementTree.{FunctionTree, FunctionStatementTree, FunctionStatementsTree, DeclareInteger, DeclareCondition, SetInteger, SetCondition, ReduceInteger, SetEntry, ReduceEntry, If, IfElse, NoStep, StepThen}
 use Rattle.expression_types.specs.declared.scope.Entity.{Entity}
 use Rattle.expression_types.specs.declared.scope.Entity.TheVariants as entity
 use Rattle.expression_types.specs.declared.scope.Inside.{Inside}
@@ -45,7 +45,7 @@ Extends old new = (vector : ℕ) (by : Reduction) → lookup (nat_eq vector) old
 
 abbrev mutual
   -- no entry is set, and each is reduced as is written
-  pub StepAgrees : Writes → StepTree → Type 0
+  pub StepAgrees : Writes → FunctionStatementTree → Type 0
   StepAgrees writes (DeclareInteger name e) = Unit {0}
   StepAgrees writes (DeclareCondition name c) = Unit {0}
   StepAgrees writes (SetInteger slot e) = Unit {0}
@@ -56,12 +56,12 @@ abbrev mutual
   StepAgrees writes (If c body) = StepsAgree writes body
   StepAgrees writes (IfElse c body other) = StepsAgree writes body × StepsAgree writes other
 
-  pub StepsAgree : Writes → StepsTree → Type 0
+  pub StepsAgree : Writes → FunctionStatementsTree → Type 0
   StepsAgree writes NoStep = Unit {0}
   StepsAgree writes (StepThen step others) = StepAgrees writes step × StepsAgree writes others
 
 mutual
-  step_extends : (old new : Writes) (step : StepTree) → Extends old new → StepAgrees old step → StepAgrees new step
+  step_extends : (old new : Writes) (step : FunctionStatementTree) → Extends old new → StepAgrees old step → StepAgrees new step
   step_extends old new (DeclareInteger name e) more agrees = tt
   step_extends old new (DeclareCondition name c) more agrees = tt
   step_extends old new (SetInteger slot e) more agrees = tt
@@ -72,11 +72,11 @@ mutual
   step_extends old new (If c body) more agrees = steps_extend old new body more agrees
   step_extends old new (IfElse c body other) more agrees = (steps_extend old new body more agrees.0, steps_extend old new other more agrees.1)
 
-  steps_extend : (old new : Writes) (steps : StepsTree) → Extends old new → StepsAgree old steps → StepsAgree new steps
+  steps_extend : (old new : Writes) (steps : FunctionStatementsTree) → Extends old new → StepsAgree old steps → StepsAgree new steps
   steps_extend old new NoStep more agree = tt
   steps_extend old new (StepThen step others) more agree = (step_extends old new step more agree.0, steps_extend old new others more agree.1)
 
-agree_behind : (writes : Writes) (steps : StepsTree) (step : StepTree) → StepsAgree writes steps → StepAgrees writes step → StepsAgree writes (step_behind steps step)
+agree_behind : (writes : Writes) (steps : FunctionStatementsTree) (step : FunctionStatementTree) → StepsAgree writes steps → StepAgrees writes step → StepsAgree writes (step_behind steps step)
 agree_behind writes NoStep step agree agrees = (agrees, tt)
 agree_behind writes (StepThen s others) step agree agrees = (agree.0, agree_behind writes others step agree.1 agrees)
 
@@ -106,7 +106,7 @@ labelled_goes c None = stays c
 labelled_goes c (Some label) = new_label_goes c label (found label.bytes c.labels)
 
 -- what a statement is, and the checker after it
-abbrev pub Fits : CheckerTree → StepTree × CheckerTree → Type 0
+abbrev pub Fits : CheckerTree → FunctionStatementTree × CheckerTree → Type 0
 Fits c r = GoesOn c r.1 × StepAgrees r.1.writes r.0
 
 declare_fits : (c : CheckerTree) (at : ℕ) (name : Identifier) (initializer : InitializerTree) (type : DeclaredType) → Fits c (declare_step_as c at name initializer type).value
@@ -126,11 +126,11 @@ reduced_agrees : (writes : Writes) (at : ℕ) (by : Reduction) (v : ValueTree) (
 reduced_agrees writes at by v (entity.Edges weights) = tt
 reduced_agrees writes at by v _ = tt
 
-no_entry_set : (writes : Writes) (own : Bool) (vector : Option ℕ) (e : IntegerTree) → StepAgrees writes (entry_step false own vector e)
+no_entry_set : (writes : Writes) (own : Bool) (vector : Option ℕ) (e : IntExpressionTree) → StepAgrees writes (entry_step false own vector e)
 no_entry_set writes own None e = tt
 no_entry_set writes own (Some vector) e = tt
 
-set_agrees : (writes : Writes) (at : ℕ) (own : Bool) (vector : Option ℕ) (e : IntegerTree) (i : Inside) → i ≡ inside.EdgeFunction
+set_agrees : (writes : Writes) (at : ℕ) (own : Bool) (vector : Option ℕ) (e : IntExpressionTree) (i : Inside) → i ≡ inside.EdgeFunction
     → StepAgrees writes (entry_step (may_set at i).value own vector e)
 set_agrees writes at own vector e i is = subst (λ i. StepAgrees writes (entry_step (may_set at i).value own vector e)) (sym is) (no_entry_set writes own vector e)
 
@@ -155,21 +155,21 @@ lookup_last test (e ∷ others) more is =
 lookup_one : (vector : ℕ) (by : Reduction) → lookup (nat_eq vector) ((vector, by) ∷ []) ≡ Some by
 lookup_one vector by = ap (λ b. cond b (Some by) None) (eq-eqb vector vector refl)
 
-may_reduce_so : (writes : Writes) (vector : ℕ) (by : Reduction) (x : IntegerTree) (own : Bool) → lookup (nat_eq vector) writes ≡ Some by
+may_reduce_so : (writes : Writes) (vector : ℕ) (by : Reduction) (x : IntExpressionTree) (own : Bool) → lookup (nat_eq vector) writes ≡ Some by
     → StepAgrees writes (reduction_step true own (Some vector) by x)
 may_reduce_so writes vector by x true is = is
 may_reduce_so writes vector by x false is = tt
 
-may_not_reduce : (writes : Writes) (vector : Option ℕ) (by : Reduction) (x : IntegerTree) (own : Bool)
+may_not_reduce : (writes : Writes) (vector : Option ℕ) (by : Reduction) (x : IntExpressionTree) (own : Bool)
     → StepAgrees writes (reduction_step false own vector by x)
 may_not_reduce writes None by x own = tt
 may_not_reduce writes (Some vector) by x own = tt
 
 -- what a reduction adds to what is written, and what it is
-abbrev pub Reduces : Writes → Bool → Option ℕ → Reduction → IntegerTree → Bool × Writes → Type 0
+abbrev pub Reduces : Writes → Bool → Option ℕ → Reduction → IntExpressionTree → Bool × Writes → Type 0
 Reduces writes own vector by x may = Extends writes may.1 × StepAgrees may.1 (reduction_step may.0 own vector by x)
 
-reduced_again : (at : ℕ) (writes : Writes) (vector : ℕ) (x : IntegerTree) (own : Bool) (first by : Reduction) → lookup (nat_eq vector) writes ≡ Some first
+reduced_again : (at : ℕ) (writes : Writes) (vector : ℕ) (x : IntExpressionTree) (own : Bool) (first by : Reduction) → lookup (nat_eq vector) writes ≡ Some first
     → Reduces writes own (Some vector) by x (reduced_as at (same_reduction first by) writes).value
 reduced_again at writes vector x own reduction.Min reduction.Min is = (λ v b known. known, may_reduce_so writes vector reduction.Min x own is)
 reduced_again at writes vector x own reduction.Min reduction.Max is = (λ v b known. known, may_not_reduce writes (Some vector) reduction.Max x own)
@@ -181,7 +181,7 @@ reduced_again at writes vector x own reduction.Plus reduction.Min is = (λ v b k
 reduced_again at writes vector x own reduction.Plus reduction.Max is = (λ v b known. known, may_not_reduce writes (Some vector) reduction.Max x own)
 reduced_again at writes vector x own reduction.Plus reduction.Plus is = (λ v b known. known, may_reduce_so writes vector reduction.Plus x own is)
 
-reduced_with : (at : ℕ) (writes : Writes) (vector : ℕ) (by : Reduction) (x : IntegerTree) (own : Bool) (old : Option Reduction) → lookup (nat_eq vector) writes ≡ old
+reduced_with : (at : ℕ) (writes : Writes) (vector : ℕ) (by : Reduction) (x : IntExpressionTree) (own : Bool) (old : Option Reduction) → lookup (nat_eq vector) writes ≡ old
     → Reduces writes own (Some vector) by x (written_with at vector by writes old).value
 reduced_with at writes vector by x own None is = (
   λ v b known. lookup_first (nat_eq v) writes ((vector, by) ∷ []) b known,
@@ -189,12 +189,12 @@ reduced_with at writes vector by x own None is = (
 )
 reduced_with at writes vector by x own (Some first) is = reduced_again at writes vector x own first by is
 
-reduced_once : (at : ℕ) (writes : Writes) (vector : Option ℕ) (by : Reduction) (x : IntegerTree) (own : Bool)
+reduced_once : (at : ℕ) (writes : Writes) (vector : Option ℕ) (by : Reduction) (x : IntExpressionTree) (own : Bool)
     → Reduces writes own vector by x (one_reduction at vector by writes).value
 reduced_once at writes None by x own = (λ v b known. known, may_not_reduce writes None by x own)
 reduced_once at writes (Some vector) by x own = reduced_with at writes vector by x own (lookup (nat_eq vector) writes) refl
 
-entry_reduced : (at : ℕ) (writes : Writes) (vector : Option ℕ) (by : Reduction) (x : IntegerTree) (own : Bool) (i : Inside) → i ≡ inside.EdgeFunction
+entry_reduced : (at : ℕ) (writes : Writes) (vector : Option ℕ) (by : Reduction) (x : IntExpressionTree) (own : Bool) (i : Inside) → i ≡ inside.EdgeFunction
     → Reduces writes own vector by x (may_reduce at i vector by writes).value
 entry_reduced at writes vector by x own i is =
     subst (λ i. Reduces writes own vector by x (may_reduce at i vector by writes).value) (sym is) (reduced_once at writes vector by x own)
@@ -207,7 +207,7 @@ reduce_fits c at name index by e is =
     ((refl, all.0), all.1)
 
 -- statements, and the checker after them
-abbrev pub AllFit : CheckerTree → StepsTree × CheckerTree → Type 0
+abbrev pub AllFit : CheckerTree → FunctionStatementsTree × CheckerTree → Type 0
 AllFit c r = GoesOn c r.1 × StepsAgree r.1.writes r.0
 
 -- after a block the old scope stands again
@@ -215,7 +215,7 @@ block_goes : (c d : CheckerTree) → GoesOn c d → GoesOn c (steps_behind c d)
 block_goes c d goes = (refl, goes.1)
 
 mutual
-  step_fits : (c : CheckerTree) (action : source.ActionTree) → c.scope.inside ≡ inside.EdgeFunction → Fits c (step_typed c action).value
+  step_fits : (c : CheckerTree) (action : source.StatementKindTree) → c.scope.inside ≡ inside.EdgeFunction → Fits c (step_typed c action).value
   step_fits c (source.Declare at p initial) is = declare_fits c at p.name (initializer_of c at initial).value p.declared
   step_fits c (source.While at test body) is = (block_goes c (steps_typed c NoStep body).value.1 (steps_fit c NoStep body is tt).0, tt)
   step_fits c (source.For at name first limit body) is =
@@ -244,7 +244,7 @@ mutual
   step_fits c (source.AddVertex set e) is = (stays c, tt)
   step_fits c (source.Apply target ends function) is = (stays c, tt)
 
-  steps_fit : (c : CheckerTree) (so_far : StepsTree) (block : source.BlockTree) → c.scope.inside ≡ inside.EdgeFunction → StepsAgree c.writes so_far
+  steps_fit : (c : CheckerTree) (so_far : FunctionStatementsTree) (block : source.BlockTree) → c.scope.inside ≡ inside.EdgeFunction → StepsAgree c.writes so_far
       → AllFit c (steps_typed c so_far block).value
   steps_fit c so_far source.Empty is agree = (stays c, agree)
   steps_fit c so_far (source.Then label action others) is agree =
@@ -258,7 +258,7 @@ mutual
 
 -- what agrees with what is written
 mutual
-  reduced_as_written : (writes : Writes) (vector : ℕ) (by : Reduction) (step : StepTree) → StepAgrees writes step → StepReduces vector by step
+  reduced_as_written : (writes : Writes) (vector : ℕ) (by : Reduction) (step : FunctionStatementTree) → StepAgrees writes step → StepReduces vector by step
       → lookup (nat_eq vector) writes ≡ Some by
   reduced_as_written writes vector by (DeclareInteger name e) agrees reduces = absurd reduces
   reduced_as_written writes vector by (DeclareCondition name c) agrees reduces = absurd reduces
@@ -272,14 +272,14 @@ mutual
   reduced_as_written writes vector by (IfElse c body other) agrees (inl reduces) = one_reduced_as_written writes vector by body agrees.0 reduces
   reduced_as_written writes vector by (IfElse c body other) agrees (inr reduces) = one_reduced_as_written writes vector by other agrees.1 reduces
 
-  one_reduced_as_written : (writes : Writes) (vector : ℕ) (by : Reduction) (steps : StepsTree) → StepsAgree writes steps → StepsReduce vector by steps
+  one_reduced_as_written : (writes : Writes) (vector : ℕ) (by : Reduction) (steps : FunctionStatementsTree) → StepsAgree writes steps → StepsReduce vector by steps
       → lookup (nat_eq vector) writes ≡ Some by
   one_reduced_as_written writes vector by NoStep agree reduce = absurd reduce
   one_reduced_as_written writes vector by (StepThen step others) agree (inl reduces) = reduced_as_written writes vector by step agree.0 reduces
   one_reduced_as_written writes vector by (StepThen step others) agree (inr reduce) = one_reduced_as_written writes vector by others agree.1 reduce
 
 mutual
-  step_sets_none : (writes : Writes) (step : StepTree) → StepAgrees writes step → StepSetsNoEntry step
+  step_sets_none : (writes : Writes) (step : FunctionStatementTree) → StepAgrees writes step → StepSetsNoEntry step
   step_sets_none writes (DeclareInteger name e) agrees = tt
   step_sets_none writes (DeclareCondition name c) agrees = tt
   step_sets_none writes (SetInteger slot e) agrees = tt
@@ -290,7 +290,7 @@ mutual
   step_sets_none writes (If c body) agrees = steps_set_none writes body agrees
   step_sets_none writes (IfElse c body other) agrees = (steps_set_none writes body agrees.0, steps_set_none writes other agrees.1)
 
-  steps_set_none : (writes : Writes) (steps : StepsTree) → StepsAgree writes steps → SetsNoEntry steps
+  steps_set_none : (writes : Writes) (steps : FunctionStatementsTree) → StepsAgree writes steps → SetsNoEntry steps
   steps_set_none writes NoStep agree = tt
   steps_set_none writes (StepThen step others) agree = (step_sets_none writes step agree.0, steps_set_none writes others agree.1)
 

@@ -14,7 +14,7 @@ use Rattle.typed_tree.specs.declared.expression.Endpoint.{Endpoint}
 use Rattle.typed_tree.specs.declared.expression.Endpoint.TheVariants as endpoint
 use Rattle.typed_tree.specs.BlockTree.{BlockTree, Empty}
 use Rattle.typed_tree.specs.ProgramTree.{ScheduleCallTree}
-use Rattle.typed_tree.specs.StepTree.{StepsTree, NoStep}
+use Rattle.typed_tree.specs.FunctionStatementTree.{FunctionStatementsTree, NoStep}
 use Rattle.expression_types.specs.declared.scope.Entity.{Entity}
 use Rattle.expression_types.specs.declared.scope.Entity.TheVariants as entity
 use Rattle.expression_types.proofs.FaultOffsets.{FaultsStand, both_stand, if_stand}
@@ -117,7 +117,7 @@ kind_fits_stands P at VertexKind here = tt
 kind_fits_stands P at FilterKind here = tt
 kind_fits_stands P at NoKind here = (here, tt)
 
-function_declared_stands : (P : ℕ → Type 0) (d : DeclaredTree) (kind : FunctionKindTree) (name : Identifier) (steps : StepsTree) → P name.at → FaultsStand P (function_declared d kind name steps)
+function_declared_stands : (P : ℕ → Type 0) (d : DeclaredTree) (kind : FunctionKindTree) (name : Identifier) (steps : FunctionStatementsTree) → P name.at → FaultsStand P (function_declared d kind name steps)
 function_declared_stands P d (MainKind fits) name steps there = declare_name_stands P d name entity.Error there
 function_declared_stands P d (EdgeKind weighted) name steps there = name_last_stands P d name (entity.EdgeFunction (length d.edge_functions) weighted) there
 function_declared_stands P d VertexKind name steps there = name_last_stands P d name (entity.VertexFunction (length d.vertex_functions)) there

@@ -8,22 +8,22 @@ use Rattle.syntax.specs.declared.statement.Action.{Row_of-Statement, end_of-Stat
 use Rattle.syntax.specs.declared.statement.Action.TheViews as views
 use Rattle.syntax.specs.declared.statement.Action.TheViews.{the_lemmas}
 use Rattle.syntax.specs.SourceTrees.{While, For, If, IfElse, Then}
-use Rattle.syntax.specs.SourceViews.{action_tree, rows_tree, block_tree}
+use Rattle.syntax.specs.SourceViews.{statement_kind_tree, rows_tree, block_tree}
 
 pub rows_tree-items : {m : _} (row : Row_of-Statement m) → rows_tree row ≡ block_tree (items-the_row-Statement m row)
 rows_tree-items end_of-Statement = refl
-rows_tree-items (more_of-Statement label action rest) = ap (Then label (action_tree action)) (rows_tree-items rest)
+rows_tree-items (more_of-Statement label action rest) = ap (Then label (statement_kind_tree action)) (rows_tree-items rest)
 
-pub action_tree-While : (at : ℕ) (test : ExpressionTree) (body : Vec Statement) → action_tree (views.While at test body) ≡ While at test (block_tree body.items)
-action_tree-While at test body = search (rules, the_lemmas, rows_tree-items)
+pub statement_kind_tree-While : (at : ℕ) (test : ExpressionTree) (body : Vec Statement) → statement_kind_tree (views.While at test body) ≡ While at test (block_tree body.items)
+statement_kind_tree-While at test body = search (rules, the_lemmas, rows_tree-items)
 
-pub action_tree-For : (at : ℕ) (name : Identifier) (first limit : ExpressionTree) (body : Vec Statement)
-    → action_tree (views.For at name first limit body) ≡ For at name first limit (block_tree body.items)
-action_tree-For at name first limit body = search (rules, the_lemmas, rows_tree-items)
+pub statement_kind_tree-For : (at : ℕ) (name : Identifier) (first limit : ExpressionTree) (body : Vec Statement)
+    → statement_kind_tree (views.For at name first limit body) ≡ For at name first limit (block_tree body.items)
+statement_kind_tree-For at name first limit body = search (rules, the_lemmas, rows_tree-items)
 
-pub action_tree-If : (at : ℕ) (test : ExpressionTree) (body : Vec Statement) → action_tree (views.If at test body) ≡ If at test (block_tree body.items)
-action_tree-If at test body = search (rules, the_lemmas, rows_tree-items)
+pub statement_kind_tree-If : (at : ℕ) (test : ExpressionTree) (body : Vec Statement) → statement_kind_tree (views.If at test body) ≡ If at test (block_tree body.items)
+statement_kind_tree-If at test body = search (rules, the_lemmas, rows_tree-items)
 
-pub action_tree-IfElse : (at : ℕ) (test : ExpressionTree) (body otherwise : Vec Statement)
-    → action_tree (views.IfElse at test body otherwise) ≡ IfElse at test (block_tree body.items) (block_tree otherwise.items)
-action_tree-IfElse at test body otherwise = search (rules, the_lemmas, rows_tree-items)
+pub statement_kind_tree-IfElse : (at : ℕ) (test : ExpressionTree) (body otherwise : Vec Statement)
+    → statement_kind_tree (views.IfElse at test body otherwise) ≡ IfElse at test (block_tree body.items) (block_tree otherwise.items)
+statement_kind_tree-IfElse at test body otherwise = search (rules, the_lemmas, rows_tree-items)

@@ -13,7 +13,7 @@ use Rattle.syntax.specs.SourceSpelling.{action_before, assigned_before, block_be
 use Rattle.syntax.proofs.Behind.{action_behind, all_left, all_right, block_behind, ends_behind, typed_behind}
 use Rattle.syntax.proofs.Offsets.{from_stands, to_stands}
 use Rattle.typed_tree.specs.declared.expression.VarRef.{VarRef}
-use Rattle.typed_tree.specs.BlockTree.{ActionTree, BlockTree, Empty}
+use Rattle.typed_tree.specs.BlockTree.{StatementKindTree, BlockTree, Empty}
 use Rattle.expression_types.specs.declared.scope.Entity.{Entity}
 use Rattle.expression_types.specs.declared.scope.Entity.TheVariants as entity
 use Rattle.expression_types.specs.Expression.{used, value_of, vector_index}
@@ -103,7 +103,7 @@ applied_stands P at t a b ends f here =
     (set_applied_stands P at ends f (named_set t) here))
 
 -- statements that declare nothing
-in_place_stands : (P : ℕ → Type 0) (c : CheckerTree) (action : WithFaults ActionTree) → FaultsStand P action → FaultsStand P (in_place c action)
+in_place_stands : (P : ℕ → Type 0) (c : CheckerTree) (action : WithFaults StatementKindTree) → FaultsStand P action → FaultsStand P (in_place c action)
 in_place_stands P c action all = both_stand P action.faults [] all tt
 
 assign_stands : (P : ℕ → Type 0) (c : CheckerTree) (name : Identifier) (initial : source.InitialTree) (rest : List Terminal) → P name.at → StandWhere P (initial_before initial rest)
@@ -168,7 +168,7 @@ pub at_back : (P : ℕ → Type 0) (e : ExpressionTree) (rest : List Terminal) �
 at_back P e rest all = all_right (StandsWhere P) (expression_terminals e) rest all
 
 mutual
-  action_stands : (P : ℕ → Type 0) (c : CheckerTree) (action : source.ActionTree) (rest : List Terminal) → StandWhere P (action_before action rest) → FaultsStand P (action_typed c action)
+  action_stands : (P : ℕ → Type 0) (c : CheckerTree) (action : source.StatementKindTree) (rest : List Terminal) → StandWhere P (action_before action rest) → FaultsStand P (action_typed c action)
   action_stands P c (source.Declare at p initial) rest all =
       let initializer = initializer_of c at initial in
       let behind_type = typed_behind (StandsWhere P) p (assigned_before initial rest) all.1 in

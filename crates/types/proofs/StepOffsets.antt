@@ -14,7 +14,7 @@ use Rattle.syntax.specs.SourceSpelling.{action_before, assigned_before, block_be
 use Rattle.syntax.proofs.Behind.{action_behind, all_left, all_right, block_behind, ends_behind, typed_behind}
 use Rattle.syntax.proofs.Offsets.{from_stands, to_stands}
 use Rattle.typed_tree.specs.declared.expression.Endpoint.{Endpoint}
-use Rattle.typed_tree.specs.StepTree.{StepTree, StepsTree, NoStep}
+use Rattle.typed_tree.specs.FunctionStatementTree.{FunctionStatementTree, FunctionStatementsTree, NoStep}
 use Rattle.expression_types.specs.declared.scope.Entity.{Entity}
 use Rattle.expression_types.specs.declared.scope.Entity.TheVariants as entity
 use Rattle.expression_types.specs.declared.scope.Inside.{Inside}
@@ -118,7 +118,7 @@ reduce_entry_step_stands P c name index by e there first second =
     (both_stand P may.faults _ (may_reduce_stands P name.at c.scope.inside vector.value by c.writes there) (index_and_value_stand P c.scope name.at index e there first second))
 
 -- statements that declare nothing
-step_in_place_stands : (P : ℕ → Type 0) (c : CheckerTree) (step : WithFaults StepTree) → FaultsStand P step → FaultsStand P (step_in_place c step)
+step_in_place_stands : (P : ℕ → Type 0) (c : CheckerTree) (step : WithFaults FunctionStatementTree) → FaultsStand P step → FaultsStand P (step_in_place c step)
 step_in_place_stands P c step all = both_stand P step.faults [] all tt
 
 assign_step_stands : (P : ℕ → Type 0) (c : CheckerTree) (name : Identifier) (initial : source.InitialTree) (rest : List Terminal) → P name.at → StandWhere P (initial_before initial rest)
@@ -158,7 +158,7 @@ no_apply_stands P scope target ends function rest there named all =
     )
 
 mutual
-  step_stands : (P : ℕ → Type 0) (c : CheckerTree) (action : source.ActionTree) (rest : List Terminal) → StandWhere P (action_before action rest) → FaultsStand P (step_typed c action)
+  step_stands : (P : ℕ → Type 0) (c : CheckerTree) (action : source.StatementKindTree) (rest : List Terminal) → StandWhere P (action_before action rest) → FaultsStand P (step_typed c action)
   step_stands P c (source.Declare at p initial) rest all =
       let initializer = initializer_of c at initial in
       let behind_type = typed_behind (StandsWhere P) p (assigned_before initial rest) all.1 in
@@ -209,7 +209,7 @@ mutual
       let names = ends_behind (StandsWhere P) ends _ all.1 in
       step_in_place_stands P c (no_apply c.scope target.at target ends function) (no_apply_stands P c.scope target ends function _ all.0 names.1.1.1.0 all.1)
 
-  pub steps_stand : (P : ℕ → Type 0) (c : CheckerTree) (so_far : StepsTree) (block : source.BlockTree) (rest : List Terminal) → StandWhere P (block_before block rest)
+  pub steps_stand : (P : ℕ → Type 0) (c : CheckerTree) (so_far : FunctionStatementsTree) (block : source.BlockTree) (rest : List Terminal) → StandWhere P (block_before block rest)
       → FaultsStand P (steps_typed c so_far block)
   steps_stand P c so_far source.Empty rest all = tt
   steps_stand P c so_far (source.Then label action others) rest all =

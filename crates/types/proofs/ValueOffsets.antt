@@ -12,7 +12,7 @@ use Rattle.syntax.proofs.Behind.{all_left, ends_behind}
 use Rattle.syntax.proofs.Offsets.{from_stands, to_stands}
 use Rattle.typed_tree.specs.declared.expression.VarRef.{VarRef}
 use Rattle.typed_tree.specs.declared.statement.ApplyEnds.{ApplyEnds}
-use Rattle.typed_tree.specs.IntegerTree.{IntegerTree, Parameter}
+use Rattle.typed_tree.specs.IntExpressionTree.{IntExpressionTree, Parameter}
 use Rattle.expression_types.specs.declared.fault.TypeRule.TheVariants as rule
 use Rattle.expression_types.specs.declared.scope.Entity.{Entity}
 use Rattle.expression_types.specs.Expression.{used, value_of}
@@ -54,7 +54,7 @@ pub condition_in_stands : (P : ℕ → Type 0) (scope : ScopeTree) (at : ℕ) (e
 condition_in_stands P scope at e here all =
     let v = value_of scope at e in both_stand P v.faults _ (value_stands P scope at e here all) (as_condition_stands P at v.value here)
 
-unread_stands : (P : ℕ → Type 0) (at : ℕ) (e : IntegerTree) → P at → FaultsStand P (unread at e)
+unread_stands : (P : ℕ → Type 0) (at : ℕ) (e : IntExpressionTree) → P at → FaultsStand P (unread at e)
 unread_stands P at e here = if_stand P (reads_entry e) (fault_at at rule.WrongIndex None) (sure (Some e)) (here, tt) tt
 
 no_index_stands : (P : ℕ → Type 0) (at : ℕ) (b : Bool) → P at → FaultsStand P (no_index at b)

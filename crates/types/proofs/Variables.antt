@@ -3,9 +3,9 @@ use Rattle.std.proofs.Common.{◌≡◌, refl, ap, sym, ◌∙◌, ℕ, length, 
 use Rattle.syntax.specs.Terminals.{Identifier}
 use Rattle.syntax.specs.declared.declaration.DeclaredType.{DeclaredType}
 use Rattle.syntax.specs.declared.declaration.DeclaredType.TheVariants as declared
-use Rattle.typed_tree.specs.BlockTree.{ActionTree, DeclareInteger, DeclareCondition, DeclareSet}
-use Rattle.typed_tree.specs.StepTree as step
-use Rattle.typed_tree.specs.StepTree.{StepTree}
+use Rattle.typed_tree.specs.BlockTree.{StatementKindTree, DeclareInteger, DeclareCondition, DeclareSet}
+use Rattle.typed_tree.specs.FunctionStatementTree as step
+use Rattle.typed_tree.specs.FunctionStatementTree.{FunctionStatementTree}
 use Rattle.expression_types.specs.declared.fault.Fault.{Fault}
 use Rattle.expression_types.specs.declared.scope.Entity.{Entity}
 use Rattle.expression_types.specs.declared.scope.Entity.TheVariants as entity
@@ -51,12 +51,12 @@ visible_behind : {A : Type 0} (c d : CheckerTree) (name : Identifier) (m : WithF
 visible_behind c d name m v old between new is visible =
     outcome_then old between m v (visible_then c name) is ∙ outcome_then between new (declared_in c name v.0) d (λ d. sure (v.1, d)) visible
 
-pub declared_as : (c d : CheckerTree) (at : ℕ) (name : Identifier) (initializer : InitializerTree) (type : DeclaredType) (v : Entity × ActionTree) (old between new : Option Fault)
+pub declared_as : (c d : CheckerTree) (at : ℕ) (name : Identifier) (initializer : InitializerTree) (type : DeclaredType) (v : Entity × StatementKindTree) (old between new : Option Fault)
     → outcome old (variable_as c at initializer type) ≡ (v, between) → outcome between (declared_in c name v.0) ≡ (d, new) → outcome old (declare_as c at name initializer type) ≡ ((v.1, d), new)
 declared_as c d at name initializer type v old between new is visible =
     ap (outcome old) (declare_as-steps c at name initializer type) ∙ visible_behind c d name (variable_as c at initializer type) v old between new is visible
 
-pub declared_step_as : (c d : CheckerTree) (at : ℕ) (name : Identifier) (initializer : InitializerTree) (type : DeclaredType) (v : Entity × StepTree) (old between new : Option Fault)
+pub declared_step_as : (c d : CheckerTree) (at : ℕ) (name : Identifier) (initializer : InitializerTree) (type : DeclaredType) (v : Entity × FunctionStatementTree) (old between new : Option Fault)
     → outcome old (step_variable_as c at initializer type) ≡ (v, between) → outcome between (declared_in c name v.0) ≡ (d, new) → outcome old (declare_step_as c at name initializer type) ≡ ((v.1, d), new)
 declared_step_as c d at name initializer type v old between new is visible =
     ap (outcome old) (declare_step_as-steps c at name initializer type) ∙ visible_behind c d name (step_variable_as c at initializer type) v old between new is visible

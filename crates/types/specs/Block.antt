@@ -4,7 +4,7 @@ use Rattle.syntax.specs.Terminals.{Identifier}
 use Rattle.syntax.specs.ExpressionTrees.{ExpressionTree}
 use Rattle.syntax.specs.SourceTrees as source
 use Rattle.typed_tree.specs.declared.statement.MainStatement.{MainStatement}
-use Rattle.typed_tree.specs.BlockTree.{ActionTree, action_tree, BlockTree, If, IfElse, While, For, Empty, Then}
+use Rattle.typed_tree.specs.BlockTree.{StatementKindTree, statement_kind_tree, BlockTree, If, IfElse, While, For, Empty, Then}
 use Rattle.expression_types.specs.declared.scope.Entity.TheVariants as entity
 use Rattle.expression_types.specs.WithFaults.{WithFaults, sure, ◌>>=◌}
 use Rattle.types.specs.Checker.{CheckerTree, integer_slot, with_scope, declared_in, labelled, counted}
@@ -12,21 +12,21 @@ use Rattle.types.specs.Statement.{declare_variable, assign, reduce, set_entry, r
 use Rattle.types.specs.Wanted.{integer_in, condition_in}
 
 -- a statement that declares nothing
-abbrev pub in_place : CheckerTree → WithFaults ActionTree → WithFaults (ActionTree × CheckerTree)
+abbrev pub in_place : CheckerTree → WithFaults StatementKindTree → WithFaults (StatementKindTree × CheckerTree)
 in_place c action = action >>= λ a. sure (a, c)
 
 -- a statement with its number and its label
 pub record StatementTree : Type 0 where
   pub number : ℕ
   pub label : Option ℕ
-  pub action : ActionTree
+  pub action : StatementKindTree
 
 -- the tree that a Rust tree is
 abbrev pub statement_tree : MainStatement → StatementTree
-statement_tree s = record { number = s.number; label = s.label; action = action_tree s.action }
+statement_tree s = record { number = s.number; label = s.label; action = statement_kind_tree s.action }
 
 -- the statements so far, with one more after them
-abbrev pub behind : BlockTree → (number : ℕ) → (label : Option ℕ) → ActionTree → BlockTree
+abbrev pub behind : BlockTree → (number : ℕ) → (label : Option ℕ) → StatementKindTree → BlockTree
 behind Empty number label action = Then number label action Empty
 behind (Then n l a others) number label action = Then n l a (behind others number label action)
 
@@ -35,14 +35,14 @@ abbrev pub closed : CheckerTree → CheckerTree → CheckerTree
 closed c d = with_scope d c.scope
 
 -- The name of a `for` is visible in its body alone, and its bounds are looked at before.
-abbrev pub for_typed : CheckerTree → ℕ → Identifier → (first limit : ExpressionTree) → (CheckerTree → WithFaults (BlockTree × CheckerTree)) → WithFaults (ActionTree × CheckerTree)
+abbrev pub for_typed : CheckerTree → ℕ → Identifier → (first limit : ExpressionTree) → (CheckerTree → WithFaults (BlockTree × CheckerTree)) → WithFaults (StatementKindTree × CheckerTree)
 for_typed c at name first limit body =
     integer_in c.scope at first >>= λ a. integer_in c.scope at limit >>= λ z.
     declared_in c name (entity.LoopVariable (integer_slot c)) >>= λ d. body d >>= λ b. sure (For (length c.names) a z b.0, closed c b.1)
 
 abbrev mutual
   -- a statement's action at its first token, its label aside
-  pub action_typed : CheckerTree → source.ActionTree → WithFaults (ActionTree × CheckerTree)
+  pub action_typed : CheckerTree → source.StatementKindTree → WithFaults (StatementKindTree × CheckerTree)
   action_typed c (source.Declare at p initial) = declare_variable c at p.name p.declared initial
   action_typed c (source.While at test body) =
       condition_in c.scope at test >>= λ t. statements_typed c Empty body >>= λ b. sure (While t b.0, closed c b.1)
@@ -70,7 +70,7 @@ abbrev mutual
       statements_typed a.1 (behind so_far (suc l.1.statements) l.0 a.0) others
 
 -- one statement
-abbrev pub statement_typed : CheckerTree → Option Identifier → source.ActionTree → WithFaults (StatementTree × CheckerTree)
+abbrev pub statement_typed : CheckerTree → Option Identifier → source.StatementKindTree → WithFaults (StatementTree × CheckerTree)
 statement_typed c label action =
     labelled c label >>= λ l. action_typed (counted l.1) action >>= λ a.
     sure (record { number = suc l.1.statements; label = l.0; action = a.0 }, a.1)

@@ -12,7 +12,7 @@ use Rattle.typed_tree.specs.declared.program.InitialValue.{InitialValue}
 use Rattle.typed_tree.specs.declared.program.InitialValue.TheVariants as beginning
 use Rattle.typed_tree.specs.declared.program.Vector.{Vector}
 use Rattle.typed_tree.specs.BlockTree.{BlockTree, Empty, block_tree}
-use Rattle.typed_tree.specs.StepTree.{FunctionTree, StepsTree, NoStep, function_tree}
+use Rattle.typed_tree.specs.FunctionStatementTree.{FunctionTree, FunctionStatementsTree, NoStep, function_tree}
 use Rattle.expression_types.specs.declared.fault.TypeRule.TheVariants as rule
 use Rattle.expression_types.specs.declared.scope.Entity.{Entity}
 use Rattle.expression_types.specs.declared.scope.Entity.TheVariants as entity
@@ -239,7 +239,7 @@ main_declared d fits name parameters result body =
     declare_name (record d { checker = with_scope b.1 d.checker.scope }) name entity.Main >>= λ e. sure (with_main e fits b.0)
 
 -- a function with its name and its statements
-abbrev pub function_of : DeclaredTree → StepsTree → FunctionTree
+abbrev pub function_of : DeclaredTree → FunctionStatementsTree → FunctionTree
 function_of d steps = record { name = next_name d; steps = steps }
 
 -- what an edge function writes is kept
@@ -248,7 +248,7 @@ edge_function_declared weighted d name f =
     declare_name d name (entity.EdgeFunction (length d.edge_functions) weighted) >>= λ e.
     sure (record e { edge_functions = e.edge_functions ++ f ∷ []; checker = record e.checker { written = e.checker.written ++ e.checker.writes ∷ []; writes = [] } })
 
-abbrev pub function_declared : DeclaredTree → FunctionKindTree → Identifier → StepsTree → WithFaults DeclaredTree
+abbrev pub function_declared : DeclaredTree → FunctionKindTree → Identifier → FunctionStatementsTree → WithFaults DeclaredTree
 function_declared d (MainKind fits) name steps = declare_name d name entity.Error
 function_declared d (EdgeKind weighted) name steps = edge_function_declared weighted d name (function_of d steps)
 function_declared d VertexKind name steps =

@@ -1,11 +1,11 @@
 -- Reductions of edge functions: what their statements write.
 use Rattle.std.specs.Prelude.{◌≡◌, ◌⊎◌, ℕ}
 use Rattle.apply_options.specs.declared.reduction.Reduction.{Reduction}
-use Rattle.typed_tree.specs.StepTree.{StepTree, StepsTree, DeclareInteger, DeclareCondition, SetInteger, SetCondition, ReduceInteger, SetEntry, ReduceEntry, If, IfElse, NoStep, StepThen}
+use Rattle.typed_tree.specs.FunctionStatementTree.{FunctionStatementTree, FunctionStatementsTree, DeclareInteger, DeclareCondition, SetInteger, SetCondition, ReduceInteger, SetEntry, ReduceEntry, If, IfElse, NoStep, StepThen}
 
 abbrev mutual
   -- the statement, or one in it, reduces entries of the vector so
-  pub StepReduces : (vector : ℕ) → Reduction → StepTree → Type 0
+  pub StepReduces : (vector : ℕ) → Reduction → FunctionStatementTree → Type 0
   StepReduces vector by (DeclareInteger name e) = ⊥
   StepReduces vector by (DeclareCondition name c) = ⊥
   StepReduces vector by (SetInteger slot e) = ⊥
@@ -17,17 +17,17 @@ abbrev mutual
   StepReduces vector by (IfElse c body other) = StepsReduce vector by body ⊎ StepsReduce vector by other
 
   -- one of the statements does
-  pub StepsReduce : (vector : ℕ) → Reduction → StepsTree → Type 0
+  pub StepsReduce : (vector : ℕ) → Reduction → FunctionStatementsTree → Type 0
   StepsReduce vector by NoStep = ⊥
   StepsReduce vector by (StepThen step others) = StepReduces vector by step ⊎ StepsReduce vector by others
 
 -- each vector is reduced in one way, if at all
-abbrev pub ReducesInOneWay : StepsTree → Type 0
+abbrev pub ReducesInOneWay : FunctionStatementsTree → Type 0
 ReducesInOneWay steps = (vector : ℕ) (a b : Reduction) → StepsReduce vector a steps → StepsReduce vector b steps → a ≡ b
 
 abbrev mutual
   -- neither the statement nor one in it writes an entry by `=`
-  pub StepSetsNoEntry : StepTree → Type 0
+  pub StepSetsNoEntry : FunctionStatementTree → Type 0
   StepSetsNoEntry (DeclareInteger name e) = Unit {0}
   StepSetsNoEntry (DeclareCondition name c) = Unit {0}
   StepSetsNoEntry (SetInteger slot e) = Unit {0}
@@ -39,6 +39,6 @@ abbrev mutual
   StepSetsNoEntry (IfElse c body other) = SetsNoEntry body × SetsNoEntry other
 
   -- none of the statements does
-  pub SetsNoEntry : StepsTree → Type 0
+  pub SetsNoEntry : FunctionStatementsTree → Type 0
   SetsNoEntry NoStep = Unit {0}
   SetsNoEntry (StepThen step others) = StepSetsNoEntry step × SetsNoEntry others

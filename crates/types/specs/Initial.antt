@@ -10,8 +10,8 @@ use Rattle.typed_tree.specs.declared.statement.VertexFilter.TheVariants as filte
 use Rattle.typed_tree.specs.declared.statement.ApplyEnds.{ApplyEnds}
 use Rattle.typed_tree.specs.declared.statement.SetValue.{SetValue}
 use Rattle.typed_tree.specs.declared.statement.SetValue.TheVariants as set
-use Rattle.typed_tree.specs.IntegerTree.{IntegerTree}
-use Rattle.typed_tree.specs.ConditionTree.{ConditionTree}
+use Rattle.typed_tree.specs.IntExpressionTree.{IntExpressionTree}
+use Rattle.typed_tree.specs.BoolExpressionTree.{BoolExpressionTree}
 use Rattle.expression_types.specs.declared.fault.TypeRule.TheVariants as rule
 use Rattle.expression_types.specs.declared.scope.Entity.{Entity}
 use Rattle.expression_types.specs.declared.scope.Entity.TheVariants as entity
@@ -318,14 +318,14 @@ initializer_of c at (ApplyModified edges ends f v) =
 initializer_of c at (Value e) = value_of c.scope at e >>= λ v. sure (Typed v)
 
 -- what a variable or a constant of each type gets
-abbrev pub initializer_integer : ℕ → InitializerTree → WithFaults IntegerTree
+abbrev pub initializer_integer : ℕ → InitializerTree → WithFaults IntExpressionTree
 initializer_integer at (Typed v) = as_integer at v
 initializer_integer at (Members s) = fault_at at rule.WrongType some_integer
 initializer_integer at Loaded = fault_at at rule.WrongType some_integer
 initializer_integer at Degrees = fault_at at rule.WrongType some_integer
 initializer_integer at ErrorInitializer = sure some_integer
 
-abbrev pub initializer_condition : ℕ → InitializerTree → WithFaults ConditionTree
+abbrev pub initializer_condition : ℕ → InitializerTree → WithFaults BoolExpressionTree
 initializer_condition at (Typed v) = as_condition at v
 initializer_condition at (Members s) = fault_at at rule.WrongType some_condition
 initializer_condition at Loaded = fault_at at rule.WrongType some_condition

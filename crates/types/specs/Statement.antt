@@ -7,8 +7,8 @@ use Rattle.syntax.specs.declared.declaration.DeclaredType.TheVariants as declare
 use Rattle.apply_options.specs.declared.reduction.Reduction.{Reduction}
 use Rattle.syntax.specs.SourceTrees.{EndsTree, InitialTree}
 use Rattle.typed_tree.specs.declared.expression.VarRef.{VarRef}
-use Rattle.typed_tree.specs.IntegerTree.{IntegerTree, Parameter}
-use Rattle.typed_tree.specs.BlockTree.{ActionTree, DeclareInteger, DeclareCondition, SetInteger, SetCondition, ReduceInteger, SetEntry, ReduceEntry, DeclareSet, AssignSet, AddVertex, PrintInteger, PrintCondition, ApplyVertex, ApplyEdges}
+use Rattle.typed_tree.specs.IntExpressionTree.{IntExpressionTree, Parameter}
+use Rattle.typed_tree.specs.BlockTree.{StatementKindTree, DeclareInteger, DeclareCondition, SetInteger, SetCondition, ReduceInteger, SetEntry, ReduceEntry, DeclareSet, AssignSet, AddVertex, PrintInteger, PrintCondition, ApplyVertex, ApplyEdges}
 use Rattle.expression_types.specs.declared.fault.TypeRule.TheVariants as rule
 use Rattle.expression_types.specs.declared.scope.Entity.{Entity}
 use Rattle.expression_types.specs.declared.scope.Entity.TheVariants as entity
@@ -21,11 +21,11 @@ use Rattle.types.specs.Initial.{InitializerTree, ApplyEndTree, initializer_of, e
 use Rattle.types.specs.Wanted.{some_integer, as_integer, as_index, integer_in}
 
 -- what stands in place of a faulty statement
-abbrev pub no_action : ActionTree
+abbrev pub no_action : StatementKindTree
 no_action = PrintInteger some_integer
 
 -- A declaration of a variable, and what is known after it. The name is not visible in its first value.
-abbrev pub declare_as : CheckerTree → ℕ → Identifier → InitializerTree → DeclaredType → WithFaults (ActionTree × CheckerTree)
+abbrev pub declare_as : CheckerTree → ℕ → Identifier → InitializerTree → DeclaredType → WithFaults (StatementKindTree × CheckerTree)
 declare_as c at name initializer declared.Int =
     initializer_integer at initializer >>= λ e. declared_in c name (entity.IntegerVariable (integer_slot c)) >>= λ d. sure (DeclareInteger (length c.names) e, d)
 declare_as c at name initializer declared.Bool =
@@ -37,11 +37,11 @@ declare_as c at name initializer declared.Vector = fault_at at rule.WrongType no
 declare_as c at name initializer declared.EdgeSet = fault_at at rule.WrongType no_action >>= λ a. declared_in c name entity.Error >>= λ d. sure (a, d)
 declare_as c at name initializer declared.WeightedEdgeSet = fault_at at rule.WrongType no_action >>= λ a. declared_in c name entity.Error >>= λ d. sure (a, d)
 
-abbrev pub declare_variable : CheckerTree → ℕ → Identifier → DeclaredType → InitialTree → WithFaults (ActionTree × CheckerTree)
+abbrev pub declare_variable : CheckerTree → ℕ → Identifier → DeclaredType → InitialTree → WithFaults (StatementKindTree × CheckerTree)
 declare_variable c at name type initial = initializer_of c at initial >>= λ initializer. declare_as c at name initializer type
 
 -- variables are assigned, and nothing else
-abbrev pub assigned : ℕ → InitializerTree → Entity → WithFaults ActionTree
+abbrev pub assigned : ℕ → InitializerTree → Entity → WithFaults StatementKindTree
 assigned at initializer (entity.Edges weights) = fault_at at rule.WrongType no_action
 assigned at initializer (entity.Vector index) = fault_at at rule.WrongType no_action
 assigned at initializer (entity.ConstantSet slot) = fault_at at rule.WrongType no_action
@@ -59,11 +59,11 @@ assigned at initializer (entity.Filter index) = fault_at at rule.WrongType no_ac
 assigned at initializer entity.Main = fault_at at rule.WrongType no_action
 assigned at initializer entity.Error = sure no_action
 
-abbrev pub assign : CheckerTree → ℕ → Identifier → InitialTree → WithFaults ActionTree
+abbrev pub assign : CheckerTree → ℕ → Identifier → InitialTree → WithFaults StatementKindTree
 assign c at name initial = used c.scope name >>= λ e. initializer_of c at initial >>= λ initializer. assigned at initializer e
 
 -- int variables are reduced
-abbrev pub reduced : ℕ → Reduction → ValueTree → Entity → WithFaults ActionTree
+abbrev pub reduced : ℕ → Reduction → ValueTree → Entity → WithFaults StatementKindTree
 reduced at by v (entity.Edges weights) = fault_at at rule.WrongType no_action
 reduced at by v (entity.Vector index) = fault_at at rule.WrongType no_action
 reduced at by v (entity.ConstantSet slot) = fault_at at rule.WrongType no_action
@@ -81,32 +81,32 @@ reduced at by v (entity.Filter index) = fault_at at rule.WrongType no_action
 reduced at by v entity.Main = fault_at at rule.WrongType no_action
 reduced at by v entity.Error = sure no_action
 
-abbrev pub reduce : ScopeTree → ℕ → Identifier → Reduction → ExpressionTree → WithFaults ActionTree
+abbrev pub reduce : ScopeTree → ℕ → Identifier → Reduction → ExpressionTree → WithFaults StatementKindTree
 reduce scope at name by e = used scope name >>= λ n. value_of scope at e >>= λ v. reduced at by v n
 
 -- an entry at an index
-abbrev pub entry_set : Option ℕ → Option IntegerTree → IntegerTree → ActionTree
+abbrev pub entry_set : Option ℕ → Option IntExpressionTree → IntExpressionTree → StatementKindTree
 entry_set None index e = no_action
 entry_set (Some vector) None e = no_action
 entry_set (Some vector) (Some index) e = SetEntry vector index e
 
-abbrev pub set_entry : ScopeTree → ℕ → Identifier → (index e : ExpressionTree) → WithFaults ActionTree
+abbrev pub set_entry : ScopeTree → ℕ → Identifier → (index e : ExpressionTree) → WithFaults StatementKindTree
 set_entry scope at name index e =
     vector_index scope at name >>= λ vector. value_of scope at index >>= λ v. as_index at v >>= λ i.
     integer_in scope at e >>= λ x. sure (entry_set vector i x)
 
-abbrev pub entry_reduced : Option ℕ → Option IntegerTree → Reduction → IntegerTree → ActionTree
+abbrev pub entry_reduced : Option ℕ → Option IntExpressionTree → Reduction → IntExpressionTree → StatementKindTree
 entry_reduced None index by e = no_action
 entry_reduced (Some vector) None by e = no_action
 entry_reduced (Some vector) (Some index) by e = ReduceEntry vector index by e
 
-abbrev pub reduce_entry : ScopeTree → ℕ → Identifier → (index : ExpressionTree) → Reduction → (e : ExpressionTree) → WithFaults ActionTree
+abbrev pub reduce_entry : ScopeTree → ℕ → Identifier → (index : ExpressionTree) → Reduction → (e : ExpressionTree) → WithFaults StatementKindTree
 reduce_entry scope at name index by e =
     vector_index scope at name >>= λ vector. value_of scope at index >>= λ v. as_index at v >>= λ i.
     integer_in scope at e >>= λ x. sure (entry_reduced vector i by x)
 
 -- set variables get vertices
-abbrev pub added : ℕ → ValueTree → Entity → WithFaults ActionTree
+abbrev pub added : ℕ → ValueTree → Entity → WithFaults StatementKindTree
 added at v (entity.Edges weights) = fault_at at rule.WrongType no_action
 added at v (entity.Vector index) = fault_at at rule.WrongType no_action
 added at v (entity.ConstantSet slot) = fault_at at rule.WrongType no_action
@@ -124,36 +124,36 @@ added at v (entity.Filter index) = fault_at at rule.WrongType no_action
 added at v entity.Main = fault_at at rule.WrongType no_action
 added at v entity.Error = sure no_action
 
-abbrev pub add_vertex : ScopeTree → ℕ → Identifier → ExpressionTree → WithFaults ActionTree
+abbrev pub add_vertex : ScopeTree → ℕ → Identifier → ExpressionTree → WithFaults StatementKindTree
 add_vertex scope at set e = used scope set >>= λ s. value_of scope at e >>= λ v. added at v s
 
 -- a number or a truth value is printed
-abbrev pub printed : ℕ → ValueTree → WithFaults ActionTree
+abbrev pub printed : ℕ → ValueTree → WithFaults StatementKindTree
 printed at (Integer e) = sure (PrintInteger e)
 printed at (Condition c) = sure (PrintCondition c)
 printed at (Vertex p) = sure (PrintInteger (Parameter p))
 printed at (Set slot) = fault_at at rule.WrongType no_action
 printed at ErrorValue = sure no_action
 
-abbrev pub print : ScopeTree → ℕ → ExpressionTree → WithFaults ActionTree
+abbrev pub print : ScopeTree → ℕ → ExpressionTree → WithFaults StatementKindTree
 print scope at e = value_of scope at e >>= printed at
 
 -- Edge functions are applied to the edges, and vertex functions to vertex sets, which have no ends. A name that is not clear breaks no
 -- further rule.
-abbrev pub edges_applied : ℕ → ApplyEndTree → ApplyEndTree → Bool → Option ℕ → WithFaults ActionTree
+abbrev pub edges_applied : ℕ → ApplyEndTree → ApplyEndTree → Bool → Option ℕ → WithFaults StatementKindTree
 edges_applied at a b error None = if error then sure no_action else fault_at at rule.WrongType no_action
 edges_applied at a b error (Some function) = if is_error_end a || is_error_end b then sure no_action else sure (ApplyEdges (ends_given a b) function)
 
-abbrev pub vertices_applied : ℕ → VarRef → Bool → Option ℕ → WithFaults ActionTree
+abbrev pub vertices_applied : ℕ → VarRef → Bool → Option ℕ → WithFaults StatementKindTree
 vertices_applied at slot error None = if error then sure no_action else fault_at at rule.WrongType no_action
 vertices_applied at slot error (Some function) = sure (ApplyVertex slot function)
 
-abbrev pub set_applied : ℕ → Bool → Entity → Option VarRef → WithFaults ActionTree
+abbrev pub set_applied : ℕ → Bool → Entity → Option VarRef → WithFaults StatementKindTree
 set_applied at ends f None = fault_at at rule.WrongType no_action
 set_applied at ends f (Some slot) =
     if ends then fault_at at rule.WrongType no_action else vertices_applied at slot (names_error f) (vertex_function f)
 
-abbrev pub applied : ℕ → Entity → ApplyEndTree → ApplyEndTree → Bool → Entity → WithFaults ActionTree
+abbrev pub applied : ℕ → Entity → ApplyEndTree → ApplyEndTree → Bool → Entity → WithFaults StatementKindTree
 applied at t a b ends f =
     if names_error t then sure no_action
     else (if is_edges t then
@@ -164,7 +164,7 @@ applied at t a b ends f =
 abbrev pub has_ends : EndsTree → Bool
 has_ends ends = is_some ends.from || is_some ends.to
 
-abbrev pub apply : ScopeTree → ℕ → Identifier → EndsTree → Identifier → WithFaults ActionTree
+abbrev pub apply : ScopeTree → ℕ → Identifier → EndsTree → Identifier → WithFaults StatementKindTree
 apply scope at target ends function =
     used scope target >>= λ t. end_of scope ends.from >>= λ a. end_of scope ends.to >>= λ b. used scope function >>= λ f.
     applied at t a b (has_ends ends) f

@@ -11,9 +11,9 @@ use Rattle.syntax.specs.SourceTrees as source
 use Rattle.syntax.specs.SourceTrees.{InitialTree}
 use Rattle.typed_tree.specs.declared.expression.Endpoint.{Endpoint}
 use Rattle.typed_tree.specs.declared.expression.Endpoint.TheVariants as endpoint
-use Rattle.typed_tree.specs.ConditionTree.{Literal}
-use Rattle.typed_tree.specs.IntegerTree.{IntegerTree}
-use Rattle.typed_tree.specs.StepTree.{StepTree, StepsTree, DeclareInteger, DeclareCondition, SetInteger, SetCondition, ReduceInteger, SetEntry, ReduceEntry, If, IfElse, NoStep, StepThen}
+use Rattle.typed_tree.specs.BoolExpressionTree.{Literal}
+use Rattle.typed_tree.specs.IntExpressionTree.{IntExpressionTree}
+use Rattle.typed_tree.specs.FunctionStatementTree.{FunctionStatementTree, FunctionStatementsTree, DeclareInteger, DeclareCondition, SetInteger, SetCondition, ReduceInteger, SetEntry, ReduceEntry, If, IfElse, NoStep, StepThen}
 use Rattle.expression_types.specs.declared.fault.TypeRule.TheVariants as rule
 use Rattle.expression_types.specs.declared.scope.Entity.{Entity}
 use Rattle.expression_types.specs.declared.scope.Entity.TheVariants as entity
@@ -28,11 +28,11 @@ use Rattle.types.specs.Initial.{InitializerTree, end_of, initializer_of, initial
 use Rattle.types.specs.Wanted.{as_integer, integer_in, condition_in}
 
 -- what stands in place of a faulty statement
-abbrev pub no_step : StepTree
+abbrev pub no_step : FunctionStatementTree
 no_step = If (Literal false) NoStep
 
 -- a declaration of a variable, and what is known after it
-abbrev pub declare_step_as : CheckerTree → ℕ → Identifier → InitializerTree → DeclaredType → WithFaults (StepTree × CheckerTree)
+abbrev pub declare_step_as : CheckerTree → ℕ → Identifier → InitializerTree → DeclaredType → WithFaults (FunctionStatementTree × CheckerTree)
 declare_step_as c at name initializer declared.Int =
     initializer_integer at initializer >>= λ e. declared_in c name (entity.IntegerVariable (integer_slot c)) >>= λ d. sure (DeclareInteger (length c.names) e, d)
 declare_step_as c at name initializer declared.Bool =
@@ -43,11 +43,11 @@ declare_step_as c at name initializer declared.Vector = fault_at at rule.WrongTy
 declare_step_as c at name initializer declared.EdgeSet = fault_at at rule.WrongType no_step >>= λ a. declared_in c name entity.Error >>= λ d. sure (a, d)
 declare_step_as c at name initializer declared.WeightedEdgeSet = fault_at at rule.WrongType no_step >>= λ a. declared_in c name entity.Error >>= λ d. sure (a, d)
 
-abbrev pub declare_step : CheckerTree → ℕ → Identifier → DeclaredType → InitialTree → WithFaults (StepTree × CheckerTree)
+abbrev pub declare_step : CheckerTree → ℕ → Identifier → DeclaredType → InitialTree → WithFaults (FunctionStatementTree × CheckerTree)
 declare_step c at name type initial = initializer_of c at initial >>= λ initializer. declare_step_as c at name initializer type
 
 -- variables are assigned, and a filter's result
-abbrev pub assigned_step : ℕ → InitializerTree → Entity → WithFaults StepTree
+abbrev pub assigned_step : ℕ → InitializerTree → Entity → WithFaults FunctionStatementTree
 assigned_step at initializer (entity.Edges weights) = fault_at at rule.WrongType no_step
 assigned_step at initializer (entity.Vector index) = fault_at at rule.WrongType no_step
 assigned_step at initializer (entity.ConstantSet slot) = fault_at at rule.WrongType no_step
@@ -65,10 +65,10 @@ assigned_step at initializer (entity.Filter index) = fault_at at rule.WrongType 
 assigned_step at initializer entity.Main = fault_at at rule.WrongType no_step
 assigned_step at initializer entity.Error = sure no_step
 
-abbrev pub assign_step : CheckerTree → ℕ → Identifier → InitialTree → WithFaults StepTree
+abbrev pub assign_step : CheckerTree → ℕ → Identifier → InitialTree → WithFaults FunctionStatementTree
 assign_step c at name initial = used c.scope name >>= λ e. initializer_of c at initial >>= λ initializer. assigned_step at initializer e
 
-abbrev pub reduced_step : ℕ → Reduction → ValueTree → Entity → WithFaults StepTree
+abbrev pub reduced_step : ℕ → Reduction → ValueTree → Entity → WithFaults FunctionStatementTree
 reduced_step at by v (entity.Edges weights) = fault_at at rule.WrongType no_step
 reduced_step at by v (entity.Vector index) = fault_at at rule.WrongType no_step
 reduced_step at by v (entity.ConstantSet slot) = fault_at at rule.WrongType no_step
@@ -86,7 +86,7 @@ reduced_step at by v (entity.Filter index) = fault_at at rule.WrongType no_step
 reduced_step at by v entity.Main = fault_at at rule.WrongType no_step
 reduced_step at by v entity.Error = sure no_step
 
-abbrev pub reduce_step : ScopeTree → ℕ → Identifier → Reduction → ExpressionTree → WithFaults StepTree
+abbrev pub reduce_step : ScopeTree → ℕ → Identifier → Reduction → ExpressionTree → WithFaults FunctionStatementTree
 reduce_step scope at name by e = used scope name >>= λ n. value_of scope at e >>= λ v. reduced_step at by v n
 
 -- the vertex at which a function writes
@@ -121,13 +121,13 @@ may_set at inside.EdgeFunction = fault_at at rule.NotReduction false
 may_set at inside.VertexFunction = sure true
 may_set at inside.Filter = fault_at at rule.WrongType false
 
-abbrev pub entry_step : Bool → Bool → Option ℕ → IntegerTree → StepTree
+abbrev pub entry_step : Bool → Bool → Option ℕ → IntExpressionTree → FunctionStatementTree
 entry_step may own None e = no_step
 entry_step false own (Some vector) e = no_step
 entry_step true false (Some vector) e = no_step
 entry_step true true (Some vector) e = SetEntry vector e
 
-abbrev pub set_entry_step : ScopeTree → ℕ → Identifier → (index e : ExpressionTree) → WithFaults StepTree
+abbrev pub set_entry_step : ScopeTree → ℕ → Identifier → (index e : ExpressionTree) → WithFaults FunctionStatementTree
 set_entry_step scope at name index e =
     may_set at scope.inside >>= λ may. vector_index scope at name >>= λ vector.
     index_value scope at index >>= λ v. written_at at (own_vertex scope.inside) v >>= λ own.
@@ -164,7 +164,7 @@ may_reduce at inside.EdgeFunction vector by writes = one_reduction at vector by 
 may_reduce at inside.VertexFunction vector by writes = sure (true, writes)
 may_reduce at inside.Filter vector by writes = fault_at at rule.WrongType (false, writes)
 
-abbrev pub reduction_step : Bool → Bool → Option ℕ → Reduction → IntegerTree → StepTree
+abbrev pub reduction_step : Bool → Bool → Option ℕ → Reduction → IntExpressionTree → FunctionStatementTree
 reduction_step may own None by e = no_step
 reduction_step false own (Some vector) by e = no_step
 reduction_step true false (Some vector) by e = no_step
@@ -173,27 +173,27 @@ reduction_step true true (Some vector) by e = ReduceEntry vector by e
 abbrev pub with_writes : CheckerTree → List (ℕ × Reduction) → CheckerTree
 with_writes c writes = record c { writes = writes }
 
-abbrev pub reduce_entry_step : CheckerTree → ℕ → Identifier → (index : ExpressionTree) → Reduction → (e : ExpressionTree) → WithFaults (StepTree × CheckerTree)
+abbrev pub reduce_entry_step : CheckerTree → ℕ → Identifier → (index : ExpressionTree) → Reduction → (e : ExpressionTree) → WithFaults (FunctionStatementTree × CheckerTree)
 reduce_entry_step c at name index by e =
     vector_index c.scope at name >>= λ vector. may_reduce at c.scope.inside vector by c.writes >>= λ may.
     index_value c.scope at index >>= λ v. written_at at (own_vertex c.scope.inside) v >>= λ own.
     integer_in c.scope at e >>= λ x. sure (reduction_step may.0 own vector by x, with_writes c may.1)
 
 -- a statement that no function may hold; its parts are looked at too
-abbrev pub no_add : ScopeTree → ℕ → Identifier → ExpressionTree → WithFaults StepTree
+abbrev pub no_add : ScopeTree → ℕ → Identifier → ExpressionTree → WithFaults FunctionStatementTree
 no_add scope at set e = fault_at at rule.WrongType no_step >>= λ s. used scope set >>= λ n. value_of scope at e >>= λ v. sure s
 
-abbrev pub no_apply : ScopeTree → ℕ → Identifier → source.EndsTree → Identifier → WithFaults StepTree
+abbrev pub no_apply : ScopeTree → ℕ → Identifier → source.EndsTree → Identifier → WithFaults FunctionStatementTree
 no_apply scope at target ends function =
     fault_at at rule.WrongType no_step >>= λ s. used scope target >>= λ t. end_of scope ends.from >>= λ a. end_of scope ends.to >>= λ b.
     used scope function >>= λ f. sure s
 
 -- a statement that declares nothing
-abbrev pub step_in_place : CheckerTree → WithFaults StepTree → WithFaults (StepTree × CheckerTree)
+abbrev pub step_in_place : CheckerTree → WithFaults FunctionStatementTree → WithFaults (FunctionStatementTree × CheckerTree)
 step_in_place c step = step >>= λ s. sure (s, c)
 
 -- the statements so far, with one more after them
-abbrev pub step_behind : StepsTree → StepTree → StepsTree
+abbrev pub step_behind : FunctionStatementsTree → FunctionStatementTree → FunctionStatementsTree
 step_behind NoStep step = StepThen step NoStep
 step_behind (StepThen s others) step = StepThen s (step_behind others step)
 
@@ -202,17 +202,17 @@ abbrev pub steps_behind : CheckerTree → CheckerTree → CheckerTree
 steps_behind c d = with_scope d c.scope
 
 -- one statement
-abbrev pub labelled_step : CheckerTree → Option Identifier → (CheckerTree → WithFaults (StepTree × CheckerTree)) → WithFaults (StepTree × CheckerTree)
+abbrev pub labelled_step : CheckerTree → Option Identifier → (CheckerTree → WithFaults (FunctionStatementTree × CheckerTree)) → WithFaults (FunctionStatementTree × CheckerTree)
 labelled_step c label step = labelled c label >>= λ l. step l.1
 
 -- The name of a `for` is visible in its body alone, and its bounds are looked at before.
-abbrev pub no_for : CheckerTree → ℕ → Identifier → (first limit : ExpressionTree) → (CheckerTree → WithFaults (StepsTree × CheckerTree)) → WithFaults (StepTree × CheckerTree)
+abbrev pub no_for : CheckerTree → ℕ → Identifier → (first limit : ExpressionTree) → (CheckerTree → WithFaults (FunctionStatementsTree × CheckerTree)) → WithFaults (FunctionStatementTree × CheckerTree)
 no_for c at name first limit body =
     fault_at at rule.WrongType no_step >>= λ s. integer_in c.scope at first >>= λ a. integer_in c.scope at limit >>= λ z.
     declared_in c name (entity.LoopVariable (integer_slot c)) >>= λ d. body d >>= λ b. sure (s, steps_behind c b.1)
 
 abbrev mutual
-  pub step_typed : CheckerTree → source.ActionTree → WithFaults (StepTree × CheckerTree)
+  pub step_typed : CheckerTree → source.StatementKindTree → WithFaults (FunctionStatementTree × CheckerTree)
   step_typed c (source.Declare at p initial) = declare_step c at p.name p.declared initial
   step_typed c (source.While at test body) =
       fault_at at rule.WrongType no_step >>= λ s. condition_in c.scope at test >>= λ t. steps_typed c NoStep body >>= λ b. sure (s, steps_behind c b.1)
@@ -232,11 +232,11 @@ abbrev mutual
   step_typed c (source.Apply target ends function) = step_in_place c (no_apply c.scope target.at target ends function)
 
   -- statements after those so far
-  pub steps_typed : CheckerTree → StepsTree → source.BlockTree → WithFaults (StepsTree × CheckerTree)
+  pub steps_typed : CheckerTree → FunctionStatementsTree → source.BlockTree → WithFaults (FunctionStatementsTree × CheckerTree)
   steps_typed c so_far source.Empty = sure (so_far, c)
   steps_typed c so_far (source.Then label action others) =
       labelled c label >>= λ l. step_typed l.1 action >>= λ s. steps_typed s.1 (step_behind so_far s.0) others
 
 -- a block of its own
-abbrev pub steps_inside : CheckerTree → source.BlockTree → WithFaults (StepsTree × CheckerTree)
+abbrev pub steps_inside : CheckerTree → source.BlockTree → WithFaults (FunctionStatementsTree × CheckerTree)
 steps_inside c block = steps_typed c NoStep block >>= λ b. sure (b.0, steps_behind c b.1)

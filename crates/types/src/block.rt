@@ -1,7 +1,7 @@
 //! Blocks of `main`: typing of its statements, one after the other.
 ghost use Rattle.std.specs.Prelude.{◌≡◌, OnOk};
-ghost use Rattle.syntax.specs.SourceViews.{action_tree as source_action, block_tree as source_block};
-ghost use Rattle.typed_tree.specs.BlockTree.{Empty, action_tree, block_tree};
+ghost use Rattle.syntax.specs.SourceViews.{statement_kind_tree as source_action, block_tree as source_block};
+ghost use Rattle.typed_tree.specs.BlockTree.{Empty, statement_kind_tree, block_tree};
 ghost use Rattle.expression_types.specs.WithFaults.{ReportsFaults};
 ghost use Rattle.expression_types.specs.ScopeTree.{Keeps};
 ghost use Rattle.types.specs.Block.{action_typed, block_typed, statement_tree, statement_typed, statements_typed};
@@ -87,7 +87,7 @@ fn action(
     checker: &mut Checker,
     first_fault: &mut Option<Fault>,
 ) -> Result<StatementKind, AllocError>
-    ensures typed { ReportsFaults (λ a. (action_tree a, checker_of checker.new)) first_fault.old first_fault.new result
+    ensures typed { ReportsFaults (λ a. (statement_kind_tree a, checker_of checker.new)) first_fault.old first_fault.new result
         (action_typed (checker_of checker.old) (source_action action.now)) }
     ensures kept { OnOk result (Keeps checker.old.scope checker.new.scope) }
 {
@@ -114,7 +114,7 @@ fn tested(
     first_fault: &mut Option<Fault>,
 ) -> Result<StatementKind, AllocError>
     requires { HasTest action.now }
-    ensures typed { ReportsFaults (λ a. (action_tree a, checker_of checker.new)) first_fault.old first_fault.new result
+    ensures typed { ReportsFaults (λ a. (statement_kind_tree a, checker_of checker.new)) first_fault.old first_fault.new result
         (action_typed (checker_of checker.old) (source_action action.now)) }
     ensures kept { OnOk result (Keeps checker.old.scope checker.new.scope) }
 {
@@ -152,7 +152,7 @@ fn without_block(
     first_fault: &mut Option<Fault>,
 ) -> Result<StatementKind, AllocError>
     requires { DeclaresNothing action.now }
-    ensures { ReportsFaults (λ a. (action_tree a, checker_of checker.now)) first_fault.old first_fault.new result
+    ensures { ReportsFaults (λ a. (statement_kind_tree a, checker_of checker.now)) first_fault.old first_fault.new result
         (action_typed (checker_of checker.now) (source_action action.now)) }
 {
     let scope = &checker.scope;
@@ -177,7 +177,7 @@ fn reduction_or_entry(
     first_fault: &mut Option<Fault>,
 ) -> Result<StatementKind, AllocError>
     requires { ReducesOrSetsEntry action.now }
-    ensures { ReportsFaults (λ a. (action_tree a, checker_of checker.now)) first_fault.old first_fault.new result
+    ensures { ReportsFaults (λ a. (statement_kind_tree a, checker_of checker.now)) first_fault.old first_fault.new result
         (action_typed (checker_of checker.now) (source_action action.now)) }
 {
     let scope = &checker.scope;
@@ -217,7 +217,7 @@ fn repeat(
     first_fault: &mut Option<Fault>,
 ) -> Result<StatementKind, AllocError>
     requires { IsFor action.now }
-    ensures typed { ReportsFaults (λ a. (action_tree a, checker_of checker.new)) first_fault.old first_fault.new result
+    ensures typed { ReportsFaults (λ a. (statement_kind_tree a, checker_of checker.new)) first_fault.old first_fault.new result
         (action_typed (checker_of checker.old) (source_action action.now)) }
     ensures kept { OnOk result (Keeps checker.old.scope checker.new.scope) }
 {

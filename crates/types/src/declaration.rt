@@ -4,7 +4,7 @@ ghost use Rattle.syntax.specs.SourceViews.{block_tree as source_block, declarati
 ghost use Rattle.typed_tree.specs.BlockTree.{block_tree};
 ghost use Rattle.typed_tree.specs.ProgramTree.{call_tree, program_tree};
 ghost use Rattle.types.specs.Program.{program_tree_of};
-ghost use Rattle.typed_tree.specs.StepTree.{function_tree, steps_tree};
+ghost use Rattle.typed_tree.specs.FunctionStatementTree.{function_tree, function_statements_tree};
 ghost use Rattle.expression_types.specs.ScopeTree.{Keeps};
 ghost use Rattle.expression_types.specs.Faults.{earlier};
 ghost use Rattle.expression_types.specs.WithFaults.{ReportsFaults, outcome};
@@ -659,7 +659,7 @@ fn function_is(
     first_fault: &mut Option<Fault>,
 ) -> Result<(), AllocError>
     ensures { ReportsFaults (λ _. declared_of declared.new) first_fault.old first_fault.new result
-        (function_declared (declared_of declared.old) (function_kind_tree kind) name.now (steps_tree steps.items)) }
+        (function_declared (declared_of declared.old) (function_kind_tree kind) name.now (function_statements_tree steps.items)) }
 {
     let function = Function {
         name: declared.checker.names.len(),

@@ -1,8 +1,8 @@
 //! Typing of statements of functions that have no blocks.
 ghost use Rattle.std.specs.Prelude.{◌≡◌, Some, OnOk};
 ghost use Rattle.syntax.specs.SourceViews.{ends_tree, initial_tree};
-ghost use Rattle.typed_tree.specs.IntegerTree.{integer_tree};
-ghost use Rattle.typed_tree.specs.StepTree.{step_tree};
+ghost use Rattle.typed_tree.specs.IntExpressionTree.{int_expression_tree};
+ghost use Rattle.typed_tree.specs.FunctionStatementTree.{function_statement_tree};
 ghost use Rattle.expression_types.specs.Faults.{earlier};
 ghost use Rattle.expression_types.specs.WithFaults.{ReportsFaults, outcome};
 ghost use Rattle.expression_types.specs.ScopeTree.{Keeps};
@@ -29,14 +29,14 @@ use typed_tree::{BoolExpression, Endpoint, FunctionStatement, IntExpression};
 
 /// What stands in place of a faulty statement.
 fn nothing(alloc: Global) -> FunctionStatement
-    ensures { step_tree result ≡ no_step }
+    ensures { function_statement_tree result ≡ no_step }
 {
     FunctionStatement::If(BoolExpression::Literal(false), Vec::new(alloc))
 }
 
 /// A statement that breaks a rule of types.
 pub(crate) fn wrong(at: usize, alloc: Global, first_fault: &mut Option<Fault>) -> FunctionStatement
-    ensures step { step_tree result ≡ no_step }
+    ensures step { function_statement_tree result ≡ no_step }
     ensures first_fault { first_fault.new ≡ Some (earlier first_fault.old (record { at = at; rule = TypeRule.WrongType })) }
 {
     note(first_fault, at, TypeRule::WrongType);
@@ -45,7 +45,7 @@ pub(crate) fn wrong(at: usize, alloc: Global, first_fault: &mut Option<Fault>) -
 
 /// A `print`, which no function may hold.
 pub(crate) fn print(at: usize, alloc: Global, first_fault: &mut Option<Fault>) -> FunctionStatement
-    ensures step { step_tree result ≡ no_step }
+    ensures step { function_statement_tree result ≡ no_step }
     ensures first_fault { first_fault.new ≡ Some (earlier first_fault.old (record { at = at; rule = TypeRule.PrintOutsideMain })) }
 {
     note(first_fault, at, TypeRule::PrintOutsideMain);
@@ -61,7 +61,7 @@ pub(crate) fn declare_variable(
     initial: &Initial,
     first_fault: &mut Option<Fault>,
 ) -> Result<FunctionStatement, AllocError>
-    ensures typed { ReportsFaults (λ s. (step_tree s, checker_of checker.new)) first_fault.old first_fault.new result
+    ensures typed { ReportsFaults (λ s. (function_statement_tree s, checker_of checker.new)) first_fault.old first_fault.new result
         (declare_step (checker_of checker.old) at variable.now.name variable.now.declared (initial_tree initial.now)) }
     ensures kept { OnOk result (Keeps checker.old.scope checker.new.scope) }
 {
@@ -77,7 +77,7 @@ fn declare_initialized(
     initializer: Initializer,
     first_fault: &mut Option<Fault>,
 ) -> Result<FunctionStatement, AllocError>
-    ensures typed { ReportsFaults (λ s. (step_tree s, checker_of checker.new)) first_fault.old first_fault.new result
+    ensures typed { ReportsFaults (λ s. (function_statement_tree s, checker_of checker.new)) first_fault.old first_fault.new result
         (declare_step_as (checker_of checker.old) at variable.now.name (initializer_tree initializer) variable.now.declared) }
     ensures kept { OnOk result (Keeps checker.old.scope checker.new.scope) }
 {
@@ -103,7 +103,7 @@ fn declaration(
     first_fault: &mut Option<Fault>,
 ) -> (Entity, FunctionStatement)
     ensures { outcome first_fault.old (step_variable_as (checker_of checker.now) at (initializer_tree initializer) declared)
-        ≡ ((result.0, step_tree result.1), first_fault.new) }
+        ≡ ((result.0, function_statement_tree result.1), first_fault.new) }
 {
     match declared {
         DeclaredType::Int => {
@@ -134,7 +134,7 @@ pub(crate) fn assign(
     initial: &Initial,
     first_fault: &mut Option<Fault>,
 ) -> Result<FunctionStatement, AllocError>
-    ensures { ReportsFaults step_tree first_fault.old first_fault.new result
+    ensures { ReportsFaults function_statement_tree first_fault.old first_fault.new result
         (assign_step (checker_of checker.now) name.now.at name.now (initial_tree initial.now)) }
 {
     let at = name.at();
@@ -150,7 +150,7 @@ fn assign_initializer(
     entity: Entity,
     first_fault: &mut Option<Fault>,
 ) -> FunctionStatement
-    ensures { outcome first_fault.old (assigned_step at (initializer_tree initializer) entity) ≡ (step_tree result, first_fault.new) }
+    ensures { outcome first_fault.old (assigned_step at (initializer_tree initializer) entity) ≡ (function_statement_tree result, first_fault.new) }
 {
     match entity {
         Entity::IntegerVariable(slot) => FunctionStatement::SetInteger(
@@ -174,7 +174,7 @@ pub(crate) fn reduce(
     value: &Expression,
     first_fault: &mut Option<Fault>,
 ) -> Result<FunctionStatement, AllocError>
-    ensures { ReportsFaults step_tree first_fault.old first_fault.new result (reduce_step scope.now name.now.at name.now by value.now) }
+    ensures { ReportsFaults function_statement_tree first_fault.old first_fault.new result (reduce_step scope.now name.now.at name.now by value.now) }
 {
     let at = name.at();
     let entity = entity(scope, name, first_fault);
@@ -190,7 +190,7 @@ fn reduce_value(
     entity: Entity,
     first_fault: &mut Option<Fault>,
 ) -> FunctionStatement
-    ensures { outcome first_fault.old (reduced_step at by (value_tree value) entity) ≡ (step_tree result, first_fault.new) }
+    ensures { outcome first_fault.old (reduced_step at by (value_tree value) entity) ≡ (function_statement_tree result, first_fault.new) }
 {
     match entity {
         Entity::IntegerVariable(slot) => {
@@ -274,7 +274,7 @@ pub(crate) fn set_entry(
     value: &Expression,
     first_fault: &mut Option<Fault>,
 ) -> Result<FunctionStatement, AllocError>
-    ensures { ReportsFaults step_tree first_fault.old first_fault.new result (set_entry_step scope.now written.entry.vector.now.at written.entry.vector.now written.entry.index.now value.now) }
+    ensures { ReportsFaults function_statement_tree first_fault.old first_fault.new result (set_entry_step scope.now written.entry.vector.now.at written.entry.vector.now written.entry.index.now value.now) }
 {
     let at = written.vector.at();
     let may = may_set_entry(at, scope.inside(), first_fault);
@@ -292,7 +292,7 @@ fn setting(
     vector: Option<usize>,
     value: IntExpression,
 ) -> FunctionStatement
-    ensures { step_tree result ≡ entry_step may own vector (integer_tree value) }
+    ensures { function_statement_tree result ≡ entry_step may own vector (int_expression_tree value) }
 {
     match vector {
         Some(vector) if may && own => FunctionStatement::SetEntry(vector, value),
@@ -359,7 +359,7 @@ pub(crate) fn reduce_entry(
     value: &Expression,
     first_fault: &mut Option<Fault>,
 ) -> Result<FunctionStatement, AllocError>
-    ensures typed { ReportsFaults (λ s. (step_tree s, checker_of checker.new)) first_fault.old first_fault.new result
+    ensures typed { ReportsFaults (λ s. (function_statement_tree s, checker_of checker.new)) first_fault.old first_fault.new result
         (reduce_entry_step (checker_of checker.old) written.entry.vector.now.at written.entry.vector.now written.entry.index.now by value.now) }
     ensures kept { checker.new.scope ≡ checker.old.scope }
 {
@@ -381,7 +381,7 @@ fn reducing(
     by: Reduction,
     value: IntExpression,
 ) -> FunctionStatement
-    ensures { step_tree result ≡ reduction_step may own vector by (integer_tree value) }
+    ensures { function_statement_tree result ≡ reduction_step may own vector by (int_expression_tree value) }
 {
     match vector {
         Some(vector) if may && own => FunctionStatement::ReduceEntry(vector, by, value),
@@ -397,7 +397,7 @@ pub(crate) fn add_vertex(
     vertex: &Expression,
     first_fault: &mut Option<Fault>,
 ) -> Result<FunctionStatement, AllocError>
-    ensures { ReportsFaults step_tree first_fault.old first_fault.new result (no_add scope.now set.now.at set.now vertex.now) }
+    ensures { ReportsFaults function_statement_tree first_fault.old first_fault.new result (no_add scope.now set.now.at set.now vertex.now) }
 {
     let at = set.at();
     let step = wrong(at, alloc, first_fault);
@@ -415,7 +415,7 @@ pub(crate) fn apply(
     function: &Name,
     first_fault: &mut Option<Fault>,
 ) -> FunctionStatement
-    ensures { outcome first_fault.old (no_apply scope.now target.now.at target.now (ends_tree ends.now) function.now) ≡ (step_tree result, first_fault.new) }
+    ensures { outcome first_fault.old (no_apply scope.now target.now.at target.now (ends_tree ends.now) function.now) ≡ (function_statement_tree result, first_fault.new) }
 {
     let at = target.at();
     let step = wrong(at, alloc, first_fault);

@@ -1,8 +1,8 @@
 //! Initializers and the ends of applies: what variables, constants and sets get.
 ghost use Rattle.std.specs.Prelude.{◌≡◌, ◌||◌, Some};
 ghost use Rattle.syntax.specs.SourceViews.{ends_tree, initial_tree};
-ghost use Rattle.typed_tree.specs.ConditionTree.{condition_tree};
-ghost use Rattle.typed_tree.specs.IntegerTree.{integer_tree};
+ghost use Rattle.typed_tree.specs.BoolExpressionTree.{bool_expression_tree};
+ghost use Rattle.typed_tree.specs.IntExpressionTree.{int_expression_tree};
 ghost use Rattle.expression_types.specs.WithFaults.{ReportsFaults, outcome};
 ghost use Rattle.types.specs.Checker.{checker_of};
 ghost use Rattle.types.specs.Initializer.{apply_end_tree, initializer_tree};
@@ -71,7 +71,7 @@ pub(crate) enum ApplyEnd {
 impl Initializer {
     /// What a variable of type int gets. The fault is noted where it is none.
     pub(crate) fn into_integer(self, at: usize, first_fault: &mut Option<Fault>) -> IntExpression
-        ensures { outcome first_fault.old (initializer_integer at (initializer_tree self)) ≡ (integer_tree result, first_fault.new) }
+        ensures { outcome first_fault.old (initializer_integer at (initializer_tree self)) ≡ (int_expression_tree result, first_fault.new) }
     {
         match self {
             Initializer::Typed(value) => integer_of(at, value, first_fault),
@@ -85,7 +85,7 @@ impl Initializer {
 
     /// What a variable of type bool gets. The fault is noted where it is none.
     pub(crate) fn into_condition(self, at: usize, first_fault: &mut Option<Fault>) -> BoolExpression
-        ensures { outcome first_fault.old (initializer_condition at (initializer_tree self)) ≡ (condition_tree result, first_fault.new) }
+        ensures { outcome first_fault.old (initializer_condition at (initializer_tree self)) ≡ (bool_expression_tree result, first_fault.new) }
     {
         match self {
             Initializer::Typed(value) => condition_of(at, value, first_fault),

@@ -2,8 +2,8 @@
 ghost use Rattle.std.specs.Prelude.{◌≡◌, Some, OnOk};
 ghost use Rattle.std.specs.Option.{option_map};
 ghost use Rattle.syntax.specs.SourceViews.{ends_tree, initial_tree};
-ghost use Rattle.typed_tree.specs.BlockTree.{action_tree};
-ghost use Rattle.typed_tree.specs.IntegerTree.{integer_tree};
+ghost use Rattle.typed_tree.specs.BlockTree.{statement_kind_tree};
+ghost use Rattle.typed_tree.specs.IntExpressionTree.{int_expression_tree};
 ghost use Rattle.expression_types.specs.Faults.{earlier};
 ghost use Rattle.expression_types.specs.WithFaults.{ReportsFaults, outcome};
 ghost use Rattle.expression_types.specs.ScopeTree.{Keeps};
@@ -33,14 +33,14 @@ use typed_tree::{IntExpression, StatementKind, VarRef};
 
 /// What stands in place of a faulty statement.
 fn nothing() -> StatementKind
-    ensures { action_tree result ≡ no_action }
+    ensures { statement_kind_tree result ≡ no_action }
 {
     StatementKind::PrintInteger(IntExpression::Number(0))
 }
 
 /// A statement that breaks a rule of types.
 fn wrong(at: usize, first_fault: &mut Option<Fault>) -> StatementKind
-    ensures action { action_tree result ≡ no_action }
+    ensures action { statement_kind_tree result ≡ no_action }
     ensures first_fault { first_fault.new ≡ Some (earlier first_fault.old (record { at = at; rule = TypeRule.WrongType })) }
 {
     note(first_fault, at, TypeRule::WrongType);
@@ -56,7 +56,7 @@ pub(crate) fn declare_variable(
     initial: &Initial,
     first_fault: &mut Option<Fault>,
 ) -> Result<StatementKind, AllocError>
-    ensures typed { ReportsFaults (λ a. (action_tree a, checker_of checker.new)) first_fault.old first_fault.new result
+    ensures typed { ReportsFaults (λ a. (statement_kind_tree a, checker_of checker.new)) first_fault.old first_fault.new result
         (variable_declared (checker_of checker.old) at variable.now.name variable.now.declared (initial_tree initial.now)) }
     ensures kept { OnOk result (Keeps checker.old.scope checker.new.scope) }
 {
@@ -72,7 +72,7 @@ fn declare_initialized(
     initializer: Initializer,
     first_fault: &mut Option<Fault>,
 ) -> Result<StatementKind, AllocError>
-    ensures typed { ReportsFaults (λ a. (action_tree a, checker_of checker.new)) first_fault.old first_fault.new result
+    ensures typed { ReportsFaults (λ a. (statement_kind_tree a, checker_of checker.new)) first_fault.old first_fault.new result
         (declare_as (checker_of checker.old) at variable.now.name (initializer_tree initializer) variable.now.declared) }
     ensures kept { OnOk result (Keeps checker.old.scope checker.new.scope) }
 {
@@ -90,7 +90,7 @@ fn declaration(
     first_fault: &mut Option<Fault>,
 ) -> (Entity, StatementKind)
     ensures { outcome first_fault.old (variable_as (checker_of checker.now) at (initializer_tree initializer) declared)
-        ≡ ((result.0, action_tree result.1), first_fault.new) }
+        ≡ ((result.0, statement_kind_tree result.1), first_fault.new) }
 {
     match declared {
         DeclaredType::Int => {
@@ -126,7 +126,7 @@ pub(crate) fn assign(
     initial: &Initial,
     first_fault: &mut Option<Fault>,
 ) -> Result<StatementKind, AllocError>
-    ensures { ReportsFaults action_tree first_fault.old first_fault.new result
+    ensures { ReportsFaults statement_kind_tree first_fault.old first_fault.new result
         (assignment (checker_of checker.now) name.now.at name.now (initial_tree initial.now)) }
 {
     let at = name.at();
@@ -141,7 +141,7 @@ fn assign_initializer(
     entity: Entity,
     first_fault: &mut Option<Fault>,
 ) -> StatementKind
-    ensures { outcome first_fault.old (assigned at (initializer_tree initializer) entity) ≡ (action_tree result, first_fault.new) }
+    ensures { outcome first_fault.old (assigned at (initializer_tree initializer) entity) ≡ (statement_kind_tree result, first_fault.new) }
 {
     match entity {
         Entity::IntegerVariable(slot) => StatementKind::SetInteger(
@@ -169,7 +169,7 @@ pub(crate) fn reduce(
     value: &Expression,
     first_fault: &mut Option<Fault>,
 ) -> Result<StatementKind, AllocError>
-    ensures { ReportsFaults action_tree first_fault.old first_fault.new result (reduction_statement scope.now name.now.at name.now by value.now) }
+    ensures { ReportsFaults statement_kind_tree first_fault.old first_fault.new result (reduction_statement scope.now name.now.at name.now by value.now) }
 {
     let at = name.at();
     let entity = entity(scope, name, first_fault);
@@ -184,7 +184,7 @@ fn reduce_value(
     entity: Entity,
     first_fault: &mut Option<Fault>,
 ) -> StatementKind
-    ensures { outcome first_fault.old (reduced at by (value_tree value) entity) ≡ (action_tree result, first_fault.new) }
+    ensures { outcome first_fault.old (reduced at by (value_tree value) entity) ≡ (statement_kind_tree result, first_fault.new) }
 {
     match entity {
         Entity::IntegerVariable(slot) => {
@@ -203,7 +203,7 @@ pub(crate) fn set_entry(
     value: &Expression,
     first_fault: &mut Option<Fault>,
 ) -> Result<StatementKind, AllocError>
-    ensures { ReportsFaults action_tree first_fault.old first_fault.new result (entry_setting scope.now written.entry.vector.now.at written.entry.vector.now written.entry.index.now value.now) }
+    ensures { ReportsFaults statement_kind_tree first_fault.old first_fault.new result (entry_setting scope.now written.entry.vector.now.at written.entry.vector.now written.entry.index.now value.now) }
 {
     let at = written.vector.at();
     let vector = vector(scope, at, written.vector, first_fault);
@@ -218,7 +218,7 @@ fn setting(
     index: Option<IntExpression>,
     value: IntExpression,
 ) -> StatementKind
-    ensures { action_tree result ≡ entry_set vector (option_map integer_tree index) (integer_tree value) }
+    ensures { statement_kind_tree result ≡ entry_set vector (option_map int_expression_tree index) (int_expression_tree value) }
 {
     match (vector, index) {
         (Some(vector), Some(index)) => StatementKind::SetEntry(vector, index, value),
@@ -235,7 +235,7 @@ pub(crate) fn reduce_entry(
     value: &Expression,
     first_fault: &mut Option<Fault>,
 ) -> Result<StatementKind, AllocError>
-    ensures { ReportsFaults action_tree first_fault.old first_fault.new result (entry_reduction scope.now written.entry.vector.now.at written.entry.vector.now written.entry.index.now by value.now) }
+    ensures { ReportsFaults statement_kind_tree first_fault.old first_fault.new result (entry_reduction scope.now written.entry.vector.now.at written.entry.vector.now written.entry.index.now by value.now) }
 {
     let at = written.vector.at();
     let vector = vector(scope, at, written.vector, first_fault);
@@ -251,7 +251,7 @@ fn reducing(
     by: Reduction,
     value: IntExpression,
 ) -> StatementKind
-    ensures { action_tree result ≡ entry_reduced vector (option_map integer_tree index) by (integer_tree value) }
+    ensures { statement_kind_tree result ≡ entry_reduced vector (option_map int_expression_tree index) by (int_expression_tree value) }
 {
     match (vector, index) {
         (Some(vector), Some(index)) => StatementKind::ReduceEntry(vector, index, by, value),
@@ -267,7 +267,7 @@ pub(crate) fn add_vertex(
     vertex: &Expression,
     first_fault: &mut Option<Fault>,
 ) -> Result<StatementKind, AllocError>
-    ensures { ReportsFaults action_tree first_fault.old first_fault.new result (vertex_added scope.now set.now.at set.now vertex.now) }
+    ensures { ReportsFaults statement_kind_tree first_fault.old first_fault.new result (vertex_added scope.now set.now.at set.now vertex.now) }
 {
     let at = set.at();
     let entity = entity(scope, set, first_fault);
@@ -281,7 +281,7 @@ fn add_value(
     entity: Entity,
     first_fault: &mut Option<Fault>,
 ) -> StatementKind
-    ensures { outcome first_fault.old (added at (value_tree value) entity) ≡ (action_tree result, first_fault.new) }
+    ensures { outcome first_fault.old (added at (value_tree value) entity) ≡ (statement_kind_tree result, first_fault.new) }
 {
     match entity {
         Entity::SetVariable(slot) => StatementKind::AddVertex(
@@ -301,14 +301,14 @@ pub(crate) fn print(
     value: &Expression,
     first_fault: &mut Option<Fault>,
 ) -> Result<StatementKind, AllocError>
-    ensures { ReportsFaults action_tree first_fault.old first_fault.new result (print_statement scope.now at value.now) }
+    ensures { ReportsFaults statement_kind_tree first_fault.old first_fault.new result (print_statement scope.now at value.now) }
 {
     let value = type_expression(alloc, scope, at, value, first_fault)?;
     Ok(print_value(at, value, first_fault))
 }
 
 fn print_value(at: usize, value: Value, first_fault: &mut Option<Fault>) -> StatementKind
-    ensures { outcome first_fault.old (printed at (value_tree value)) ≡ (action_tree result, first_fault.new) }
+    ensures { outcome first_fault.old (printed at (value_tree value)) ≡ (statement_kind_tree result, first_fault.new) }
 {
     if value.is_error() {
         return nothing();
@@ -334,7 +334,7 @@ pub(crate) fn apply(
     first_fault: &mut Option<Fault>,
 ) -> StatementKind
     ensures { outcome first_fault.old (apply_statement scope.now target.now.at target.now (ends_tree ends.now) function.now)
-        ≡ (action_tree result, first_fault.new) }
+        ≡ (statement_kind_tree result, first_fault.new) }
 {
     let at = target.at();
     let apply = read_apply(scope, target, ends, function, first_fault);
@@ -355,7 +355,7 @@ fn apply_to(
     first_fault: &mut Option<Fault>,
 ) -> StatementKind
     ensures { outcome first_fault.old (applied at apply.target (apply_end_tree apply.from) (apply_end_tree apply.to) has_ends apply.function)
-        ≡ (action_tree result, first_fault.new) }
+        ≡ (statement_kind_tree result, first_fault.new) }
 {
     let NamedApply {
         target,
@@ -386,7 +386,7 @@ fn apply_to_edges(
     first_fault: &mut Option<Fault>,
 ) -> StatementKind
     ensures { outcome first_fault.old (edges_applied at (apply_end_tree from) (apply_end_tree to) (names_error function) (edge_function function))
-        ≡ (action_tree result, first_fault.new) }
+        ≡ (statement_kind_tree result, first_fault.new) }
 {
     match edge_function_named(function) {
         Some(index) => {
@@ -412,7 +412,7 @@ fn apply_to_set(
     function: Entity,
     first_fault: &mut Option<Fault>,
 ) -> StatementKind
-    ensures { outcome first_fault.old (vertices_applied at slot (names_error function) (vertex_function function)) ≡ (action_tree result, first_fault.new) }
+    ensures { outcome first_fault.old (vertices_applied at slot (names_error function) (vertex_function function)) ≡ (statement_kind_tree result, first_fault.new) }
 {
     match vertex_function_named(function) {
         Some(index) => StatementKind::ApplyVertex(slot, index),

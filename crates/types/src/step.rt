@@ -1,8 +1,8 @@
 //! Blocks of functions: typing of their statements. Where one is faulty, or no function may hold it, a harmless one
 //! stands in its place.
 ghost use Rattle.std.specs.Prelude.{◌≡◌, OnOk};
-ghost use Rattle.syntax.specs.SourceViews.{action_tree as source_action, block_tree as source_block};
-ghost use Rattle.typed_tree.specs.StepTree.{NoStep, step_tree, steps_tree};
+ghost use Rattle.syntax.specs.SourceViews.{statement_kind_tree as source_action, block_tree as source_block};
+ghost use Rattle.typed_tree.specs.FunctionStatementTree.{NoStep, function_statement_tree, function_statements_tree};
 ghost use Rattle.expression_types.specs.WithFaults.{ReportsFaults};
 ghost use Rattle.expression_types.specs.ScopeTree.{Keeps};
 ghost use Rattle.types.specs.Checker.{checker_of};
@@ -28,7 +28,7 @@ pub(crate) fn steps(
     checker: &mut Checker,
     first_fault: &mut Option<Fault>,
 ) -> Result<Vec<FunctionStatement>, AllocError>
-    ensures typed { ReportsFaults (λ b. (steps_tree b.items, checker_of checker.new)) first_fault.old first_fault.new result
+    ensures typed { ReportsFaults (λ b. (function_statements_tree b.items, checker_of checker.new)) first_fault.old first_fault.new result
         (steps_typed (checker_of checker.old) NoStep (source_block block.now)) }
     ensures kept { OnOk result (Keeps checker.old.scope checker.new.scope) }
 {
@@ -48,7 +48,7 @@ fn one(
     checker: &mut Checker,
     first_fault: &mut Option<Fault>,
 ) -> Result<FunctionStatement, AllocError>
-    ensures typed { ReportsFaults (λ s. (step_tree s, checker_of checker.new)) first_fault.old first_fault.new result
+    ensures typed { ReportsFaults (λ s. (function_statement_tree s, checker_of checker.new)) first_fault.old first_fault.new result
         (labelled_step (checker_of checker.old) statement.now.label (λ c. step_typed c (source_action statement.now.action))) }
     ensures kept { OnOk result (Keeps checker.old.scope checker.new.scope) }
 {
@@ -64,7 +64,7 @@ fn inner(
     checker: &mut Checker,
     first_fault: &mut Option<Fault>,
 ) -> Result<Vec<FunctionStatement>, AllocError>
-    ensures typed { ReportsFaults (λ b. (steps_tree b.items, checker_of checker.new)) first_fault.old first_fault.new result
+    ensures typed { ReportsFaults (λ b. (function_statements_tree b.items, checker_of checker.new)) first_fault.old first_fault.new result
         (steps_inside (checker_of checker.old) (source_block block.now)) }
     ensures kept { OnOk result (Keeps checker.old.scope checker.new.scope) }
 {
@@ -82,7 +82,7 @@ fn step(
     checker: &mut Checker,
     first_fault: &mut Option<Fault>,
 ) -> Result<FunctionStatement, AllocError>
-    ensures typed { ReportsFaults (λ s. (step_tree s, checker_of checker.new)) first_fault.old first_fault.new result
+    ensures typed { ReportsFaults (λ s. (function_statement_tree s, checker_of checker.new)) first_fault.old first_fault.new result
         (step_typed (checker_of checker.old) (source_action action.now)) }
     ensures kept { OnOk result (Keeps checker.old.scope checker.new.scope) }
 {
@@ -109,7 +109,7 @@ fn tested(
     first_fault: &mut Option<Fault>,
 ) -> Result<FunctionStatement, AllocError>
     requires { HasTest action.now }
-    ensures typed { ReportsFaults (λ s. (step_tree s, checker_of checker.new)) first_fault.old first_fault.new result
+    ensures typed { ReportsFaults (λ s. (function_statement_tree s, checker_of checker.new)) first_fault.old first_fault.new result
         (step_typed (checker_of checker.old) (source_action action.now)) }
     ensures kept { OnOk result (Keeps checker.old.scope checker.new.scope) }
 {
@@ -148,7 +148,7 @@ fn without_block(
     first_fault: &mut Option<Fault>,
 ) -> Result<FunctionStatement, AllocError>
     requires { DeclaresNothing action.now }
-    ensures typed { ReportsFaults (λ s. (step_tree s, checker_of checker.new)) first_fault.old first_fault.new result
+    ensures typed { ReportsFaults (λ s. (function_statement_tree s, checker_of checker.new)) first_fault.old first_fault.new result
         (step_typed (checker_of checker.old) (source_action action.now)) }
     ensures kept { checker.new.scope ≡ checker.old.scope }
 {
@@ -175,7 +175,7 @@ fn reduction_or_entry(
     first_fault: &mut Option<Fault>,
 ) -> Result<FunctionStatement, AllocError>
     requires { ReducesOrSetsEntry action.now }
-    ensures typed { ReportsFaults (λ s. (step_tree s, checker_of checker.new)) first_fault.old first_fault.new result
+    ensures typed { ReportsFaults (λ s. (function_statement_tree s, checker_of checker.new)) first_fault.old first_fault.new result
         (step_typed (checker_of checker.old) (source_action action.now)) }
     ensures kept { checker.new.scope ≡ checker.old.scope }
 {
@@ -215,7 +215,7 @@ fn repeat(
     first_fault: &mut Option<Fault>,
 ) -> Result<FunctionStatement, AllocError>
     requires { IsFor action.now }
-    ensures typed { ReportsFaults (λ s. (step_tree s, checker_of checker.new)) first_fault.old first_fault.new result
+    ensures typed { ReportsFaults (λ s. (function_statement_tree s, checker_of checker.new)) first_fault.old first_fault.new result
         (step_typed (checker_of checker.old) (source_action action.now)) }
     ensures kept { OnOk result (Keeps checker.old.scope checker.new.scope) }
 {

@@ -1,8 +1,8 @@
 //! Conversions of values to the type that their place wants: an int, a bool, a set, an index.
 ghost use Rattle.std.specs.Prelude.{◌≡◌};
 ghost use Rattle.std.specs.Option.{option_map};
-ghost use Rattle.typed_tree.specs.ConditionTree.{condition_tree};
-ghost use Rattle.typed_tree.specs.IntegerTree.{integer_tree};
+ghost use Rattle.typed_tree.specs.BoolExpressionTree.{bool_expression_tree};
+ghost use Rattle.typed_tree.specs.IntExpressionTree.{int_expression_tree};
 ghost use Rattle.expression_types.specs.WithFaults.{ReportsFaults, outcome};
 ghost use Rattle.expression_types.specs.ValueTree.{value_tree};
 ghost use Rattle.types.specs.Wanted.{as_condition, as_index, as_integer, as_members, condition_in, integer_in};
@@ -14,7 +14,7 @@ use typed_tree::{BoolExpression, IntExpression, SetValue};
 
 /// The integer that a value reads as. The fault is noted where it is none.
 pub(crate) fn integer_of(at: usize, value: Value, first_fault: &mut Option<Fault>) -> IntExpression
-    ensures { outcome first_fault.old (as_integer at (value_tree value)) ≡ (integer_tree result, first_fault.new) }
+    ensures { outcome first_fault.old (as_integer at (value_tree value)) ≡ (int_expression_tree result, first_fault.new) }
 {
     if value.is_error() {
         return IntExpression::Number(0);
@@ -34,7 +34,7 @@ pub(crate) fn condition_of(
     value: Value,
     first_fault: &mut Option<Fault>,
 ) -> BoolExpression
-    ensures { outcome first_fault.old (as_condition at (value_tree value)) ≡ (condition_tree result, first_fault.new) }
+    ensures { outcome first_fault.old (as_condition at (value_tree value)) ≡ (bool_expression_tree result, first_fault.new) }
 {
     if value.is_error() {
         return BoolExpression::Literal(false);
@@ -70,7 +70,7 @@ pub(crate) fn index_of(
     value: Value,
     first_fault: &mut Option<Fault>,
 ) -> Option<IntExpression>
-    ensures { outcome first_fault.old (as_index at (value_tree value)) ≡ (option_map integer_tree result, first_fault.new) }
+    ensures { outcome first_fault.old (as_index at (value_tree value)) ≡ (option_map int_expression_tree result, first_fault.new) }
 {
     if value.is_error() {
         return None;
@@ -94,7 +94,7 @@ pub(crate) fn integer(
     expression: &Expression,
     first_fault: &mut Option<Fault>,
 ) -> Result<IntExpression, AllocError>
-    ensures { ReportsFaults integer_tree first_fault.old first_fault.new result (integer_in scope.now at expression.now) }
+    ensures { ReportsFaults int_expression_tree first_fault.old first_fault.new result (integer_in scope.now at expression.now) }
 {
     let value = type_expression(alloc, scope, at, expression, first_fault)?;
     Ok(integer_of(at, value, first_fault))
@@ -108,7 +108,7 @@ pub(crate) fn condition(
     expression: &Expression,
     first_fault: &mut Option<Fault>,
 ) -> Result<BoolExpression, AllocError>
-    ensures { ReportsFaults condition_tree first_fault.old first_fault.new result (condition_in scope.now at expression.now) }
+    ensures { ReportsFaults bool_expression_tree first_fault.old first_fault.new result (condition_in scope.now at expression.now) }
 {
     let value = type_expression(alloc, scope, at, expression, first_fault)?;
     Ok(condition_of(at, value, first_fault))

@@ -1,5 +1,5 @@
 pub mod Sorted
 pub mod KeptUpdates
-pub mod Turned
+pub mod Transposed
 pub mod Widths
 pub mod PairColumns

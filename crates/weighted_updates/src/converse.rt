@@ -8,7 +8,7 @@ ghost use Rattle.weighted_updates.specs.WeightedUpdates.{decided_weight, pairs_i
 use crate::weighted_update::WeightedUpdate;
 
 /// Swaps the ends of the edge of each update, which keeps its weight. It takes linear time and no memory.
-pub(crate) fn turn(updates: &mut Vec<WeightedUpdate>)
+pub(crate) fn transpose(updates: &mut Vec<WeightedUpdate>)
     ensures same { (u v : ℕ) → decided_weight (pairs_in updates.new.items) (v, u)
         ≡ decided_weight (pairs_in updates.old.items) (u, v) }
     ensures once { NamesOnce (updates_in updates.old.items)
@@ -16,19 +16,19 @@ pub(crate) fn turn(updates: &mut Vec<WeightedUpdate>)
     ensures len { vec_len updates.new ≡ vec_len updates.old }
 {
     for update in updates.iter_mut() {
-        *update = turned(*update);
+        *update = transposed(*update);
     }
 }
 
 /// The update with the ends of its edge swapped.
-fn turned(update: WeightedUpdate) -> WeightedUpdate
+fn transposed(update: WeightedUpdate) -> WeightedUpdate
     ensures vertex { vertex_of result.update ≡ neighbour_of update.update }
     ensures neighbour { neighbour_of result.update ≡ vertex_of update.update }
     ensures is_added { adds result.update ≡ adds update.update }
     ensures weight { result.weight ≡ update.weight }
 {
     WeightedUpdate {
-        update: update.update.turned(),
+        update: update.update.transposed(),
         weight: update.weight,
     }
 }

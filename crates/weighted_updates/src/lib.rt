@@ -3,7 +3,7 @@
 //! A contract sees a list of [`WeightedUpdate`]s as the list of its updates (`updates_in`) and as what it
 //! decides (`decided_weight`): the last update that names an edge decides whether the edge is there, and
 //! with which weight. [`sort`] and [`keep_last`] leave that as it is, and after both the edges ascend,
-//! each once. [`sort_turned`] gives the same edges seen from the neighbour: the other direction, in which
+//! each once. [`sort_transposed`] gives the same edges seen from the neighbour: the other direction, in which
 //! an edge has the same weight. [`Columns`] has sorted updates and their weights apart, as they are lent.
 //!
 //! Batches with some weight other than 1 are sorted by this crate; a batch without goes by
@@ -18,5 +18,5 @@ mod weighted_update;
 
 pub use columns::Columns;
 pub use lasts::keep_last;
-pub use sorts::{sort, sort_forked, sort_turned, sort_turned_forked};
+pub use sorts::{sort, sort_forked, sort_transposed, sort_transposed_forked};
 pub use weighted_update::WeightedUpdate;

@@ -1,7 +1,7 @@
 //! The applies that statements are.
 ghost use Rattle.std.specs.Prelude.{◌≡◌};
 ghost use Rattle.std.specs.Option.{option_map};
-ghost use Rattle.typed_tree.specs.BlockTree.{action_tree};
+ghost use Rattle.typed_tree.specs.BlockTree.{statement_kind_tree};
 ghost use Rattle.plans.specs.Fusing.{edge_apply_of as edge_apply_in, modifying as modifying_in, vertex_apply_of as vertex_apply_in};
 ghost use Rattle.plans.specs.Instruction.{Assigned, Declared};
 ghost use Rattle.plans.specs.Parts.{edge_apply_tree, vertex_apply_tree};
@@ -11,7 +11,7 @@ use typed_tree::{ApplyEnds, SetValue, StatementKind};
 
 /// The edge apply that a statement is, and `None` of every other. A set that gets what the apply changed is part of it.
 pub(crate) fn edge_apply_of(action: &StatementKind) -> Option<EdgeApply>
-    ensures { option_map edge_apply_tree result ≡ edge_apply_in (action_tree action.now) }
+    ensures { option_map edge_apply_tree result ≡ edge_apply_in (statement_kind_tree action.now) }
 {
     match action {
         StatementKind::ApplyEdges(ends, function) => Some(apply(
@@ -51,7 +51,7 @@ fn apply(ends: ApplyEnds, function: usize, given: PartResult) -> EdgeApply
 
 /// The vertex apply that a statement is, and `None` of every other.
 pub(crate) fn vertex_apply_of(action: &StatementKind) -> Option<VertexApply>
-    ensures { option_map vertex_apply_tree result ≡ vertex_apply_in (action_tree action.now) }
+    ensures { option_map vertex_apply_tree result ≡ vertex_apply_in (statement_kind_tree action.now) }
 {
     match action {
         StatementKind::ApplyVertex(set, function) => Some(VertexApply {

@@ -1,7 +1,7 @@
 //! The test whether two applies fit, so that they may be done together.
 ghost use Rattle.std.specs.Prelude.{◌≡◌, map, IfOk};
 ghost use Rattle.typed_tree.specs.ProgramTree.{program_tree};
-ghost use Rattle.typed_tree.specs.StepTree.{function_tree};
+ghost use Rattle.typed_tree.specs.FunctionStatementTree.{function_tree};
 ghost use Rattle.typed_tree.specs.Access.{are_apart, function_writes};
 ghost use Rattle.plans.specs.Fusing.{apply_tree, edges_fit as fit_edges, is_same_end as same_end};
 ghost use Rattle.plans.specs.Fusing.{result_indices, result_vectors, sets_read, vertices_fit as fit_vertices};

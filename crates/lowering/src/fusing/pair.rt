@@ -1,7 +1,7 @@
 //! Two applies that are done together.
 ghost use Rattle.std.specs.Prelude.{◌≡◌, false, IfOk};
 ghost use Rattle.std.specs.Option.{option_map};
-ghost use Rattle.typed_tree.specs.BlockTree.{action_tree, block_tree};
+ghost use Rattle.typed_tree.specs.BlockTree.{statement_kind_tree, block_tree};
 ghost use Rattle.typed_tree.specs.ProgramTree.{program_tree};
 ghost use Rattle.plans.specs.Fusing.{fusion_role_of, edges_together as edges_done, is_with as does_fuse};
 ghost use Rattle.plans.specs.Fusing.{together as done_together, vertices_together as vertices_done, with_next};
@@ -28,7 +28,7 @@ pub(crate) fn pair_at(
     rest: &[MainStatement],
 ) -> Result<Option<FusedPair>, AllocError>
     ensures { IfOk result (λ both. fusion_role_of (program_tree program.now) schedule.now depth false statement.now.label
-        (action_tree statement.now.action) (block_tree rest.now) ≡ with_next (option_map together_tree both)) }
+        (statement_kind_tree statement.now.action) (block_tree rest.now) ≡ with_next (option_map together_tree both)) }
 {
     match rest.first() {
         Some(next) => {
@@ -62,7 +62,7 @@ pub(crate) fn together(
     second: &StatementKind,
 ) -> Result<Option<FusedPair>, AllocError>
     ensures { IfOk result (λ both. option_map together_tree both
-        ≡ done_together (program_tree program.now) depth (action_tree first.now) (action_tree second.now)) }
+        ≡ done_together (program_tree program.now) depth (statement_kind_tree first.now) (statement_kind_tree second.now)) }
 {
     let edges = edges_together(
         alloc,

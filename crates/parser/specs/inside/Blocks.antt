@@ -6,7 +6,7 @@ use Rattle.lexer.specs.declared.symbol.Symbol.TheVariants as symbol
 use Rattle.syntax.specs.Terminals.{Terminal, Identifier, OfKeyword, OfSymbol}
 use Rattle.syntax.specs.ExpressionTrees.{ExpressionTree}
 use Rattle.syntax.specs.ExpressionReading.{Reader, ◌>>=◌}
-use Rattle.syntax.specs.SourceTrees.{ActionTree, Declare, While, For, If, IfElse, Print, BlockTree}
+use Rattle.syntax.specs.SourceTrees.{StatementKindTree, Declare, While, For, If, IfElse, Print, BlockTree}
 use Rattle.syntax.specs.SourceReading.{expression, typed_at, assigned_at, ended_at, name_at, after_terminal, closed, no_block, block_at, action_by}
 use Rattle.parser.specs.declared.block.Opening.{Opening}
 use Rattle.parser.specs.declared.block.Opening.TheVariants as opening
@@ -16,7 +16,7 @@ abbrev pub block_in : ℕ → Reader BlockTree
 block_in zero = no_block
 block_in (suc depth) = block_at depth
 
-abbrev pub action_at : ℕ → Reader ActionTree
+abbrev pub action_at : ℕ → Reader StatementKindTree
 action_at depth = action_by (block_in depth)
 
 -- what begins with a keyword
@@ -29,11 +29,11 @@ opening_of keyword.Print = Some opening.Print
 opening_of _ = None
 
 -- what stands after `var`
-abbrev pub declared_at : ℕ → Reader ActionTree
+abbrev pub declared_at : ℕ → Reader StatementKindTree
 declared_at at ws = typed_at ws >>= λ n. assigned_at n.1 >>= λ i. Some (Declare at n.0 i.0, i.1)
 
 -- what stands after `print`
-abbrev pub printed_at : ℕ → Reader ActionTree
+abbrev pub printed_at : ℕ → Reader StatementKindTree
 printed_at at ws = ended_at ws >>= λ e. Some (Print at e.0, e.1)
 
 -- a variable and the two ends of what it runs over
@@ -47,12 +47,12 @@ abbrev pub to_end_by : Reader BlockTree → Reader BlockTree
 to_end_by block ws = block ws >>= closed (OfKeyword keyword.End ∷ [])
 
 -- what stands after the body of an `if`
-abbrev pub otherwise_by : Reader BlockTree → ℕ → ExpressionTree → BlockTree × List Terminal → Option (List Terminal) → Option (ActionTree × List Terminal)
+abbrev pub otherwise_by : Reader BlockTree → ℕ → ExpressionTree → BlockTree × List Terminal → Option (List Terminal) → Option (StatementKindTree × List Terminal)
 otherwise_by block at test body None = closed (OfKeyword keyword.End ∷ []) (If at test body.0, body.1)
 otherwise_by block at test body (Some after) = to_end_by block after >>= λ b. Some (IfElse at test body.0 b.0, b.1)
 
 -- what stands after that keyword
-abbrev pub opened_by : Reader BlockTree → Opening → ℕ → Reader ActionTree
+abbrev pub opened_by : Reader BlockTree → Opening → ℕ → Reader StatementKindTree
 opened_by block opening.Var at ws = declared_at at ws
 opened_by block opening.While at ws = expression ws >>= λ e. to_end_by block e.1 >>= λ b. Some (While at e.0 b.0, b.1)
 opened_by block opening.For at ws =

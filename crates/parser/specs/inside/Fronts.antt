@@ -9,7 +9,7 @@ use Rattle.syntax.specs.declared.declaration.DeclaredType.{DeclaredType}
 use Rattle.syntax.specs.declared.declaration.DeclaredType.TheVariants as type
 use Rattle.apply_options.specs.declared.setting.Setting.{Setting}
 use Rattle.apply_options.specs.declared.setting.Setting.TheVariants as setting
-use Rattle.syntax.specs.SourceTrees.{ActionTree, InitialTree, Apply, NewSet, Load, Vertices, OutDegrees, Filter, ApplyModified}
+use Rattle.syntax.specs.SourceTrees.{StatementKindTree, InitialTree, Apply, NewSet, Load, Vertices, OutDegrees, Filter, ApplyModified}
 use Rattle.syntax.specs.SourceReading.{in_braces, in_parentheses, after_terminal, after_terminals, closed, name_at, number_at, argument_at, method_at, ends_at, edge_ends, edgeset_at}
 
 -- the type that begins with a keyword
@@ -70,7 +70,7 @@ applied_function_at ws =
     after_terminals (OfSymbol symbol.Dot ∷ OfKeyword keyword.Apply ∷ []) ws >>= λ a. argument_at a >>= closed (OfSymbol symbol.Semicolon ∷ [])
 
 -- what an apply and its ends give
-abbrev pub applied_by : Identifier → Reader ActionTree
+abbrev pub applied_by : Identifier → Reader StatementKindTree
 applied_by target ws = ends_at ws >>= λ e. applied_function_at e.1 >>= λ f. Some (Apply target e.0 f.0, f.1)
 
 -- what stands after `filter`

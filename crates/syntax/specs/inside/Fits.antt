@@ -3,7 +3,7 @@ use Rattle.std.specs.Prelude.{ℕ, zero, suc, ◌≤◌, List, [], ◌∷◌}
 use Rattle.syntax.specs.ExpressionTrees.{ExpressionTree}
 use Rattle.syntax.specs.ExpressionDepth.{expression_depth}
 use Rattle.syntax.specs.Nesting.{limit}
-use Rattle.syntax.specs.SourceTrees.{InitialTree, Value, ActionTree, Declare, While, For, If, IfElse, Print, Assign, Reduce, SetEntry, ReduceEntry, AddVertex, Apply, BlockTree, Empty, Then, DeclarationTree, Constant, Function, SourceTree}
+use Rattle.syntax.specs.SourceTrees.{InitialTree, Value, StatementKindTree, Declare, While, For, If, IfElse, Print, Assign, Reduce, SetEntry, ReduceEntry, AddVertex, Apply, BlockTree, Empty, Then, DeclarationTree, Constant, Function, SourceTree}
 
 abbrev pub Fits : ExpressionTree → Type 0
 Fits e = expression_depth e ≤ limit
@@ -13,7 +13,7 @@ FitsInitial (Value e) = Fits e
 FitsInitial _ = Unit {0}
 
 abbrev mutual
-  pub FitsAction : ℕ → ActionTree → Type 0
+  pub FitsAction : ℕ → StatementKindTree → Type 0
   FitsAction d (Declare at p initial) = FitsInitial initial
   FitsAction zero (While at test body) = ⊥
   FitsAction (suc d) (While at test body) = Fits test × FitsBlock d body

@@ -2,9 +2,9 @@
 use Rattle.std.specs.Prelude.{ℕ, length}
 use Rattle.syntax.specs.declared.declaration.DeclaredType.{DeclaredType}
 use Rattle.syntax.specs.declared.declaration.DeclaredType.TheVariants as declared
-use Rattle.typed_tree.specs.BlockTree.{ActionTree, DeclareInteger, DeclareCondition, DeclareSet}
-use Rattle.typed_tree.specs.StepTree as step
-use Rattle.typed_tree.specs.StepTree.{StepTree}
+use Rattle.typed_tree.specs.BlockTree.{StatementKindTree, DeclareInteger, DeclareCondition, DeclareSet}
+use Rattle.typed_tree.specs.FunctionStatementTree as step
+use Rattle.typed_tree.specs.FunctionStatementTree.{FunctionStatementTree}
 use Rattle.expression_types.specs.declared.fault.TypeRule.TheVariants as rule
 use Rattle.expression_types.specs.declared.scope.Entity.{Entity}
 use Rattle.expression_types.specs.declared.scope.Entity.TheVariants as entity
@@ -15,7 +15,7 @@ use Rattle.types.specs.Statement.{no_action}
 use Rattle.types.specs.Step.{no_step}
 
 -- in main
-abbrev pub variable_as : CheckerTree → ℕ → InitializerTree → DeclaredType → WithFaults (Entity × ActionTree)
+abbrev pub variable_as : CheckerTree → ℕ → InitializerTree → DeclaredType → WithFaults (Entity × StatementKindTree)
 variable_as c at initializer declared.Int = initializer_integer at initializer >>= λ e. sure (entity.IntegerVariable (integer_slot c), DeclareInteger (length c.names) e)
 variable_as c at initializer declared.Bool = initializer_condition at initializer >>= λ e. sure (entity.ConditionVariable (condition_slot c), DeclareCondition (length c.names) e)
 variable_as c at initializer declared.VertexSet = initializer_members at initializer >>= λ s. sure (entity.SetVariable (set_slot c), DeclareSet (length c.names) s)
@@ -25,7 +25,7 @@ variable_as c at initializer declared.EdgeSet = fault_at at rule.WrongType (enti
 variable_as c at initializer declared.WeightedEdgeSet = fault_at at rule.WrongType (entity.Error, no_action)
 
 -- in a function
-abbrev pub step_variable_as : CheckerTree → ℕ → InitializerTree → DeclaredType → WithFaults (Entity × StepTree)
+abbrev pub step_variable_as : CheckerTree → ℕ → InitializerTree → DeclaredType → WithFaults (Entity × FunctionStatementTree)
 step_variable_as c at initializer declared.Int = initializer_integer at initializer >>= λ e. sure (entity.IntegerVariable (integer_slot c), step.DeclareInteger (length c.names) e)
 step_variable_as c at initializer declared.Bool = initializer_condition at initializer >>= λ e. sure (entity.ConditionVariable (condition_slot c), step.DeclareCondition (length c.names) e)
 step_variable_as c at initializer declared.VertexSet = fault_at at rule.WrongType (entity.Error, no_step)

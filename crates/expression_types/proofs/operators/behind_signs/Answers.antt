@@ -1,5 +1,5 @@
 use Rattle.std.proofs.Common.{ap, sym, ◌∙◌, length}
-use Rattle.typed_tree.specs.IntegerTree.{integer_tree, negated}
+use Rattle.typed_tree.specs.IntExpressionTree.{int_expression_tree, negated}
 use Rattle.expression_types.specs.ValueTree.{Integer, value_tree}
 use Rattle.expression_types.proofs.SignLaws.{error_stays, integer_negated, integer_misses, other_misses, named_so, not_empty}
 use Rattle.expression_types.proofs.operators.behind_signs.Goals as goal
@@ -16,12 +16,12 @@ returns-in_default c =
 
 pub returns-then-not-are_all_minus : goal.returns-then-not-are_all_minus
 returns-then-not-are_all_minus c =
-    named_so (integer_misses c.args.at c.args.first_fault.now c.args.signs.now (value_tree c.args.value) (integer_tree c.in-Some.e)
+    named_so (integer_misses c.args.at c.args.first_fault.now c.args.signs.now (value_tree c.args.value) (int_expression_tree c.in-Some.e)
     (not_empty (sym c.is_empty.ensures ∙ c.if-is_empty.false)) c.in-Some.ensures (sym c.are_all_minus.ensures ∙ c.if-not-are_all_minus.true))
     c.fault-then-not-are_all_minus.ensures.value c.fault-then-not-are_all_minus.ensures.first_fault
 
 pub returns : goal.returns
 returns c =
-    integer_negated c.args.at c.args.first_fault.now c.args.signs.now (value_tree c.args.value) (integer_tree c.in-Some.e)
+    integer_negated c.args.at c.args.first_fault.now c.args.signs.now (value_tree c.args.value) (int_expression_tree c.in-Some.e)
     (not_empty (sym c.is_empty.ensures ∙ c.if-is_empty.false)) c.in-Some.ensures (sym c.are_all_minus.ensures ∙ c.if-not-are_all_minus.false)
-    ∙ ap (λ d. (Integer (negated (length c.args.signs.now) (integer_tree d)), c.args.first_fault.now)) (sym c.in_ok-e.ensures.ok)
+    ∙ ap (λ d. (Integer (negated (length c.args.signs.now) (int_expression_tree d)), c.args.first_fault.now)) (sym c.in_ok-e.ensures.ok)

@@ -1,16 +1,16 @@
 use Rattle.std.proofs.Common.{ap, sym, ◌∙◌, length}
-use Rattle.typed_tree.specs.ConditionTree.{condition_tree, turned}
+use Rattle.typed_tree.specs.BoolExpressionTree.{bool_expression_tree, turned}
 use Rattle.expression_types.specs.ValueTree.{Condition, value_tree}
 use Rattle.expression_types.proofs.SignLaws.{condition_turned, condition_misses, named_so}
 use Rattle.expression_types.proofs.operators.turned.Goals as goal
 
 pub returns-then-not-are_all_not : goal.returns-then-not-are_all_not
 returns-then-not-are_all_not c =
-    named_so (condition_misses c.args.at c.args.first_fault.now c.args.signs.now (value_tree c.args.value) (condition_tree c.in-Some.c) c.in-Some.ensures
+    named_so (condition_misses c.args.at c.args.first_fault.now c.args.signs.now (value_tree c.args.value) (bool_expression_tree c.in-Some.c) c.in-Some.ensures
     (sym c.are_all_not.ensures ∙ c.if-not-are_all_not.true)) c.fault.ensures.value c.fault.ensures.first_fault
 
 pub returns : goal.returns
 returns c =
-    condition_turned c.args.at c.args.first_fault.now c.args.signs.now (value_tree c.args.value) (condition_tree c.in-Some.c) c.in-Some.ensures
+    condition_turned c.args.at c.args.first_fault.now c.args.signs.now (value_tree c.args.value) (bool_expression_tree c.in-Some.c) c.in-Some.ensures
     (sym c.are_all_not.ensures ∙ c.if-not-are_all_not.false)
-    ∙ ap (λ d. (Condition (turned (length c.args.signs.now) (condition_tree d)), c.args.first_fault.now)) (sym c.in_ok-c.ensures.ok)
+    ∙ ap (λ d. (Condition (turned (length c.args.signs.now) (bool_expression_tree d)), c.args.first_fault.now)) (sym c.in_ok-c.ensures.ok)

@@ -4,7 +4,7 @@ use Rattle.lexer.specs.Tokens.{slice_of}
 use Rattle.syntax.specs.Terminals.{keyword_terminal, terminal_of}
 use Rattle.parser.specs.Readers.{terminals, Gives}
 use Rattle.parser.proofs.Faults.{passed_on}
-use Rattle.syntax.specs.SourceViews.{statement_of, action_tree}
+use Rattle.syntax.specs.SourceViews.{statement_of, statement_kind_tree}
 use Rattle.syntax.specs.SourceReading.{begins_statement}
 use Rattle.parser.specs.inside.Blocks.{action_at, block_in, opening_of}
 use Rattle.parser.specs.inside.Views.{statements_tree}
@@ -40,7 +40,7 @@ action-returns-in-Some-begun_by-clause-reads t c =
     ∙ ap (λ kind. terminal_of kind (slice_of c.args.cursor.text.now c.in-Some.token.span) c.in-Some.token.span.start ∷ terminals c.in-Some.after) c.in-Keyword.is
     in
     let opening : opening_of c.in-Keyword.keyword ≡ Some c.in-Some-begun_by.opening = sym c.in-Some-begun_by.ensures in
-    subst (Gives action_tree c.opened.result)
+    subst (Gives statement_kind_tree c.opened.result)
     (sym (ap (action_at c.args.depth) is
     ∙ opened_is (block_in c.args.depth) c.in-Keyword.keyword c.in-Some.token.span.start c.in-Some-begun_by.opening (terminals c.in-Some.after) opening))
     c.opened.ensures.reads

@@ -1,5 +1,5 @@
-use Rattle.parser.proofs.BlockLaws.{action_tree-If}
+use Rattle.parser.proofs.BlockLaws.{statement_kind_tree-If}
 use Rattle.parser.proofs.block.if_action.Goals as goal
 
 pub returns : goal.returns
-returns c = action_tree-If c.args.at c.args.test c.args.body
+returns c = statement_kind_tree-If c.args.at c.args.test c.args.body

@@ -1,5 +1,5 @@
-use Rattle.parser.proofs.BlockLaws.{action_tree-IfElse}
+use Rattle.parser.proofs.BlockLaws.{statement_kind_tree-IfElse}
 use Rattle.parser.proofs.block.if_else_action.Goals as goal
 
 pub returns : goal.returns
-returns c = action_tree-IfElse c.args.at c.args.test c.args.body c.args.otherwise
+returns c = statement_kind_tree-IfElse c.args.at c.args.test c.args.body c.args.otherwise

@@ -1,5 +1,5 @@
-use Rattle.parser.proofs.BlockLaws.{action_tree-While}
+use Rattle.parser.proofs.BlockLaws.{statement_kind_tree-While}
 use Rattle.parser.proofs.block.while_action.Goals as goal
 
 pub returns : goal.returns
-returns c = action_tree-While c.args.at c.args.test c.args.body
+returns c = statement_kind_tree-While c.args.at c.args.test c.args.body

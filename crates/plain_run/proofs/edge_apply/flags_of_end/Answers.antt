@@ -1,5 +1,5 @@
 use Rattle.std.proofs.Common.{map, slice_get}
-use Rattle.typed_tree.specs.StepTree.{function_tree}
+use Rattle.typed_tree.specs.FunctionStatementTree.{function_tree}
 use Rattle.algorithm_meaning.specs.Filter.{result_of}
 use Rattle.algorithm_meaning.specs.Function.{steps_of}
 use Rattle.algorithm_meaning.specs.Value.{members_of}

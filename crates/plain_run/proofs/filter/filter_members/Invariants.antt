@@ -1,5 +1,5 @@
 use Rattle.std.proofs.Common.{◌≡◌, ◌++◌, drop, map}
-use Rattle.typed_tree.specs.StepTree.{function_tree}
+use Rattle.typed_tree.specs.FunctionStatementTree.{function_tree}
 use Rattle.algorithm_meaning.specs.Filter.{filtered}
 use Rattle.plain_run.proofs.filter.filter_members.Given as goal
 

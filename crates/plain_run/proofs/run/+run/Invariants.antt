@@ -1,5 +1,5 @@
 use Rattle.std.proofs.Common.{◌≡◌, ℕ, ◌≤◌, drop}
-use Rattle.typed_tree.specs.ConditionTree.{condition_tree}
+use Rattle.typed_tree.specs.BoolExpressionTree.{bool_expression_tree}
 use Rattle.typed_tree.specs.BlockTree.{block_tree}
 use Rattle.typed_tree.specs.ProgramTree.{program_tree}
 use Rattle.algorithm_meaning.specs.declared.state.LoopCounter.{LoopCounter}
@@ -27,7 +27,7 @@ decreases-run_for-turns l = l.state.turns
 
 abbrev pub invariant-run_while-turns : goal.invariant-run_while-turns
 invariant-run_while-turns l =
-    Again ℕ (while_test l.input.graph.now.vertices (condition_tree l.test)) (while_body (after_all (program_tree l.input.program.now) (graph_of l.input.graph.now) (block_tree l.body))) (λ (n : ℕ). n) l.number
+    Again ℕ (while_test l.input.graph.now.vertices (bool_expression_tree l.test)) (while_body (after_all (program_tree l.input.program.now) (graph_of l.input.graph.now) (block_tree l.body))) (λ (n : ℕ). n) l.number
     0 (state_of l.fn.state) 0 (state_of l.state)
     × (l.state.turns ≤ l.fn.state.turns)
 

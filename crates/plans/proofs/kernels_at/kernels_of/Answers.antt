@@ -1,5 +1,5 @@
 use Rattle.std.proofs.Common.{rules, ◌≡◌, ◌++◌, ◌∷◌, ◌+◌, [], map, take, sym, subst}
-use Rattle.typed_tree.specs.StepTree.{function_tree}
+use Rattle.typed_tree.specs.FunctionStatementTree.{function_tree}
 use Rattle.plans.specs.Kernels.{ArePairwise}
 use Rattle.plans.proofs.Pairwise.{pairwise_next}
 use Rattle.plans.proofs.kernels_at.kernels_of.Goals as goal

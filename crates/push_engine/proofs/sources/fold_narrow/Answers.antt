@@ -1,7 +1,7 @@
 use Rattle.std.proofs.Common.{◌++◌, ℕ, ℤ, List, OnOk, subst}
 use Rattle.std.specs.List.{filter}
 use Rattle.edge_lists.specs.Edge.{Edge}
-use Rattle.kernels.specs.StepTree.{StepsTree}
+use Rattle.kernels.specs.FunctionStatementTree.{FunctionStatementsTree}
 use Rattle.kernels.specs.State.{StateValue}
 use Rattle.edge_fold.specs.declared.scratch.Scratch.{Scratch}
 use Rattle.edge_fold.specs.Folded.{IsContextOf, HasFolded}
@@ -15,6 +15,6 @@ returns-then-done c = c.in_ok-done.ensures.folded c.if-done.true
 pub returns : goal.returns
 returns c =
     let a = c.args in
-    subst (λ (s : Scratch). OnOk c.fold_parts.result ((m : StateValue) → (steps : List StepsTree) → (edges : List Edge) → IsContextOf a.input.context m steps → HasFolded a.input.context m steps edges s
+    subst (λ (s : Scratch). OnOk c.fold_parts.result ((m : StateValue) → (steps : List FunctionStatementsTree) → (edges : List Edge) → IsContextOf a.input.context m steps → HasFolded a.input.context m steps edges s
     → HasFolded a.input.context m steps (edges ++ row a.source (filter (λ e. passes_words a.input.to e.0) a.list.now)) c.fold_parts.new.scratch))
     (c.in_ok-done.ensures.unchanged c.if-done.false) c.fold_parts.ensures

@@ -1,6 +1,6 @@
 use Rattle.std.proofs.Common.{◌++◌, List, take}
 use Rattle.edge_lists.specs.Edge.{Edge}
-use Rattle.kernels.specs.StepTree.{StepsTree}
+use Rattle.kernels.specs.FunctionStatementTree.{FunctionStatementsTree}
 use Rattle.kernels.specs.State.{StateValue}
 use Rattle.edge_fold.specs.Folded.{IsContextOf, HasFolded}
 use Rattle.push_engine.specs.Rows.{rows_to}
@@ -9,5 +9,5 @@ use Rattle.push_engine.proofs.sources.fold_rows.Given as goal
 
 -- the rows of the sources that have come are folded
 abbrev pub invariant-sources : goal.invariant-sources
-invariant-sources l = (m : StateValue) (steps : List StepsTree) (edges : List Edge) → IsContextOf l.input.context m steps
+invariant-sources l = (m : StateValue) (steps : List FunctionStatementsTree) (edges : List Edge) → IsContextOf l.input.context m steps
     → HasFolded l.input.context m steps edges l.fn.scratch → HasFolded l.input.context m steps (edges ++ rows_to (passes_words l.input.to) l.input.flat.now.edges (take l.source-index l.sources)) l.scratch

@@ -1,6 +1,6 @@
 use Rattle.std.proofs.Common.{◌≡◌, ◌++◌, length}
 use Rattle.std.specs.List.{filter}
-use Rattle.typed_tree.specs.StepTree.{StepsTree}
+use Rattle.typed_tree.specs.FunctionStatementTree.{FunctionStatementsTree}
 use Rattle.algorithm_meaning.specs.Filter.{result_of}
 use Rattle.algorithm_meaning.specs.State.{StateValue}
 use Rattle.kernels.specs.declared.columns.TheConstants.{PAIRS}
@@ -15,7 +15,7 @@ invariant-parts l = record {
   size : length l.part ≡ PAIRS;
   ascending : Ascends l.set.vertices 0 (l.kept.items ++ l.left);
   room : HasRegisters l.block l.kernel.room;
-  passed : (steps : StepsTree) (m : StateValue) → IsFilterKernel l.kernel steps → l.vectors.vectors ≡ m.vectors → HasSizes l.sizes m
+  passed : (steps : FunctionStatementsTree) (m : StateValue) → IsFilterKernel l.kernel steps → l.vectors.vectors ≡ m.vectors → HasSizes l.sizes m
       → l.kept.items ++ filter (result_of steps m.sets m.vectors) l.left ≡ filter (result_of steps m.sets m.vectors) l.set.members;
 }
 

@@ -1,5 +1,5 @@
 use Rattle.std.proofs.Common.{◌≡◌, length}
-use Rattle.typed_tree.specs.StepTree.{StepsTree}
+use Rattle.typed_tree.specs.FunctionStatementTree.{FunctionStatementsTree}
 use Rattle.algorithm_meaning.specs.State.{StateValue}
 use Rattle.algorithm_meaning.specs.VertexApply.{after_vertices}
 use Rattle.kernels.specs.declared.columns.TheConstants.{PAIRS}
@@ -17,7 +17,7 @@ invariant-parts l = record {
   ascending : Rises 0 l.left;
   groups : l.vectors.groups ≡ l.fn.vectors.groups;
   keeps : (other : RegisterCounts) → HasRegisters l.fn.block other → HasRegisters l.block other;
-  rest : (steps : StepsTree) (m : StateValue) → IsVertexCode l.kernel.code.items steps → l.fn.vectors.vectors ≡ m.vectors → HasSizes l.sizes m
+  rest : (steps : FunctionStatementsTree) (m : StateValue) → IsVertexCode l.kernel.code.items steps → l.fn.vectors.vectors ≡ m.vectors → HasSizes l.sizes m
       → after_vertices steps m.sets l.left l.vectors.vectors ≡ after_vertices steps m.sets l.fn.vertices m.vectors;
 }
 

@@ -1,5 +1,5 @@
 use Rattle.std.proofs.Common.{◌∙◌, map}
-use Rattle.typed_tree.specs.StepTree.{function_tree}
+use Rattle.typed_tree.specs.FunctionStatementTree.{function_tree}
 use Rattle.schedule.proofs.Uses.{function_is_apart}
 use Rattle.schedule.proofs.access.function_does_avoid.Goals as goal
 

@@ -2,8 +2,8 @@ use Rattle.std.proofs.Common.{ap, sym, ◌∙◌}
 use Rattle.std.proofs.lemmas.Result.{on_ok_weaker}
 use Rattle.syntax.specs.SourceSpelling.{action_before}
 use Rattle.syntax.specs.SourceTrees.{While, For, If, IfElse}
-use Rattle.syntax.specs.SourceViews.{action_tree, block_tree}
-use Rattle.parser.proofs.BlockLaws.{action_tree-While, action_tree-For, action_tree-If, action_tree-IfElse}
+use Rattle.syntax.specs.SourceViews.{statement_kind_tree, block_tree}
+use Rattle.parser.proofs.BlockLaws.{statement_kind_tree-While, statement_kind_tree-For, statement_kind_tree-If, statement_kind_tree-IfElse}
 use Rattle.source_text.proofs.Puts.{completes_same, statement_before, block_before-each, up_to_none, up_to_more, up_to_all}
 use Rattle.source_text.proofs.statement.+statements.Goals as goal
 
@@ -21,7 +21,7 @@ put_block-returns t c =
 
 pub put_action-returns-in_ok-put_test-in-While : goal.put_action-returns-in_ok-put_test-in-While
 put_action-returns-in_ok-put_test-in-While t c =
-    let tree = ap action_tree c.in-While.is ∙ action_tree-While c.in-While.at c.in-While.test c.in-While.body
+    let tree = ap statement_kind_tree c.in-While.is ∙ statement_kind_tree-While c.in-While.at c.in-While.test c.in-While.body
     ∙ ap (λ b. While c.in-While.at c.in-While.test (block_tree b)) (sym c.deref.ensures.value) in
     on_ok_weaker c.put_to_end.result (λ puts rest whole h.
     puts rest whole (c.in_ok-put_test-in-While.ensures c.in-While.at _ whole
@@ -30,7 +30,7 @@ put_action-returns-in_ok-put_test-in-While t c =
 
 pub put_action-returns-in_ok-put_range-in-For : goal.put_action-returns-in_ok-put_range-in-For
 put_action-returns-in_ok-put_range-in-For t c =
-    let tree = ap action_tree c.in-For.is ∙ action_tree-For c.in-For.at c.in-For.name c.in-For.first c.in-For.limit c.in-For.body
+    let tree = ap statement_kind_tree c.in-For.is ∙ statement_kind_tree-For c.in-For.at c.in-For.name c.in-For.first c.in-For.limit c.in-For.body
     ∙ ap (λ b. For c.in-For.at c.in-For.name c.in-For.first c.in-For.limit (block_tree b)) (sym c.deref-in-For.ensures.value) in
     on_ok_weaker c.put_to_end-in-For.result (λ puts rest whole h.
     puts rest whole (c.in_ok-put_range-in-For.ensures c.in-For.at _ whole
@@ -39,7 +39,7 @@ put_action-returns-in_ok-put_range-in-For t c =
 
 pub put_action-returns-in_ok-put_test-in-If : goal.put_action-returns-in_ok-put_test-in-If
 put_action-returns-in_ok-put_test-in-If t c =
-    let tree = ap action_tree c.in-If.is ∙ action_tree-If c.in-If.at c.in-If.test c.in-If.body
+    let tree = ap statement_kind_tree c.in-If.is ∙ statement_kind_tree-If c.in-If.at c.in-If.test c.in-If.body
     ∙ ap (λ b. If c.in-If.at c.in-If.test (block_tree b)) (sym c.deref-in-If.ensures.value) in
     on_ok_weaker c.put_to_end-in-If.result (λ puts rest whole h.
     puts rest whole (c.in_ok-put_test-in-If.ensures c.in-If.at _ whole
@@ -48,7 +48,7 @@ put_action-returns-in_ok-put_test-in-If t c =
 
 pub put_action-returns-in_ok-put_keyword-in-IfElse : goal.put_action-returns-in_ok-put_keyword-in-IfElse
 put_action-returns-in_ok-put_keyword-in-IfElse t c =
-    let tree = ap action_tree c.in-IfElse.is ∙ action_tree-IfElse c.in-IfElse.at c.in-IfElse.test c.in-IfElse.body c.in-IfElse.otherwise
+    let tree = ap statement_kind_tree c.in-IfElse.is ∙ statement_kind_tree-IfElse c.in-IfElse.at c.in-IfElse.test c.in-IfElse.body c.in-IfElse.otherwise
     ∙ ap (λ b. IfElse c.in-IfElse.at c.in-IfElse.test (block_tree b) (block_tree c.in-IfElse.otherwise.items)) (sym c.deref-in-IfElse.ensures.value)
     ∙ ap (λ b. IfElse c.in-IfElse.at c.in-IfElse.test (block_tree c.deref-in-IfElse.result.now) (block_tree b)) (sym c.deref-in-IfElse-2.ensures.value) in
     on_ok_weaker c.put_to_end-in-IfElse.result (λ puts rest whole h.

@@ -1,10 +1,10 @@
 use Rattle.std.proofs.Common.{◌≡◌, ap, subst, sym, ◌∙◌, suc, ◌+◌, length, drop}
 use Rattle.syntax.specs.SourceTrees as source
-use Rattle.syntax.specs.SourceViews.{action_tree as source_action, block_tree as source_block}
-use Rattle.typed_tree.specs.BlockTree.{Empty, For, action_tree, block_tree}
-use Rattle.typed_tree.specs.ConditionTree.{condition_tree}
-use Rattle.typed_tree.specs.IntegerTree.{integer_tree}
-use Rattle.typed_tree.proofs.Blocks.{action_tree-While, action_tree-If, action_tree-IfElse, action_tree-For}
+use Rattle.syntax.specs.SourceViews.{statement_kind_tree as source_action, block_tree as source_block}
+use Rattle.typed_tree.specs.BlockTree.{Empty, For, statement_kind_tree, block_tree}
+use Rattle.typed_tree.specs.BoolExpressionTree.{bool_expression_tree}
+use Rattle.typed_tree.specs.IntExpressionTree.{int_expression_tree}
+use Rattle.typed_tree.proofs.Blocks.{statement_kind_tree-While, statement_kind_tree-If, statement_kind_tree-IfElse, statement_kind_tree-For}
 use Rattle.expression_types.specs.declared.scope.Entity.TheVariants as entity
 use Rattle.expression_types.specs.WithFaults.{outcome, sure, ◌>>=◌}
 use Rattle.expression_types.specs.ScopeTree.{Keeps, left}
@@ -20,26 +20,26 @@ use Rattle.types.proofs.block.+statements.Goals as goal
 pub tested-returns-in_ok-body-in-While-clause-typed : goal.tested-returns-in_ok-body-in-While-clause-typed
 tested-returns-in_ok-body-in-While-clause-typed t c =
     while_typed (checker_of c.args.checker.now) (checker_of c.inner.new.checker) c.args.action.now c.in-While.at c.in-While.test c.in-While.body c.deref.result.now
-    (condition_tree c.in_ok-test-in-While.test) (block_tree c.in_ok-body-in-While.body.items) c.args.first_fault.now c.condition.new.first_fault c.inner.new.first_fault
+    (bool_expression_tree c.in_ok-test-in-While.test) (block_tree c.in_ok-body-in-While.body.items) c.args.first_fault.now c.condition.new.first_fault c.inner.new.first_fault
     c.deref.ensures.value c.in-While.is c.in_ok-test-in-While.ensures c.in_ok-body-in-While.ensures.typed
-    ∙ ap (λ a. ((a, checker_of c.inner.new.checker), c.inner.new.first_fault)) (sym (action_tree-While c.in_ok-test-in-While.test c.in_ok-body-in-While.body))
+    ∙ ap (λ a. ((a, checker_of c.inner.new.checker), c.inner.new.first_fault)) (sym (statement_kind_tree-While c.in_ok-test-in-While.test c.in_ok-body-in-While.body))
 
 pub tested-returns-in_ok-body-in-If-clause-typed : goal.tested-returns-in_ok-body-in-If-clause-typed
 tested-returns-in_ok-body-in-If-clause-typed t c =
     if_typed (checker_of c.args.checker.now) (checker_of c.inner-in-If.new.checker) c.args.action.now c.in-If.at c.in-If.test c.in-If.body c.deref-in-If.result.now
-    (condition_tree c.in_ok-test-in-If.test) (block_tree c.in_ok-body-in-If.body.items) c.args.first_fault.now c.condition-in-If.new.first_fault c.inner-in-If.new.first_fault
+    (bool_expression_tree c.in_ok-test-in-If.test) (block_tree c.in_ok-body-in-If.body.items) c.args.first_fault.now c.condition-in-If.new.first_fault c.inner-in-If.new.first_fault
     c.deref-in-If.ensures.value c.in-If.is c.in_ok-test-in-If.ensures c.in_ok-body-in-If.ensures.typed
-    ∙ ap (λ a. ((a, checker_of c.inner-in-If.new.checker), c.inner-in-If.new.first_fault)) (sym (action_tree-If c.in_ok-test-in-If.test c.in_ok-body-in-If.body))
+    ∙ ap (λ a. ((a, checker_of c.inner-in-If.new.checker), c.inner-in-If.new.first_fault)) (sym (statement_kind_tree-If c.in_ok-test-in-If.test c.in_ok-body-in-If.body))
 
 pub tested-returns-in_ok-other-in-IfElse-clause-typed : goal.tested-returns-in_ok-other-in-IfElse-clause-typed
 tested-returns-in_ok-other-in-IfElse-clause-typed t c =
     if_else_typed (checker_of c.args.checker.now) (checker_of c.inner-in-IfElse.new.checker) (checker_of c.inner-in-IfElse-2.new.checker) c.args.action.now c.in-IfElse.at c.in-IfElse.test
-    c.in-IfElse.body c.in-IfElse.otherwise c.deref-in-IfElse.result.now c.deref-in-IfElse-2.result.now (condition_tree c.in_ok-test-in-IfElse.test)
+    c.in-IfElse.body c.in-IfElse.otherwise c.deref-in-IfElse.result.now c.deref-in-IfElse-2.result.now (bool_expression_tree c.in_ok-test-in-IfElse.test)
     (block_tree c.in_ok-body-in-IfElse.body.items) (block_tree c.in_ok-other-in-IfElse.other.items)
     c.args.first_fault.now c.condition-in-IfElse.new.first_fault c.inner-in-IfElse.new.first_fault c.inner-in-IfElse-2.new.first_fault
     c.deref-in-IfElse.ensures.value c.deref-in-IfElse-2.ensures.value c.in-IfElse.is c.in_ok-test-in-IfElse.ensures c.in_ok-body-in-IfElse.ensures.typed c.in_ok-other-in-IfElse.ensures.typed
     ∙ ap (λ a. ((a, checker_of c.inner-in-IfElse-2.new.checker), c.inner-in-IfElse-2.new.first_fault))
-    (sym (action_tree-IfElse c.in_ok-test-in-IfElse.test c.in_ok-body-in-IfElse.body c.in_ok-other-in-IfElse.other))
+    (sym (statement_kind_tree-IfElse c.in_ok-test-in-IfElse.test c.in_ok-body-in-IfElse.body c.in_ok-other-in-IfElse.other))
 
 pub repeat-returns-clause-typed : goal.repeat-returns-clause-typed
 repeat-returns-clause-typed t c =
@@ -47,8 +47,8 @@ repeat-returns-clause-typed t c =
     let scope = checker.scope in
     let at = c.in-For.at in
     let body = source_block c.deref.result.now in
-    let a = integer_tree c.in_ok-first.first in
-    let z = integer_tree c.in_ok-limit.limit in
+    let a = int_expression_tree c.in_ok-first.first in
+    let z = int_expression_tree c.in_ok-limit.limit in
     let d = checker_of c.declare_loop_variable.new.checker in
     let last = checker_of c.statements.new.checker in
     let b = block_tree c.in_ok-body.body.items in
@@ -56,7 +56,7 @@ repeat-returns-clause-typed t c =
     let kept = keeps_on scope c.declare_loop_variable.new.checker.scope c.statements.new.checker.scope c.in_ok-slot.ensures.kept c.in_ok-body.ensures.kept in
     let again = c.leave.ensures ∙ ap (λ m. left m c.statements.new.checker.scope) c.mark-mark.ensures.mark ∙ left_again scope c.statements.new.checker.scope kept in
     ap (λ a. outcome c.args.first_fault.now (action_typed checker (source_action a))) c.in-For.is
-    ∙ ap (λ a. outcome c.args.first_fault.now (action_typed checker a)) (sources.action_tree-For at c.in-For.name c.in-For.first c.in-For.limit c.in-For.body
+    ∙ ap (λ a. outcome c.args.first_fault.now (action_typed checker a)) (sources.statement_kind_tree-For at c.in-For.name c.in-For.first c.in-For.limit c.in-For.body
     ∙ ap (λ xs. source.For at c.in-For.name c.in-For.first c.in-For.limit (source_block xs)) (sym c.deref.ensures.value))
     ∙ outcome_then c.args.first_fault.now c.integer.new.first_fault (integer_in scope at c.in-For.first) a
     (λ a. integer_in scope at c.in-For.limit >>= λ z. declared_in checker c.in-For.name (entity.LoopVariable (integer_slot checker)) >>= λ d. statements_typed d Empty body >>= λ b.
@@ -69,7 +69,7 @@ repeat-returns-clause-typed t c =
     c.in_ok-slot.ensures.declared
     ∙ outcome_then c.declare_loop_variable.new.first_fault new (statements_typed d Empty body) (b, last) (λ b. sure (For (length checker.names) a z b.0, closed checker b.1)) c.in_ok-body.ensures.typed
     ∙ (λ i. ((For (ap (λ s. s.name) (sym c.in_ok-slot.ensures.slot) i) a z b, with_scope last (sym again i)), new))
-    ∙ ap (λ x. ((x, with_scope last c.leave.new.self), new)) (sym (action_tree-For c.in_ok-slot.slot.name c.in_ok-first.first c.in_ok-limit.limit c.in_ok-body.body))
+    ∙ ap (λ x. ((x, with_scope last c.leave.new.self), new)) (sym (statement_kind_tree-For c.in_ok-slot.slot.name c.in_ok-first.first c.in_ok-limit.limit c.in_ok-body.body))
 
 pub statements-statements-preserved : goal.statements-statements-preserved
 statements-statements-preserved t c =
@@ -107,7 +107,7 @@ one-returns-clause-typed t c =
     let labelled_checker = checker_of c.label.new.checker in
     let index = c.in_ok-label.label in
     let action = source_action c.args.statement.now.action in
-    let a = action_tree c.in_ok-action.action in
+    let a = statement_kind_tree c.in_ok-action.action in
     let last = checker_of c.action.new.checker in
     let number = suc labelled_checker.statements in
     outcome_then c.args.first_fault.now c.label.new.first_fault (labelled checker c.args.statement.now.label) (index, labelled_checker)

@@ -1,6 +1,6 @@
 use Rattle.std.proofs.Common.{ap, subst, ◌∙◌, map, option_map}
 use Rattle.syntax.specs.SourceViews.{block_tree as source_block, parameter_tree}
-use Rattle.typed_tree.specs.StepTree.{NoStep, steps_tree}
+use Rattle.typed_tree.specs.FunctionStatementTree.{NoStep, function_statements_tree}
 use Rattle.expression_types.specs.WithFaults.{ReportsFaults, ◌>>=◌}
 use Rattle.expression_types.specs.ScopeTree.{left}
 use Rattle.expression_types.proofs.Steps.{reports_then}
@@ -22,7 +22,7 @@ returns c =
     let fits = kind_fits c.args.written.at kind in
     let inner = checker_of c.open.new.checker in
     let last = checker_of c.steps.new.checker in
-    let b = steps_tree c.in_ok-steps.steps.items in
+    let b = function_statements_tree c.in_ok-steps.steps.items in
     let new = c.function_is.new.first_fault in
     let kept = keeps_on scope c.open.new.checker.scope c.steps.new.checker.scope c.in_ok-open.ensures.kept c.in_ok-steps.ensures.kept in
     let again = c.leave.ensures ∙ ap (λ m. left m c.steps.new.checker.scope) c.mark-mark.ensures.mark ∙ left_again scope c.steps.new.checker.scope kept in

@@ -7,7 +7,7 @@ use Rattle.types.specs.Checker.{checker_of}
 use Rattle.types.specs.Initializer.{initializer_tree}
 use Rattle.types.specs.Initial.{initializer_of}
 use Rattle.types.specs.Statement.{assigned, assign}
-use Rattle.typed_tree.specs.BlockTree.{action_tree}
+use Rattle.typed_tree.specs.BlockTree.{statement_kind_tree}
 use Rattle.types.proofs.statement.assign.Goals as goal
 
 pub returns : goal.returns
@@ -16,7 +16,7 @@ returns c =
     let at = c.at-at.result in
     let e = c.entity-entity.result in
     let initializer = initializer_tree c.in_ok-initializer.initializer in
-    subst (λ at. outcome c.args.first_fault.now (assign checker at c.args.name.now (initial_tree c.args.initial.now)) ≡ (action_tree c.assign_initializer.result, c.assign_initializer.new.first_fault)) c.at-at.ensures
+    subst (λ at. outcome c.args.first_fault.now (assign checker at c.args.name.now (initial_tree c.args.initial.now)) ≡ (statement_kind_tree c.assign_initializer.result, c.assign_initializer.new.first_fault)) c.at-at.ensures
     (outcome_then c.args.first_fault.now c.entity-entity.new.first_fault (used checker.scope c.args.name.now) e (λ e. initializer_of checker at (initial_tree c.args.initial.now) >>= λ initializer. assigned at initializer e) c.entity-entity.ensures
     ∙ outcome_then c.entity-entity.new.first_fault c.read_initial.new.first_fault (initializer_of checker at (initial_tree c.args.initial.now)) initializer (λ initializer. assigned at initializer e) c.in_ok-initializer.ensures
     ∙ c.assign_initializer.ensures)

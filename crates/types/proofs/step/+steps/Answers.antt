@@ -1,10 +1,10 @@
 use Rattle.std.proofs.Common.{◌≡◌, ap, subst, sym, ◌∙◌, ◌+◌, drop}
 use Rattle.syntax.specs.SourceTrees as source
-use Rattle.syntax.specs.SourceViews.{action_tree as source_action, block_tree as source_block}
-use Rattle.typed_tree.specs.StepTree.{NoStep, steps_tree}
-use Rattle.typed_tree.specs.ConditionTree.{condition_tree}
-use Rattle.typed_tree.specs.IntegerTree.{integer_tree}
-use Rattle.typed_tree.proofs.Steps.{step_tree-If, step_tree-IfElse}
+use Rattle.syntax.specs.SourceViews.{statement_kind_tree as source_action, block_tree as source_block}
+use Rattle.typed_tree.specs.FunctionStatementTree.{NoStep, function_statements_tree}
+use Rattle.typed_tree.specs.BoolExpressionTree.{bool_expression_tree}
+use Rattle.typed_tree.specs.IntExpressionTree.{int_expression_tree}
+use Rattle.typed_tree.proofs.Steps.{function_statement_tree-If, function_statement_tree-IfElse}
 use Rattle.expression_types.specs.declared.fault.TypeRule.TheVariants as rule
 use Rattle.expression_types.specs.declared.scope.Entity.TheVariants as entity
 use Rattle.expression_types.specs.WithFaults.{fault_at, outcome, sure, ◌>>=◌}
@@ -21,26 +21,26 @@ use Rattle.types.proofs.step.+steps.Goals as goal
 pub tested-returns-in_ok-_body-in-While-clause-typed : goal.tested-returns-in_ok-_body-in-While-clause-typed
 tested-returns-in_ok-_body-in-While-clause-typed t c =
     while_step (checker_of c.args.checker.now) (checker_of c.inner.new.checker) c.args.action.now c.in-While.at c.in-While.test c.in-While.body c.deref.result.now
-    (condition_tree c.in_ok-_test-in-While._test) (steps_tree c.in_ok-_body-in-While._body.items) c.args.first_fault.now c.wrong-step.new.first_fault c.condition.new.first_fault c.inner.new.first_fault
+    (bool_expression_tree c.in_ok-_test-in-While._test) (function_statements_tree c.in_ok-_body-in-While._body.items) c.args.first_fault.now c.wrong-step.new.first_fault c.condition.new.first_fault c.inner.new.first_fault
     c.deref.ensures.value c.in-While.is c.wrong-step.ensures.first_fault c.in_ok-_test-in-While.ensures c.in_ok-_body-in-While.ensures.typed
     ∙ ap (λ s. ((s, checker_of c.inner.new.checker), c.inner.new.first_fault)) (sym c.wrong-step.ensures.step)
 
 pub tested-returns-in_ok-body-in-If-clause-typed : goal.tested-returns-in_ok-body-in-If-clause-typed
 tested-returns-in_ok-body-in-If-clause-typed t c =
     if_step (checker_of c.args.checker.now) (checker_of c.inner-in-If.new.checker) c.args.action.now c.in-If.at c.in-If.test c.in-If.body c.deref-in-If.result.now
-    (condition_tree c.in_ok-test-in-If.test) (steps_tree c.in_ok-body-in-If.body.items) c.args.first_fault.now c.condition-in-If.new.first_fault c.inner-in-If.new.first_fault
+    (bool_expression_tree c.in_ok-test-in-If.test) (function_statements_tree c.in_ok-body-in-If.body.items) c.args.first_fault.now c.condition-in-If.new.first_fault c.inner-in-If.new.first_fault
     c.deref-in-If.ensures.value c.in-If.is c.in_ok-test-in-If.ensures c.in_ok-body-in-If.ensures.typed
-    ∙ ap (λ a. ((a, checker_of c.inner-in-If.new.checker), c.inner-in-If.new.first_fault)) (sym (step_tree-If c.in_ok-test-in-If.test c.in_ok-body-in-If.body))
+    ∙ ap (λ a. ((a, checker_of c.inner-in-If.new.checker), c.inner-in-If.new.first_fault)) (sym (function_statement_tree-If c.in_ok-test-in-If.test c.in_ok-body-in-If.body))
 
 pub tested-returns-in_ok-other-in-IfElse-clause-typed : goal.tested-returns-in_ok-other-in-IfElse-clause-typed
 tested-returns-in_ok-other-in-IfElse-clause-typed t c =
     if_else_step (checker_of c.args.checker.now) (checker_of c.inner-in-IfElse.new.checker) (checker_of c.inner-in-IfElse-2.new.checker) c.args.action.now c.in-IfElse.at c.in-IfElse.test
-    c.in-IfElse.body c.in-IfElse.otherwise c.deref-in-IfElse.result.now c.deref-in-IfElse-2.result.now (condition_tree c.in_ok-test-in-IfElse.test)
-    (steps_tree c.in_ok-body-in-IfElse.body.items) (steps_tree c.in_ok-other-in-IfElse.other.items)
+    c.in-IfElse.body c.in-IfElse.otherwise c.deref-in-IfElse.result.now c.deref-in-IfElse-2.result.now (bool_expression_tree c.in_ok-test-in-IfElse.test)
+    (function_statements_tree c.in_ok-body-in-IfElse.body.items) (function_statements_tree c.in_ok-other-in-IfElse.other.items)
     c.args.first_fault.now c.condition-in-IfElse.new.first_fault c.inner-in-IfElse.new.first_fault c.inner-in-IfElse-2.new.first_fault
     c.deref-in-IfElse.ensures.value c.deref-in-IfElse-2.ensures.value c.in-IfElse.is c.in_ok-test-in-IfElse.ensures c.in_ok-body-in-IfElse.ensures.typed c.in_ok-other-in-IfElse.ensures.typed
     ∙ ap (λ a. ((a, checker_of c.inner-in-IfElse-2.new.checker), c.inner-in-IfElse-2.new.first_fault))
-    (sym (step_tree-IfElse c.in_ok-test-in-IfElse.test c.in_ok-body-in-IfElse.body c.in_ok-other-in-IfElse.other))
+    (sym (function_statement_tree-IfElse c.in_ok-test-in-IfElse.test c.in_ok-body-in-IfElse.body c.in_ok-other-in-IfElse.other))
 
 pub repeat-returns-clause-typed : goal.repeat-returns-clause-typed
 repeat-returns-clause-typed t c =
@@ -48,16 +48,16 @@ repeat-returns-clause-typed t c =
     let scope = checker.scope in
     let at = c.in-For.at in
     let body = source_block c.deref.result.now in
-    let a = integer_tree c.in_ok-_first._first in
-    let z = integer_tree c.in_ok-_limit._limit in
+    let a = int_expression_tree c.in_ok-_first._first in
+    let z = int_expression_tree c.in_ok-_limit._limit in
     let d = checker_of c.declare_loop_variable.new.checker in
     let last = checker_of c.steps.new.checker in
-    let b = steps_tree c.in_ok-_body._body.items in
+    let b = function_statements_tree c.in_ok-_body._body.items in
     let new = c.steps.new.first_fault in
     let kept = keeps_on scope c.declare_loop_variable.new.checker.scope c.steps.new.checker.scope c.in_ok-declare_loop_variable.ensures.kept c.in_ok-_body.ensures.kept in
     let again = c.leave.ensures ∙ ap (λ m. left m c.steps.new.checker.scope) c.mark-mark.ensures.mark ∙ left_again scope c.steps.new.checker.scope kept in
     ap (λ a. outcome c.args.first_fault.now (step_typed checker (source_action a))) c.in-For.is
-    ∙ ap (λ a. outcome c.args.first_fault.now (step_typed checker a)) (sources.action_tree-For at c.in-For.name c.in-For.first c.in-For.limit c.in-For.body
+    ∙ ap (λ a. outcome c.args.first_fault.now (step_typed checker a)) (sources.statement_kind_tree-For at c.in-For.name c.in-For.first c.in-For.limit c.in-For.body
     ∙ ap (λ xs. source.For at c.in-For.name c.in-For.first c.in-For.limit (source_block xs)) (sym c.deref.ensures.value))
     ∙ outcome_then c.args.first_fault.now c.wrong-step.new.first_fault (fault_at at rule.WrongType no_step) no_step
     (λ s. integer_in scope at c.in-For.first >>= λ a. integer_in scope at c.in-For.limit >>= λ z. declared_in checker c.in-For.name (entity.LoopVariable (integer_slot checker)) >>= λ d.
@@ -80,7 +80,7 @@ steps-statements-preserved t c =
     let new = c.one.new.first_fault in (
       c.statements.invariant.0 ∙ step_on (checker_of c.statements.checker) d c.statements.typed.items c.in_ok-next.next c.args.block.now c.statements.statement-index c.statement-item.result
           c.statements.first_fault new c.statements-test.true c.statement-item.is c.in_ok-next.ensures.typed
-          ∙ ap (λ xs. outcome new (steps_typed d (steps_tree xs) (source_block (drop (c.statements.statement-index + 1) c.args.block.now)))) (sym c.in_ok-push.ensures.items),
+          ∙ ap (λ xs. outcome new (steps_typed d (function_statements_tree xs) (source_block (drop (c.statements.statement-index + 1) c.args.block.now)))) (sym c.in_ok-push.ensures.items),
       keeps_on c.args.checker.now.scope c.statements.checker.scope c.one.new.checker.scope c.statements.invariant.1 c.in_ok-next.ensures.kept,
     )
 
@@ -88,7 +88,7 @@ pub inner-returns-clause-typed : goal.inner-returns-clause-typed
 inner-returns-clause-typed t c =
     let checker = checker_of c.args.checker.now in
     let last = checker_of c.steps.new.checker in
-    let b = steps_tree c.in_ok-typed.typed.items in
+    let b = function_statements_tree c.in_ok-typed.typed.items in
     let new = c.steps.new.first_fault in
     let again = c.leave.ensures ∙ ap (λ m. left m last.scope) c.mark-mark.ensures.mark ∙ left_again checker.scope last.scope c.in_ok-typed.ensures.kept in
     outcome_then c.args.first_fault.now new (steps_typed checker NoStep (source_block c.args.block.now)) (b, last) (λ b. sure (b.0, steps_behind checker b.1)) c.in_ok-typed.ensures.typed

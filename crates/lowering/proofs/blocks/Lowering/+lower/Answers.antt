@@ -1,11 +1,11 @@
 use Rattle.std.proofs.Common.{rules, ◌≡◌, ◌≤◌, ◌+◌, ◌∷◌, [], List, false, length, refl, ap, sym, ◌∙◌, subst, arith}
 use Rattle.std.proofs.lemmas.Result.{on_ok_weaker}
-use Rattle.typed_tree.specs.IntegerTree.{integer_tree}
-use Rattle.typed_tree.specs.ConditionTree.{condition_tree}
+use Rattle.typed_tree.specs.IntExpressionTree.{int_expression_tree}
+use Rattle.typed_tree.specs.BoolExpressionTree.{bool_expression_tree}
 use Rattle.typed_tree.specs.declared.statement.MainStatement.{MainStatement}
-use Rattle.typed_tree.specs.BlockTree.{If, IfElse, While, action_tree, block_tree}
+use Rattle.typed_tree.specs.BlockTree.{If, IfElse, While, statement_kind_tree, block_tree}
 use Rattle.typed_tree.specs.ProgramTree.{program_tree}
-use Rattle.typed_tree.proofs.Blocks.{action_tree-If, action_tree-IfElse, action_tree-While, action_tree-For}
+use Rattle.typed_tree.proofs.Blocks.{statement_kind_tree-If, statement_kind_tree-IfElse, statement_kind_tree-While, statement_kind_tree-For}
 use Rattle.plans.specs.Fusing.{fusion_role_of}
 use Rattle.plans.specs.Instruction.{UnlessBelow, Jump, Turn, Advance}
 use Rattle.plans.specs.Plan.{IsWithin, behind, behind_all, in_loop, loop_step, plain, plan, plan_all}
@@ -28,14 +28,14 @@ put_all-statements-preserved t c =
     let whole = plan_all p s (length a) (depth_of c.args.visible.now) false (block_tree c.args.statements.now) in
     let here : MainStatement = c.in-Some.statement.now in
     let rest = block_tree c.in-Some.rest.now in
-    let company = fusion_role_of p s d c.statements.is_done here.label (action_tree here.action) rest in
+    let company = fusion_role_of p s d c.statements.is_done here.label (statement_kind_tree here.action) rest in
     let left : c.statements.left.now ≡ here ∷ c.in-Some.rest.now = search rules in
     let before = subst (λ (ls : List MainStatement). HasPut p s whole a b d c.statements.is_done (block_tree ls)) left c.statements.invariant.put in
-    let put = has_put_next p s whole a b k d c.statements.is_done here.number here.label (action_tree here.action) rest before c.in_ok-is_done.ensures.code in
+    let put = has_put_next p s whole a b k d c.statements.is_done here.number here.label (statement_kind_tree here.action) rest before c.in_ok-is_done.ensures.code in
     let size : block_size (block_tree (here ∷ c.in-Some.rest.now)) ≤ block_size (block_tree c.args.statements.now) = subst (λ (ls : List MainStatement). block_size (block_tree ls) ≤ block_size (block_tree c.args.statements.now)) left c.statements.invariant.size in
     record {
       put = subst (λ e. HasPut p s whole a k e c.in_ok-is_done.is_done rest) (sym c.in_ok-is_done.ensures.visible)
-          (subst (λ e. HasPut p s whole a k (behind (action_tree here.action) d) e rest) (sym c.in_ok-is_done.ensures.next) put);
+          (subst (λ e. HasPut p s whole a k (behind (statement_kind_tree here.action) d) e rest) (sym c.in_ok-is_done.ensures.next) put);
       size = omega (arith, size);
       visible = c.statements.invariant.visible ∙ ap (λ (ls : List MainStatement). behind_all (block_tree ls) d) left ∙ ap (λ e. behind_all rest e) (sym c.in_ok-is_done.ensures.visible);
     }
@@ -51,33 +51,33 @@ put_inside-returns-clause-visible t c =
 
 pub put_statement-returns-in-If-clause-code : goal.put_statement-returns-in-If-clause-code
 put_statement-returns-in-If-clause-code t c =
-    let tree = ap action_tree c.in-If.is ∙ action_tree-If c.in-If.c c.in-If.body in
+    let tree = ap statement_kind_tree c.in-If.is ∙ statement_kind_tree-If c.in-If.c c.in-If.body in
     rw (tree, ← c.deref.ensures.value) (c.put_if.ensures.code c.args.statement.now.label)
 
 pub put_statement-returns-in-IfElse-clause-code : goal.put_statement-returns-in-IfElse-clause-code
 put_statement-returns-in-IfElse-clause-code t c =
-    let tree = ap action_tree c.in-IfElse.is ∙ action_tree-IfElse c.in-IfElse.c c.in-IfElse.body c.in-IfElse.other in
+    let tree = ap statement_kind_tree c.in-IfElse.is ∙ statement_kind_tree-IfElse c.in-IfElse.c c.in-IfElse.body c.in-IfElse.other in
     rw (tree, ← c.deref-in-IfElse.ensures.value, ← c.deref-in-IfElse-2.ensures.value) (c.put_choice.ensures.code c.args.statement.now.label)
 
 pub put_statement-returns-in-While-clause-code : goal.put_statement-returns-in-While-clause-code
 put_statement-returns-in-While-clause-code t c =
-    let tree = ap action_tree c.in-While.is ∙ action_tree-While c.in-While.c c.in-While.body in
+    let tree = ap statement_kind_tree c.in-While.is ∙ statement_kind_tree-While c.in-While.c c.in-While.body in
     rw (tree, ← c.deref-in-While.ensures.value) (c.put_while.ensures.code c.args.statement.now.label)
 
 pub put_statement-returns-in-For-clause-code : goal.put_statement-returns-in-For-clause-code
 put_statement-returns-in-For-clause-code t c =
-    let tree = ap action_tree c.in-For.is ∙ action_tree-For c.in-For.name c.in-For.first c.in-For.end c.in-For.body in
+    let tree = ap statement_kind_tree c.in-For.is ∙ statement_kind_tree-For c.in-For.name c.in-For.first c.in-For.end c.in-For.body in
     rw (tree, ← c.deref-in-For.ensures.value) (c.put_for.ensures.code c.args.statement.now.label)
 
 pub put_statement-put_if-requires : goal.put_statement-put_if-requires
 put_statement-put_if-requires t c =
-    let tree = ap action_tree c.in-If.is ∙ action_tree-If c.in-If.c c.in-If.body in
+    let tree = ap statement_kind_tree c.in-If.is ∙ statement_kind_tree-If c.in-If.c c.in-If.body in
     let falls = inner_falls _ (block_size (block_tree c.in-If.body.items)) _ (ap action_size tree) (ap (λ (ls : List MainStatement). block_size (block_tree ls)) c.deref.ensures.value) in
     (omega (arith, c.decreases, falls), tt)
 
 pub put_statement-put_choice-requires : goal.put_statement-put_choice-requires
 put_statement-put_choice-requires t c =
-    let tree = ap action_tree c.in-IfElse.is ∙ action_tree-IfElse c.in-IfElse.c c.in-IfElse.body c.in-IfElse.other in
+    let tree = ap statement_kind_tree c.in-IfElse.is ∙ statement_kind_tree-IfElse c.in-IfElse.c c.in-IfElse.body c.in-IfElse.other in
     let body = ap (λ (ls : List MainStatement). block_size (block_tree ls)) c.deref-in-IfElse.ensures.value in
     let other = ap (λ (ls : List MainStatement). block_size (block_tree ls)) c.deref-in-IfElse-2.ensures.value in
     let falls = inner_falls _ (block_size (block_tree c.in-IfElse.body.items) + block_size (block_tree c.in-IfElse.other.items)) (block_size (block_tree c.deref-in-IfElse.result.now) + block_size (block_tree c.deref-in-IfElse-2.result.now)) (ap action_size tree) (omega (arith, body, other)) in
@@ -85,13 +85,13 @@ put_statement-put_choice-requires t c =
 
 pub put_statement-put_while-requires : goal.put_statement-put_while-requires
 put_statement-put_while-requires t c =
-    let tree = ap action_tree c.in-While.is ∙ action_tree-While c.in-While.c c.in-While.body in
+    let tree = ap statement_kind_tree c.in-While.is ∙ statement_kind_tree-While c.in-While.c c.in-While.body in
     let falls = inner_falls _ (block_size (block_tree c.in-While.body.items)) _ (ap action_size tree) (ap (λ (ls : List MainStatement). block_size (block_tree ls)) c.deref-in-While.ensures.value) in
     (omega (arith, c.decreases, falls), tt)
 
 pub put_statement-put_for-requires : goal.put_statement-put_for-requires
 put_statement-put_for-requires t c =
-    let tree = ap action_tree c.in-For.is ∙ action_tree-For c.in-For.name c.in-For.first c.in-For.end c.in-For.body in
+    let tree = ap statement_kind_tree c.in-For.is ∙ statement_kind_tree-For c.in-For.name c.in-For.first c.in-For.end c.in-For.body in
     let falls = inner_falls _ (block_size (block_tree c.in-For.body.items)) _ (ap action_size tree) (ap (λ (ls : List MainStatement). block_size (block_tree ls)) c.deref-in-For.ensures.value) in
     (omega (arith, c.decreases, falls), tt)
 
@@ -108,8 +108,8 @@ put_if-returns-clause-code t c label =
     let put : Puts p b k (plan_all p s (length b) d false body) = subst (λ x. Puts p b k (plan_all p s (length b) x false body)) (sym c.depth-depth.ensures) c.in_ok-put_inside.ensures.code in
     let behind : c.len.result ≡ length k = c.len.ensures ∙ c.put_inside.new.code.ok.0 in
     on_ok_weaker c.fill_unless.result (λ fills.
-    subst (λ x. Puts p a e (plan p s (length a) x c.args.number label (If (condition_tree c.args.c.now) body))) c.depth-depth.ensures
-    (puts_if p s a b k e c.in_ok-test.test c.len.result d c.args.number label (condition_tree c.args.c.now) body c.in_ok-test.ensures put behind fills))
+    subst (λ x. Puts p a e (plan p s (length a) x c.args.number label (If (bool_expression_tree c.args.c.now) body))) c.depth-depth.ensures
+    (puts_if p s a b k e c.in_ok-test.test c.len.result d c.args.number label (bool_expression_tree c.args.c.now) body c.in_ok-test.ensures put behind fills))
     c.fill_unless.ensures
 
 pub put_if-returns-clause-visible : goal.put_if-returns-clause-visible
@@ -133,8 +133,8 @@ put_choice-returns-clause-code t c label =
     let put_other : Puts p m g (plan_all p s (length m) d false other) = subst (λ x. Puts p m g (plan_all p s (length m) x false other)) (c.in_ok-put_inside.ensures.visible ∙ sym c.depth-depth.ensures) c.in_ok-put_inside-2.ensures.code in
     let otherwise = ap (λ n. n + 1) (c.len.ensures ∙ c.put_inside.new.code.ok.0) in
     on_ok_weaker c.fill_jump.result (λ fills.
-    subst (λ x. Puts p a h (plan p s (length a) x c.args.number label (IfElse (condition_tree c.args.c.now) body other))) c.depth-depth.ensures
-    (puts_choice p s a b k e m g h c.in_ok-test.test (c.len.result + 1) c.in_ok-jump.jump d c.args.number label (condition_tree c.args.c.now) body other
+    subst (λ x. Puts p a h (plan p s (length a) x c.args.number label (IfElse (bool_expression_tree c.args.c.now) body other))) c.depth-depth.ensures
+    (puts_choice p s a b k e m g h c.in_ok-test.test (c.len.result + 1) c.in_ok-jump.jump d c.args.number label (bool_expression_tree c.args.c.now) body other
     c.in_ok-test.ensures put otherwise c.in_ok-fill_unless.ensures c.in_ok-jump.ensures put_other fills))
     c.fill_jump.ensures
 
@@ -156,8 +156,8 @@ put_while-returns-clause-code t c label =
     let put : Puts p b k (plan_all p s (length b) d false body) = subst (λ x. Puts p b k (plan_all p s (length b) x false body)) (sym c.depth-depth.ensures) c.in_ok-put_inside.ensures.code in
     let behind : c.len.result ≡ length g = c.len.ensures ∙ c.put_jump.new.code.ok.0 in
     on_ok_weaker c.fill_unless.result (λ fills.
-    subst (λ x. Puts p a e (plan p s (length a) x c.args.number label (While (condition_tree c.args.c.now) body))) c.depth-depth.ensures
-    (puts_while p s a b k g e c.in_ok-test.test c.len.result d c.args.number label (condition_tree c.args.c.now) body c.in_ok-test.ensures put c.in_ok-put_jump.ensures behind fills))
+    subst (λ x. Puts p a e (plan p s (length a) x c.args.number label (While (bool_expression_tree c.args.c.now) body))) c.depth-depth.ensures
+    (puts_while p s a b k g e c.in_ok-test.test c.len.result d c.args.number label (bool_expression_tree c.args.c.now) body c.in_ok-test.ensures put c.in_ok-put_jump.ensures behind fills))
     c.fill_unless.ensures
 
 pub put_while-returns-clause-visible : goal.put_while-returns-clause-visible
@@ -189,7 +189,7 @@ put_for-returns-clause-code t c label =
     let fills : Fills p g e test (loop_step n (in_loop d) d (UnlessBelow name (length g))) =
     subst (λ x. Fills p g e test (loop_step n (in_loop d) x (UnlessBelow name (length g)))) shown
     (subst (λ x. Fills p g e test (loop_step n x c.depth-depth.result (UnlessBelow name (length g)))) inside c.in_ok-fill_unless_below.ensures) in
-    puts_for p s a f b k g e test d n label name (integer_tree c.args.range.first.now) (integer_tree c.args.range.end.now) body c.in_ok-put_bounds.ensures.code begins put back fills
+    puts_for p s a f b k g e test d n label name (int_expression_tree c.args.range.first.now) (int_expression_tree c.args.range.end.now) body c.in_ok-put_bounds.ensures.code begins put back fills
 
 pub put_all-statements-init : goal.put_all-statements-init
 put_all-statements-init t c = record {

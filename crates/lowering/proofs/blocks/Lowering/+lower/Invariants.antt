@@ -1,5 +1,5 @@
 use Rattle.std.proofs.Common.{◌≡◌, ◌≤◌, ◌+◌, ◌*◌, false, length}
-use Rattle.typed_tree.specs.BlockTree.{action_tree, block_tree}
+use Rattle.typed_tree.specs.BlockTree.{statement_kind_tree, block_tree}
 use Rattle.typed_tree.specs.ProgramTree.{program_tree}
 use Rattle.plans.specs.Plan.{behind_all, plan_all}
 use Rattle.lowering.specs.Visible.{depth_of}
@@ -25,10 +25,10 @@ abbrev pub decreases-put_all : goal.decreases-put_all
 decreases-put_all l = 6 * block_size (block_tree l.statements.now)
 
 abbrev pub decreases-put_next : goal.decreases-put_next
-decreases-put_next l = 6 * action_size (action_tree l.statement.now.action) + 1
+decreases-put_next l = 6 * action_size (statement_kind_tree l.statement.now.action) + 1
 
 abbrev pub decreases-put_statement : goal.decreases-put_statement
-decreases-put_statement l = 6 * action_size (action_tree l.statement.now.action)
+decreases-put_statement l = 6 * action_size (statement_kind_tree l.statement.now.action)
 
 abbrev pub decreases-put_if : goal.decreases-put_if
 decreases-put_if l = 6 * block_size (block_tree l.body.now) + 2

@@ -1,5 +1,5 @@
 use Rattle.std.proofs.Common.{◌∙◌, map, [], ◌∷◌}
-use Rattle.typed_tree.specs.StepTree.{function_tree}
+use Rattle.typed_tree.specs.FunctionStatementTree.{function_tree}
 use Rattle.lowering.proofs.SetsRead.{function_is_apart}
 use Rattle.lowering.proofs.fusing.accesses.function_does_omit.Goals as goal
 

@@ -1,6 +1,6 @@
 use Rattle.std.proofs.Common.{◌∷◌, [], ◌++◌, ◌∙◌, ap}
 use Rattle.std.proofs.lemmas.Result.{on_ok_weaker}
-use Rattle.typed_tree.specs.IntegerTree.{integer_tree}
+use Rattle.typed_tree.specs.IntExpressionTree.{int_expression_tree}
 use Rattle.typed_tree.specs.ProgramTree.{program_tree}
 use Rattle.plan_text.specs.Expressions.{integer_words, name_at}
 use Rattle.plan_text.specs.Lines.{reducing_word}
@@ -13,7 +13,7 @@ returns c =
     let p = program_tree c.args.self.program.now in
     let old = c.args.out.now.items in
     let name = name_at p c.args.name ∷ [] in
-    let value = integer_words p (integer_tree c.args.e.now) in
+    let value = integer_words p (int_expression_tree c.args.e.now) in
     let named = c.in_ok-put_word.ensures ∙ ap (λ w. old ++ spaced (w ∷ [])) c.name.ensures in
     on_ok_weaker c.put_word-2.result (λ is.
     put_behind old c.put_integer.new.out.items c.put_word-2.new.out.items (name ++ value) (reducing_word c.args.reduction ∷ [])

@@ -1,6 +1,6 @@
 use Rattle.std.proofs.Common.{◌∷◌, [], ◌++◌, codes, ap, ◌∙◌}
 use Rattle.std.proofs.lemmas.Result.{on_ok_weaker}
-use Rattle.typed_tree.specs.IntegerTree.{integer_tree}
+use Rattle.typed_tree.specs.IntExpressionTree.{int_expression_tree}
 use Rattle.typed_tree.specs.ProgramTree.{program_tree}
 use Rattle.plan_text.specs.Expressions.{integer_words, name_at}
 use Rattle.plan_text.specs.Lines.{reducing_word}
@@ -11,7 +11,7 @@ use Rattle.plan_text.proofs.names.Lines.put_reduction.Goals as goal
 pub returns : goal.returns
 returns c =
     let p = program_tree c.args.self.program.now in
-    let ws = name_at p c.args.name ∷ integer_words p (integer_tree c.args.e.now) ++ reducing_word c.args.reduction ∷ [] in
+    let ws = name_at p c.args.name ∷ integer_words p (int_expression_tree c.args.e.now) ++ reducing_word c.args.reduction ∷ [] in
     let middle = c.put_target.new.out.items in
     on_ok_weaker c.close_bracket.result (λ closes.
     put_behind c.args.out.now.items middle c.close_bracket.new.out.items (codes "set" ∷ name_at p c.args.name ∷ []) (bracketed ws ∷ []) c.in_ok-put_target.ensures

@@ -1,5 +1,5 @@
 use Rattle.std.proofs.Common.{rules, map}
-use Rattle.typed_tree.specs.StepTree.{NoStep, function_tree}
+use Rattle.typed_tree.specs.FunctionStatementTree.{NoStep, function_tree}
 use Rattle.plans.proofs.Pairwise.{pairwise_at}
 use Rattle.plans.proofs.kernels_at.Kernels.of.Goals as goal
 

@@ -12,7 +12,7 @@ use crate::cuts::changed;
 use crate::forked::change_forked;
 use crate::updates::SortedUpdates;
 use c_tree::ChunkSize;
-use edge_updates::{Updates, sort_forked, sort_turned, turn};
+use edge_updates::{Updates, sort_forked, sort_transposed, transpose};
 use set_ops::{Fork, Forking};
 use shared_tree::{Changed, Tree};
 use std::alloc::{AllocError, Global};
@@ -22,7 +22,7 @@ use weighted_updates::Columns;
 
 impl SortedUpdates {
     /// Updates that ascend, seen from their neighbours, ascending again.
-    pub(crate) fn turned(self, alloc: Global) -> Result<SortedUpdates, AllocError>
+    pub(crate) fn transposed(self, alloc: Global) -> Result<SortedUpdates, AllocError>
         requires { Ascend (keys_of (sorted_pairs self)) }
         ensures order { IfOk result (λ s. Ascend (keys_of (sorted_pairs s))) }
         ensures same { IfOk result (λ s. (p : Ends)
@@ -31,19 +31,19 @@ impl SortedUpdates {
         match self {
             SortedUpdates::Unweighted(mut updates) => {
                 let mut scratch = Vec::new(alloc);
-                sort_turned(&mut updates, &mut scratch)?;
+                sort_transposed(&mut updates, &mut scratch)?;
                 Ok(SortedUpdates::Unweighted(updates))
             }
             SortedUpdates::Weighted(mut updates) => {
                 let mut scratch = Vec::new(alloc);
-                weighted_updates::sort_turned(&mut updates, &mut scratch)?;
+                weighted_updates::sort_transposed(&mut updates, &mut scratch)?;
                 Ok(SortedUpdates::Weighted(updates))
             }
         }
     }
 
-    /// As `turned`, sorted by as many threads as there are processors.
-    pub(crate) fn turned_forked<R: Threads + Sync>(
+    /// As `transposed`, sorted by as many threads as there are processors.
+    pub(crate) fn transposed_forked<R: Threads + Sync>(
         self,
         rt: &R,
         alloc: Global,
@@ -55,12 +55,12 @@ impl SortedUpdates {
     {
         match self {
             SortedUpdates::Unweighted(mut updates) => {
-                turn(&mut updates);
+                transpose(&mut updates);
                 sort_forked(rt, alloc, &mut updates)?;
                 Ok(SortedUpdates::Unweighted(updates))
             }
             SortedUpdates::Weighted(mut updates) => {
-                weighted_updates::sort_turned_forked(rt, alloc, &mut updates)?;
+                weighted_updates::sort_transposed_forked(rt, alloc, &mut updates)?;
                 Ok(SortedUpdates::Weighted(updates))
             }
         }

@@ -1,0 +1,41 @@
+-- Expressions of type bool, without pointers.
+use Rattle.std.specs.Prelude.{ℕ, zero, suc, Bool, List, [], ◌∷◌}
+use Rattle.typed_tree.specs.declared.expression.VarRef.{VarRef}
+use Rattle.typed_tree.specs.declared.expression.ComparisonOperator.{ComparisonOperator}
+use Rattle.typed_tree.specs.declared.expression.Connective.{Connective}
+use Rattle.typed_tree.specs.declared.expression.BoolExpression.{BoolExpression, Row_of-BoolExpression, end_of-BoolExpression, more_of-BoolExpression}
+use Rattle.typed_tree.specs.declared.expression.BoolExpression.TheVariants as rust
+use Rattle.typed_tree.specs.IntExpressionTree.{IntExpressionTree, int_expression_tree}
+
+pub data BoolExpressionTree : Type 0 where
+  Literal : (value : Bool) → BoolExpressionTree
+  Constant : (name : ℕ) → (value : Bool) → BoolExpressionTree
+  Variable : (slot : VarRef) → BoolExpressionTree
+  Not : BoolExpressionTree → BoolExpressionTree
+  Compare : ComparisonOperator → (left right : IntExpressionTree) → BoolExpressionTree
+  Connect : Connective → (left right : BoolExpressionTree) → BoolExpressionTree
+
+-- the tree turned so many times
+abbrev pub turned : ℕ → BoolExpressionTree → BoolExpressionTree
+turned zero c = c
+turned (suc n) c = Not (turned n c)
+
+-- the tree that a Rust tree is; operators of one level are grouped from the left
+abbrev mutual
+  pub bool_expression_tree : BoolExpression → BoolExpressionTree
+  bool_expression_tree (rust.Literal b) = Literal b
+  bool_expression_tree (rust.Constant name b) = Constant name b
+  bool_expression_tree (rust.Variable slot) = Variable slot
+  bool_expression_tree (rust.Not' turns p c) = turned turns (bool_expression_tree c)
+  bool_expression_tree (rust.Compare comparison left right) = Compare comparison (int_expression_tree left) (int_expression_tree right)
+  bool_expression_tree (rust.Connect' connective p first shape conditions) = conditions_row connective (bool_expression_tree first) conditions
+
+  -- the conditions in a list inside an expression, after what stands on the left
+  pub conditions_row : {n : _} → Connective → BoolExpressionTree → Row_of-BoolExpression n → BoolExpressionTree
+  conditions_row connective left end_of-BoolExpression = left
+  conditions_row connective left (more_of-BoolExpression c rest) = conditions_row connective (Connect connective left (bool_expression_tree c)) rest
+
+-- the same of a list
+abbrev pub conditions_tree : Connective → BoolExpressionTree → List BoolExpression → BoolExpressionTree
+conditions_tree connective left [] = left
+conditions_tree connective left (c ∷ rest) = conditions_tree connective (Connect connective left (bool_expression_tree c)) rest
