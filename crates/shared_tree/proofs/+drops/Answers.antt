@@ -1,3 +1,4 @@
+-- Proofs of the mutually recursive functions of src/lib.rt.
 use Rattle.std.proofs.Common.{arith, rules}
 use Rattle.shared_tree.proofs.+drops.Goals as goal
 

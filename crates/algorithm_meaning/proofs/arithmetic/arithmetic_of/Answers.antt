@@ -1,3 +1,4 @@
+-- Proofs of `arithmetic_of`, src/arithmetic.rt.
 use Rattle.std.proofs.Common.{rules}
 use Rattle.std.proofs.lemmas.Int.{wraps}
 use Rattle.algorithm_meaning.proofs.arithmetic.arithmetic_of.Goals as goal

@@ -1,3 +1,4 @@
+-- Proofs of `truncated`, src/arithmetic.rt.
 use Rattle.std.proofs.Common.{w64, ◌∙◌}
 use Rattle.std.proofs.lemmas.Int.{to_z-of_z}
 use Rattle.algorithm_meaning.proofs.Wrapping.{wrapping_div-wrapped}

@@ -1,3 +1,4 @@
+-- Proofs of `cut_list`, src/ascending_list.rt.
 use Rattle.std.proofs.Common.{◌+◌}
 use Rattle.std.proofs.lemmas.List.{take_rest}
 use Rattle.std.proofs.lemmas.List.Sorted.{searched}

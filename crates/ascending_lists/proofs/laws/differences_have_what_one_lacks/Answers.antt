@@ -1,3 +1,4 @@
+-- Proofs of `differences_have_what_one_lacks`, src/laws.rt.
 use Rattle.ascending_lists.proofs.Differences.{difference_ascends}
 use Rattle.ascending_lists.proofs.Membership.{difference_members}
 use Rattle.ascending_lists.proofs.laws.differences_have_what_one_lacks.Goals as goal

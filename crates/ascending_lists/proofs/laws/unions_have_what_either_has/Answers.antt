@@ -1,3 +1,4 @@
+-- Proofs of `unions_have_what_either_has`, src/laws.rt.
 use Rattle.ascending_lists.proofs.Unions.{union_ascends}
 use Rattle.ascending_lists.proofs.Membership.{union_members}
 use Rattle.ascending_lists.proofs.laws.unions_have_what_either_has.Goals as goal

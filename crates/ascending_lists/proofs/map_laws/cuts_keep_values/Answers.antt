@@ -1,3 +1,4 @@
+-- Proofs of `cuts_keep_values`, src/map_laws.rt.
 use Rattle.ascending_lists.proofs.MapCuts.{keys_below, keys_above, values_below, values_above}
 use Rattle.ascending_lists.proofs.map_laws.cuts_keep_values.Goals as goal
 

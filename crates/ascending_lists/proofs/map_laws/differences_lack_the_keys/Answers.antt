@@ -1,3 +1,4 @@
+-- Proofs of `differences_lack_the_keys`, src/map_laws.rt.
 use Rattle.ascending_lists.proofs.MapDifferences.{keys_without, value_without, map_without}
 use Rattle.ascending_lists.proofs.map_laws.differences_lack_the_keys.Goals as goal
 

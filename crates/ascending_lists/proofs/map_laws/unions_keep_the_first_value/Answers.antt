@@ -1,3 +1,4 @@
+-- Proofs of `unions_keep_the_first_value`, src/map_laws.rt.
 use Rattle.ascending_lists.proofs.MapUnions.{keys_of_first, value_of_first, map_of_first, exchanged}
 use Rattle.ascending_lists.proofs.map_laws.unions_keep_the_first_value.Goals as goal
 

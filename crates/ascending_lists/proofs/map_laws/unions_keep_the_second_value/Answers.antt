@@ -1,3 +1,4 @@
+-- Proofs of `unions_keep_the_second_value`, src/map_laws.rt.
 use Rattle.ascending_lists.proofs.MapUnions.{keys_of_second, value_of_second, map_of_second}
 use Rattle.ascending_lists.proofs.map_laws.unions_keep_the_second_value.Goals as goal
 

@@ -1,3 +1,4 @@
+-- Proofs of `merge`, src/set_operation.rt.
 use Rattle.std.proofs.Common.{◌≡◌, ◌++◌, true, false, take, drop, sym, ap, ◌∙◌}
 use Rattle.std.proofs.lemmas.List.{append-nil, take_rest}
 use Rattle.ascending_lists.specs.Operations.{combined, takes_second}

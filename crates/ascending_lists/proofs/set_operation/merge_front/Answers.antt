@@ -1,3 +1,4 @@
+-- Proofs of `merge_front`, src/set_operation.rt.
 use Rattle.std.proofs.Common.{◌<◌, ℕ, length, length-set, arith}
 use Rattle.ascending_lists.specs.Operations.{combined}
 use Rattle.ascending_lists.proofs.Merging.{stepped, less_left, further, some_left}

@@ -1,3 +1,4 @@
+-- Proofs of `split_at_head`, src/building.rt.
 use Rattle.std.proofs.Common.{◌≡◌, ℕ, ◌≤◌, ℤ, List, length, take, drop, refl, sym, ◌∙◌, ap, length-append, arith}
 use Rattle.std.proofs.lemmas.List.{take_at, drop_at}
 use Rattle.c_tree.specs.Chunks.{before_head}

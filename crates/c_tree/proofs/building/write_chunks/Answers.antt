@@ -1,3 +1,4 @@
+-- Proofs of `write_chunks`, src/building.rt.
 use Rattle.std.proofs.Common.{◌≡◌, ℕ, ◌+◌, ℤ, ◌∷◌, ◌++◌, [], Some, ◌∙◌, ap, rules}
 use Rattle.std.specs.Map.{keys_of}
 use Rattle.ascending_lists.specs.Ascending.{AscendsFrom}

@@ -1,3 +1,4 @@
+-- Proofs of `with_more` and its mutually recursive functions, src/join.rt.
 use Rattle.std.proofs.Common.{◌≡◌, ◌++◌, to_z, of_z, w64, arith, rules}
 use Rattle.c_tree.specs.Chunks.{IsSetOf}
 use Rattle.c_tree.proofs.Rooted.{more_over, more_join, root_smaller}

@@ -1,3 +1,4 @@
+-- Proofs of `lists_have_one_chunking`, src/laws.rt.
 use Rattle.c_tree.proofs.Chunking.{whole_again, chunking, one_prefix, one_chunks}
 use Rattle.c_tree.proofs.laws.lists_have_one_chunking.Goals as goal
 

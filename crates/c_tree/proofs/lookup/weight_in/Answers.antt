@@ -1,3 +1,4 @@
+-- Proofs of `weight_in`, src/lookup.rt.
 use Rattle.std.proofs.Common.{◌≡◌, ℕ, ℤ, ◌+◌, ◌^◌, ◌≤◌, inl, inr, List, ◌∷◌, nat_eq, to_z, of_z, w64, refl, sym, ◌∙◌, ap, arith, rules}
 use Rattle.std.specs.Map.{keys_of}
 use Rattle.std.specs.Bool.{then_some}

@@ -1,3 +1,4 @@
+-- Proofs of `append_together` and its mutually recursive functions, src/spelling.rt.
 use Rattle.std.proofs.Common.{◌≡◌, ◌-◌, ◌^◌, ◌<◌, to_z, of_z, w64, arith, rules}
 use Rattle.std.specs.Map.{keys_of}
 use Rattle.tail_codec.specs.Appending.{least_after}

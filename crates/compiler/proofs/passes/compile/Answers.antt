@@ -1,3 +1,4 @@
+-- Proofs of `compile`, src/passes.rt.
 use Rattle.std.proofs.lemmas.Result.{err_from_is_err_and}
 use Rattle.parser.specs.SourceViews.{source_tree}
 use Rattle.schedule.specs.ProgramTree.{program_tree}

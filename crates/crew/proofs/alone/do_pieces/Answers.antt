@@ -1,3 +1,4 @@
+-- Proofs of `do_pieces`, src/alone.rt.
 use Rattle.std.proofs.Common.{◌≡◌, subst, arith}
 use Rattle.crew.specs.Pieces.{AreFound}
 use Rattle.crew.proofs.Findings.{found_more}

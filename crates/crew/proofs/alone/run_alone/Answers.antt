@@ -1,3 +1,4 @@
+-- Proofs of `run_alone`, src/alone.rt.
 use Rattle.std.proofs.Common.{refl, arith}
 use Rattle.std.proofs.lemmas.List.Elements.{All-pop}
 use Rattle.crew.proofs.Findings.{all_pushed, length_pushed, popped_rest}

@@ -1,3 +1,4 @@
+-- Proofs of `dismiss`, src/claim_word.rt.
 use Rattle.std.proofs.Common.{rules}
 use Rattle.crew.proofs.ClaimSteps.{dismisses}
 use Rattle.crew.proofs.claim_word.dismiss.Goals as goal

@@ -1,3 +1,4 @@
+-- Proofs of `draw`, src/claim_word.rt.
 use Rattle.std.proofs.Common.{rules}
 use Rattle.crew.proofs.ClaimSteps.{draws}
 use Rattle.crew.proofs.claim_word.draw.Goals as goal

@@ -1,3 +1,4 @@
+-- Proofs of `hire`, src/claim_word.rt.
 use Rattle.std.proofs.Common.{rules}
 use Rattle.crew.proofs.ClaimSteps.{hires}
 use Rattle.crew.proofs.claim_word.hire.Goals as goal

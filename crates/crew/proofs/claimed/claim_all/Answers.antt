@@ -1,3 +1,4 @@
+-- Proofs of `claim_all`, src/claimed.rt.
 use Rattle.std.proofs.Common.{IfOk}
 use Rattle.std.proofs.lemmas.Result.{IfOk-weaker}
 use Rattle.crew.specs.inside.Workers.{HasClaimed}

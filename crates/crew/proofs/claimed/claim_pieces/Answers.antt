@@ -1,3 +1,4 @@
+-- Proofs of `claim_pieces`, src/claimed.rt.
 use Rattle.crew.specs.inside.Claims.{view_of}
 use Rattle.crew.proofs.Findings.{answered_more, pieces_of-added}
 use Rattle.crew.proofs.Gathering.{claims_more}

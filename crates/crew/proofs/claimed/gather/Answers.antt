@@ -1,3 +1,4 @@
+-- Proofs of `gather`, src/claimed.rt.
 use Rattle.std.proofs.Common.{◌≡◌, refl, subst, length, IfOk, arith}
 use Rattle.std.proofs.lemmas.List.Elements.{All-pop}
 use Rattle.crew.specs.inside.Claims.{view_of}

@@ -1,3 +1,4 @@
+-- Proofs of `hire_all`, src/claimed.rt.
 use Rattle.std.proofs.Common.{arith}
 use Rattle.std.proofs.lemmas.List.Elements.{All-pop}
 use Rattle.crew.specs.inside.Claims.{view_of}

@@ -1,3 +1,4 @@
+-- Proofs of `push_run`, src/edge_aware.rt.
 use Rattle.std.proofs.Common.{◌+◌, ◌*◌, ◌<◌, length, min, refl, subst, arith}
 use Rattle.crew.specs.inside.Cuts.{CutsOn}
 use Rattle.crew.proofs.LimitCuts.{cuts_run}

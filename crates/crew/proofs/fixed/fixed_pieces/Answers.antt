@@ -1,3 +1,4 @@
+-- Proofs of `fixed_pieces`, src/fixed.rt.
 use Rattle.crew.specs.Pieces.{pieces_of}
 use Rattle.crew.proofs.Findings.{answered_more, pieces_of-added}
 use Rattle.crew.proofs.Turns.{next_turn, every_more}

@@ -1,3 +1,4 @@
+-- Proofs of `gather`, src/fixed.rt.
 use Rattle.std.proofs.Common.{◌≡◌, refl, ◌+◌, ◌-◌, ◌%◌, ◌<◌, ℕ, subst, length, arith}
 use Rattle.std.proofs.Math.Nat.{mod-lt}
 use Rattle.std.proofs.lemmas.Result.{IfOk-at_ok}

@@ -1,3 +1,4 @@
+-- Proofs of `number_all`, src/fixed.rt.
 use Rattle.std.proofs.Common.{◌≡◌, ◌+◌, IfSome, arith}
 use Rattle.std.proofs.lemmas.List.Elements.{All-pop}
 use Rattle.crew.proofs.Findings.{length_pushed, popped_rest}

@@ -1,3 +1,4 @@
+-- Proofs of `push_dynamic`, src/partition.rt.
 use Rattle.crew.proofs.Runs.{dynamic_in_parts}
 use Rattle.crew.proofs.partition.push_dynamic.Goals as goal
 

@@ -1,3 +1,4 @@
+-- Proofs of `push_runs`, src/partition.rt.
 use Rattle.std.proofs.Common.{◌≡◌, ◌+◌, ◌*◌, ◌++◌, ◌∷◌, [], ap, sym, ◌∙◌, append_assoc, arith, List, ℕ, replicate}
 use Rattle.std.proofs.Math.Nat.{add-mul, one-mul}
 use Rattle.crew.specs.Boundaries.{ends_from}

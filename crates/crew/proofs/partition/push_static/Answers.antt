@@ -1,3 +1,4 @@
+-- Proofs of `push_static`, src/partition.rt.
 use Rattle.crew.proofs.Runs.{static_in_parts}
 use Rattle.crew.proofs.partition.push_static.Goals as goal
 

@@ -1,3 +1,4 @@
+-- Proofs of `run_together`, src/workers.rt.
 use Rattle.std.proofs.Common.{sym, subst}
 use Rattle.std.proofs.lemmas.Result.{IfOk-weaker}
 use Rattle.std.specs.List.{All}

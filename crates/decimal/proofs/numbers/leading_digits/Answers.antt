@@ -1,3 +1,4 @@
+-- Proofs of `leading_digits`, src/numbers.rt.
 use Rattle.std.proofs.Common.{◌≡◌, None, sym, subst, arith, rules}
 use Rattle.decimal.specs.Digits.{AreLeadingDigits}
 use Rattle.decimal.proofs.NumberLaws.{too_large}

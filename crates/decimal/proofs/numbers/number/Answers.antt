@@ -1,3 +1,4 @@
+-- Proofs of `number`, src/numbers.rt.
 use Rattle.std.proofs.Common.{◌^◌, inl, inr, sym, arith}
 use Rattle.decimal.proofs.NumberLaws.{number_of-overflow, number_of-ended, number_of-begun}
 use Rattle.decimal.proofs.numbers.number.Goals as goal

@@ -1,3 +1,4 @@
+-- Proofs of `write_all`, src/traits.rt.
 -- A write takes the first bytes of what is left.
 use Rattle.std.proofs.Common.{◌≡◌, ◌≤◌, ℕ, ◌+◌, ◌-◌, List, ◌++◌, length, take, drop, sym, ap, ◌∙◌, arith, append_assoc, length-drop}
 use Rattle.std.proofs.Math.Seq.{take-add}

@@ -1,3 +1,4 @@
+-- Proofs of `run_by_workers`, src/programs.rt.
 use Rattle.std.proofs.Math.Logic.{∥∥₁_elim}
 use denote.Struct.Props.{props}
 use Rattle.plans.specs.PlanOf.{program_of}

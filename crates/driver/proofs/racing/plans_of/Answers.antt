@@ -1,3 +1,4 @@
+-- Proofs of `plans_of`, src/racing.rt.
 use Rattle.std.proofs.Common.{Bor, rules}
 use Rattle.std.proofs.lemmas.Iterator.{YieldsList-from_map_by, YieldsList-from_slice}
 use Rattle.std.proofs.lemmas.Iterator.Consumers.{map_from_collect}

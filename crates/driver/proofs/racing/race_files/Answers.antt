@@ -1,3 +1,4 @@
+-- Proofs of `race_files`, src/racing.rt.
 use Rattle.std.proofs.Common.{inl, inr, refl, map}
 use Rattle.std.proofs.lemmas.Result.{err_from_is_err_and}
 use Rattle.races.specs.RaceText.{race_text}

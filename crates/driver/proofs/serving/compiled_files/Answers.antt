@@ -1,3 +1,4 @@
+-- Proofs of `compiled_files`, src/serving.rt.
 use Rattle.std.proofs.Common.{◌≤◌, ◌<◌, List, ℕ, length, map, ap, arith, Bor}
 use Rattle.std.proofs.lemmas.List.{drop_all}
 use Rattle.std.proofs.lemmas.Result.{err_from_is_err_and}

@@ -1,3 +1,4 @@
+-- Proofs of `print_plan`, src/serving.rt.
 use Rattle.std.proofs.Common.{◌≡◌, ◌++◌, ◌∙◌, List, ℕ, ap, inr, refl, subst}
 use Rattle.devices.specs.Drain.{TakesPart}
 use Rattle.plans.specs.PlanOf.{program_of}

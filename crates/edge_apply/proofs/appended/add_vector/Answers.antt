@@ -1,3 +1,4 @@
+-- Proofs of `add_vector`, src/appended.rt.
 use Rattle.std.proofs.Common.{rules, ◌≡◌, true, false, List, sym, ap, ◌∙◌, subst}
 use Rattle.vectors.specs.declared.changes.VectorChanges.{VectorChanges}
 use Rattle.edge_fold.specs.Changed.{AreApart, changes_or, is_named}

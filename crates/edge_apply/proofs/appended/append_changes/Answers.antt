@@ -1,3 +1,4 @@
+-- Proofs of `append_changes`, src/appended.rt.
 use Rattle.std.proofs.Common.{◌≤◌, List, length, refl, sym, ap, ◌∙◌, subst}
 use Rattle.std.proofs.lemmas.List.{take_all}
 use Rattle.vectors.specs.declared.changes.VectorChanges.{VectorChanges}

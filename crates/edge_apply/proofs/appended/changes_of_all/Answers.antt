@@ -1,3 +1,4 @@
+-- Proofs of `changes_of_all`, src/appended.rt.
 use Rattle.std.proofs.Common.{◌≤◌, ◌++◌, List, length, sym, ap, ◌∙◌}
 use Rattle.std.proofs.lemmas.List.{take_all}
 use Rattle.vectors.specs.declared.changes.EntryChange.{EntryChange}

@@ -1,3 +1,4 @@
+-- Proofs of `is_set`, src/members.rt.
 use Rattle.std.proofs.Common.{◌≡◌, ◌/◌, ◌%◌, ◌==◌, slice_index, sym, ◌∙◌, ap, rules}
 use Rattle.std.specs.Int.{bit_at}
 use Rattle.std.proofs.lemmas.Nat.Bits.{shr_and_one, bit_at-zero}

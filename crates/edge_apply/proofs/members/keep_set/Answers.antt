@@ -1,3 +1,4 @@
+-- Proofs of `keep_set`, src/members.rt.
 use Rattle.std.proofs.Common.{rules, ◌≡◌, ◌+◌, ◌<◌, length, get_or, sym, arith}
 use Rattle.edge_apply.specs.Words.{is_set}
 use Rattle.edge_apply.proofs.Kept.{one_more}

@@ -1,3 +1,4 @@
+-- Proofs of `merge_by_ranges`, src/merging.rt.
 use denote.Param.Send.{sendable}
 use Rattle.std.proofs.Crossing.{crosses}
 use Rattle.std.proofs.Common.{ℕ, ap, ◌∙◌, subst}

@@ -1,3 +1,4 @@
+-- Proofs of `insert_all`, src/passing.rt.
 use Rattle.std.proofs.Common.{◌<◌, length, get_or, ap, ◌∙◌, arith}
 use Rattle.kernels.specs.EdgeApply.{is_member}
 use Rattle.vertex_sets.specs.VertexSet.{VertexSubset}

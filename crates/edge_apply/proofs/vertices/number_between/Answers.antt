@@ -1,3 +1,4 @@
+-- Proofs of `number_between`, src/vertices.rt.
 use Rattle.std.proofs.Common.{◌≡◌, ℕ, ◌+◌, ◌-◌, ◌≤◌, ◌++◌, [], ◌∷◌, List, sym, ap, ◌∙◌, arith}
 use Rattle.std.specs.List.{range_with_len}
 use Rattle.vertex_sets.proofs.Ascending.{range_end}

@@ -1,3 +1,4 @@
+-- Proofs of `keep_members_weighted`, src/weighted_members.rt.
 use Rattle.std.proofs.Common.{◌≡◌, Option, Bor, ℕ, List, take, sym, subst}
 use Rattle.std.specs.List.{filter}
 use Rattle.edge_fold.specs.Contributions.{entries_of}

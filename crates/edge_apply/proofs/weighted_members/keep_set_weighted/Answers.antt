@@ -1,3 +1,4 @@
+-- Proofs of `keep_set_weighted`, src/weighted_members.rt.
 use Rattle.std.proofs.Common.{rules, ◌≡◌, ◌+◌, ◌<◌, ℕ, ℤ, pos, List, length, get_or, set, take, sym, ap, ◌∙◌, subst, arith, FitsSigned, w64}
 use Rattle.std.proofs.lemmas.Int.{to_z-of_z}
 use Rattle.std.proofs.lemmas.List.{length-set}

@@ -1,3 +1,4 @@
+-- Proofs of `distinct`, src/distinct.rt.
 use Rattle.std.proofs.Common.{◌<◌, ◌≤◌, suc, List, Vec, Global, length, get_or, sym, ap, ◌∙◌, subst, arith}
 use Rattle.std.proofs.lemmas.Bool.{leb-true, leb-false}
 use Rattle.tree_batch.specs.Edge.{Ends}

@@ -1,3 +1,4 @@
+-- Proofs of `others_stay`, src/named.rt.
 use Rattle.edge_differences.proofs.Unnamed.{all_changed, weights_stay}
 use Rattle.edge_differences.proofs.named.others_stay.Goals as goal
 

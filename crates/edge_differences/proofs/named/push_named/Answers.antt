@@ -1,3 +1,4 @@
+-- Proofs of `push_named`, src/named.rt.
 use Rattle.std.proofs.Common.{◌<◌, ◌++◌, Option, option_to_list, Vec, Global, length, sym, ap, ◌∙◌}
 use Rattle.tree_batch.specs.Edge.{Ends}
 use Rattle.edge_differences.proofs.Naming.{named_more, none_more}

@@ -1,3 +1,4 @@
+-- Proofs of `all_changes`, src/apply_changes.rt.
 use Rattle.std.proofs.Common.{ℕ, ℤ, Bool, List, Contains, pos, get_or, refl, subst, sym, ap, ◌∙◌, arith, if◌then◌else◌}
 use Rattle.std.specs.List.Sorted.{IsNonDecreasing}
 use Rattle.algorithm_meaning.specs.Value.{entry}

@@ -1,3 +1,4 @@
+-- Proofs of `found_in_slots`, src/apply_changes.rt.
 use Rattle.std.proofs.Common.{rules, ℕ, ◌<◌, ◌+◌, ◌≤◌, ◌==◌, ◌∷◌, cond, List, length, drop, sym, ap, ◌∙◌, subst, arith}
 use Rattle.std.proofs.lemmas.List.{length-take-le, get_or-take, drop_all, drop_more}
 use Rattle.algorithm_meaning.specs.Value.{entry}

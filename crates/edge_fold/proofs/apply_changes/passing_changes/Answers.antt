@@ -1,3 +1,4 @@
+-- Proofs of `passing_changes`, src/apply_changes.rt.
 use Rattle.std.proofs.Common.{◌++◌, ◌<◌, ℕ, Bool, if◌then◌else◌, ℤ, List, Contains, refl, subst, sym, ap, ◌∙◌}
 use Rattle.std.proofs.lemmas.List.Kept.{IsNonDecreasingBy-filter}
 use Rattle.std.specs.List.{filter}

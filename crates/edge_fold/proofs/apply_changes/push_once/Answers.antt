@@ -1,3 +1,4 @@
+-- Proofs of `push_once`, src/apply_changes.rt.
 use Rattle.std.proofs.Common.{rules, ◌≡◌, true, false, List, ap, sym, ◌∙◌, subst}
 use Rattle.vectors.specs.declared.changes.VectorChanges.{VectorChanges}
 use Rattle.edge_fold.specs.Changed.{AreApart, changes_or, is_named}

@@ -1,3 +1,4 @@
+-- Proofs of `reads_weights`, src/apply_context.rt.
 use Rattle.std.proofs.Common.{List, sym, subst}
 use Rattle.typed_tree.specs.FunctionStatementTree.{FunctionStatementsTree}
 use Rattle.edge_fold.specs.Folded.{AreWeightless}

@@ -1,3 +1,4 @@
+-- Proofs of `reduce_each`, src/entry_numbers.rt.
 use Rattle.std.proofs.Common.{rules, ◌≡◌, ◌<◌, ◌+◌, ℤ, pos, length, get_or, drop, to_z, of_z, w64, ap, ◌∙◌}
 use Rattle.algorithm_meaning.specs.Arithmetic.{reduced}
 use Rattle.edge_fold.specs.EntryNumbers.{entry_with, reduced_over}

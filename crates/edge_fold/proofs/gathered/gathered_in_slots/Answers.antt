@@ -1,3 +1,4 @@
+-- Proofs of `gathered_in_slots`, src/gathered.rt.
 use Rattle.std.proofs.Common.{rules, ◌≡◌, ◌<◌, ◌≤◌, ◌++◌, ◌∷◌, [], ℤ, List, if◌then◌else◌, length, take, refl, sym, ap, ◌∙◌, subst, arith}
 use Rattle.std.proofs.lemmas.List.{length-take-le, take_more}
 use Rattle.edge_fold.specs.declared.apply_context.FoldStart.TheVariants as start

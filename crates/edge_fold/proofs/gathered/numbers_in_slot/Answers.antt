@@ -1,3 +1,4 @@
+-- Proofs of `numbers_in_slot`, src/gathered.rt.
 use Rattle.std.proofs.Common.{◌≡◌, ◌++◌, ℕ, ℤ, Bool, true, false, cond, if◌then◌else◌, List, Option, Contains, refl, sym, ap, ◌∙◌, subst}
 use Rattle.std.proofs.lemmas.List.Kept.{IsNonDecreasingBy-filter}
 use Rattle.std.specs.List.{filter}

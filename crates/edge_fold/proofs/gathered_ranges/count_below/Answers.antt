@@ -1,3 +1,4 @@
+-- Proofs of `count_below`, src/gathered_ranges.rt.
 use Rattle.std.proofs.Common.{◌≡◌, ◌-◌, ◌/◌, ◌<◌, ◌≤◌, ◌+◌, ℕ, List, length, get_or, refl, ap, ◌∙◌, arith}
 use Rattle.std.proofs.lemmas.List.{get_or_default}
 use Rattle.vectors.specs.declared.changes.EntryChange.{EntryChange}

@@ -1,3 +1,4 @@
+-- Proofs of `numbers_between`, src/gathered_ranges.rt.
 use Rattle.std.proofs.Common.{◌-◌, ◌<◌, ◌≤◌, List, length, length-drop, take, drop, sym, ap, ◌∙◌, subst, arith}
 use Rattle.std.proofs.lemmas.List.{take_all}
 use Rattle.std.proofs.lemmas.List.Sorted.{IsNonDecreasingBy-drop}

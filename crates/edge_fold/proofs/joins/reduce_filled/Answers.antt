@@ -1,3 +1,4 @@
+-- Proofs of `reduce_filled`, src/joins.rt.
 use Rattle.std.proofs.Common.{rules, ◌≡◌, ◌<◌, length, get_or, pos, ap, ◌∙◌, arith, FitsSigned, to_z, of_z, w64, ℤ}
 use Rattle.std.proofs.lemmas.Int.{to_z-of_z}
 use Rattle.algorithm_meaning.specs.Arithmetic.{reduced}

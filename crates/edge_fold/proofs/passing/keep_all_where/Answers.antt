@@ -1,3 +1,4 @@
+-- Proofs of `keep_all_where`, src/passing.rt.
 use Rattle.std.proofs.Common.{◌<◌, length, ◌∙◌}
 use Rattle.edge_fold.proofs.Findings.{one_more_kept}
 use Rattle.edge_fold.proofs.passing.keep_all_where.Goals as goal

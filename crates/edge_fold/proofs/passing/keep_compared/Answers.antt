@@ -1,3 +1,4 @@
+-- Proofs of `keep_compared`, src/passing.rt.
 use Rattle.std.proofs.Common.{rules, ◌≡◌, ℕ, ℤ, ◌<◌, FitsSigned, to_z, of_z, w64, length, get_or, ap, sym, ◌∙◌}
 use Rattle.std.proofs.lemmas.Int.{to_z-of_z}
 use Rattle.algorithm_meaning.specs.Arithmetic.{compared}

@@ -1,3 +1,4 @@
+-- Proofs of `keep_filtered`, src/passing.rt.
 use Rattle.std.proofs.Common.{rules, ◌++◌, ℕ, ℤ, List, FitsSigned, to_z, of_z, w64, sym, ap, ◌∙◌, subst}
 use Rattle.std.proofs.lemmas.Int.{to_z-of_z}
 use Rattle.std.proofs.lemmas.List.Elements.{filter_agree}

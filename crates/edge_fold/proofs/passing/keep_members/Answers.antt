@@ -1,3 +1,4 @@
+-- Proofs of `keep_members`, src/passing.rt.
 use Rattle.std.proofs.Common.{◌<◌, length, get_or, sym, ◌∙◌}
 use Rattle.edge_fold.proofs.Findings.{member_is, one_more_kept}
 use Rattle.edge_fold.proofs.passing.keep_members.Goals as goal

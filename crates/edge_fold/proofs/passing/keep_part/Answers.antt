@@ -1,3 +1,4 @@
+-- Proofs of `keep_part`, src/passing.rt.
 use Rattle.std.proofs.Common.{sym, ◌∙◌}
 use Rattle.edge_fold.proofs.passing.keep_part.Goals as goal
 

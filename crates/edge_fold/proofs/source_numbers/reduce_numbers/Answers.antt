@@ -1,3 +1,4 @@
+-- Proofs of `reduce_numbers`, src/source_numbers.rt.
 use Rattle.std.proofs.Common.{rules, ◌≡◌, ◌∷◌, FitsSigned, to_z, of_z, w64, ◌∙◌}
 use Rattle.std.proofs.lemmas.Int.{to_z-of_z}
 use Rattle.edge_fold.proofs.Columns.{is_reduced_to}

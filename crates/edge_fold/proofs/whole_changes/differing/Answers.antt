@@ -1,3 +1,4 @@
+-- Proofs of `differing`, src/whole_changes.rt.
 use Rattle.std.proofs.Common.{rules, ◌≡◌, ◌*◌, ◌%◌, ◌^◌, ◌<◌, ℕ, pos, not, get_or, bit_or, cond, ap, sym, ◌∙◌}
 use Rattle.algorithm_meaning.specs.Arithmetic.{int_equal}
 use Rattle.edge_fold.proofs.ChangedWords.{differs_more}

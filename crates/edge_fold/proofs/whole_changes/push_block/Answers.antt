@@ -1,3 +1,4 @@
+-- Proofs of `push_block`, src/whole_changes.rt.
 use Rattle.std.proofs.Common.{◌+◌, ◌-◌, ◌++◌, ℕ, ℤ, pos, not, get_or, sym, ap, ap₂, ◌∙◌, arith}
 use Rattle.std.proofs.lemmas.Result.{on_ok_weaker}
 use Rattle.algorithm_meaning.specs.Arithmetic.{int_equal}

@@ -1,3 +1,4 @@
+-- Proofs of `push_each`, src/whole_changes.rt.
 use Rattle.std.proofs.Common.{rules, ◌+◌, ◌++◌, ℕ, ℤ, pos, get_or, sym, ap, ◌∙◌, FitsSigned, to_z, of_z, w64}
 use Rattle.std.proofs.lemmas.Int.{to_z-of_z}
 use Rattle.std.proofs.lemmas.List.{append-nil}

@@ -1,3 +1,4 @@
+-- Proofs of `push_word`, src/whole_changes.rt.
 use Rattle.std.proofs.Common.{rules, ◌+◌, ◌∷◌, [], ◌++◌, ℕ, ℤ, pos, get_or, ap, ◌∙◌, arith, FitsSigned, w64}
 use Rattle.std.proofs.lemmas.Int.{to_z-of_z}
 use lib.Count.{count_trailing_zeros}

@@ -1,3 +1,4 @@
+-- Proofs of `whole_changes`, src/whole_changes.rt.
 use Rattle.std.proofs.Common.{◌≡◌, ◌+◌, ◌*◌, min, ℕ, pos, get_or, sym, ap, ◌∙◌, arith}
 use Rattle.vectors.specs.Lanes.{lane_entry}
 use Rattle.edge_fold.specs.Changed.{changed_from}

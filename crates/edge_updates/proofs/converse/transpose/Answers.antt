@@ -1,3 +1,4 @@
+-- Proofs of `transpose`, src/converse.rt.
 use Rattle.std.proofs.Common.{◌≡◌, length, drop, ◌∙◌, arith}
 use Rattle.edge_updates.proofs.Transposing.{transposed_more, transposed_all, decided_transposed, once_transposed, transposed_sorted}
 use Rattle.edge_updates.proofs.converse.transpose.Goals as goal

@@ -1,3 +1,4 @@
+-- Proofs of `keep_last`, src/lasts.rt.
 use Rattle.std.proofs.Common.{◌≡◌, length, take, drop, ap, ◌∙◌}
 use Rattle.edge_updates.specs.inside.LastUpdates.{last_updates}
 use Rattle.edge_updates.proofs.KeepingLast.{written, decided_lasts, lasts_ascend, ascend_once}

@@ -1,3 +1,4 @@
+-- Proofs of `bare_name` and its mutually recursive functions, src/bare_name.rt.
 use Rattle.std.proofs.Common.{◌<◌, length, rules, ap, ◌∙◌}
 use Rattle.syntax.specs.ExpressionViews.{primary_of}
 use Rattle.expression_types.proofs.LoneOperands.{bare_name-operand, operand_name, signed_name}

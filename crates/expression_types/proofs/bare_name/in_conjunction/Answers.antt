@@ -1,3 +1,4 @@
+-- Proofs of `in_conjunction`, src/bare_name.rt.
 use Rattle.std.proofs.Common.{◌<◌, length, rules}
 use Rattle.syntax.specs.ExpressionViews.{comparison_of}
 use Rattle.expression_types.proofs.LoneOperands.{several_comparisons}

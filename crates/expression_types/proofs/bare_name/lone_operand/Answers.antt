@@ -1,3 +1,4 @@
+-- Proofs of `lone_operand`, src/bare_name.rt.
 use Rattle.std.proofs.Common.{◌<◌, length, rules, ap, ◌∙◌}
 use Rattle.syntax.specs.ExpressionViews.{conjunction_of}
 use Rattle.expression_types.specs.BareNames.{only_operand}

@@ -1,3 +1,4 @@
+-- Proofs of the mutually recursive functions of src/expression.rt.
 use Rattle.std.proofs.Common.{◌≡◌, ◌==◌, ◌<◌, ◌≤◌, ap, sym, subst, ◌∙◌, ℕ, Bool, if◌then◌else◌, length, get_or}
 use Rattle.syntax.specs.ExpressionTrees.{ExpressionTree}
 use Rattle.syntax.specs.Terminals.{Identifier}

@@ -1,3 +1,4 @@
+-- Proofs of `behind_signs`, src/operators.rt.
 use Rattle.std.proofs.Common.{ap, sym, ◌∙◌, length}
 use Rattle.typed_tree.specs.IntExpressionTree.{int_expression_tree, negated}
 use Rattle.expression_types.specs.ValueTree.{Integer, value_tree}

@@ -1,3 +1,4 @@
+-- Proofs of `equate`, src/operators.rt.
 use Rattle.std.proofs.Common.{ap, sym, ◌∙◌, [], ◌∷◌, ◌++◌, Some}
 use Rattle.typed_tree.specs.BoolExpressionTree.{bool_expression_tree, conditions_tree}
 use Rattle.typed_tree.proofs.Chains.{bool_expression_tree-Connect}

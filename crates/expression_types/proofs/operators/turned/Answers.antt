@@ -1,3 +1,4 @@
+-- Proofs of `turned`, src/operators.rt.
 use Rattle.std.proofs.Common.{ap, sym, ◌∙◌, length}
 use Rattle.typed_tree.specs.BoolExpressionTree.{bool_expression_tree, turned}
 use Rattle.expression_types.specs.ValueTree.{Condition, value_tree}

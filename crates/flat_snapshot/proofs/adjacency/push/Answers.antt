@@ -1,3 +1,4 @@
+-- Proofs of `push`, src/adjacency.rt.
 use Rattle.std.proofs.Common.{◌+◌, Some, [], ◌∷◌, ◌++◌, ◌∙◌, ap, arith, length-append}
 use Rattle.vertex_blocks.specs.Blocks.{numbered}
 use Rattle.flat_snapshot.specs.Lists.{lists_in}

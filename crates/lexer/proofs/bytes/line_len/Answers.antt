@@ -1,3 +1,4 @@
+-- Proofs of `line_len`, src/bytes.rt.
 use Rattle.std.proofs.Common.{rules}
 use Rattle.lexer.specs.Bytes.{is_in_line}
 use Rattle.lexer.proofs.RunLaws.{run_to, run_all}

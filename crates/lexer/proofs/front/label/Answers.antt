@@ -1,3 +1,4 @@
+-- Proofs of `label`, src/front.rt.
 use Rattle.lexer.proofs.FrontLaws.{label_first, no_label}
 use Rattle.lexer.proofs.front.label.Goals as goal
 use Rattle.lexer.proofs.front.label.Goals.{else-begins_with-via-then-begins_with+else-is_name, else-begins_with-via-else-begins_with}

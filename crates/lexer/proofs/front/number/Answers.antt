@@ -1,3 +1,4 @@
+-- Proofs of `number`, src/front.rt.
 use Rattle.std.proofs.Common.{◌≡◌, pos, take, inl, inr, rules, arith, sym, ◌∙◌, ap, subst}
 use Rattle.std.proofs.lemmas.Bool.{cases_lt}
 use Rattle.std.proofs.lemmas.Int.{to_z-of_z, ints}

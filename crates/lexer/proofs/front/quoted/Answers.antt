@@ -1,3 +1,4 @@
+-- Proofs of `quoted`, src/front.rt.
 use Rattle.lexer.proofs.FrontLaws.{text_first, no_text}
 use Rattle.lexer.proofs.front.quoted.Goals as goal
 

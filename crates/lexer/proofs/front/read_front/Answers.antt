@@ -1,3 +1,4 @@
+-- Proofs of `read_front`, src/front.rt.
 use Rattle.std.proofs.Common.{rules, sym}
 use Rattle.lexer.specs.Tokens.{White, Comment}
 use Rattle.lexer.proofs.FrontLaws.{white_first, comment_first, comment_begins}

@@ -1,3 +1,4 @@
+-- Proofs of `symbol`, src/front.rt.
 use Rattle.lexer.proofs.FrontLaws.{mark_fault}
 use Rattle.lexer.proofs.front.symbol.Goals as goal
 

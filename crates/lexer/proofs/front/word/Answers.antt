@@ -1,3 +1,4 @@
+-- Proofs of `word`, src/front.rt.
 use Rattle.lexer.specs.declared.token.TokenKind.TheVariants as kind
 use Rattle.lexer.specs.Tokens.{Lexeme, IsWord}
 use Rattle.lexer.proofs.FrontLaws.{word_at, word_first, reduction_first}

@@ -1,3 +1,4 @@
+-- Proofs of `keyword_of`, src/keyword.rt.
 use Rattle.std.proofs.Common.{◌≢◌, get_or, None, ap, rules, sym, ◌∙◌}
 use Rattle.lexer.specs.declared.keyword.TheConstants.{KEYWORDS}
 use Rattle.lexer.specs.Spelling.{keyword_spelling}

@@ -1,3 +1,4 @@
+-- Proofs of `tokens`, src/scan.rt.
 use Rattle.std.proofs.Common.{◌+◌, subst, sym}
 use Rattle.std.proofs.lemmas.List.{take_rest}
 use Rattle.lexer.specs.Runs.{IsFirst}

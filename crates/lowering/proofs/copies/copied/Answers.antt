@@ -1,3 +1,4 @@
+-- Proofs of `copied`, src/copies.rt.
 use Rattle.std.proofs.Common.{◌<◌, ◌∙◌, length, arith}
 use Rattle.lowering.proofs.Copying.{copied_more}
 use Rattle.lowering.proofs.copies.copied.Goals as goal

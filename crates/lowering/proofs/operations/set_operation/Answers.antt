@@ -1,3 +1,4 @@
+-- Proofs of `set_operation`, src/operations.rt.
 use Rattle.std.proofs.Common.{ap, ◌∙◌}
 use Rattle.typed_tree.specs.BlockTree.{statement_kind_tree}
 use Rattle.plans.specs.Fusing.{edge_apply_of}

@@ -1,3 +1,4 @@
+-- Proofs of `instructions_of`, src/plan.rt.
 use Rattle.std.proofs.Common.{rules, ◌≡◌, ◌++◌, ◌∷◌, [], List, ℕ, false, length, ap, ◌∙◌, subst}
 use Rattle.typed_tree.specs.declared.statement.MainStatement.{MainStatement}
 use Rattle.typed_tree.specs.BlockTree.{block_tree}

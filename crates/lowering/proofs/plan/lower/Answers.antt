@@ -1,3 +1,4 @@
+-- Proofs of `lower`, src/plan.rt.
 use Rattle.std.proofs.Common.{◌≡◌, ap, subst, sym, ℕ, List, rules}
 use Rattle.std.proofs.lemmas.Grind.{merely}
 use Rattle.typed_tree.specs.declared.program.Vector.{Vector}

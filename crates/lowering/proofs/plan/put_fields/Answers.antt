@@ -1,3 +1,4 @@
+-- Proofs of `put_fields`, src/plan.rt.
 use Rattle.std.proofs.lemmas.Result.{on_ok_weaker}
 use Rattle.typed_tree.specs.ProgramTree.{program_tree}
 use Rattle.plan_text.specs.Lines.{group_words}

@@ -1,3 +1,4 @@
+-- Proofs of `put_line`, src/written_plan.rt.
 use Rattle.std.proofs.Common.{rules, ◌≡◌, ◌++◌, ◌∷◌, []}
 use Rattle.std.proofs.lemmas.Result.{on_ok_weaker}
 use Rattle.lowering.proofs.PlanLines.{line_written}

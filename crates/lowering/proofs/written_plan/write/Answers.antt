@@ -1,3 +1,4 @@
+-- Proofs of `write`, src/written_plan.rt.
 use Rattle.std.proofs.Common.{rules, ◌≡◌, ◌<◌, List, length, get_or}
 use Rattle.plans.specs.declared.instruction.Instruction.{Instruction}
 use Rattle.lowering.specs.Text.{text_of}

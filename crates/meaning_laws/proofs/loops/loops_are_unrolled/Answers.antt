@@ -1,3 +1,4 @@
+-- Proofs of `loops_are_unrolled`, src/loops.rt.
 use Rattle.meaning_laws.proofs.Unrolling.{while_again, for_again}
 use Rattle.meaning_laws.proofs.loops.loops_are_unrolled.Goals as goal
 

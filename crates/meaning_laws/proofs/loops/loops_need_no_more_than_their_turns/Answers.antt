@@ -1,3 +1,4 @@
+-- Proofs of `loops_need_no_more_than_their_turns`, src/loops.rt.
 use Rattle.meaning_laws.proofs.Unrolling.{while_with, for_with}
 use Rattle.meaning_laws.proofs.loops.loops_need_no_more_than_their_turns.Goals as goal
 

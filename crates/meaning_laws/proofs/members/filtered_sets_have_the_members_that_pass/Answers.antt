@@ -1,3 +1,4 @@
+-- Proofs of `filtered_sets_have_the_members_that_pass`, src/members.rt.
 use Rattle.meaning_laws.proofs.SetMembers.{filter_members, filter_of_all, filter_vertices}
 use Rattle.meaning_laws.proofs.members.filtered_sets_have_the_members_that_pass.Goals as goal
 

@@ -1,3 +1,4 @@
+-- Proofs of `modified_sets_have_the_changed_vertices`, src/members.rt.
 use Rattle.meaning_laws.proofs.SetMembers.{modified_members, modified_vertices}
 use Rattle.meaning_laws.proofs.members.modified_sets_have_the_changed_vertices.Goals as goal
 

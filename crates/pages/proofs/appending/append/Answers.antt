@@ -1,3 +1,4 @@
+-- Proofs of `append`, src/appending.rt.
 use Rattle.std.proofs.Common.{get_or, drop, arith}
 use Rattle.pages.specs.declared.entry.ListEntry.{ListEntry}
 use Rattle.pages.proofs.Extending.{end_from}

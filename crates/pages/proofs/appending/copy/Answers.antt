@@ -1,3 +1,4 @@
+-- Proofs of `copy`, src/appending.rt.
 use Rattle.std.proofs.Common.{◌≡◌, ◌+◌, ◌-◌, ◌++◌, take, drop, ◌∙◌, ap, arith}
 use Rattle.pages.specs.inside.Entries.{end_of, placed_at}
 use Rattle.pages.proofs.Extending.{end_from, end_small, end_room}

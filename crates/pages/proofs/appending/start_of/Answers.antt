@@ -1,3 +1,4 @@
+-- Proofs of `start_of`, src/appending.rt.
 use Rattle.std.proofs.Common.{arith}
 use Rattle.pages.proofs.Copying.{start_at}
 use Rattle.pages.proofs.Storing.{no_entry}

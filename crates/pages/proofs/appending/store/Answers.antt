@@ -1,3 +1,4 @@
+-- Proofs of `store`, src/appending.rt.
 use Rattle.std.proofs.Common.{◌≡◌, ℕ, ◌+◌, ◌-◌, [], ◌∷◌, ◌++◌, replicate, length, take, drop, sym, ◌∙◌, ap, arith, vec_len}
 use Rattle.pages.specs.declared.entry.ListEntry.{ListEntry}
 use Rattle.edge_updates.specs.Weighted.{weighted}

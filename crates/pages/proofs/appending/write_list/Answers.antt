@@ -1,3 +1,4 @@
+-- Proofs of `write_list`, src/appending.rt.
 use Rattle.std.proofs.Common.{◌≡◌, ◌+◌, ◌-◌, ◌*◌, ◌≤◌, length, take, drop, refl, sym, ◌∙◌, ap, arith}
 use Rattle.std.proofs.lemmas.List.{drop-drop}
 use Rattle.edge_updates.specs.Weighted.{weighted}

@@ -1,3 +1,4 @@
+-- Proofs of `fill_down`, src/blocks.rt.
 use Rattle.std.proofs.Common.{◌≡◌, ℕ, ◌+◌, ◌-◌, List, refl, ◌∙◌, length, get_or, take, reverse, ap, arith}
 use Rattle.std.proofs.lemmas.List.{length-reverse, length-take-le}
 use Rattle.pages.specs.inside.Packed.{list_of}

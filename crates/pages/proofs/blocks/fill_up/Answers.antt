@@ -1,3 +1,4 @@
+-- Proofs of `fill_up`, src/blocks.rt.
 use Rattle.std.proofs.Common.{◌≡◌, ℕ, ◌+◌, List, refl, ◌∙◌, length, get_or, drop, arith, length-drop}
 use Rattle.pages.specs.inside.Packed.{list_of}
 use Rattle.pages.proofs.Decoding.{list_length, room_at, read_at}

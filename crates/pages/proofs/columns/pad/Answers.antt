@@ -1,3 +1,4 @@
+-- Proofs of `pad`, src/columns.rt.
 use Rattle.std.proofs.Common.{◌≡◌, pos, ◌-◌, ◌++◌, replicate, length, take, ◌∙◌, ap, arith, vec_len}
 use Rattle.std.proofs.lemmas.List.{take-take}
 use Rattle.pages.proofs.Weighing.{padded}

@@ -1,3 +1,4 @@
+-- Proofs of `list_of`, src/entry.rt.
 use Rattle.std.proofs.Common.{◌+◌}
 use Rattle.std.proofs.lemmas.List.{take_rest}
 use Rattle.pages.proofs.Storing.{list_is, listed_view}

@@ -1,3 +1,4 @@
+-- Proofs of `with_marks`, src/index.rt.
 use Rattle.std.proofs.Common.{arith}
 use Rattle.pages.proofs.Copying.{mark_more}
 use Rattle.pages.proofs.Storing.{no_entry}

@@ -1,3 +1,4 @@
+-- Proofs of `blocks_ascend`, src/laws.rt.
 use Rattle.pages.proofs.UpdateRuns.{ascend_in_page}
 use Rattle.pages.proofs.laws.blocks_ascend.Goals as goal
 

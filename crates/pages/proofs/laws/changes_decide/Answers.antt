@@ -1,3 +1,4 @@
+-- Proofs of `changes_decide`, src/laws.rt.
 use Rattle.pages.proofs.Merging.{updated_ascends}
 use Rattle.pages.proofs.Deciding.{updated_weight}
 use Rattle.pages.proofs.laws.changes_decide.Goals as goal

@@ -1,3 +1,4 @@
+-- Proofs of `pages_are_their_lists`, src/laws.rt.
 use Rattle.std.proofs.Common.{refl}
 use Rattle.pages.proofs.Building.{same_pages}
 use Rattle.pages.proofs.laws.pages_are_their_lists.Goals as goal

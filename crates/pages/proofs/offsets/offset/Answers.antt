@@ -1,3 +1,4 @@
+-- Proofs of `offset`, src/offsets.rt.
 use Rattle.std.proofs.Common.{ℕ, ◌+◌, ◌*◌, ◌∙◌, drop, ap, arith, bit_and, get_or-drop}
 use Rattle.pages.proofs.Masks.{masked}
 use Rattle.pages.proofs.offsets.offset.Goals as goal

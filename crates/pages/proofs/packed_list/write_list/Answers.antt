@@ -1,3 +1,4 @@
+-- Proofs of `write_list`, src/packed_list.rt.
 use Rattle.std.proofs.Common.{arith}
 use Rattle.pages.proofs.PackedLists.{list_written, is_packed}
 use Rattle.pages.proofs.packed_list.write_list.Goals as goal

@@ -1,3 +1,4 @@
+-- Proofs of `merge`, src/updates.rt.
 use Rattle.std.proofs.Common.{◌≡◌, ℤ, ◌+◌, ◌-◌, w64, [], ◌∷◌, ◌++◌, ◌<◌, length, get_or, take, drop, refl, sym, ◌∙◌, ap, subst, arith, rules}
 use Rattle.std.specs.Map.{keys_of}
 use Rattle.std.proofs.lemmas.Int.{to_z-of_z}

@@ -1,3 +1,4 @@
+-- Proofs of `run_length`, src/updates.rt.
 use Rattle.std.proofs.Common.{◌*◌, ◌%◌, ◌^◌, sym, ◌∙◌, ap, arith}
 use Rattle.pages.specs.Updates.{vertex_in_page}
 use Rattle.pages.proofs.UpdateRuns.{run_more, run_ends, run_ascends, no_update}

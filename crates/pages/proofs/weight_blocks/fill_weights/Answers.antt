@@ -1,3 +1,4 @@
+-- Proofs of `fill_weights`, src/weight_blocks.rt.
 use Rattle.std.proofs.Common.{length, drop, ◌∙◌}
 use Rattle.pages.proofs.Weighing.{ones_filled}
 use Rattle.pages.proofs.weight_blocks.fill_weights.Goals as goal

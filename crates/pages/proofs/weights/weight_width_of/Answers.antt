@@ -1,3 +1,4 @@
+-- Proofs of `weight_width_of`, src/weights.rt.
 use Rattle.std.proofs.Common.{◌≡◌, refl, sym, ◌∙◌, ap, arith}
 use Rattle.pages.specs.declared.weights.WeightWidth.{WeightWidth}
 use Rattle.pages.specs.declared.weights.WeightWidth.TheVariants.{Ones, OneByte, TwoBytes, FourBytes, EightBytes}

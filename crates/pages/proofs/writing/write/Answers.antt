@@ -1,3 +1,4 @@
+-- Proofs of `write`, src/writing.rt.
 use Rattle.std.proofs.Common.{◌≡◌, ℕ, ◌+◌, ◌-◌, ◌*◌, take, drop, refl, sym, ◌∙◌, ap, arith}
 use Rattle.std.proofs.lemmas.List.{drop-drop}
 use Rattle.ascending_lists.proofs.Cutting.{rises}

@@ -1,3 +1,4 @@
+-- Proofs of `write_weights`, src/writing.rt.
 use Rattle.std.proofs.Common.{◌≡◌, ◌+◌, ◌*◌, drop, ◌∙◌, w64, arith, rules}
 use Rattle.std.proofs.lemmas.Int.{to_z-of_z}
 use mir.Val.{SFits}

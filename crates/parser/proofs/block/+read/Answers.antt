@@ -1,3 +1,4 @@
+-- Proofs of the mutually recursive functions of src/block.rt.
 use Rattle.std.proofs.Common.{sym, ◌∙◌, ap, subst, Some, ◌≡◌, false, ◌∷◌}
 use Rattle.std.proofs.lemmas.Result.{err_from_is_err_and}
 use Rattle.lexer.specs.Tokens.{slice_of}

@@ -1,3 +1,4 @@
+-- Proofs of `for_action`, src/block.rt.
 use Rattle.parser.proofs.BlockLaws.{statement_kind_tree-For}
 use Rattle.parser.proofs.block.for_action.Goals as goal
 

@@ -1,3 +1,4 @@
+-- Proofs of `if_action`, src/block.rt.
 use Rattle.parser.proofs.BlockLaws.{statement_kind_tree-If}
 use Rattle.parser.proofs.block.if_action.Goals as goal
 

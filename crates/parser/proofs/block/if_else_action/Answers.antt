@@ -1,3 +1,4 @@
+-- Proofs of `if_else_action`, src/block.rt.
 use Rattle.parser.proofs.BlockLaws.{statement_kind_tree-IfElse}
 use Rattle.parser.proofs.block.if_else_action.Goals as goal
 

@@ -1,3 +1,4 @@
+-- Proofs of `while_action`, src/block.rt.
 use Rattle.parser.proofs.BlockLaws.{statement_kind_tree-While}
 use Rattle.parser.proofs.block.while_action.Goals as goal
 

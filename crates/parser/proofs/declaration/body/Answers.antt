@@ -1,3 +1,4 @@
+-- Proofs of `body`, src/declaration.rt.
 use Rattle.syntax.specs.SourceReading.{block}
 use Rattle.parser.proofs.declaration.body.Goals as goal
 

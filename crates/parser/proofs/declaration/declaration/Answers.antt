@@ -1,3 +1,4 @@
+-- Proofs of `declaration`, src/declaration.rt.
 use Rattle.std.proofs.Common.{sym, ◌∙◌, ap, subst, Some, ◌≡◌, ◌∷◌}
 use Rattle.lexer.specs.Tokens.{slice_of}
 use Rattle.syntax.specs.Terminals.{keyword_terminal, terminal_of}

@@ -1,3 +1,4 @@
+-- Proofs of `declarations`, src/declaration.rt.
 use Rattle.std.proofs.Common.{sym, ◌∙◌}
 use Rattle.std.proofs.lemmas.Result.{err_from_is_err_and}
 use Rattle.parser.specs.Readers.{terminals}

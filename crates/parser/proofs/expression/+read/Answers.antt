@@ -1,3 +1,4 @@
+-- Proofs of the mutually recursive functions of src/expression.rt.
 use denote.Enum.Bare.{sameb}
 use Rattle.lexer.specs.contracts.symbol.Symbol.{the_type}
 use Rattle.lexer.specs.declared.symbol.Symbol.TheVariants as symbol

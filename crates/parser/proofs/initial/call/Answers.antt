@@ -1,3 +1,4 @@
+-- Proofs of `call`, src/initial.rt.
 use Rattle.std.proofs.Common.{ap, ◌∙◌, subst, sym, [], ◌∷◌}
 use Rattle.lexer.specs.declared.keyword.Keyword.TheVariants as keyword
 use Rattle.lexer.specs.declared.symbol.Symbol.TheVariants as symbol

@@ -1,3 +1,4 @@
+-- Proofs of `has_method`, src/initial.rt.
 use Rattle.std.proofs.Common.{ap, sym, ◌∙◌, ◌∷◌}
 use Rattle.lexer.specs.Tokens.{slice_of}
 use Rattle.syntax.specs.Terminals.{terminal_of}

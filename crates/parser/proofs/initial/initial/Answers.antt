@@ -1,3 +1,4 @@
+-- Proofs of `initial`, src/initial.rt.
 use Rattle.std.proofs.Common.{sym, ◌∙◌, subst}
 use Rattle.parser.specs.Readers.{terminals, Gives}
 use Rattle.syntax.specs.SourceViews.{initial_tree}

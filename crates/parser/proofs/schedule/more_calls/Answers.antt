@@ -1,3 +1,4 @@
+-- Proofs of `more_calls`, src/schedule.rt.
 use Rattle.std.proofs.Common.{ap}
 use Rattle.std.proofs.lemmas.Result.{err_from_is_err_and}
 use Rattle.lexer.specs.declared.symbol.Symbol.TheVariants as symbol

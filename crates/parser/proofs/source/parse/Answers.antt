@@ -1,3 +1,4 @@
+-- Proofs of `parse`, src/source.rt.
 use Rattle.std.proofs.Common.{◌≡◌, ap, ◌∙◌, subst, Some, None, Err, List, ◌-◌, drop, length}
 use Rattle.lexer.specs.declared.token.Token.{Token}
 use Rattle.syntax.specs.Terminals.{terminals_of}

@@ -1,3 +1,4 @@
+-- Proofs of `method`, src/statement.rt.
 use Rattle.std.proofs.Common.{sym, ◌∙◌, ap, subst}
 use Rattle.syntax.specs.SourceReading.{method_by}
 use Rattle.syntax.specs.SourceViews.{statement_kind_tree}

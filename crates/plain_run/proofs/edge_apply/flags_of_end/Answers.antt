@@ -1,3 +1,4 @@
+-- Proofs of `flags_of_end`, src/edge_apply.rt.
 use Rattle.std.proofs.Common.{map, slice_get}
 use Rattle.typed_tree.specs.FunctionStatementTree.{function_tree}
 use Rattle.algorithm_meaning.specs.Filter.{result_of}

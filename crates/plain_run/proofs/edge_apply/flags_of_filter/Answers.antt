@@ -1,3 +1,4 @@
+-- Proofs of `flags_of_filter`, src/edge_apply.rt.
 use Rattle.std.proofs.Common.{ℕ, ℤ, ◌+◌, ◌-◌, ◌<◌, Bool, List, [], ◌∷◌, ◌++◌, map, ap, sym, ◌∙◌, arith, append_assoc}
 use Rattle.std.specs.List.{range_with_len}
 use Rattle.typed_tree.specs.FunctionStatementTree.{function_statements_tree}

@@ -1,3 +1,4 @@
+-- Proofs of `modified_vertices`, src/edge_apply.rt.
 use Rattle.std.proofs.Common.{ℕ, ◌+◌, ◌-◌, ◌<◌, cond, List, [], ◌∷◌, ◌++◌, ap, ◌∙◌, arith, append_assoc}
 use Rattle.std.specs.List.{filter, range_with_len}
 use Rattle.algorithm_meaning.specs.EdgeApply.{is_modified}

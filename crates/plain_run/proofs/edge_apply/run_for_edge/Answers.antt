@@ -1,3 +1,4 @@
+-- Proofs of `run_for_edge`, src/edge_apply.rt.
 use Rattle.std.proofs.Common.{rules, ap, ◌∙◌, ℤ, List, FitsSigned, w64}
 use Rattle.std.proofs.lemmas.Int.{to_z-of_z}
 use Rattle.typed_tree.specs.FunctionStatementTree.{function_statements_tree}

@@ -1,3 +1,4 @@
+-- Proofs of the mutually recursive functions of src/evaluate.rt.
 use Rattle.std.proofs.Common.{ap, ◌∙◌}
 use Rattle.typed_tree.specs.BoolExpressionTree.{bool_expression_tree}
 use Rattle.typed_tree.proofs.Chains.{bool_expression_tree-Connect}

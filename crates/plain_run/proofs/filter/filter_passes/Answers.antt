@@ -1,3 +1,4 @@
+-- Proofs of `filter_passes`, src/filter.rt.
 use Rattle.std.proofs.Common.{ap, ◌∙◌, false, slice_index_or}
 use Rattle.typed_tree.specs.FunctionStatementTree.{function_statements_tree}
 use Rattle.algorithm_meaning.specs.declared.contribution.Writing.TheVariants.{Collected}

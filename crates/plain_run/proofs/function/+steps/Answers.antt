@@ -1,3 +1,4 @@
+-- Proofs of the mutually recursive functions of src/function.rt.
 use Rattle.std.proofs.Common.{◌≡◌, true, false, ap, sym, ◌∙◌}
 use Rattle.typed_tree.specs.BoolExpressionTree.{bool_expression_tree}
 use Rattle.typed_tree.specs.FunctionStatementTree.{function_statement_tree, function_statements_tree}

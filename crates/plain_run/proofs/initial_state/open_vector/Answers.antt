@@ -1,3 +1,4 @@
+-- Proofs of `open_vector`, src/initial_state.rt.
 use Rattle.plain_run.proofs.Degrees.{counted_zeros}
 use Rattle.plain_run.proofs.initial_state.open_vector.Goals as goal
 

@@ -1,3 +1,4 @@
+-- Proofs of `vertices_below`, src/initial_state.rt.
 use Rattle.std.proofs.Common.{ℕ, ◌+◌, ◌-◌, ◌<◌, List, [], ◌∷◌, ◌++◌, ap, sym, ◌∙◌, arith, append_assoc}
 use Rattle.std.specs.List.{range_with_len}
 use Rattle.algorithm_meaning.proofs.Lists.{first_of_range}

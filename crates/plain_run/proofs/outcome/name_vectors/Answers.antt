@@ -1,3 +1,4 @@
+-- Proofs of `name_vectors`, src/outcome.rt.
 use Rattle.std.proofs.Common.{◌≡◌, length, List, ◌++◌, ap, sym, ◌∙◌, rules, append-nil, drop}
 use Rattle.algorithm_meaning.specs.declared.outcome.NamedVector.{NamedVector}
 use Rattle.algorithm_meaning.proofs.Lists.{nothing_is_named}

@@ -1,3 +1,4 @@
+-- Proofs of the mutually recursive functions of src/run.rt.
 use Rattle.std.proofs.Common.{ℕ, ◌<◌, ◌≤◌, true, false, Bool, Option, Some, length, ap, sym, ◌∙◌, subst, arith}
 use Rattle.typed_tree.specs.IntExpressionTree.{int_expression_tree}
 use Rattle.typed_tree.specs.BoolExpressionTree.{bool_expression_tree}

@@ -1,3 +1,4 @@
+-- Proofs of `apply_modified`, src/sets.rt.
 use Rattle.std.proofs.Common.{ap, refl}
 use Rattle.algorithm_meaning.specs.State.{StateValue}
 use Rattle.plain_run.proofs.sets.apply_modified.Goals as goal

@@ -1,3 +1,4 @@
+-- Proofs of `put_members`, src/sets.rt.
 use Rattle.std.proofs.Common.{◌<◌, ◌≤◌, length, slice_set, ap, ◌∙◌, rules}
 use Rattle.algorithm_meaning.specs.declared.state.SetBinding.{SetBinding}
 use Rattle.algorithm_meaning.proofs.Members.{set_members_inside, set_members_outside}

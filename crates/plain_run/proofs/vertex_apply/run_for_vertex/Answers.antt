@@ -1,3 +1,4 @@
+-- Proofs of `run_for_vertex`, src/vertex_apply.rt.
 use Rattle.std.proofs.Common.{ap, ◌∙◌}
 use Rattle.typed_tree.specs.FunctionStatementTree.{function_statements_tree}
 use Rattle.algorithm_meaning.specs.declared.contribution.Writing.TheVariants.{AtOnce}

@@ -1,3 +1,4 @@
+-- Proofs of `fused_statements_are_one_instruction`, src/laws.rt.
 use Rattle.std.proofs.Common.{subst}
 use Rattle.typed_tree.specs.ProgramTree.{ProgramTree}
 use Rattle.typed_tree.specs.Resolved.{IsResolved}

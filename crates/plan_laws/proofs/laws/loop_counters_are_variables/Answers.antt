@@ -1,3 +1,4 @@
+-- Proofs of `loop_counters_are_variables`, src/laws.rt.
 use Rattle.std.proofs.Common.{subst}
 use Rattle.type_laws.specs.LoopVariables.{KeepsLoopVariables}
 use Rattle.type_laws.proofs.LoopPrograms.{keeps_loop_variables}

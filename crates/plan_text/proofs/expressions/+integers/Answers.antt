@@ -1,3 +1,4 @@
+-- Proofs of the mutually recursive functions of src/expressions.rt.
 use Rattle.std.proofs.Common.{◌≡◌, ◌∷◌, [], ◌++◌, ◌+◌, codes, drop, suc, sym, ◌∙◌, ap, add-one, drop-cons}
 use Rattle.std.proofs.lemmas.Result.{on_ok_weaker}
 use Rattle.typed_tree.specs.IntExpressionTree.{int_expression_tree}

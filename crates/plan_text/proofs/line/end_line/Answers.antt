@@ -1,3 +1,4 @@
+-- Proofs of `end_line`, src/line.rt.
 use Rattle.std.proofs.Common.{◌∷◌, [], ◌++◌, ap, ◌∙◌, append_assoc, vec_len}
 use Rattle.plan_text.specs.Words.{joined}
 use Rattle.plan_text.proofs.Spaces.{before_space, popped}

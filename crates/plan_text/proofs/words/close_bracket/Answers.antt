@@ -1,3 +1,4 @@
+-- Proofs of `close_bracket`, src/words.rt.
 use Rattle.std.proofs.Common.{◌∷◌, [], ◌++◌, ap, ◌∙◌, append_assoc, vec_len}
 use Rattle.std.proofs.lemmas.Result.{on_ok_weaker}
 use Rattle.plan_text.specs.Words.{joined}

@@ -1,3 +1,4 @@
+-- Proofs of `put_times`, src/words.rt.
 use Rattle.std.proofs.Common.{◌∷◌, [], ◌++◌, ◌∙◌, sym, ap}
 use Rattle.plan_text.specs.inside.Rows.{times}
 use Rattle.plan_text.specs.Words.{spaced}

@@ -1,3 +1,4 @@
+-- Proofs of `brackets_are_read_by_hand`, src/brackets.rt.
 use Rattle.plan_text_laws.proofs.CutWords.{integer_in_brackets, condition_in_brackets}
 use Rattle.plan_text_laws.proofs.brackets.brackets_are_read_by_hand.Goals as goal
 

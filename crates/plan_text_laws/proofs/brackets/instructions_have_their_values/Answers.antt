@@ -1,3 +1,4 @@
+-- Proofs of `instructions_have_their_values`, src/brackets.rt.
 use Rattle.plan_text_laws.proofs.Values.{values_are}
 use Rattle.plan_text_laws.proofs.brackets.instructions_have_their_values.Goals as goal
 

@@ -1,3 +1,4 @@
+-- Proofs of `expressions_are_read_by_hand`, src/expressions.rt.
 use Rattle.plan_text_laws.proofs.Machine.{integer_is_read, condition_is_read}
 use Rattle.plan_text_laws.proofs.expressions.expressions_are_read_by_hand.Goals as goal
 

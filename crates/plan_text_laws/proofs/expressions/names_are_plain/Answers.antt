@@ -1,3 +1,4 @@
+-- Proofs of `names_are_plain`, src/expressions.rt.
 use Rattle.plan_text_laws.proofs.Plain.{bound_is_plain, name_is_bare, name_is_no_mark, name_is_one_word, name_is_plain}
 use Rattle.plan_text_laws.proofs.expressions.names_are_plain.Goals as goal
 

@@ -1,3 +1,4 @@
+-- Proofs of `kernels_of`, src/kernels_at.rt.
 use Rattle.std.proofs.Common.{rules, ◌≡◌, ◌++◌, ◌∷◌, ◌+◌, [], map, take, sym, subst}
 use Rattle.typed_tree.specs.FunctionStatementTree.{function_tree}
 use Rattle.plans.specs.Kernels.{ArePairwise}

@@ -1,3 +1,4 @@
+-- Proofs of `examples_have_their_plans`, src/laws.rt.
 use Rattle.std.proofs.Common.{refl}
 use Rattle.plans.proofs.laws.examples_have_their_plans.Goals as goal
 

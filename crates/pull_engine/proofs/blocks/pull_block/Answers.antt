@@ -1,3 +1,4 @@
+-- Proofs of `pull_block`, src/blocks.rt.
 use Rattle.std.proofs.Common.{rules, ◌+◌, ◌*◌, ◌%◌, ◌++◌, sym, ap, ◌∙◌, arith, FitsSigned, to_z, of_z, w64}
 use Rattle.std.proofs.lemmas.Int.{to_z-of_z}
 use Rattle.std.proofs.lemmas.List.{append-nil}

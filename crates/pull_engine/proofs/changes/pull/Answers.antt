@@ -1,3 +1,4 @@
+-- Proofs of `pull`, src/changes.rt.
 use Rattle.std.proofs.Common.{◌≡◌, ◌<◌, ◌-◌, ◌∙◌, ℕ, ℤ, List, IfSome, Option, ap, sym, subst, arith}
 use Rattle.std.proofs.lemmas.Result.{IfOk-weaker}
 use Rattle.edge_apply.specs.Words.{passes_words}

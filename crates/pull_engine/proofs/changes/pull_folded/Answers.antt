@@ -1,3 +1,4 @@
+-- Proofs of `pull_folded`, src/changes.rt.
 use Rattle.std.proofs.Common.{◌≡◌, ◌-◌, ℕ, true, List, refl, ap, ap₂, ◌∙◌, arith}
 use Rattle.std.specs.List.{filter, range_with_len}
 use Rattle.edge_lists.specs.Edge.{Edge}

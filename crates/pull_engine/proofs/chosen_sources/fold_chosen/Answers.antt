@@ -1,3 +1,4 @@
+-- Proofs of `fold_chosen`, src/chosen_sources.rt.
 use Rattle.std.proofs.Common.{rules, ◌-◌, ◌≤◌, length, map, take, drop, FitsSigned, to_z, of_z, w64, ◌∙◌, arith}
 use Rattle.std.proofs.lemmas.Int.{to_z-of_z}
 use Rattle.edge_apply.specs.Words.{is_set}

@@ -1,3 +1,4 @@
+-- Proofs of `pull_by_workers`, src/crew_apply.rt.
 use denote.Param.Send.{sendable}
 use Rattle.std.proofs.Crossing.{crosses}
 use Rattle.std.proofs.Common.{length, sym, subst}

@@ -1,3 +1,4 @@
+-- Proofs of `members_word`, src/destination_words.rt.
 use Rattle.std.proofs.Common.{◌∙◌}
 use Rattle.edge_apply.proofs.Bits.{words_have_members}
 use Rattle.pull_engine.proofs.destination_words.members_word.Goals as goal

@@ -1,3 +1,4 @@
+-- Proofs of `fold_column`, src/destinations.rt.
 use Rattle.std.proofs.Common.{◌++◌, ℕ, ℤ, List, OnOk, ◌∙◌, subst}
 use Rattle.edge_lists.specs.Edge.{Edge}
 use Rattle.kernels.specs.FunctionStatementTree.{FunctionStatementsTree}

@@ -1,3 +1,4 @@
+-- Proofs of `fold_range`, src/destinations.rt.
 use Rattle.std.proofs.Common.{◌≡◌, ◌+◌, ◌-◌, [], ap, sym, arith}
 use Rattle.std.specs.List.{filter, range_with_len}
 use Rattle.std.proofs.lemmas.Result.{IfOk-weaker}

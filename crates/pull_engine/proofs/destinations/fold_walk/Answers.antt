@@ -1,3 +1,4 @@
+-- Proofs of `fold_walk`, src/destinations.rt.
 use Rattle.std.proofs.Common.{rules, ℕ, ℤ, List, refl, subst, take, arith}
 use Rattle.edge_fold.proofs.Walks.{HasWalked, parts_of, walk_begun, walk_done, walk_more}
 use Rattle.edge_apply.specs.Words.{passes_words}

@@ -1,3 +1,4 @@
+-- Proofs of `fold_weighted_walk`, src/destinations.rt.
 use Rattle.std.proofs.Common.{rules, ℕ, ℤ, ◌++◌, List, ap, refl, subst, take, arith}
 use Rattle.edge_fold.specs.Contributions.{column, entries_of}
 use Rattle.edge_fold.proofs.Walks.{HasWalked, folded_along, parts_of, walk_begun, walk_done, walk_more}

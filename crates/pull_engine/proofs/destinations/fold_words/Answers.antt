@@ -1,3 +1,4 @@
+-- Proofs of `fold_words`, src/destinations.rt.
 use Rattle.std.proofs.Common.{◌≡◌, ◌-◌, ◌*◌, ◌/◌, ◌≤◌, ◌++◌, ℕ, List, ap, arith}
 use Rattle.std.specs.List.{filter, range_with_len}
 use Rattle.edge_fold.proofs.Walks.{folded_along}

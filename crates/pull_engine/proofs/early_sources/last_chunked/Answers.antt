@@ -1,3 +1,4 @@
+-- Proofs of `last_chunked`, src/early_sources.rt.
 use Rattle.std.proofs.Common.{rules, ◌≡◌, ◌≤◌, ◌-◌, Some, get_or, ℕ, List, length, arith, ap, ◌∙◌}
 use Rattle.std.specs.List.{filter}
 use Rattle.std.specs.Map.{keys_of}

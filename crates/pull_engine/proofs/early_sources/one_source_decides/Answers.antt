@@ -1,3 +1,4 @@
+-- Proofs of `one_source_decides`, src/early_sources.rt.
 use Rattle.std.specs.List.{filter}
 use Rattle.pull_engine.proofs.Deciding.{ascends_filter, greatest, least, one_number}
 use Rattle.pull_engine.proofs.early_sources.one_source_decides.Goals as goal

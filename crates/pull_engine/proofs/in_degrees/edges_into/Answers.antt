@@ -1,3 +1,4 @@
+-- Proofs of `edges_into`, src/in_degrees.rt.
 use Rattle.std.proofs.Common.{ℕ, ◌∙◌}
 use Rattle.flat_snapshot.specs.Neighbours.{sources_of}
 use Rattle.edge_apply.proofs.BlockTotals.{block_total, no_block_total}

@@ -1,3 +1,4 @@
+-- Proofs of `fold_each`, src/list_folds.rt.
 use Rattle.std.proofs.Common.{rules, ◌<◌, ◌≤◌, ℤ, length, cond, FitsSigned, to_z, w64, ap, sym, ◌∙◌, arith}
 use Rattle.std.specs.List.{filter}
 use Rattle.std.specs.Map.{keys_of}

@@ -1,3 +1,4 @@
+-- Proofs of `fold_each`, src/masked_sources.rt.
 use Rattle.std.proofs.Common.{rules, ◌<◌, ◌≤◌, ℕ, ℤ, length, slice_index, refl, cond, FitsSigned, to_z, w64, ap, sym, ◌∙◌, arith}
 use Rattle.std.specs.List.{filter}
 use Rattle.std.specs.Map.{keys_of}

@@ -1,3 +1,4 @@
+-- Proofs of `reduce_masked`, src/masked_sources.rt.
 use Rattle.std.proofs.Common.{rules, ℤ, FitsSigned, to_z, of_z, w64, ap, ◌∙◌}
 use Rattle.std.proofs.lemmas.Int.{to_z-of_z}
 use Rattle.kernels.specs.Arithmetic.{reduced}

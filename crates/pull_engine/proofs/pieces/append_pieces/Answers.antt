@@ -1,3 +1,4 @@
+-- Proofs of `append_pieces`, src/pieces.rt.
 use Rattle.std.proofs.Common.{◌++◌, Vec, Global, ap, ◌∙◌}
 use Rattle.vectors.specs.declared.changes.EntryChange.{EntryChange}
 use Rattle.crew.specs.Pieces.{pieces_of}

@@ -1,3 +1,4 @@
+-- Proofs of `members_in_words`, src/ranges.rt.
 use Rattle.edge_apply.proofs.Bits.{words_have_members}
 use Rattle.pull_engine.proofs.ranges.members_in_words.Goals as goal
 

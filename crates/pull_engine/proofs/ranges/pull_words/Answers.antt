@@ -1,3 +1,4 @@
+-- Proofs of `pull_words`, src/ranges.rt.
 use Rattle.std.proofs.Common.{◌≡◌, ◌-◌, ◌*◌, ◌/◌, ◌≤◌, ℤ, List, ap, ◌∙◌, arith}
 use Rattle.kernels.specs.Value.{entry}
 use Rattle.vectors.specs.Lanes.{lane_entry}

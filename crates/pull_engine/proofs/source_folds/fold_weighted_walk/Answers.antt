@@ -1,3 +1,4 @@
+-- Proofs of `fold_weighted_walk`, src/source_folds.rt.
 use Rattle.std.proofs.Common.{rules, take, FitsSigned, to_z, of_z, w64, ◌∙◌}
 use Rattle.std.proofs.lemmas.Int.{to_z-of_z}
 use Rattle.edge_apply.specs.Words.{passes_words}

@@ -1,3 +1,4 @@
+-- Proofs of `begin`, src/changes.rt.
 use Rattle.push_engine.proofs.changes.begin.Goals as goal
 
 pub returns : goal.returns

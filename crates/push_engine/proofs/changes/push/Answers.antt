@@ -1,3 +1,4 @@
+-- Proofs of `push`, src/changes.rt.
 use Rattle.std.proofs.Common.{ℕ, ◌&&◌, Bool, List, Option, ap, sym, ◌∙◌, subst, arith}
 use Rattle.std.specs.List.{filter}
 use Rattle.edge_lists.specs.Edge.{Edge}

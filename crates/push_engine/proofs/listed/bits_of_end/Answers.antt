@@ -1,3 +1,4 @@
+-- Proofs of `bits_of_end`, src/listed.rt.
 use Rattle.std.proofs.Common.{ap, sym, ◌∙◌, subst, arith}
 use Rattle.kernels.specs.EdgeApply.{is_member}
 use Rattle.kernels.specs.Registers.{HasSizes}

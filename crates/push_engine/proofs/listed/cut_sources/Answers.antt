@@ -1,3 +1,4 @@
+-- Proofs of `cut_sources`, src/listed.rt.
 use Rattle.std.proofs.Common.{ℕ, length, ap, ◌∙◌}
 use Rattle.std.proofs.lemmas.List.{length-map}
 use Rattle.flat_snapshot.specs.Neighbours.{destinations_of}

@@ -1,3 +1,4 @@
+-- Proofs of `destination_bits`, src/listed.rt.
 use Rattle.std.proofs.Common.{Option, subst}
 use Rattle.std.proofs.lemmas.Option.{IfSome_then}
 use Rattle.std.proofs.lemmas.Result.{IfOk-weaker}

@@ -1,3 +1,4 @@
+-- Proofs of `list_from`, src/listed.rt.
 use Rattle.std.proofs.Common.{ℕ, List, sym, ap, ◌∙◌, subst}
 use Rattle.std.specs.List.{filter, range_with_len}
 use Rattle.kernels.specs.EdgeApply.{is_member}

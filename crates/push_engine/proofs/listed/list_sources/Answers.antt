@@ -1,3 +1,4 @@
+-- Proofs of `list_sources`, src/listed.rt.
 use Rattle.std.proofs.Common.{◌≡◌, true, ℕ, List, Option, sym, ap, ◌∙◌, subst}
 use Rattle.std.specs.List.{range_with_len}
 use Rattle.kernels.specs.EdgeApply.{is_member}

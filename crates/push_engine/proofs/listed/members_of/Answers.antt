@@ -1,3 +1,4 @@
+-- Proofs of `members_of`, src/listed.rt.
 use Rattle.std.proofs.Common.{◌++◌, ℕ, List, ap, ◌∙◌, sym, subst}
 use Rattle.vertex_sets.proofs.Ascending.{rises}
 use Rattle.edge_apply.specs.Lists.{AscendsFrom}

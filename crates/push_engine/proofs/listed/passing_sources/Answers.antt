@@ -1,3 +1,4 @@
+-- Proofs of `passing_sources`, src/listed.rt.
 use Rattle.std.proofs.Common.{◌≡◌, ◌++◌, ℕ, List, ap, ◌∙◌, sym, subst, Some}
 use Rattle.std.specs.List.{filter, range_with_len}
 use Rattle.kernels.specs.EdgeApply.{is_member}

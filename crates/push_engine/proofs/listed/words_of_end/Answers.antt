@@ -1,3 +1,4 @@
+-- Proofs of `words_of_end`, src/listed.rt.
 use Rattle.std.proofs.Common.{Option, subst}
 use Rattle.std.proofs.lemmas.Option.{IfSome_then}
 use Rattle.kernels.specs.declared.endpoint_filter.EndpointFilter.{EndpointFilter}

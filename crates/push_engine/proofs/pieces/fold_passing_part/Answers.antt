@@ -1,3 +1,4 @@
+-- Proofs of `fold_passing_part`, src/pieces.rt.
 use Rattle.std.proofs.Common.{◌++◌, ℕ, [], List, Option, sym, ap, ◌∙◌, subst}
 use Rattle.std.specs.List.{filter}
 use Rattle.kernels.specs.declared.endpoint_filter.EndpointFilter.{EndpointFilter}

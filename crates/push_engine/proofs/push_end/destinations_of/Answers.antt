@@ -1,3 +1,4 @@
+-- Proofs of `destinations_of`, src/push_end.rt.
 use Rattle.std.proofs.Common.{Option, refl, sym, subst}
 use Rattle.kernels.specs.declared.endpoint_filter.EndpointFilter.{EndpointFilter}
 use Rattle.edge_fold.specs.Ends.{IsEndTest}

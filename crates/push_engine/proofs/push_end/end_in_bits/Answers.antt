@@ -1,3 +1,4 @@
+-- Proofs of `end_in_bits`, src/push_end.rt.
 use Rattle.std.proofs.Common.{refl, sym, ap, subst, ◌∙◌, arith}
 use Rattle.std.proofs.lemmas.Result.{IfOk-weaker}
 use Rattle.kernels.specs.Registers.{HasSizes}

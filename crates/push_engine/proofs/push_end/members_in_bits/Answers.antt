@@ -1,3 +1,4 @@
+-- Proofs of `members_in_bits`, src/push_end.rt.
 use Rattle.std.proofs.Common.{refl, sym, ap, ◌∙◌}
 use Rattle.kernels.specs.EdgeApply.{is_member}
 use Rattle.vertex_sets.specs.VertexSet.{VertexSubset}

@@ -1,3 +1,4 @@
+-- Proofs of `sources_of`, src/push_end.rt.
 use Rattle.std.proofs.Common.{Option, Some, ap, ◌∙◌, subst}
 use Rattle.std.proofs.lemmas.Result.{IfOk-weaker}
 use Rattle.kernels.specs.declared.endpoint_filter.EndpointFilter.{EndpointFilter}

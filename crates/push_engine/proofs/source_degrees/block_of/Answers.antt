@@ -1,3 +1,4 @@
+-- Proofs of `block_of`, src/source_degrees.rt.
 use Rattle.std.proofs.Common.{◌≡◌, ◌*◌, ◌/◌, get_or, length, arith}
 use Rattle.push_engine.proofs.SourceTotals.{in_a_row}
 use Rattle.push_engine.proofs.source_degrees.block_of.Goals as goal

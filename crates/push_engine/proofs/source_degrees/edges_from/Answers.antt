@@ -1,3 +1,4 @@
+-- Proofs of `edges_from`, src/source_degrees.rt.
 use Rattle.std.proofs.Common.{ℕ, ◌∙◌, arith}
 use Rattle.flat_snapshot.specs.Neighbours.{destinations_of}
 use Rattle.edge_apply.proofs.BlockTotals.{block_total, no_block_total}

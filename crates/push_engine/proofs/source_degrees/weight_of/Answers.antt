@@ -1,3 +1,4 @@
+-- Proofs of `weight_of`, src/source_degrees.rt.
 use Rattle.std.proofs.Common.{◌≡◌, ◌*◌, length, ap, ◌∙◌, arith}
 use Rattle.std.proofs.lemmas.List.FromFn.{length-range_with_len}
 use Rattle.push_engine.proofs.SourceTotals.{block_weight}

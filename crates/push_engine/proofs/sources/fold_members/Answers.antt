@@ -1,3 +1,4 @@
+-- Proofs of `fold_members`, src/sources.rt.
 use Rattle.std.proofs.Common.{ℕ, List, [], ◌∷◌, refl, sym, ◌∙◌, subst}
 use Rattle.edge_fold.proofs.Walks.{HasWalked, walk_begun, walk_more}
 use Rattle.vertex_sets.proofs.Ascending.{rises}

@@ -1,3 +1,4 @@
+-- Proofs of `fold_parts`, src/sources.rt.
 use Rattle.std.proofs.Common.{◌+◌, drop, take, refl, sym, ap, ◌∙◌, arith}
 use Rattle.std.specs.List.{filter}
 use Rattle.std.specs.Map.{keys_of}

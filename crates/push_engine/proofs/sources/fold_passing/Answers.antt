@@ -1,3 +1,4 @@
+-- Proofs of `fold_passing`, src/sources.rt.
 use Rattle.std.proofs.Common.{rules, ◌≡◌, ℕ, ◌++◌, [], ◌∷◌, List, length, refl, ap, sym, ◌∙◌, arith}
 use Rattle.std.specs.List.{filter}
 use Rattle.edge_fold.specs.Between.{firsts}

@@ -1,3 +1,4 @@
+-- Proofs of `fold_row`, src/sources.rt.
 use Rattle.std.proofs.Common.{rules, ◌≡◌, ◌%◌, ◌<◌, ◌++◌, ℕ, ℤ, List, Option, OnOk, sym, ap, ◌∙◌, subst, arith}
 use Rattle.std.proofs.lemmas.List.{append-nil}
 use Rattle.std.specs.Borrow.{Bor}

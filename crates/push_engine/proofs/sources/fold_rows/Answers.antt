@@ -1,3 +1,4 @@
+-- Proofs of `fold_rows`, src/sources.rt.
 use Rattle.std.proofs.Common.{◌<◌, ◌≤◌, ◌++◌, ◌+◌, length, take, get_or, refl, ap}
 use Rattle.std.proofs.lemmas.List.{take_all}
 use Rattle.std.specs.Option.{option_copied}

@@ -1,3 +1,4 @@
+-- Proofs of `fold_set`, src/sources.rt.
 use Rattle.std.proofs.Common.{◌++◌, ℕ, ℤ, List, OnOk, sym, ap, ◌∙◌, subst}
 use Rattle.std.specs.List.{filter}
 use Rattle.edge_lists.specs.Edge.{Edge}

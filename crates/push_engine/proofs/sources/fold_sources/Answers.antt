@@ -1,3 +1,4 @@
+-- Proofs of `fold_sources`, src/sources.rt.
 use Rattle.std.proofs.Common.{◌∙◌, subst}
 use Rattle.kernels.specs.declared.endpoint_filter.EndpointFilter.{EndpointFilter}
 use Rattle.edge_fold.specs.Ends.{IsTest}

@@ -1,3 +1,4 @@
+-- Proofs of `fold_untested`, src/sources.rt.
 use Rattle.std.proofs.Common.{rules, ◌≡◌, ◌++◌, ℕ, ℤ, Option, None, List, sym, ap, ◌∙◌}
 use Rattle.std.specs.Borrow.{Bor}
 use Rattle.std.specs.List.{filter}

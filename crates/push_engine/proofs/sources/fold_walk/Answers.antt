@@ -1,3 +1,4 @@
+-- Proofs of `fold_walk`, src/sources.rt.
 use Rattle.std.proofs.Common.{take, refl, arith}
 use Rattle.std.specs.List.{filter}
 use Rattle.edge_fold.proofs.Walks.{parts_of, walk_begun, walk_done, walk_more}

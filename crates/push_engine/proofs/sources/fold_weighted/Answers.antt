@@ -1,3 +1,4 @@
+-- Proofs of `fold_weighted`, src/sources.rt.
 use Rattle.std.proofs.Common.{◌++◌, take, refl, ap, arith}
 use Rattle.edge_fold.specs.Contributions.{entries_of, row}
 use Rattle.edge_fold.proofs.Walks.{folded_along, parts_of, walk_begun, walk_done, walk_more}

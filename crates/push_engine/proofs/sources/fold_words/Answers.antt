@@ -1,3 +1,4 @@
+-- Proofs of `fold_words`, src/sources.rt.
 use Rattle.std.proofs.Common.{◌*◌, ◌≤◌, [], arith}
 use Rattle.std.specs.List.{filter, range_with_len}
 use Rattle.edge_apply.specs.Words.{passes_words}

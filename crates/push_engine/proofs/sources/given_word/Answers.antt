@@ -1,3 +1,4 @@
+-- Proofs of `given_word`, src/sources.rt.
 use Rattle.std.proofs.Common.{rules, ◌≡◌, ◌+◌, ◌*◌, ◌/◌, ◌%◌, ◌==◌, slice_index, sym, ap, ap₂, ◌∙◌, arith}
 use Rattle.std.specs.Int.{bit_at}
 use Rattle.push_engine.proofs.sources.given_word.Goals as goal

@@ -1,3 +1,4 @@
+-- Proofs of `read_passing`, src/sources.rt.
 use Rattle.std.proofs.Common.{◌≡◌, ◌+◌, ◌<◌, drop, length, length-drop, true, false, sym, ◌∙◌, arith}
 use Rattle.std.specs.Map.{keys_of}
 use Rattle.std.proofs.lemmas.List.{get_or-drop, length-set}

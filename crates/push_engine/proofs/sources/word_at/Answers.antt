@@ -1,3 +1,4 @@
+-- Proofs of `word_at`, src/sources.rt.
 use Rattle.std.proofs.Common.{◌+◌, ◌*◌, ℕ, List, Option, sym, ap, ◌∙◌}
 use Rattle.std.proofs.lemmas.Bool.{eq-eqb}
 use Rattle.std.proofs.lemmas.Nat.Bits.{bit_at_ones}

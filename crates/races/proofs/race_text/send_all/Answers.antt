@@ -1,3 +1,4 @@
+-- Proofs of `send_all`, src/race_text.rt.
 use Rattle.std.proofs.Common.{[], ◌∙◌}
 use Rattle.races.specs.RaceText.{race_text}
 use Rattle.races.proofs.Writing.{failed_written, same_writer, sent_written}

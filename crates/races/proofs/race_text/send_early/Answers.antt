@@ -1,3 +1,4 @@
+-- Proofs of `send_early`, src/race_text.rt.
 use Rattle.std.proofs.Common.{◌≤◌, ◌<◌, length, get_or, refl, subst, arith}
 use Rattle.std.proofs.lemmas.List.{take_all}
 use Rattle.replies.specs.Sending.{Sends}

@@ -1,3 +1,4 @@
+-- Proofs of `send_race`, src/race_text.rt.
 use Rattle.std.proofs.Common.{◌++◌, refl, sym, ap, codes}
 use Rattle.replies.specs.ReplyText.{word_line}
 use Rattle.replies.proofs.SendingLaws.{emits_as, emits_next, emits_stopped}

@@ -1,3 +1,4 @@
+-- Proofs of `send_replies`, src/race_text.rt.
 use Rattle.std.proofs.Common.{◌≡◌, ℕ, List, ◌≤◌, ◌<◌, length, refl, subst, arith}
 use Rattle.std.proofs.lemmas.List.{take_all}
 use Rattle.std.specs.List.{flat_map}

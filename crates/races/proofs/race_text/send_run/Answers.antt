@@ -1,3 +1,4 @@
+-- Proofs of `send_run`, src/race_text.rt.
 use Rattle.std.proofs.Common.{◌∙◌}
 use Rattle.replies.specs.OutcomeText.{outcome_text}
 use Rattle.replies.proofs.SendingLaws.{emits_next, emits_none, emits_stopped}

@@ -1,3 +1,4 @@
+-- Proofs of `write_race`, src/race_text.rt.
 use Rattle.std.proofs.Common.{rules}
 use Rattle.scripts.specs.Script.{bytes_written_by}
 use Rattle.races.specs.RaceText.{race_text}

@@ -1,3 +1,4 @@
+-- Proofs of `commit_each`, src/racing.rt.
 use Rattle.std.proofs.Common.{List, refl, arith, sym, subst}
 use Rattle.std.proofs.lemmas.List.{nil_from_length}
 use Rattle.tree_batch.specs.declared.batch.Entry.{Entry as Change}

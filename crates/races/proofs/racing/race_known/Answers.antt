@@ -1,3 +1,4 @@
+-- Proofs of `race_known`, src/racing.rt.
 use Rattle.std.proofs.Common.{length}
 use Rattle.races.proofs.Seats.{one_more}
 use Rattle.races.proofs.racing.race_known.Goals as goal

@@ -1,3 +1,4 @@
+-- Proofs of `race_on`, src/racing.rt.
 use denote.Builtin.{u64, usize}
 use denote.Exit.{no}
 use denote.Param.{param}

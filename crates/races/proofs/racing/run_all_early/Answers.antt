@@ -1,3 +1,4 @@
+-- Proofs of `run_all_early`, src/racing.rt.
 use denote.Param.Send.{sendable}
 use Rattle.std.proofs.lemmas.Result.{IfOk-weaker}
 use Rattle.races.proofs.Crossing.{early_run_send, entrant_send}

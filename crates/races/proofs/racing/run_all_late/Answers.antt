@@ -1,3 +1,4 @@
+-- Proofs of `run_all_late`, src/racing.rt.
 use Rattle.std.proofs.Common.{arith, map}
 use Rattle.std.proofs.lemmas.List.{nil_from_length}
 use Rattle.std.proofs.lemmas.List.Elements.{All-rest}

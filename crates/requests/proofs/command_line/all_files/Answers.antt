@@ -1,3 +1,4 @@
+-- Proofs of `all_files`, src/command_line.rt.
 use Rattle.std.proofs.Common.{◌≡◌, ◌∙◌, ap, ap₂, true, Option, Some, None, codes, rules}
 use Rattle.std.specs.Prelude.{IsSomeAnd}
 use Rattle.clap.specs.Lexer.{usize_max}

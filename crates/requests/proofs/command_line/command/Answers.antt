@@ -1,3 +1,4 @@
+-- Proofs of `command`, src/command_line.rt.
 use Rattle.requests.specs.CommandLine.{file_commands, race_command}
 use Rattle.requests.proofs.command_line.command.Goals as goal
 

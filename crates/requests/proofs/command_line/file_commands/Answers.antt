@@ -1,3 +1,4 @@
+-- Proofs of `file_commands`, src/command_line.rt.
 use Rattle.std.proofs.Common.{codes}
 use Rattle.clap.specs.Words.{with_subcommand}
 use Rattle.requests.specs.CommandLine.{file_command, program, script_command}

@@ -1,3 +1,4 @@
+-- Proofs of `numbers_out_of_range_are_faults`, src/laws.rt.
 use Rattle.requests.proofs.RaceWords.{bad_turns, bad_workers}
 use Rattle.requests.proofs.laws.numbers_out_of_range_are_faults.Goals as goal
 

@@ -1,3 +1,4 @@
+-- Proofs of `file`, src/reading.rt.
 use Rattle.std.proofs.Common.{◌∙◌, ap}
 use Rattle.std.specs.Borrow.{Bor}
 use Rattle.clap.specs.Words.{Text, found_of}

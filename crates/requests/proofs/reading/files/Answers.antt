@@ -1,3 +1,4 @@
+-- Proofs of `files`, src/reading.rt.
 use Rattle.std.proofs.Common.{◌≡◌, ◌∙◌, List, ap, map}
 use Rattle.std.proofs.lemmas.Result.{IfOk-weaker}
 use Rattle.std.specs.Borrow.{Bor}

@@ -1,3 +1,4 @@
+-- Proofs of `number`, src/reading.rt.
 use Rattle.std.proofs.Common.{◌≡◌, ◌∙◌, ℕ, Option, subst}
 use Rattle.std.specs.Option.{option_map_or}
 use Rattle.std.specs.Str.Parse.{ParsesUnsigned, ExplainsUnsignedError, HasUnsignedDigitsIfOk}

@@ -1,3 +1,4 @@
+-- Proofs of `request`, src/reading.rt.
 use Rattle.std.proofs.Common.{◌≡◌, ◌∙◌, [], ap, subst, refl, sym, true, map, rules}
 use Rattle.clap.specs.Kinds.{HasKind}
 use Rattle.clap.specs.Words.{App, HasMatchesOf, app_of, fault_of, is_simple_and_free}

@@ -1,3 +1,4 @@
+-- Proofs of `script`, src/reading.rt.
 use Rattle.std.proofs.Common.{◌≡◌, ◌∙◌, List, ap, map, codes}
 use Rattle.std.proofs.lemmas.Result.{IfOk-weaker}
 use Rattle.std.specs.Borrow.{Bor}

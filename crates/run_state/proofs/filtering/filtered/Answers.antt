@@ -1,3 +1,4 @@
+-- Proofs of `filtered`, src/filtering.rt.
 use Rattle.std.proofs.Common.{rules, ◌≡◌, ℕ, List, ◌++◌, length, take, zero-add, append-nil, append_assoc, refl, ap, ap₂, sym, subst, ◌∙◌, arith}
 use Rattle.std.specs.List.{filter}
 use Rattle.std.proofs.lemmas.List.Elements.{filter-append}

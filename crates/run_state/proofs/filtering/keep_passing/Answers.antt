@@ -1,3 +1,4 @@
+-- Proofs of `keep_passing`, src/filtering.rt.
 use Rattle.std.proofs.Common.{ℕ, ◌+◌, ◌<◌, List, ◌++◌, length, drop, append_assoc, ap, ◌∙◌}
 use Rattle.run_state.specs.inside.Passing.{passing}
 use Rattle.run_state.proofs.Passed.{next_passing}

@@ -1,3 +1,4 @@
+-- Proofs of `out_degrees`, src/initial_vectors.rt.
 use Rattle.std.proofs.Common.{◌≡◌, ℕ, ℤ, ◌<◌, ◌^◌, List, [], ◌∷◌, ◌++◌, map, pos, ap, sym, ◌∙◌, arith, rules, FitsSigned, to_z, of_z, w64}
 use Rattle.std.proofs.lemmas.Int.{to_z-of_z}
 use Rattle.std.specs.List.{range_with_len}

@@ -1,3 +1,4 @@
+-- Proofs of `update_set`, src/named_sets.rt.
 use Rattle.std.proofs.Common.{◌≡◌, ℕ, ◌+◌, ◌<◌, length, FitsSigned, w64, rules, ap, ap₂, subst, sym, ◌∙◌, arith}
 use Rattle.std.proofs.lemmas.Int.{to_z-of_z}
 use Rattle.vertex_sets.specs.VertexSet.{IsAscendingBelow}

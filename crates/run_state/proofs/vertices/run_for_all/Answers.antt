@@ -1,3 +1,4 @@
+-- Proofs of `run_for_all`, src/vertices.rt.
 use Rattle.std.proofs.Common.{rules, ℕ, List, take, refl, ap, sym, subst, ◌∙◌, arith}
 use Rattle.std.specs.List.Sorted.{IsStrictlyIncreasing}
 use Rattle.algorithm_meaning.specs.State.{StateValue}

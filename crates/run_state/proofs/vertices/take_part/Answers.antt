@@ -1,3 +1,4 @@
+-- Proofs of `take_part`, src/vertices.rt.
 use Rattle.std.proofs.Common.{◌≡◌, ◌∷◌, ◌<◌, length, drop, sym, ◌∙◌, arith}
 use Rattle.std.proofs.lemmas.List.{length-set}
 use Rattle.run_state.proofs.Parts.{next_dropped, next_inside, put_taken}

@@ -1,3 +1,4 @@
+-- Proofs of `modified`, src/applies.rt.
 use Rattle.std.proofs.Common.{◌∙◌, ◌≤◌, length, ap, arith}
 use Rattle.vertex_sets.specs.VertexSet.{VertexSubset}
 use Rattle.runner.proofs.Applying.{none_modified}

@@ -1,3 +1,4 @@
+-- Proofs of `second_kernel`, src/applies.rt.
 use Rattle.std.proofs.Common.{subst}
 use Rattle.run_state.specs.VertexKernels.{IsVertexKernel}
 use Rattle.runner.proofs.Partners.{some_is}

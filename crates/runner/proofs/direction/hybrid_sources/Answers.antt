@@ -1,3 +1,4 @@
+-- Proofs of `hybrid_sources`, src/direction.rt.
 use Rattle.std.proofs.Common.{Option, ap, sym, subst, ◌∙◌, arith}
 use Rattle.kernels.specs.Registers.{HasSizes}
 use Rattle.kernels.specs.declared.endpoint_filter.EndpointFilter.{EndpointFilter}

@@ -1,3 +1,4 @@
+-- Proofs of `apply_of`, src/edge_maps.rt.
 use Rattle.std.proofs.Common.{sym, subst, slice_get, refl}
 use Rattle.algorithm_meaning.specs.Function.{steps_of}
 use Rattle.kernels.specs.Kernels.{IsEdgeKernel}

@@ -1,3 +1,4 @@
+-- Proofs of `edge_map`, src/edge_maps.rt.
 use Rattle.runner.proofs.EdgeMaps.{apply_is_meant, from_both}
 use Rattle.runner.proofs.edge_maps.edge_map.Goals as goal
 

@@ -1,3 +1,4 @@
+-- Proofs of `push_or_pull`, src/edge_maps.rt.
 use Rattle.std.proofs.Common.{Option, subst}
 use Rattle.std.proofs.lemmas.Result.{IfOk-weaker}
 use Rattle.vertex_sets.specs.VertexSet.{VertexSubset}

@@ -1,3 +1,4 @@
+-- Proofs of `end_of`, src/ends.rt.
 use Rattle.std.proofs.Common.{rules, ◌≡◌, ap, sym, subst, slice_get, Some}
 use Rattle.typed_tree.specs.declared.statement.VertexFilter.TheVariants as end
 use Rattle.algorithm_meaning.specs.EdgeApply.{passes}

@@ -1,3 +1,4 @@
+-- Proofs of `run_by`, src/whole_run.rt.
 use Rattle.std.proofs.Common.{◌∙◌, subst, sym}
 use Rattle.plans.specs.Plan.{plan_of}
 use Rattle.run_state.specs.State.{graph_value}

@@ -1,3 +1,4 @@
+-- Proofs of `function_does_avoid`, src/access.rt.
 use Rattle.std.proofs.Common.{◌∙◌, map}
 use Rattle.typed_tree.specs.FunctionStatementTree.{function_tree}
 use Rattle.schedule.proofs.Uses.{function_is_apart}

@@ -1,3 +1,4 @@
+-- Proofs of `accept`, src/calls.rt.
 use Rattle.std.proofs.Common.{ap, subst, ◌∙◌, ℕ, List, map}
 use Rattle.std.specs.Prelude.{Result, Err}
 use Rattle.typed_tree.specs.declared.program.Typed.{Typed}

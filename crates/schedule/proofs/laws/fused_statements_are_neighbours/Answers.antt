@@ -1,3 +1,4 @@
+-- Proofs of `fused_statements_are_neighbours`, src/laws.rt.
 use Rattle.schedule.proofs.FusedPairs.{accepted_fuses_well}
 use Rattle.schedule.proofs.laws.fused_statements_are_neighbours.Goals as goal
 

@@ -1,3 +1,4 @@
+-- Proofs of `put_index`, src/names.rt.
 use Rattle.schedule.proofs.Indices.{found_last}
 use Rattle.schedule.proofs.names.put_index.Goals as goal
 

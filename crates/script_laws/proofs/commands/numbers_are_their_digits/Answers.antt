@@ -1,3 +1,4 @@
+-- Proofs of `numbers_are_their_digits`, src/commands.rt.
 use Rattle.script_laws.proofs.DigitLaws.{integer_is, number_is}
 use Rattle.script_laws.proofs.commands.numbers_are_their_digits.Goals as goal
 

@@ -1,3 +1,4 @@
+-- Proofs of `version_of`, src/open_graph.rt.
 use Rattle.std.proofs.Common.{◌∙◌, ap, sym}
 use Rattle.scripts.specs.Replies.{graph_of}
 use Rattle.scripts.proofs.TicketLaws.{newest_is_kept, graph_found, kept_found}

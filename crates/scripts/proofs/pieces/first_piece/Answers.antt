@@ -1,3 +1,4 @@
+-- Proofs of `first_piece`, src/pieces.rt.
 use Rattle.scripts.proofs.PieceLaws.{pieces_alone, pieces_before}
 use Rattle.scripts.proofs.pieces.first_piece.Goals as goal
 

@@ -1,3 +1,4 @@
+-- Proofs of `last_line`, src/pieces.rt.
 use Rattle.scripts.proofs.PieceLaws.{lines_of-ended, HasNone-unended}
 use Rattle.scripts.proofs.pieces.last_line.Goals as goal
 

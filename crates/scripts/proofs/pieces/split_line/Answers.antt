@@ -1,3 +1,4 @@
+-- Proofs of `split_line`, src/pieces.rt.
 use Rattle.scripts.proofs.PieceLaws.{split_none, split_pieces}
 use Rattle.scripts.proofs.pieces.split_line.Goals as goal
 

@@ -1,3 +1,4 @@
+-- Proofs of `split_piece`, src/pieces.rt.
 use Rattle.std.proofs.Common.{◌≡◌, ◌≢◌, ℕ, ◌+◌, ◌<◌, length, get_or, rules}
 use Rattle.std.proofs.lemmas.List.{take_rest}
 use Rattle.scripts.proofs.PieceLaws.{cut_at, HasNone-take}

@@ -1,3 +1,4 @@
+-- Proofs of `read_to_end`, src/scripts.rt.
 use Rattle.std.proofs.Common.{◌≡◌, ◌∙◌, ◌++◌, ◌<◌, length, take, true, ap, arith, append-nil}
 use Rattle.std.proofs.lemmas.Bool.{or_right, and_from, eq-eqb, lt-ltb}
 use Rattle.scripts.specs.Script.{input}

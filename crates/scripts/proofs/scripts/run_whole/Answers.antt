@@ -1,3 +1,4 @@
+-- Proofs of `run_whole`, src/scripts.rt.
 use Rattle.std.proofs.Common.{◌∙◌, sym, ap, rules}
 use Rattle.scripts.proofs.Running.{nothing_done, runs_failed, runs_tied}
 use Rattle.scripts.proofs.scripts.run_whole.Goals as goal

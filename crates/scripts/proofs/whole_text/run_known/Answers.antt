@@ -1,3 +1,4 @@
+-- Proofs of `run_known`, src/whole_text.rt.
 use Rattle.std.proofs.Common.{◌≡◌, ◌≤◌, ◌∙◌, ℕ, Bool, true, List, [], length, take, ap, sym, subst}
 use Rattle.scripts.specs.Script.{Input, input, bytes_written_by, RunsScript}
 use Rattle.scripts.specs.Text.{RunsText}

@@ -1,3 +1,4 @@
+-- Proofs of `steps_of_jobs_change_places`, src/laws.rt.
 use Rattle.session.proofs.Indices.{job_steps_change_places, steps_of_two_jobs}
 use Rattle.session.proofs.laws.steps_of_jobs_change_places.Goals as goal
 

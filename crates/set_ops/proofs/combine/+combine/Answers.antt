@@ -1,3 +1,4 @@
+-- Proofs of `combine` and its mutually recursive functions, src/combine.rt.
 use Rattle.std.proofs.Common.{◌≡◌, to_z, of_z, w64, arith, rules}
 use Rattle.set_ops.specs.inside.Answers.{IsCombined, IsRejoined}
 use Rattle.set_ops.specs.inside.Halving.{AreHalves, AreAnswers}

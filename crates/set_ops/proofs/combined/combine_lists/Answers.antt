@@ -1,3 +1,4 @@
+-- Proofs of `combine_lists`, src/combined.rt.
 use Rattle.std.proofs.Common.{◌≡◌, length, refl, ◌∙◌, ap, arith}
 use Rattle.std.specs.Map.{keys_of}
 use Rattle.ascending_lists.specs.Operations.{most}

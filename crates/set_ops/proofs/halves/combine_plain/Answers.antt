@@ -1,3 +1,4 @@
+-- Proofs of `combine_plain`, src/halves.rt.
 use Rattle.std.proofs.Common.{◌≡◌, ◌∙◌}
 use Rattle.tail_codec.specs.declared.operation.MapOperation.TheVariants.{Union, UnionKeepingFirst}
 use Rattle.set_ops.specs.inside.Answers.{IsCombined}

@@ -1,3 +1,4 @@
+-- Proofs of `subtract`, src/halves.rt.
 use Rattle.std.proofs.Common.{◌≡◌, length, ◌∙◌, ap, arith}
 use Rattle.std.specs.Map.{keys_of}
 use Rattle.ascending_lists.specs.Ascending.{least}

@@ -1,3 +1,4 @@
+-- Proofs of `without_common`, src/halves.rt.
 use Rattle.std.proofs.Common.{◌≡◌, ℕ, ℤ, pos, to_z, of_z, w64, ◌+◌, ◌<◌, inl, inr, List, [], ◌∷◌, ◌++◌, length, drop, get_or, refl, sym, ◌∙◌, ap, append_assoc, length-append, arith, rules}
 use Rattle.std.specs.List.{Contains, zip}
 use Rattle.std.specs.Map.{keys_of}

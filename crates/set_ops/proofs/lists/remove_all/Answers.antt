@@ -1,3 +1,4 @@
+-- Proofs of `remove_all`, src/lists.rt.
 use Rattle.std.proofs.Common.{None}
 use Rattle.tail_codec.proofs.Columns.{keys_in}
 use Rattle.set_ops.proofs.lists.remove_all.Goals as goal

@@ -1,3 +1,4 @@
+-- Proofs of `combine_with_list` and its mutually recursive functions, src/with_list.rt.
 use Rattle.std.proofs.Common.{◌≡◌, length, to_z, of_z, w64, arith, rules}
 use Rattle.std.specs.Map.{keys_of}
 use Rattle.ascending_lists.specs.Ascending.{least}

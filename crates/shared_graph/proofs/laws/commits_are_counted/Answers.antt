@@ -1,3 +1,4 @@
+-- Proofs of `commits_are_counted`, src/laws.rt.
 use Rattle.shared_graph.proofs.Counted.{commits_alone, number_counts}
 use Rattle.shared_graph.proofs.laws.commits_are_counted.Goals as goal
 

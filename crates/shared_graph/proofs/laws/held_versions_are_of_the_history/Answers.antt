@@ -1,3 +1,4 @@
+-- Proofs of `held_versions_are_of_the_history`, src/laws.rt.
 use Rattle.std.proofs.Common.{◌∙◌}
 use Rattle.shared_graph.proofs.Versions.{number_at, held_is}
 use Rattle.shared_graph.proofs.laws.held_versions_are_of_the_history.Goals as goal

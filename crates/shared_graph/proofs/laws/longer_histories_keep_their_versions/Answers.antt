@@ -1,3 +1,4 @@
+-- Proofs of `longer_histories_keep_their_versions`, src/laws.rt.
 use Rattle.shared_graph.proofs.Versions.{batches_prefix, version_stays}
 use Rattle.shared_graph.proofs.laws.longer_histories_keep_their_versions.Goals as goal
 

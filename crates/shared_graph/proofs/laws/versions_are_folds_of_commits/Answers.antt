@@ -1,3 +1,4 @@
+-- Proofs of `versions_are_folds_of_commits`, src/laws.rt.
 use Rattle.shared_graph.proofs.Versions.{number_at, graph_at, newest_is}
 use Rattle.shared_graph.proofs.laws.versions_are_folds_of_commits.Goals as goal
 

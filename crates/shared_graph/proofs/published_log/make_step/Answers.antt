@@ -1,3 +1,4 @@
+-- Proofs of `make_step`, src/published_log.rt.
 use Rattle.std.proofs.Common.{◌≡◌, ◌∷◌, ◌++◌, [], List, sym, ap, ◌∙◌, subst, arith}
 use Rattle.version_list.specs.Machine.{State, opened}
 use Rattle.shared_graph.specs.declared.entry.Entry.{Entry}

@@ -1,3 +1,4 @@
+-- Proofs of `append`, src/publisher.rt.
 use Rattle.std.proofs.Common.{◌∙◌, drop, fold, ap}
 use Rattle.shared_graph.specs.inside.Publishing.{latest}
 use Rattle.shared_graph.proofs.Publishing.{last_pending}

@@ -1,3 +1,4 @@
+-- Proofs of `read_shown`, src/reader.rt.
 use Rattle.left_right.specs.Sides.{view as view_of}
 use Rattle.shared_graph.proofs.Publishing.{enters}
 use Rattle.shared_graph.proofs.reader.read_shown.Goals as goal

@@ -1,3 +1,4 @@
+-- Proofs of `count_below`, src/change_all.rt.
 use Rattle.std.proofs.Common.{◌+◌, ◌-◌, ◌/◌, ◌<◌, ◌≤◌, sym, subst, arith}
 use Rattle.shared_tree.proofs.CutMaps.{rises_before, rises_after}
 use Rattle.shared_tree.proofs.change_all.count_below.Goals as goal

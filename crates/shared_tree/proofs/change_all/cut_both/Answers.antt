@@ -1,3 +1,4 @@
+-- Proofs of `cut_both`, src/change_all.rt.
 use Rattle.std.proofs.Common.{◌≡◌, ◌+◌, ◌/◌, ◌^◌, None, [], ◌++◌, length, sym, ap, arith}
 use Rattle.std.proofs.lemmas.List.{take-append-drop}
 use Rattle.ascending_lists.proofs.MapOrder.{rises_room}

@@ -1,3 +1,4 @@
+-- Proofs of `descend`, src/iter.rt.
 use Rattle.std.proofs.Common.{◌<◌, ◌++◌, length, take, ap, ◌∙◌, arith, length-set}
 use Rattle.shared_tree.specs.inside.Shape.{seen}
 use Rattle.shared_tree.specs.inside.Pending.{pending}

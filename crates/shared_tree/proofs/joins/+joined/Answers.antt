@@ -1,3 +1,4 @@
+-- Proofs of `joined` and its mutually recursive functions, src/joins.rt.
 use Rattle.std.proofs.Common.{arith, rules}
 use Rattle.std.proofs.lemmas.Result.{IfOk-weaker}
 use Rattle.shared_tree.proofs.Forks.{fork_length}

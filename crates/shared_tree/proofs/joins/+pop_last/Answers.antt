@@ -1,3 +1,4 @@
+-- Proofs of `pop_last` and its mutually recursive functions, src/joins.rt.
 use Rattle.shared_tree.proofs.Rotations.{opened, popped, map_left}
 use Rattle.shared_tree.proofs.joins.+pop_last.Goals as goal
 

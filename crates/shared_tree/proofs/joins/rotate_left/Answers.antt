@@ -1,3 +1,4 @@
+-- Proofs of `rotate_left`, src/joins.rt.
 use Rattle.std.proofs.Common.{arith}
 use Rattle.std.proofs.lemmas.Result.{IfOk-weaker}
 use Rattle.shared_tree.proofs.Rotations.{opened, map_right, map_left, map_around_left, map_middle_left}

@@ -1,3 +1,4 @@
+-- Proofs of `rotate_right`, src/joins.rt.
 use Rattle.std.proofs.Common.{arith}
 use Rattle.std.proofs.lemmas.Result.{IfOk-weaker}
 use Rattle.shared_tree.proofs.Rotations.{opened, map_right, map_around_right, map_left, map_middle_right}

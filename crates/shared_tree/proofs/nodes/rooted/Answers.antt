@@ -1,3 +1,4 @@
+-- Proofs of `rooted`, src/nodes.rt.
 use Rattle.std.proofs.Common.{◌≡◌, ◌+◌, max}
 use Rattle.shared_tree.proofs.Forks.{fork_made}
 use Rattle.shared_tree.proofs.nodes.rooted.Goals as goal

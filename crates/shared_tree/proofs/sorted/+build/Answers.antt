@@ -1,3 +1,4 @@
+-- Proofs of `build` and its mutually recursive functions, src/sorted.rt.
 use Rattle.std.proofs.Common.{◌-◌, ◌/◌, ◌∙◌, arith, rules}
 use Rattle.shared_tree.proofs.Ascending.{map_rest, taken, map_taken}
 use Rattle.shared_tree.proofs.Halves.{halves_near, halves_depth, max_swap}

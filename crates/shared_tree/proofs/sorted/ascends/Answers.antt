@@ -1,3 +1,4 @@
+-- Proofs of `ascends`, src/sorted.rt.
 use Rattle.std.proofs.Common.{arith, rules}
 use Rattle.shared_tree.proofs.Ascending.{rises_more, least_more, no_map, map_read}
 use Rattle.shared_tree.proofs.sorted.ascends.Goals as goal

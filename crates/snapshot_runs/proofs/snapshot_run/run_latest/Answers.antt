@@ -1,3 +1,4 @@
+-- Proofs of `run_latest`, src/snapshot_run.rt.
 use Rattle.std.proofs.Common.{◌∙◌, ap}
 use Rattle.std.specs.Arc.{arc_value}
 use Rattle.algorithm_meaning.specs.Shown.{meaning}

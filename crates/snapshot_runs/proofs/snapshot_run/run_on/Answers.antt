@@ -1,3 +1,4 @@
+-- Proofs of `run_on`, src/snapshot_run.rt.
 use Rattle.std.proofs.Common.{◌∙◌, ap}
 use Rattle.std.proofs.lemmas.Result.{IfOk-weaker}
 use Rattle.algorithm_meaning.specs.Shown.{meaning}

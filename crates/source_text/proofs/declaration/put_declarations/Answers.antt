@@ -1,3 +1,4 @@
+-- Proofs of `put_declarations`, src/declaration.rt.
 use Rattle.std.proofs.Common.{map}
 use Rattle.syntax.specs.SourceSpelling.{each_before, declaration_before}
 use Rattle.syntax.specs.SourceViews.{declaration_tree}

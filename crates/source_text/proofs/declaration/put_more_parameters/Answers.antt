@@ -1,3 +1,4 @@
+-- Proofs of `put_more_parameters`, src/declaration.rt.
 use Rattle.std.proofs.Common.{map}
 use Rattle.syntax.specs.SourceSpelling.{each_before, next_parameter_before}
 use Rattle.syntax.specs.SourceViews.{parameter_tree}

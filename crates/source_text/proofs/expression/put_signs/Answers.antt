@@ -1,3 +1,4 @@
+-- Proofs of `put_signs`, src/expression.rt.
 use Rattle.std.proofs.Common.{◌∷◌, refl}
 use Rattle.syntax.specs.ExpressionSpelling.{prefix_terminal}
 use Rattle.source_text.specs.inside.Written.{signs_before}

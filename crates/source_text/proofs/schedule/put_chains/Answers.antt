@@ -1,3 +1,4 @@
+-- Proofs of `put_chains`, src/schedule.rt.
 use Rattle.std.proofs.Common.{map}
 use Rattle.syntax.specs.SourceSpelling.{each_before, chain_before}
 use Rattle.syntax.specs.SourceViews.{chain_tree}

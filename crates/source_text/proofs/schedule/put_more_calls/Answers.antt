@@ -1,3 +1,4 @@
+-- Proofs of `put_more_calls`, src/schedule.rt.
 use Rattle.std.proofs.Common.{map}
 use Rattle.syntax.specs.SourceSpelling.{each_before, next_call_before}
 use Rattle.syntax.specs.SourceViews.{call_tree}

@@ -1,3 +1,4 @@
+-- Proofs of `put_more_texts`, src/schedule.rt.
 use Rattle.std.proofs.Common.{map}
 use Rattle.syntax.specs.SourceSpelling.{each_before, next_text_before}
 use Rattle.syntax.specs.SourceViews.{text_of}

@@ -1,3 +1,4 @@
+-- Proofs of the mutually recursive functions of src/statement.rt.
 use Rattle.std.proofs.Common.{ap, sym, ◌∙◌}
 use Rattle.std.proofs.lemmas.Result.{on_ok_weaker}
 use Rattle.syntax.specs.SourceSpelling.{action_before}

@@ -1,3 +1,4 @@
+-- Proofs of `put_keyword`, src/terminals.rt.
 use Rattle.std.proofs.lemmas.Result.{on_ok_weaker}
 use Rattle.syntax.specs.Terminals.{Opening, OfKeyword}
 use Rattle.source_text.proofs.Puts.{put_terminal}

@@ -1,3 +1,4 @@
+-- Proofs of `put_name`, src/terminals.rt.
 use Rattle.std.proofs.Common.{refl}
 use Rattle.std.proofs.lemmas.Result.{on_ok_weaker}
 use Rattle.syntax.specs.Terminals.{Name}

@@ -1,3 +1,4 @@
+-- Proofs of `put_number`, src/terminals.rt.
 use Rattle.std.proofs.Common.{◌≡◌, rules, refl, ◌++◌, ◌∷◌, [], append_assoc, ◌∙◌, ap}
 use Rattle.syntax.specs.Terminals.{Number}
 use Rattle.source_text.specs.Text.{terminal_bytes}

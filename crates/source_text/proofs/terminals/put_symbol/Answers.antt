@@ -1,3 +1,4 @@
+-- Proofs of `put_symbol`, src/terminals.rt.
 use Rattle.std.proofs.lemmas.Result.{on_ok_weaker}
 use Rattle.syntax.specs.Terminals.{OfSymbol}
 use Rattle.source_text.proofs.Puts.{put_terminal}

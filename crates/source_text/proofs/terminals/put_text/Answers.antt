@@ -1,3 +1,4 @@
+-- Proofs of `put_text`, src/terminals.rt.
 use Rattle.std.proofs.Common.{refl}
 use Rattle.std.proofs.lemmas.Result.{on_ok_weaker}
 use Rattle.syntax.specs.Terminals.{Text}

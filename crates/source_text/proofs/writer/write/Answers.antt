@@ -1,3 +1,4 @@
+-- Proofs of `write`, src/writer.rt.
 use Rattle.std.proofs.Common.{[], ap, sym, subst, map}
 use Rattle.syntax.specs.SourceSpelling.{declaration_before, each_before, schedule_before, source_terminals}
 use Rattle.syntax.specs.SourceViews.{declaration_tree, source_tree}

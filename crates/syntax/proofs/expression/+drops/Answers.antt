@@ -1,3 +1,4 @@
+-- Proofs of the mutually recursive functions of src/expression.rt.
 use Rattle.std.proofs.Common.{ℕ, ◌+◌, ◌*◌, ◌≤◌, List, [], ◌∷◌, arith, rules}
 use denote.Param.Weighed.{most}
 use Rattle.syntax.specs.declared.operators.Addition.{Addition}

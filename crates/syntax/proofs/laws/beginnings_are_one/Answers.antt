@@ -1,3 +1,4 @@
+-- Proofs of `beginnings_are_one`, src/laws.rt.
 use Rattle.syntax.proofs.ExpressionReadings.{one_reading}
 use Rattle.syntax.proofs.laws.beginnings_are_one.Goals as goal
 

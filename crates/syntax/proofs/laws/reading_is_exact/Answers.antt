@@ -1,3 +1,4 @@
+-- Proofs of `reading_is_exact`, src/laws.rt.
 use Rattle.std.proofs.Common.{subst}
 use Rattle.syntax.specs.ExpressionBeginnings.{Begins}
 use Rattle.syntax.proofs.ExpressionsExact.{At}

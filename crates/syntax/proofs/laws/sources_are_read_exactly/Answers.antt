@@ -1,3 +1,4 @@
+-- Proofs of `sources_are_read_exactly`, src/laws.rt.
 use Rattle.syntax.proofs.SourcesExact.{sources_sound, sources_complete}
 use Rattle.syntax.proofs.laws.sources_are_read_exactly.Goals as goal
 

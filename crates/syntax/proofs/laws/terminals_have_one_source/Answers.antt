@@ -1,3 +1,4 @@
+-- Proofs of `terminals_have_one_source`, src/laws.rt.
 use Rattle.syntax.proofs.SourcesExact.{one_source}
 use Rattle.syntax.proofs.laws.terminals_have_one_source.Goals as goal
 

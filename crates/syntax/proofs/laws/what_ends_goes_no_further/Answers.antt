@@ -1,3 +1,4 @@
+-- Proofs of `what_ends_goes_no_further`, src/laws.rt.
 use Rattle.syntax.proofs.FirstTerminals.{ends_expression}
 use Rattle.syntax.proofs.Further.{some_longer}
 use Rattle.syntax.proofs.ExpressionReadings.{nothing_follows, none_longer}

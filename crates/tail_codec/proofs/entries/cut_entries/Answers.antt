@@ -1,3 +1,4 @@
+-- Proofs of `cut_entries`, src/entries.rt.
 use Rattle.std.proofs.Common.{◌≡◌, ℕ, ◌≤◌, Bool, true, false, ℤ, pos, inl, inr, List, length, sym, ◌∙◌, ap, arith, rules}
 use Rattle.std.specs.Map.{keys_of}
 use Rattle.std.proofs.lemmas.Bool.{cases_Bool}

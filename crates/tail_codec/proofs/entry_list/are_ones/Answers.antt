@@ -1,3 +1,4 @@
+-- Proofs of `are_ones`, src/entry_list.rt.
 use Rattle.std.proofs.Common.{arith}
 use Rattle.tail_codec.proofs.Columns.{all_one}
 use Rattle.tail_codec.proofs.entry_list.are_ones.Goals as goal

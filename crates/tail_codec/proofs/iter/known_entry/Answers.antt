@@ -1,3 +1,4 @@
+-- Proofs of `known_entry`, src/iter.rt.
 use Rattle.tail_codec.proofs.Lists.{begins_decoded, step, known_begin}
 use Rattle.tail_codec.proofs.iter.known_entry.Goals as goal
 

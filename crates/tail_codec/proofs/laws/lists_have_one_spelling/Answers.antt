@@ -1,3 +1,4 @@
+-- Proofs of `lists_have_one_spelling`, src/laws.rt.
 use Rattle.ascending_lists.specs.Ascending.{least}
 use Rattle.tail_codec.proofs.Lists.{list_spelling, same_spelling}
 use Rattle.tail_codec.proofs.laws.lists_have_one_spelling.Goals as goal

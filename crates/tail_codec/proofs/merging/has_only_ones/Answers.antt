@@ -1,3 +1,4 @@
+-- Proofs of `has_only_ones`, src/merging.rt.
 use Rattle.tail_codec.proofs.MapOnes.{both_ones, first_ones}
 use Rattle.tail_codec.proofs.merging.has_only_ones.Goals as goal
 

@@ -1,3 +1,4 @@
+-- Proofs of `merge_columns`, src/merging.rt.
 use Rattle.std.proofs.Common.{◌≡◌, ◌++◌, true, false, take, drop, sym, ap, ◌∙◌, arith}
 use Rattle.std.specs.List.{zip}
 use Rattle.std.specs.Prelude.{Some}

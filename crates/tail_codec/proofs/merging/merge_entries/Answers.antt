@@ -1,3 +1,4 @@
+-- Proofs of `merge_entries`, src/merging.rt.
 use Rattle.std.proofs.Common.{arith}
 use Rattle.ascending_lists.proofs.MapKeys.{entries_rise}
 use Rattle.ascending_lists.proofs.MapUnions.{exchanged}

@@ -1,3 +1,4 @@
+-- Proofs of `merge_front`, src/merging.rt.
 use Rattle.std.proofs.Common.{◌≡◌, ◌<◌, ℕ, ℤ, length, to_z, of_z, w64, length-set, ◌∙◌, ap, arith, rules}
 use Rattle.std.specs.Map.{keys_of}
 use Rattle.ascending_lists.proofs.Merging.{some_left}

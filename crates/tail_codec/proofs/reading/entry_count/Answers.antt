@@ -1,3 +1,4 @@
+-- Proofs of `entry_count`, src/reading.rt.
 use Rattle.std.proofs.Common.{ℕ, ◌<◌, ℤ, length, ap, arith, rules}
 use Rattle.tail_codec.proofs.Lists.{begins_decoded, step, step_back, known_begin}
 use Rattle.tail_codec.proofs.EntryNumbers.{fewer_left}

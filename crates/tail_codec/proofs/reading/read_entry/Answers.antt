@@ -1,3 +1,4 @@
+-- Proofs of `read_entry`, src/reading.rt.
 use Rattle.std.proofs.Common.{◌≡◌, ◌≢◌, ℕ, ◌%◌, pos, to_z, of_z, w64, ap, arith, rules}
 use Rattle.tail_codec.specs.inside.Decoding.{number_weight}
 use Rattle.tail_codec.proofs.EntryNumbers.{has_numbers, entry_of_two, too_large, second_number, spelled_one, not_one}

@@ -1,3 +1,4 @@
+-- Proofs of `read_number`, src/reading.rt.
 use Rattle.std.proofs.Common.{◌≡◌, ℕ, ◌+◌, ◌-◌, ◌*◌, ◌^◌, ◌<◌, ◌≤◌, ◌⊎◌, inl, inr, List, [], ◌∷◌, length, refl, sym, ◌∙◌, ap, subst, arith, rules}
 use Rattle.std.proofs.Math.Nat.{mul-le-mul_left}
 use Rattle.tail_codec.proofs.Continuing.{Continues, Ends, continues_end, continued_end, continues, continued, continues_room, continues_none}

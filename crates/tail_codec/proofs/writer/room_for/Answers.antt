@@ -1,3 +1,4 @@
+-- Proofs of `room_for`, src/writer.rt.
 use Rattle.std.proofs.Common.{arith}
 use Rattle.tail_codec.proofs.Writing.{list_room_small, list_room_ones}
 use Rattle.tail_codec.proofs.writer.room_for.Goals as goal

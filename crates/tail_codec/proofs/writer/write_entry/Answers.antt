@@ -1,3 +1,4 @@
+-- Proofs of `write_entry`, src/writer.rt.
 use Rattle.std.proofs.Common.{◌≡◌, ◌≢◌, ℕ, ◌+◌, ◌*◌, ◌^◌, ◌<◌, ℤ, ◌++◌, take, refl, sym, ◌∙◌, ap, append_assoc, arith, rules}
 use Rattle.tail_codec.specs.Spelling.{weight_number}
 use Rattle.tail_codec.specs.inside.Writing.{Fits, entry_room}

@@ -1,3 +1,4 @@
+-- Proofs of `write_list`, src/writer.rt.
 use Rattle.std.proofs.Common.{◌≡◌, ℕ, ◌+◌, ◌-◌, ◌^◌, ◌<◌, ℤ, pos, to_z, of_z, w64, List, length, take, get_or, refl, sym, ◌∙◌, ap, arith, rules}
 use Rattle.std.specs.Map.{keys_of}
 use Rattle.tail_codec.specs.Appending.{least_after}

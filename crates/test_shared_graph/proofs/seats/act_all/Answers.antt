@@ -1,3 +1,4 @@
+-- Proofs of `act_all`, src/seats.rt.
 use mathlib.Core.List.{[], ◌∷◌}
 use mir.Syntax.{Sym}
 use denote.RattleType.{RattleType}

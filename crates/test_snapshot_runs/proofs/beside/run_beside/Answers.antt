@@ -1,3 +1,4 @@
+-- Proofs of `run_beside`, src/beside.rt.
 use denote.Exit.{no}
 use denote.Param.{param}
 use denote.Param.Send.{param_send, arg_send, shr_send, mut_send}

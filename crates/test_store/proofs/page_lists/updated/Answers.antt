@@ -1,3 +1,4 @@
+-- Proofs of `updated`, src/page_lists.rt.
 use Rattle.std.proofs.Common.{ℤ, List, [], ◌∷◌, arith}
 use Rattle.edge_updates.specs.declared.edge_update.EdgeUpdate.{EdgeUpdate}
 use Rattle.edge_updates.specs.Weighted.{weighted}

@@ -1,3 +1,4 @@
+-- Proofs of `texts_mean_one_thing`, src/laws.rt.
 use Rattle.text_runs.proofs.OneMeaning.{one_program, one_meaning}
 use Rattle.text_runs.proofs.laws.texts_mean_one_thing.Goals as goal
 

@@ -1,3 +1,4 @@
+-- Proofs of `run_text_on_latest`, src/text_run.rt.
 use Rattle.text_runs.proofs.text_run.run_text_on_latest.Goals as goal
 
 -- a run is refused after the text was compiled

@@ -1,3 +1,4 @@
+-- Proofs of `changed`, src/cuts.rt.
 use Rattle.std.proofs.Common.{◌^◌, arith}
 use Rattle.ascending_lists.proofs.MapOrder.{rises_to}
 use Rattle.tree_batch.proofs.cuts.changed.Goals as goal

@@ -1,3 +1,4 @@
+-- Proofs of `cut_by_block`, src/cuts.rt.
 use Rattle.std.proofs.Common.{◌∙◌, sym, subst, ap, length, take, drop, arith}
 use Rattle.std.proofs.lemmas.List.{take-append-drop}
 use Rattle.tree_batch.specs.inside.BlockCuts.{AreCutSoFar}

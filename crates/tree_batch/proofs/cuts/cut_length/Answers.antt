@@ -1,3 +1,4 @@
+-- Proofs of `cut_length`, src/cuts.rt.
 use Rattle.std.proofs.Common.{pos, ◌/◌, sym, ap, ◌∙◌, arith}
 use Rattle.edge_updates.specs.EdgeUpdate.{vertex_of}
 use Rattle.tree_batch.proofs.Decided.{cut_longer, begins_elsewhere}

@@ -1,3 +1,4 @@
+-- Proofs of the mutually recursive functions of src/forked.rt.
 use denote.Exit.{no}
 use denote.Param.{param}
 use denote.Param.Send.{IsSync, sendable, param_send, arg_send, shr_send, shr_slice_send}

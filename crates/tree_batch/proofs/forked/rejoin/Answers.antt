@@ -1,3 +1,4 @@
+-- Proofs of `rejoin`, src/forked.rt.
 use Rattle.std.proofs.Common.{◌∷◌, ◌++◌, Some, refl}
 use Rattle.shared_tree.proofs.ChangedMaps.{map_around, changed_around, grew_around}
 use Rattle.vertex_blocks.specs.Blocks.{edge_total}

@@ -1,3 +1,4 @@
+-- Proofs of `directions_are_converse`, src/laws.rt.
 use Rattle.tree_batch.proofs.Columns.{destination_weight, source_weight}
 use Rattle.tree_batch.proofs.laws.directions_are_converse.Goals as goal
 

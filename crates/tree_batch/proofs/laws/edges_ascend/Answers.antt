@@ -1,3 +1,4 @@
+-- Proofs of `edges_ascend`, src/laws.rt.
 use Rattle.std.proofs.Common.{◌^◌, arith}
 use Rattle.tree_batch.specs.Entry.{vertices_after, weight_after}
 use Rattle.tree_batch.proofs.Rising.{same_edges}

@@ -1,3 +1,4 @@
+-- Proofs of `graphs_never_shrink`, src/laws.rt.
 use Rattle.std.proofs.Common.{◌≡◌, inl, inr, sym, subst, arith}
 use Rattle.std.proofs.lemmas.Bool.{cases_lt}
 use Rattle.std.specs.List.{Contains}

@@ -1,3 +1,4 @@
+-- Proofs of `last_entry_decides`, src/laws.rt.
 use Rattle.std.proofs.Common.{unwrap_or, ◌∷◌, ◌++◌, ◌∙◌, ap}
 use Rattle.tree_batch.specs.Edge.{weight_in}
 use Rattle.tree_batch.specs.Entry.{vertices_after, weight_after}

@@ -1,3 +1,4 @@
+-- Proofs of `count_below`, src/middle.rt.
 use Rattle.std.proofs.Common.{pos, ◌/◌, ap, ◌∙◌, arith}
 use Rattle.edge_updates.specs.EdgeUpdate.{vertex_of}
 use Rattle.tree_batch.proofs.CutAround.{below_longer, begins_from}

@@ -1,3 +1,4 @@
+-- Proofs of `cut_at_middle`, src/middle.rt.
 use Rattle.std.proofs.Common.{◌/◌, sym, ap, ◌∙◌, arith}
 use Rattle.tree_batch.proofs.CutAround.{cut_around}
 use Rattle.tree_batch.proofs.middle.cut_at_middle.Goals as goal

@@ -1,3 +1,4 @@
+-- Proofs of `neighbours`, src/neighbours.rt.
 use Rattle.std.proofs.Common.{◌%◌, sym, ap, ◌∙◌}
 use Rattle.std.proofs.lemmas.Bool.{false≢true}
 use Rattle.pages.specs.Vertices.{neighbours_of}

@@ -1,3 +1,4 @@
+-- Proofs of `unsorted`, src/updates.rt.
 use Rattle.std.proofs.Common.{pos, Some, None, [], vec_len, vec_capacity, sym, ap, ◌∙◌, arith}
 use Rattle.std.proofs.lemmas.List.{append-nil}
 use Rattle.edge_updates.specs.Weighted.{weighted}

@@ -1,3 +1,4 @@
+-- Proofs of `unsorted_with_weights`, src/updates.rt.
 use Rattle.std.proofs.Common.{Some, None, vec_len, vec_capacity, sym, ap, ◌∙◌, arith}
 use Rattle.std.proofs.lemmas.List.{append-nil, map-append}
 use Rattle.weighted_updates.specs.WeightedUpdates.{pairs_in}

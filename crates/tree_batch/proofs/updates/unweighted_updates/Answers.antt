@@ -1,3 +1,4 @@
+-- Proofs of `unweighted_updates`, src/updates.rt.
 use Rattle.std.proofs.Common.{◌∙◌}
 use Rattle.tree_batch.proofs.UnitWeights.{same_units}
 use Rattle.tree_batch.proofs.updates.unweighted_updates.Goals as goal

@@ -1,3 +1,4 @@
+-- Proofs of `updates`, src/updates.rt.
 use Rattle.tree_batch.proofs.UnitWeights.{units_ascend, pairs_ascend}
 use Rattle.tree_batch.proofs.updates.updates.Goals as goal
 

@@ -1,3 +1,4 @@
+-- Proofs of `updates_forked`, src/updates.rt.
 use Rattle.tree_batch.proofs.UnitWeights.{units_ascend, pairs_ascend}
 use Rattle.tree_batch.proofs.updates.updates_forked.Goals as goal
 

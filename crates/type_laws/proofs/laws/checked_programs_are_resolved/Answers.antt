@@ -1,3 +1,4 @@
+-- Proofs of `checked_programs_are_resolved`, src/laws.rt.
 use Rattle.std.proofs.Common.{subst}
 use Rattle.typed_tree.specs.Resolved.{IsResolved}
 use Rattle.type_laws.proofs.ResolvedPrograms.{program_resolved}

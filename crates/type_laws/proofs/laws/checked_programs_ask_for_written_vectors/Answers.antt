@@ -1,3 +1,4 @@
+-- Proofs of `checked_programs_ask_for_written_vectors`, src/laws.rt.
 use Rattle.std.proofs.Common.{subst}
 use Rattle.type_laws.specs.AskedVectors.{AskForWritten}
 use Rattle.type_laws.proofs.NamedPrograms.{asks_for_written}

@@ -1,3 +1,4 @@
+-- Proofs of `checked_programs_keep_loop_variables`, src/laws.rt.
 use Rattle.std.proofs.Common.{subst}
 use Rattle.type_laws.specs.LoopVariables.{KeepsLoopVariables}
 use Rattle.type_laws.proofs.LoopPrograms.{keeps_loop_variables}

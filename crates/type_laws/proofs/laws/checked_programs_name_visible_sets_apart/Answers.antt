@@ -1,3 +1,4 @@
+-- Proofs of `checked_programs_name_visible_sets_apart`, src/laws.rt.
 use Rattle.std.proofs.Common.{subst}
 use Rattle.type_laws.specs.VisibleSets.{NamesSetsApart}
 use Rattle.type_laws.proofs.NamedPrograms.{names_sets_apart}

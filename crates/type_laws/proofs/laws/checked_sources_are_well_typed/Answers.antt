@@ -1,3 +1,4 @@
+-- Proofs of `checked_sources_are_well_typed`, src/laws.rt.
 use Rattle.type_laws.proofs.InitialValues.{initials_fit}
 use Rattle.type_laws.proofs.WellTyped.{declarations_fit}
 use Rattle.type_laws.proofs.laws.checked_sources_are_well_typed.Goals as goal

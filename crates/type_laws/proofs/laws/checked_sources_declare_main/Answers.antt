@@ -1,3 +1,4 @@
+-- Proofs of `checked_sources_declare_main`, src/laws.rt.
 use Rattle.type_laws.proofs.MainFunction.{main_is_declared_once, main_is_declared_somewhere}
 use Rattle.type_laws.proofs.laws.checked_sources_declare_main.Goals as goal
 

@@ -1,3 +1,4 @@
+-- Proofs of `checked_sources_declare_new_names`, src/laws.rt.
 use Rattle.type_laws.proofs.NewNames.{edges_are_one, names_are_new}
 use Rattle.type_laws.proofs.laws.checked_sources_declare_new_names.Goals as goal
 

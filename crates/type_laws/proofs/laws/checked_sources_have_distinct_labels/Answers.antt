@@ -1,3 +1,4 @@
+-- Proofs of `checked_sources_have_distinct_labels`, src/laws.rt.
 use Rattle.std.proofs.Common.{sym, ap, ◌∙◌}
 use Rattle.type_laws.proofs.LabelLaws.{labels_are_distinct, labels_are_kept}
 use Rattle.type_laws.proofs.laws.checked_sources_have_distinct_labels.Goals as goal

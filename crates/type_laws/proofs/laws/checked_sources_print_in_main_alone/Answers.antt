@@ -1,3 +1,4 @@
+-- Proofs of `checked_sources_print_in_main_alone`, src/laws.rt.
 use Rattle.type_laws.proofs.Prints.{prints_stand_in_main}
 use Rattle.type_laws.proofs.laws.checked_sources_print_in_main_alone.Goals as goal
 

@@ -1,3 +1,4 @@
+-- Proofs of `expressions_have_types_where_they_have_no_fault`, src/laws.rt.
 use Rattle.type_laws.proofs.FaultlessExpressions.{expression_typed}
 use Rattle.type_laws.proofs.TypedExpressions.{expression_fine}
 use Rattle.type_laws.proofs.laws.expressions_have_types_where_they_have_no_fault.Goals as goal

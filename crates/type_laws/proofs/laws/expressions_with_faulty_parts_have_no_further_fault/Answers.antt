@@ -1,3 +1,4 @@
+-- Proofs of `expressions_with_faulty_parts_have_no_further_fault`, src/laws.rt.
 use Rattle.type_laws.proofs.FaultyForms.{faulty_with_faults}
 use Rattle.type_laws.proofs.FaultyParts.{faulty_parts, initial_not_sound}
 use Rattle.type_laws.proofs.PartSplits.{faulty_initial}

@@ -1,3 +1,4 @@
+-- Proofs of `labels_of_main_are_in_order`, src/laws.rt.
 use Rattle.std.proofs.Common.{subst}
 use Rattle.type_laws.specs.LabelIndices.{LabelsAreInOrder}
 use Rattle.type_laws.proofs.MainLabels.{labels_in_order}

@@ -1,3 +1,4 @@
+-- Proofs of `reported_faults_are_the_least`, src/laws.rt.
 use Rattle.expression_types.proofs.LeastLaws.{told_is_least}
 use Rattle.types.specs.Program.{program_of}
 use Rattle.type_laws.proofs.laws.reported_faults_are_the_least.Goals as goal

@@ -1,3 +1,4 @@
+-- Proofs of `sources_have_a_program_where_they_keep_the_rules`, src/laws.rt.
 use Rattle.std.proofs.Common.{refl}
 use Rattle.types.specs.Program.{program_of}
 use Rattle.type_laws.proofs.FaultlessSources.{source_keeps}

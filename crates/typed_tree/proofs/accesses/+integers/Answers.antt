@@ -1,3 +1,4 @@
+-- Proofs of the mutually recursive functions of src/accesses.rt.
 use Rattle.std.proofs.Common.{ap, ◌∙◌, refl}
 use Rattle.typed_tree.specs.IntExpressionTree.{int_expression_tree}
 use Rattle.typed_tree.proofs.Chains.{int_expression_tree-Arithmetic}

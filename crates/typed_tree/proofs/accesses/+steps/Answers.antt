@@ -1,3 +1,4 @@
+-- Proofs of the mutually recursive functions of src/accesses.rt.
 use Rattle.std.proofs.Common.{ap, ◌∙◌, refl, arith}
 use Rattle.typed_tree.specs.declared.function.FunctionStatement.TheViews.{the_lemmas}
 use Rattle.typed_tree.specs.FunctionStatementTree.{function_statement_tree}

@@ -1,3 +1,4 @@
+-- Proofs of the mutually recursive functions of src/accesses.rt.
 use Rattle.std.proofs.Common.{ap, ◌∙◌}
 use Rattle.std.proofs.lemmas.List.{append_assoc}
 use Rattle.std.proofs.lemmas.Result.{on_ok_weaker}

@@ -1,3 +1,4 @@
+-- Proofs of `statements` and its mutually recursive functions, src/block.rt.
 use Rattle.std.proofs.Common.{◌≡◌, ap, subst, sym, ◌∙◌, suc, ◌+◌, length, drop}
 use Rattle.syntax.specs.SourceTrees as source
 use Rattle.syntax.specs.SourceViews.{statement_kind_tree as source_action, block_tree as source_block}

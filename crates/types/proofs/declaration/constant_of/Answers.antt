@@ -1,3 +1,4 @@
+-- Proofs of `constant_of`, src/declaration.rt.
 use Rattle.syntax.specs.SourceViews.{initial_tree}
 use Rattle.expression_types.proofs.Steps.{reports_then}
 use Rattle.types.specs.Checker.{checker_of}

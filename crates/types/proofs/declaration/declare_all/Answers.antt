@@ -1,3 +1,4 @@
+-- Proofs of `declare_all`, src/declaration.rt.
 use Rattle.std.proofs.Common.{◌∙◌}
 use Rattle.types.specs.Declaration.{declared_of}
 use Rattle.types.proofs.DeclarationLaws.{declaration_on}

@@ -1,3 +1,4 @@
+-- Proofs of `function`, src/declaration.rt.
 use Rattle.std.proofs.Common.{ap, subst, ◌∙◌, map, option_map}
 use Rattle.syntax.specs.SourceViews.{block_tree as source_block, parameter_tree}
 use Rattle.typed_tree.specs.FunctionStatementTree.{NoStep, function_statements_tree}

@@ -1,3 +1,4 @@
+-- Proofs of `main_function`, src/declaration.rt.
 use Rattle.std.proofs.Common.{◌≡◌, ap, sym, subst, ◌∙◌, length, map, option_map}
 use Rattle.syntax.specs.SourceViews.{block_tree as source_block, parameter_tree}
 use Rattle.typed_tree.specs.BlockTree.{Empty, block_tree}

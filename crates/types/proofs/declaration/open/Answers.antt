@@ -1,3 +1,4 @@
+-- Proofs of `open`, src/declaration.rt.
 use Rattle.std.proofs.Common.{◌≡◌, ap, subst, ◌∙◌, [], map, option_map}
 use Rattle.syntax.specs.SourceViews.{parameter_tree}
 use Rattle.typed_tree.specs.declared.expression.Endpoint.TheVariants.{Source}

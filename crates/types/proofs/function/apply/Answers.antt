@@ -1,3 +1,4 @@
+-- Proofs of `apply`, src/function.rt.
 use Rattle.std.proofs.Common.{◌≡◌, ap, subst, sym, ◌∙◌}
 use Rattle.syntax.specs.SourceViews.{ends_tree}
 use Rattle.typed_tree.specs.FunctionStatementTree.{function_statement_tree}

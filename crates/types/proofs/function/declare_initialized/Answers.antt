@@ -1,3 +1,4 @@
+-- Proofs of `declare_initialized`, src/function.rt.
 use Rattle.typed_tree.specs.FunctionStatementTree.{function_statement_tree}
 use Rattle.types.specs.Checker.{checker_of}
 use Rattle.types.specs.Initializer.{initializer_tree}

@@ -1,3 +1,4 @@
+-- Proofs of `declare_variable`, src/function.rt.
 use Rattle.syntax.specs.SourceViews.{initial_tree}
 use Rattle.typed_tree.specs.FunctionStatementTree.{function_statement_tree}
 use Rattle.expression_types.proofs.Steps.{reports_then}

@@ -1,3 +1,4 @@
+-- Proofs of `nothing`, src/function.rt.
 use Rattle.std.proofs.Common.{false, ap, ◌∙◌}
 use Rattle.typed_tree.specs.declared.expression.BoolExpression.TheVariants as condition
 use Rattle.typed_tree.specs.BoolExpressionTree.{Literal}

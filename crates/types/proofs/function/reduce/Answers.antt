@@ -1,3 +1,4 @@
+-- Proofs of `reduce`, src/function.rt.
 use Rattle.std.proofs.Common.{◌∙◌, ◌≡◌, subst}
 use Rattle.expression_types.specs.Expression.{used, value_of}
 use Rattle.expression_types.specs.WithFaults.{◌>>=◌, outcome}

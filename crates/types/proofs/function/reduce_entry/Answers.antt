@@ -1,3 +1,4 @@
+-- Proofs of `reduce_entry`, src/function.rt.
 use Rattle.std.proofs.Common.{ℕ, Bool, List, ◌≡◌, ap, subst, sym, ◌∙◌}
 use Rattle.apply_options.specs.declared.reduction.Reduction.{Reduction}
 use Rattle.typed_tree.specs.IntExpressionTree.{int_expression_tree}

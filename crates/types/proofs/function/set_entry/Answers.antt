@@ -1,3 +1,4 @@
+-- Proofs of `set_entry`, src/function.rt.
 use Rattle.std.proofs.Common.{◌≡◌, ap, subst, sym, ◌∙◌}
 use Rattle.typed_tree.specs.IntExpressionTree.{int_expression_tree}
 use Rattle.expression_types.specs.Expression.{index_value, vector_index}

@@ -1,3 +1,4 @@
+-- Proofs of `read_apply`, src/initial.rt.
 use Rattle.std.proofs.Common.{◌∙◌}
 use Rattle.expression_types.specs.Expression.{used}
 use Rattle.expression_types.specs.WithFaults.{sure, ◌>>=◌}

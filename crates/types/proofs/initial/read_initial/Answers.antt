@@ -1,3 +1,4 @@
+-- Proofs of `read_initial`, src/initial.rt.
 use Rattle.std.proofs.Common.{ap, ◌∙◌}
 use Rattle.syntax.specs.SourceViews.{ends_tree, initial_tree}
 use Rattle.expression_types.specs.Expression.{used}

@@ -1,3 +1,4 @@
+-- Proofs of `unary_condition`, src/literal.rt.
 use Rattle.std.proofs.Common.{◌<◌, length, rules}
 use Rattle.syntax.specs.ExpressionViews.{primary_of}
 use Rattle.types.proofs.Literals.{signed_truth}

@@ -1,3 +1,4 @@
+-- Proofs of `unary_literal`, src/literal.rt.
 use Rattle.std.proofs.Common.{◌<◌, length, ap, sym, ◌∙◌}
 use Rattle.syntax.specs.ExpressionViews.{primary_of}
 use Rattle.types.proofs.Literals.{several_signs}

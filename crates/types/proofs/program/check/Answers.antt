@@ -1,3 +1,4 @@
+-- Proofs of `check`, src/program.rt.
 use Rattle.std.proofs.Common.{ap, ◌∙◌}
 use Rattle.expression_types.proofs.Least.{none_told}
 use Rattle.types.proofs.program.check.Goals as goal

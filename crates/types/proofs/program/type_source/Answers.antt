@@ -1,3 +1,4 @@
+-- Proofs of `type_source`, src/program.rt.
 use Rattle.std.proofs.Common.{◌≡◌, ap, sym, subst, ◌∙◌, map}
 use Rattle.syntax.specs.SourceViews.{declaration_tree, source_tree}
 use Rattle.typed_tree.specs.BlockTree.{block_tree}

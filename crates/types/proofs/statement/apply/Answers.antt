@@ -1,3 +1,4 @@
+-- Proofs of `apply`, src/statement.rt.
 use Rattle.std.proofs.Common.{◌≡◌, ap, subst, sym, ◌∙◌}
 use Rattle.syntax.specs.SourceViews.{ends_tree}
 use Rattle.typed_tree.specs.BlockTree.{statement_kind_tree}

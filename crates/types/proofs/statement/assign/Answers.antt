@@ -1,3 +1,4 @@
+-- Proofs of `assign`, src/statement.rt.
 use Rattle.std.proofs.Common.{◌∙◌, ◌≡◌, subst}
 use Rattle.syntax.specs.SourceViews.{initial_tree}
 use Rattle.expression_types.specs.Expression.{used}

@@ -1,3 +1,4 @@
+-- Proofs of `declare_initialized`, src/statement.rt.
 use Rattle.typed_tree.specs.BlockTree.{statement_kind_tree}
 use Rattle.types.specs.Checker.{checker_of}
 use Rattle.types.specs.Initializer.{initializer_tree}

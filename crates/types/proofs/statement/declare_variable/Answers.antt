@@ -1,3 +1,4 @@
+-- Proofs of `declare_variable`, src/statement.rt.
 use Rattle.syntax.specs.SourceViews.{initial_tree}
 use Rattle.typed_tree.specs.BlockTree.{statement_kind_tree}
 use Rattle.expression_types.proofs.Steps.{reports_then}

@@ -1,3 +1,4 @@
+-- Proofs of `set_entry`, src/statement.rt.
 use Rattle.std.proofs.Common.{sym, ◌∙◌, ◌≡◌, subst}
 use Rattle.typed_tree.specs.IntExpressionTree.{int_expression_tree}
 use Rattle.std.specs.Option.{option_map}

@@ -1,3 +1,4 @@
+-- Proofs of `steps` and its mutually recursive functions, src/step.rt.
 use Rattle.std.proofs.Common.{◌≡◌, ap, subst, sym, ◌∙◌, ◌+◌, drop}
 use Rattle.syntax.specs.SourceTrees as source
 use Rattle.syntax.specs.SourceViews.{statement_kind_tree as source_action, block_tree as source_block}

@@ -1,3 +1,4 @@
+-- Proofs of `integer`, src/wanted.rt.
 use Rattle.std.proofs.Common.{◌∙◌}
 use Rattle.expression_types.specs.Expression.{value_of}
 use Rattle.expression_types.specs.ValueTree.{value_tree}

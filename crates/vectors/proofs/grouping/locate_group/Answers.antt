@@ -1,3 +1,4 @@
+-- Proofs of `locate_group`, src/grouping.rt.
 use Rattle.std.proofs.Common.{◌≡◌, ◌+◌, ◌<◌, ap, sym, ◌∙◌, subst, arith, List, [], ℕ, length, set, get_or, refl}
 use Rattle.std.proofs.lemmas.List.{get_or_read}
 use Rattle.vectors.specs.declared.location.Location.{Location}

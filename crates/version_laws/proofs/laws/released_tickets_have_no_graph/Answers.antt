@@ -1,3 +1,4 @@
+-- Proofs of `released_tickets_have_no_graph`, src/laws.rt.
 use Rattle.version_laws.proofs.TicketLaws.{tickets_go, tickets_go_through}
 use Rattle.version_laws.proofs.laws.released_tickets_have_no_graph.Goals as goal
 

@@ -1,3 +1,4 @@
+-- Proofs of `tickets_are_numbered_in_order`, src/laws.rt.
 use Rattle.version_laws.proofs.NumberLaws.{tickets_of_history, tickets_of_steps}
 use Rattle.version_laws.proofs.laws.tickets_are_numbered_in_order.Goals as goal
 

@@ -1,3 +1,4 @@
+-- Proofs of `tickets_keep_their_graphs`, src/laws.rt.
 use Rattle.version_laws.proofs.TicketLaws.{tickets_keep, tickets_keep_through}
 use Rattle.version_laws.proofs.laws.tickets_keep_their_graphs.Goals as goal
 

@@ -1,3 +1,4 @@
+-- Proofs of `versions_are_made_by_commits`, src/laws.rt.
 use Rattle.version_laws.proofs.CommitLaws.{commit_makes, newest_of, version_of}
 use Rattle.version_laws.proofs.laws.versions_are_made_by_commits.Goals as goal
 

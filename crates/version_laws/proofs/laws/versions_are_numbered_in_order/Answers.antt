@@ -1,3 +1,4 @@
+-- Proofs of `versions_are_numbered_in_order`, src/laws.rt.
 use Rattle.version_laws.proofs.NumberLaws.{versions_of_history, newest_of_history, versions_of_steps}
 use Rattle.version_laws.proofs.laws.versions_are_numbered_in_order.Goals as goal
 

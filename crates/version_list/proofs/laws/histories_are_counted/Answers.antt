@@ -1,3 +1,4 @@
+-- Proofs of `histories_are_counted`, src/laws.rt.
 use Rattle.version_list.proofs.Counting.{opened_counts, trim_is_answered}
 use Rattle.version_list.proofs.laws.histories_are_counted.Goals as goal
 

@@ -1,3 +1,4 @@
+-- Proofs of `versions_never_shrink`, src/laws.rt.
 use Rattle.version_list.proofs.Shrinking.{no_fewer}
 use Rattle.version_list.proofs.laws.versions_never_shrink.Goals as goal
 

@@ -1,3 +1,4 @@
+-- Proofs of `packed_edges`, src/block.rt.
 use Rattle.std.proofs.Common.{ap, arith}
 use Rattle.ascending_lists.proofs.MapOrder.{rises_room}
 use Rattle.vertex_blocks.specs.Blocks.{edge_total}

@@ -1,3 +1,4 @@
+-- Proofs of `build`, src/block_updates.rt.
 use Rattle.std.proofs.Common.{◌≡◌, ◌≢◌, ℕ, ◌%◌, [], sym, ◌∙◌, ap, arith}
 use Rattle.std.specs.Option.{option_copied}
 use Rattle.pages.specs.Vertices.{neighbours_of}

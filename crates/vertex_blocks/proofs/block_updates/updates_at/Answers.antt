@@ -1,3 +1,4 @@
+-- Proofs of `updates_at`, src/block_updates.rt.
 use Rattle.std.proofs.Common.{◌≡◌, ◌∙◌, ◌%◌, ◌+◌, ◌<◌, ◌∷◌, length, drop, get_or, length-drop, ap, arith}
 use Rattle.std.proofs.lemmas.List.{drop_more}
 use Rattle.pages.specs.Updates.{vertex_in_page}

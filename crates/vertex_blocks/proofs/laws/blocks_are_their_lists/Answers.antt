@@ -1,3 +1,4 @@
+-- Proofs of `blocks_are_their_lists`, src/laws.rt.
 use Rattle.vertex_blocks.proofs.Numbering.{lists_rise, list_in_blocks}
 use Rattle.vertex_blocks.proofs.laws.blocks_are_their_lists.Goals as goal
 

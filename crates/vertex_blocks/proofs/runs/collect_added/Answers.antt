@@ -1,3 +1,4 @@
+-- Proofs of `collect_added`, src/runs.rt.
 use Rattle.std.proofs.Common.{◌≡◌, ◌<◌, w64, ◌∷◌, [], ◌++◌, length, get_or, refl, sym, ◌∙◌, ap, arith, rules}
 use Rattle.std.proofs.lemmas.Int.{to_z-of_z}
 use mir.Val.{SFits, to_z, of_z}

@@ -1,3 +1,4 @@
+-- Proofs of `parts`, src/runs.rt.
 use Rattle.std.proofs.Common.{◌≡◌, ◌<◌, ℤ, w64, ◌∷◌, [], ◌++◌, length, length-append, get_or, refl, sym, ◌∙◌, ap, arith, rules}
 use Rattle.std.specs.List.{zip}
 use Rattle.std.proofs.lemmas.Int.{to_z-of_z}

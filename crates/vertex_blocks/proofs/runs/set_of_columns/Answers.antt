@@ -1,3 +1,4 @@
+-- Proofs of `set_of_columns`, src/runs.rt.
 use Rattle.std.proofs.Common.{◌≡◌, ◌++◌, ◌-◌, ℤ, List, pos, [], replicate, take, length, vec_len, refl, sym, ◌∙◌, ap, subst, arith, IfOk}
 use Rattle.std.proofs.lemmas.Bool.{eqb-true}
 use Rattle.std.proofs.lemmas.List.{nil_from_length}

@@ -1,3 +1,4 @@
+-- Proofs of `update_list`, src/runs.rt.
 use Rattle.std.proofs.Common.{sym, ◌∙◌}
 use Rattle.std.proofs.lemmas.Result.{IfOk-weaker}
 use Rattle.vertex_blocks.proofs.Decisions.{updated_nothing}

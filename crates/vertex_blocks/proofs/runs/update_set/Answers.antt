@@ -1,3 +1,4 @@
+-- Proofs of `update_set`, src/runs.rt.
 use Rattle.std.proofs.Common.{◌∙◌}
 use Rattle.vertex_blocks.proofs.Decisions.{set_updated}
 use Rattle.vertex_blocks.proofs.runs.update_set.Goals as goal

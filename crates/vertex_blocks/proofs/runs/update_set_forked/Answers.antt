@@ -1,3 +1,4 @@
+-- Proofs of `update_set_forked`, src/runs.rt.
 use Rattle.std.proofs.Common.{None, ◌∙◌, ap}
 use Rattle.std.specs.Map.{keys_of}
 use Rattle.tail_codec.proofs.Columns.{keys_in}

@@ -1,3 +1,4 @@
+-- Proofs of `clear_named`, src/members.rt.
 use Rattle.std.proofs.Common.{◌≡◌, ◌≢◌, ◌+◌, ◌^◌, ◌<◌, ℕ, length, length-set, get_or, get_or-set_same, get_or-set_other, ap, ◌∙◌, rules}
 use Rattle.std.proofs.lemmas.List.{get_or_past}
 use Rattle.vertex_marks.proofs.Naming.{fewer_left}

@@ -1,3 +1,4 @@
+-- Proofs of `push_bits`, src/members.rt.
 use Rattle.std.proofs.Common.{◌≡◌, ◌+◌, ◌^◌, ◌<◌, ◌++◌, ◌∷◌, [], ap, ◌∙◌, rules, bit_and, ◌-◌}
 use Rattle.vertex_sets.specs.inside.Words.{bit_members}
 use Rattle.vertex_marks.proofs.Naming.{lowest_listed, fewer_left, bits_listed}

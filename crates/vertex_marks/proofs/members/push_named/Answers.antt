@@ -1,3 +1,4 @@
+-- Proofs of `push_named`, src/members.rt.
 use Rattle.std.proofs.Common.{◌≡◌, ◌+◌, ◌*◌, ◌^◌, ◌<◌, ◌++◌, get_or, ap, sym, ◌∙◌, rules}
 use Rattle.std.proofs.lemmas.List.{append-nil}
 use Rattle.vertex_sets.specs.inside.Words.{bit_members}

@@ -1,3 +1,4 @@
+-- Proofs of `all_vertices_are_those_below`, src/laws.rt.
 use Rattle.std.proofs.Common.{arith}
 use Rattle.std.proofs.lemmas.List.FromFn.{length-range_with_len}
 use Rattle.vertex_sets.proofs.Ascending.{range_has, range_bound}

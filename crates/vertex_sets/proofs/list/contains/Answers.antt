@@ -1,3 +1,4 @@
+-- Proofs of `contains`, src/list.rt.
 use Rattle.std.proofs.Common.{arith, ◌↔◌, Contains, IsTrue, is_ok}
 use Rattle.std.proofs.lemmas.List.Sorted.{searched}
 use Rattle.vertex_sets.proofs.Ascending.{rises_from_increasing, non_decreasing, found_member}

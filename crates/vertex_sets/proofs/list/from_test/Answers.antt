@@ -1,3 +1,4 @@
+-- Proofs of `from_test`, src/list.rt.
 use Rattle.std.proofs.Common.{◌≡◌, ◌++◌, ◌∷◌, [], cond, ap, sym, ◌∙◌, rules}
 use Rattle.vertex_sets.proofs.Ascending.{next_answer}
 use Rattle.vertex_sets.proofs.list.from_test.Goals as goal

@@ -1,3 +1,4 @@
+-- Proofs of `full`, src/list.rt.
 use Rattle.std.proofs.Common.{◌≡◌, ◌++◌, ◌∷◌, [], ap, sym, ◌∙◌, arith, rules}
 use Rattle.vertex_sets.proofs.Ascending.{range_end}
 use Rattle.vertex_sets.proofs.list.full.Goals as goal

@@ -1,3 +1,4 @@
+-- Proofs of `insert`, src/list.rt.
 use Rattle.std.proofs.Common.{◌≡◌, ◌++◌, ◌∷◌, Err, take, drop, sym, subst, arith, rules}
 use Rattle.std.specs.List.Sorted.{IsStrictlyIncreasing}
 use Rattle.std.proofs.lemmas.List.Sorted.{searched}

@@ -1,3 +1,4 @@
+-- Proofs of `word_from_test`, src/words.rt.
 use Rattle.std.proofs.Common.{◌≡◌, ◌*◌, ◌%◌, ◌^◌, bit_or, cond, ap, sym, ◌∙◌, arith}
 use Rattle.vertex_sets.proofs.WordMembers.{next_bit}
 use Rattle.vertex_sets.proofs.words.word_from_test.Goals as goal

@@ -1,3 +1,4 @@
+-- Proofs of `transpose`, src/converse.rt.
 use Rattle.std.proofs.Common.{◌≡◌, length, drop, ◌∙◌, arith}
 use Rattle.weighted_updates.proofs.Transposed.{transposed_more, transposed_all, weights_transposed, weighted_once}
 use Rattle.weighted_updates.proofs.converse.transpose.Goals as goal

@@ -1,3 +1,4 @@
+-- Proofs of `keep_last`, src/lasts.rt.
 use Rattle.std.proofs.Common.{◌≡◌, length, take, drop, ap, ◌∙◌}
 use Rattle.edge_updates.proofs.KeepingLast.{ascend_once}
 use Rattle.weighted_updates.specs.WeightedUpdates.{updates_in}

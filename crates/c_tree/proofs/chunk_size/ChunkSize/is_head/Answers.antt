@@ -1,3 +1,4 @@
+-- Proofs of `is_head`, src/chunk_size.rt.
 use Rattle.std.proofs.Common.{◌≡◌, ℕ, ◌+◌, ◌-◌, ◌*◌, ◌/◌, ◌%◌, ◌^◌, nat_eq, bit_and, sym, ◌∙◌, ap, arith}
 use Rattle.std.proofs.lemmas.Nat.{and_mask}
 use Rattle.c_tree.specs.Heads.{hash, is_head}

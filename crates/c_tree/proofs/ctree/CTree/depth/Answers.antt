@@ -1,3 +1,4 @@
+-- Proofs of `depth`, src/ctree.rt.
 use Rattle.std.proofs.Common.{◌≡◌, ℕ, [], ◌∷◌, length, sym, ap, ◌∙◌, arith, refl, length-append}
 use Rattle.c_tree.specs.Chunks.{HeadValue}
 use Rattle.shared_tree.specs.Balanced.{Balanced, IsFork}

@@ -1,3 +1,4 @@
+-- Proofs of `heads`, src/ctree.rt.
 use Rattle.std.proofs.Common.{◌∙◌}
 use Rattle.c_tree.proofs.Chunking.{one_chunks}
 use Rattle.c_tree.proofs.ctree.CTree.heads.Goals as goal

@@ -1,3 +1,4 @@
+-- Proofs of `iter`, src/ctree.rt.
 use Rattle.tail_codec.proofs.Writing.{few_entries}
 use Rattle.c_tree.proofs.ctree.CTree.iter.Goals as goal
 

@@ -1,3 +1,4 @@
+-- Proofs of `prefix`, src/ctree.rt.
 use Rattle.c_tree.proofs.Chunking.{one_prefix}
 use Rattle.c_tree.proofs.ctree.CTree.prefix.Goals as goal
 

@@ -1,3 +1,4 @@
+-- Proofs of `fill`, src/iter.rt.
 use Rattle.std.proofs.Common.{◌≡◌, ℕ, ◌+◌, ◌≤◌, ℤ, [], ◌∷◌, ◌++◌, length, slice_set, refl, sym, ◌∙◌, ap, length-set, arith, rules}
 use Rattle.c_tree.specs.Chunks.{entries_of}
 use Rattle.c_tree.specs.inside.Blocks.{IsRead}

@@ -1,3 +1,4 @@
+-- Proofs of `fill_weighted`, src/iter.rt.
 use Rattle.std.proofs.Common.{◌≡◌, ℕ, ◌+◌, ◌≤◌, ℤ, [], ◌∷◌, ◌++◌, length, slice_set, to_z, of_z, w64, refl, sym, ◌∙◌, ap, length-set, arith, rules}
 use Rattle.c_tree.specs.Chunks.{entries_of}
 use Rattle.c_tree.specs.inside.Blocks.{IsRead}

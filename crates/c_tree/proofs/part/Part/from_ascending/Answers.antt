@@ -1,3 +1,4 @@
+-- Proofs of `from_ascending`, src/building.rt.
 use Rattle.std.proofs.Common.{◌≡◌, ◌∙◌, ap, arith}
 use Rattle.std.specs.Map.{keys_of}
 use Rattle.ascending_lists.specs.Ascending.{least}

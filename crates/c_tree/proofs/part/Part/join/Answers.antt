@@ -1,3 +1,4 @@
+-- Proofs of `join`, src/join.rt.
 use Rattle.std.proofs.Common.{◌≡◌, Some, ◌∷◌, ◌++◌, rules}
 use Rattle.tail_codec.specs.Spelling.{based_list}
 use Rattle.c_tree.specs.Chunks.{head_value}

@@ -1,3 +1,4 @@
+-- Proofs of `join2`, src/join.rt.
 use Rattle.std.proofs.Common.{◌≡◌, ◌++◌, rules}
 use Rattle.c_tree.specs.Chunks.{IsSetOf}
 use Rattle.c_tree.proofs.Rooted.{more_ascends, two_map, two_part, two_whole}

@@ -1,3 +1,4 @@
+-- Proofs of `cut` and its mutually recursive functions, src/cut.rt.
 use Rattle.std.proofs.Common.{◌≡◌, ◌++◌, ◌∷◌, to_z, of_z, w64, arith, rules}
 use Rattle.c_tree.specs.Chunks.{IsSetOf}
 use Rattle.c_tree.specs.Parts.{IsCut}

@@ -1,3 +1,4 @@
+-- Proofs of `contains`, src/lookup.rt.
 use Rattle.std.proofs.Common.{◌↔◌, ℕ, ℤ, inl, inr, List, [], ◌∷◌, IsTrue, refl}
 use Rattle.std.specs.List.{Contains}
 use Rattle.std.specs.Map.{keys_of}

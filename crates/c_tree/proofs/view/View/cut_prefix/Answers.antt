@@ -1,3 +1,4 @@
+-- Proofs of `cut_prefix`, src/cut.rt.
 use Rattle.c_tree.proofs.Cuts.{front_ascends, front_plain, back_ascends, back_plain}
 use Rattle.c_tree.proofs.view.View.cut_prefix.Goals as goal
 

@@ -1,3 +1,4 @@
+-- Proofs of `get`, src/lookup.rt.
 use Rattle.std.proofs.Common.{◌≡◌, Some, to_z, of_z, w64, ◌∙◌, ap, arith, rules}
 use Rattle.c_tree.specs.Chunks.{ChunkedSet, together}
 use Rattle.c_tree.proofs.Turns.{starts, turn_left, turn_right, at_head, stands_in_tail}

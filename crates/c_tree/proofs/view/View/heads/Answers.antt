@@ -1,3 +1,4 @@
+-- Proofs of `heads`, src/view.rt.
 use Rattle.std.proofs.Common.{sym, ap, ◌∙◌}
 use Rattle.c_tree.specs.Chunks.{ChunkedSet, chunks_of}
 use Rattle.c_tree.proofs.Chunking.{chunks_together}

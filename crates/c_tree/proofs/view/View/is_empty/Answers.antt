@@ -1,3 +1,4 @@
+-- Proofs of `is_empty`, src/view.rt.
 use Rattle.std.proofs.Common.{◌≡◌, sym, ap, ◌∙◌}
 use Rattle.c_tree.specs.Chunks.{ChunkedSet, together}
 use Rattle.c_tree.proofs.Rooted.{nothing_together, together_nothing}

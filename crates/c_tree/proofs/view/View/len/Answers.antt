@@ -1,3 +1,4 @@
+-- Proofs of `len`, src/view.rt.
 use Rattle.std.proofs.Common.{length, ap, ◌∙◌}
 use Rattle.tail_codec.proofs.Writing.{few_entries}
 use Rattle.c_tree.specs.Chunks.{ChunkedSet, together}

@@ -1,3 +1,4 @@
+-- Proofs of `prefix`, src/view.rt.
 use Rattle.std.proofs.Common.{sym, subst, ◌∙◌, ap}
 use Rattle.c_tree.specs.Chunks.{ChunkedSet, HasNoHead}
 use Rattle.c_tree.proofs.Rooted.{only_loose}

@@ -1,3 +1,4 @@
+-- Proofs of `prefix_with_more`, src/join.rt.
 use Rattle.std.proofs.Common.{◌≡◌, ◌++◌, arith, rules}
 use Rattle.std.specs.Map.{keys_of}
 use Rattle.ascending_lists.specs.Ascending.{least}

@@ -1,3 +1,4 @@
+-- Proofs of `root`, src/view.rt.
 use Rattle.std.proofs.Common.{◌≡◌, to_z, of_z, w64, sym, ap, ◌∙◌, rules}
 use Rattle.tail_codec.specs.Spelling.{BasedList}
 use Rattle.c_tree.specs.Parts.{in_chunks}

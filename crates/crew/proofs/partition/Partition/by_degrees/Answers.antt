@@ -1,3 +1,4 @@
+-- Proofs of `by_degrees`, src/partition.rt.
 use Rattle.std.proofs.Common.{◌≡◌, ◌++◌, ◌∙◌, ap, sym, subst, List, ℕ, arith}
 use Rattle.crew.specs.Boundaries.{boundaries}
 use Rattle.crew.specs.Partition.{AreEnds}

@@ -1,3 +1,4 @@
+-- Proofs of `context`, src/apply.rt.
 use Rattle.edge_apply.proofs.apply.Apply.context.Goals as goal
 
 pub returns-clause-reads : goal.returns-clause-reads

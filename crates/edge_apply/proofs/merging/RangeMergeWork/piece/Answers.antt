@@ -1,3 +1,4 @@
+-- Proofs of `piece`, src/merging.rt.
 use Rattle.std.proofs.Common.{◌-◌, ◌≤◌, ℕ, true, List, refl, sym, ap, ◌∙◌, subst, arith}
 use Rattle.std.specs.List.{filter, flat_map}
 use Rattle.edge_lists.specs.Edge.{Edge}

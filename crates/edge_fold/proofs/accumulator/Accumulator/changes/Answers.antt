@@ -1,3 +1,4 @@
+-- Proofs of `changes`, src/changes.rt.
 use Rattle.std.proofs.Common.{rules, ◌<◌, ◌≤◌, ◌++◌, inl, ℤ, List, length, get_or, FitsSigned, to_z, of_z, w64, ap, sym, ◌∙◌, arith}
 use Rattle.std.proofs.lemmas.Int.{to_z-of_z}
 use Rattle.std.proofs.lemmas.List.Elements.{Contains-get_or}

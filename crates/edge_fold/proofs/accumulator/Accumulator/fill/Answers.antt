@@ -1,3 +1,4 @@
+-- Proofs of `fill`, src/old_entries.rt.
 use Rattle.std.proofs.Common.{[], sym, subst}
 use Rattle.edge_fold.specs.Held.{AreJoined}
 use Rattle.edge_fold.specs.declared.initial_entries.InitialEntries.{InitialEntries}

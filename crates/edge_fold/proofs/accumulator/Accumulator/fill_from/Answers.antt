@@ -1,3 +1,4 @@
+-- Proofs of `fill_from`, src/old_entries.rt.
 use Rattle.std.proofs.Common.{rules, ◌≡◌, ◌*◌, ◌++◌, length, take, drop, get_or, pos, sym, ◌∙◌}
 use Rattle.vertex_marks.specs.Marks.{is_marked}
 use Rattle.vectors.specs.Lanes.{lane_entry}

@@ -1,3 +1,4 @@
+-- Proofs of `has_entry`, src/joins.rt.
 use Rattle.std.proofs.Common.{sym}
 use Rattle.edge_fold.proofs.accumulator.Accumulator.has_entry.Goals as goal
 

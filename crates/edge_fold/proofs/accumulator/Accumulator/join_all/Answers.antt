@@ -1,3 +1,4 @@
+-- Proofs of `join_all`, src/joins.rt.
 use Rattle.std.proofs.Common.{◌<◌, ◌+◌, ℤ, length, drop, ap, ◌∙◌}
 use Rattle.kernels.specs.ContributionColumns.{contribution_at}
 use Rattle.edge_fold.specs.Contributions.{given_from, reduced_at}

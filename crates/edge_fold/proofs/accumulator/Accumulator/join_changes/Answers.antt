@@ -1,3 +1,4 @@
+-- Proofs of `join_changes`, src/joins.rt.
 use Rattle.std.proofs.Common.{rules, ◌≡◌, ◌==◌, ◌<◌, ◌+◌, if◌then◌else◌, ℕ, ℤ, List, length, drop, get_or, FitsSigned, to_z, of_z, w64, sym, ap, ◌∙◌}
 use Rattle.std.proofs.lemmas.Int.{to_z-of_z}
 use Rattle.std.proofs.lemmas.List.{drop_more}

@@ -1,3 +1,4 @@
+-- Proofs of `join_each`, src/joins.rt.
 use Rattle.std.proofs.Common.{rules, ◌≡◌, ◌≤◌, ◌<◌, ℕ, ℤ, pos, [], drop, length, List, sym, ap, ◌∙◌, FitsSigned, to_z, of_z, w64, arith}
 use Rattle.std.proofs.lemmas.Int.{to_z-of_z}
 use Rattle.std.proofs.lemmas.List.{drop_all}

@@ -1,3 +1,4 @@
+-- Proofs of `join_each_weight`, src/joins.rt.
 use Rattle.std.proofs.Common.{rules, ◌≡◌, ◌<◌, pos, length, get_or, to_z, of_z, w64, ◌∙◌, arith}
 use Rattle.edge_fold.specs.EntryNumbers.{number_with}
 use Rattle.edge_fold.specs.Held.{held_with}

@@ -1,3 +1,4 @@
+-- Proofs of `join_filled`, src/joins.rt.
 use Rattle.std.proofs.Common.{rules, ◌≡◌, ◌++◌, List, ℤ, pos, length, take, drop, get_or, sym, ap, subst, ◌∙◌, inl, inr, FitsSigned, w64}
 use Rattle.std.proofs.lemmas.Bool.{cases_lt, false≢true}
 use Rattle.std.proofs.lemmas.Int.{to_z-of_z}

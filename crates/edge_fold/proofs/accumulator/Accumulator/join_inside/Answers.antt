@@ -1,3 +1,4 @@
+-- Proofs of `join_inside`, src/joins.rt.
 use Rattle.std.proofs.Common.{rules, ◌≡◌, ℕ, ◌<◌, ℤ, pos, length, get_or, FitsSigned, to_z, of_z, w64, ap, ◌∙◌, true, false}
 use Rattle.std.proofs.lemmas.Int.{to_z-of_z}
 use Rattle.std.proofs.lemmas.List.{get_or_default}

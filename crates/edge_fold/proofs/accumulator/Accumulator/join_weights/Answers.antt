@@ -1,3 +1,4 @@
+-- Proofs of `join_weights`, src/joins.rt.
 use Rattle.std.proofs.Common.{OnOk, sym, subst}
 use Rattle.apply_options.specs.declared.reduction.Reduction.{Reduction}
 use Rattle.edge_fold.specs.EntryNumbers.{each_weighed, number_with}

@@ -1,3 +1,4 @@
+-- Proofs of `join_weights_by`, src/joins.rt.
 use Rattle.std.proofs.Common.{rules, ℤ, FitsSigned, w64, OnOk, sym, subst}
 use Rattle.std.proofs.lemmas.Int.{to_z-of_z}
 use Rattle.typed_tree.specs.declared.expression.Operator.{Operator}

@@ -1,3 +1,4 @@
+-- Proofs of `make_room`, src/joins.rt.
 use Rattle.std.proofs.Common.{◌+◌, ◌/◌, ◌*◌, ◌≤◌, ◌∙◌, arith, rules, vec_len}
 use Rattle.vertex_marks.specs.Marks.{room}
 use Rattle.edge_fold.proofs.accumulator.Accumulator.make_room.Goals as goal

@@ -1,3 +1,4 @@
+-- Proofs of `marked`, src/joins.rt.
 use Rattle.edge_fold.proofs.Findings.{never_falls}
 use Rattle.edge_fold.proofs.accumulator.Accumulator.marked.Goals as goal
 

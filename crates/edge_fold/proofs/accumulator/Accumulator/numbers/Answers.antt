@@ -1,3 +1,4 @@
+-- Proofs of `numbers`, src/gathered.rt.
 use Rattle.std.proofs.Common.{ℕ, ◌<◌, ◌≤◌, inl, ℤ, List, length, get_or, Contains, ap, ◌∙◌, subst, arith}
 use Rattle.std.proofs.lemmas.List.Elements.{Contains-get_or}
 use Rattle.apply_options.specs.declared.reduction.Reduction.{Reduction}

@@ -1,3 +1,4 @@
+-- Proofs of `entry_contribution`, src/entry_contributions.rt.
 use Rattle.std.proofs.Common.{rules, ◌≡◌, ℕ, ℤ, None, [], ◌∷◌}
 use Rattle.apply_options.specs.declared.reduction.Reduction.{Reduction}
 use Rattle.algorithm_meaning.specs.Arithmetic.{arithmetic}

@@ -1,3 +1,4 @@
+-- Proofs of `reduced_contribution`, src/reduced_contributions.rt.
 use Rattle.std.proofs.Common.{rules, ◌≡◌, ℕ, ℤ, None, [], ◌∷◌}
 use Rattle.apply_options.specs.declared.reduction.Reduction.{Reduction}
 use Rattle.kernels.specs.Meaning.{given_in}

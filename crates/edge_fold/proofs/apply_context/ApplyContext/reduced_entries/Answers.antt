@@ -1,3 +1,4 @@
+-- Proofs of `reduced_entries`, src/entry_contributions.rt.
 use Rattle.std.proofs.lemmas.Option.{IfSome_then}
 use Rattle.edge_fold.specs.Contributions.{all_given}
 use Rattle.edge_fold.proofs.apply_context.ApplyContext.reduced_entries.Goals as goal

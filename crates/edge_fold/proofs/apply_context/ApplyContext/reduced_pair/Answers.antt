@@ -1,3 +1,4 @@
+-- Proofs of `reduced_pair`, src/statements.rt.
 use Rattle.kernels.specs.ShapePairs.{shape_given}
 use Rattle.edge_fold.proofs.apply_context.ApplyContext.reduced_pair.Goals as goal
 

@@ -1,3 +1,4 @@
+-- Proofs of `reduced_statement`, src/statements.rt.
 use Rattle.std.proofs.lemmas.Option.{IfSome_then}
 use Rattle.kernels.specs.ShapePairs.{shape_given}
 use Rattle.edge_fold.proofs.ShapePairs.{of_sources}

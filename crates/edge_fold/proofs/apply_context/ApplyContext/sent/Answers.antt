@@ -1,3 +1,4 @@
+-- Proofs of `sent`, src/source_contributions.rt.
 use Rattle.std.proofs.Common.{rules, ◌≡◌, ℕ, ℤ, None, [], ◌∷◌}
 use Rattle.std.proofs.lemmas.Option.{IfSome_then}
 use Rattle.edge_lists.specs.Edge.{Edge}

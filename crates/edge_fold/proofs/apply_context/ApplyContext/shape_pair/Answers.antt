@@ -1,3 +1,4 @@
+-- Proofs of `shape_pair`, src/statements.rt.
 use Rattle.std.proofs.Common.{rules, ◌≡◌, None, ◌++◌}
 use Rattle.kernels.specs.ShapePairs.{shape_given}
 use Rattle.edge_fold.proofs.ShapePairs.{one_given}

@@ -1,3 +1,4 @@
+-- Proofs of `together_by`, src/reduced_contributions.rt.
 use Rattle.std.proofs.Common.{rules, ◌∷◌, [], ℤ, pos, List, FitsSigned, to_z, of_z, w64, ap, sym, ◌∙◌}
 use Rattle.std.proofs.lemmas.Int.{to_z-of_z}
 use Rattle.typed_tree.specs.declared.expression.Operator.TheVariants as operator

@@ -1,3 +1,4 @@
+-- Proofs of `weighed_by`, src/entry_contributions.rt.
 use Rattle.std.proofs.Common.{rules, ◌∷◌, [], ℤ, List, FitsSigned, w64, ap, sym, ◌∙◌}
 use Rattle.std.proofs.lemmas.Int.{to_z-of_z}
 use Rattle.algorithm_meaning.specs.Arithmetic.{arithmetic}

@@ -1,3 +1,4 @@
+-- Proofs of `between`, src/gathered_ranges.rt.
 use Rattle.std.proofs.Common.{◌≡◌, ◌<◌, ◌≤◌, ◌++◌, ◌∷◌, [], ℤ, cond, length, get_or, take, sym, ap, ◌∙◌, subst}
 use Rattle.std.proofs.lemmas.List.{take_all, take_more}
 use Rattle.edge_fold.specs.declared.gathered.GatheredIn.{GatheredIn}

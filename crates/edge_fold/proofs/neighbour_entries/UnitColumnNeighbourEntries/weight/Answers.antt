@@ -1,3 +1,4 @@
+-- Proofs of `weight`, src/neighbour_entries.rt.
 use Rattle.std.proofs.Common.{◌<◌, ℕ, ℤ, pos, [], length, ap, arith}
 use Rattle.edge_fold.proofs.WeightColumns.{entries-length, unit_at}
 use Rattle.edge_fold.proofs.neighbour_entries.UnitColumnNeighbourEntries.weight.Goals as goal

@@ -1,3 +1,4 @@
+-- Proofs of `len`, src/neighbour_entries.rt.
 use Rattle.std.proofs.Common.{sym}
 use Rattle.edge_fold.proofs.WeightColumns.{entries-length}
 use Rattle.edge_fold.proofs.neighbour_entries.WeightedColumnsNeighbourEntries.len.Goals as goal

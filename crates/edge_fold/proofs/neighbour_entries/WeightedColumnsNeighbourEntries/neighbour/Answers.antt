@@ -1,3 +1,4 @@
+-- Proofs of `neighbour`, src/neighbour_entries.rt.
 use Rattle.std.proofs.Common.{rules, ◌<◌, ℕ, ℤ, pos, length, ap, arith}
 use Rattle.edge_fold.proofs.WeightColumns.{entries-at, entries-length}
 use Rattle.edge_fold.proofs.neighbour_entries.WeightedColumnsNeighbourEntries.neighbour.Goals as goal

@@ -1,3 +1,4 @@
+-- Proofs of `weight`, src/neighbour_entries.rt.
 use Rattle.std.proofs.Common.{rules, ◌<◌, ℕ, ℤ, pos, length, get_or, FitsSigned, w64, ap, ◌∙◌, arith}
 use Rattle.std.proofs.lemmas.Int.{to_z-of_z}
 use Rattle.edge_fold.proofs.WeightColumns.{entries-at, entries-length}

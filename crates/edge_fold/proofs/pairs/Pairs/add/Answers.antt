@@ -1,3 +1,4 @@
+-- Proofs of `add`, src/pairs.rt.
 use Rattle.std.proofs.Common.{rules, ◌≡◌, ◌≤◌, ◌+◌, ◌-◌, length, replicate, ap, sym, ◌∙◌}
 use Rattle.edge_fold.proofs.Edges.{waiting_more}
 use Rattle.edge_fold.proofs.pairs.Pairs.add.Goals as goal

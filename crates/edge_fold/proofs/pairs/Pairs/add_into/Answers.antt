@@ -1,3 +1,4 @@
+-- Proofs of `add_into`, src/pairs.rt.
 use Rattle.std.proofs.Common.{rules, ◌≡◌, ◌≤◌, ◌+◌, ◌-◌, length, replicate, ap, sym, ◌∙◌}
 use Rattle.edge_fold.proofs.Columns.{waiting_into}
 use Rattle.edge_fold.proofs.pairs.Pairs.add_into.Goals as goal

@@ -1,3 +1,4 @@
+-- Proofs of `add_into_weighted`, src/weighted.rt.
 use Rattle.std.proofs.Common.{rules, ◌≡◌, ◌≤◌, ◌+◌, ◌-◌, length, replicate, ap, sym, ◌∙◌}
 use Rattle.edge_fold.proofs.Columns.{weighted_into}
 use Rattle.edge_fold.proofs.pairs.Pairs.add_into_weighted.Goals as goal

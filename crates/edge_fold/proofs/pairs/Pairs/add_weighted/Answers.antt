@@ -1,3 +1,4 @@
+-- Proofs of `add_weighted`, src/weighted.rt.
 use Rattle.std.proofs.Common.{rules, ◌≡◌, ◌≤◌, ◌+◌, ◌-◌, length, replicate, ap, sym, ◌∙◌}
 use Rattle.edge_fold.proofs.Edges.{weighted_more}
 use Rattle.edge_fold.proofs.pairs.Pairs.add_weighted.Goals as goal

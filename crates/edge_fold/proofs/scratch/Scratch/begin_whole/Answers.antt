@@ -1,3 +1,4 @@
+-- Proofs of `begin_whole`, src/old_entries.rt.
 use Rattle.std.proofs.Common.{pos, ℕ, ℤ, List, ◌∷◌, [], refl, subst}
 use Rattle.std.proofs.lemmas.Result.{on_ok_weaker}
 use Rattle.apply_options.specs.declared.reduction.Reduction.{Reduction}

@@ -1,3 +1,4 @@
+-- Proofs of `changes`, src/apply_changes.rt.
 use Rattle.std.proofs.Common.{ℕ, ◌<◌, if◌then◌else◌, ℤ, [], List, take, refl, sym, ap, ◌∙◌, arith}
 use Rattle.std.specs.List.{filter}
 use Rattle.edge_lists.specs.Edge.{Edge}

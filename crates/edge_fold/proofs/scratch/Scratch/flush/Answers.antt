@@ -1,3 +1,4 @@
+-- Proofs of `flush`, src/scratch.rt.
 use Rattle.std.proofs.Common.{ℕ, ℤ, List, ap, ◌∙◌}
 use Rattle.edge_lists.specs.Edge.{Edge}
 use Rattle.edge_fold.specs.FoldStarts.{combined, first_entry}

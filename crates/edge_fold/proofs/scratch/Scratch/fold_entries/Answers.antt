@@ -1,3 +1,4 @@
+-- Proofs of `fold_entries`, src/scratch.rt.
 use Rattle.std.proofs.Common.{refl}
 use Rattle.edge_fold.specs.Contributions.{all_given, row}
 use Rattle.edge_fold.proofs.JoinedSlots.{folded_before}

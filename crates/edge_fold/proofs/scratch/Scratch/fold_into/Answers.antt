@@ -1,3 +1,4 @@
+-- Proofs of `fold_into`, src/by_destination.rt.
 use Rattle.std.proofs.Common.{◌==◌, pos, ℕ, ℤ, List, [], ◌∷◌, cond, refl, sym, subst}
 use Rattle.std.proofs.lemmas.Result.{on_ok_weaker}
 use Rattle.apply_options.specs.declared.reduction.Reduction.{Reduction}

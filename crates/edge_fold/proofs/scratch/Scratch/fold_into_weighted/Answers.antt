@@ -1,3 +1,4 @@
+-- Proofs of `fold_into_weighted`, src/weighted.rt.
 use Rattle.std.proofs.Common.{◌==◌, pos, ℕ, ℤ, List, [], ◌∷◌, cond, refl, sym, subst}
 use Rattle.apply_options.specs.declared.reduction.Reduction.{Reduction}
 use Rattle.std.proofs.lemmas.Result.{on_ok_weaker}

@@ -1,3 +1,4 @@
+-- Proofs of `fold_pair`, src/statements.rt.
 use Rattle.std.proofs.Common.{refl}
 use Rattle.edge_fold.proofs.ShapePairs.{folded_pair}
 use Rattle.edge_fold.proofs.scratch.Scratch.fold_pair.Goals as goal

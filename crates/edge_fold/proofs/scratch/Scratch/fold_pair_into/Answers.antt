@@ -1,3 +1,4 @@
+-- Proofs of `fold_pair_into`, src/statements.rt.
 use Rattle.std.proofs.Common.{refl}
 use Rattle.edge_fold.specs.Contributions.{entries_of}
 use Rattle.edge_fold.proofs.ShapePairs.{folded_pair_into}

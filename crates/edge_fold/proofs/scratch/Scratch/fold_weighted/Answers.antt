@@ -1,3 +1,4 @@
+-- Proofs of `fold_weighted`, src/weighted.rt.
 use Rattle.std.proofs.Common.{subst, sym}
 use Rattle.std.proofs.lemmas.Result.{on_ok_weaker}
 use Rattle.edge_fold.specs.declared.scratch.Scratch.{Scratch}

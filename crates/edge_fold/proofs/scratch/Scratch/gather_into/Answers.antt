@@ -1,3 +1,4 @@
+-- Proofs of `gather_into`, src/by_destination.rt.
 use Rattle.std.proofs.Common.{[], ◌++◌, take, drop, false, refl, ap, ◌∙◌}
 use Rattle.edge_fold.specs.Folded.{waiting}
 use Rattle.edge_fold.specs.Contributions.{column, entries_of}

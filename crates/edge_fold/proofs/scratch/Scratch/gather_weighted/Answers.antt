@@ -1,3 +1,4 @@
+-- Proofs of `gather_weighted`, src/weighted.rt.
 use Rattle.std.proofs.Common.{ℕ, ℤ, List, ◌++◌, take, drop, true, refl, ap, ◌∙◌}
 use Rattle.edge_fold.specs.Folded.{waiting}
 use Rattle.edge_fold.specs.Contributions.{entries_of, row}

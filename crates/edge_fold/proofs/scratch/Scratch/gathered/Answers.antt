@@ -1,3 +1,4 @@
+-- Proofs of `gathered`, src/gathered.rt.
 use Rattle.std.proofs.Common.{ℕ, ◌<◌, ℤ, [], if◌then◌else◌, List, take, sym, ap, ◌∙◌}
 use Rattle.edge_lists.specs.Edge.{Edge}
 use Rattle.edge_fold.specs.declared.apply_context.FoldStart.TheVariants as start

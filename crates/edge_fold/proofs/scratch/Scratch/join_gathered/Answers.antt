@@ -1,3 +1,4 @@
+-- Proofs of `join_gathered`, src/gathered.rt.
 use Rattle.std.proofs.Common.{List, refl, sym, ap, ◌∙◌, subst}
 use Rattle.edge_fold.specs.declared.gathered.GatheredIn.{GatheredIn}
 use Rattle.edge_fold.specs.Gathered.{IsGatheredBy, gathered_for}

@@ -1,3 +1,4 @@
+-- Proofs of `keep_passing`, src/apply_changes.rt.
 use Rattle.edge_fold.proofs.scratch.Scratch.keep_passing.Goals as goal
 
 pub returns-in_err-keep_passing-clause-folded : goal.returns-in_err-keep_passing-clause-folded

@@ -1,3 +1,4 @@
+-- Proofs of `add_new`, src/vector_accumulators.rt.
 use Rattle.std.proofs.Common.{rules, ◌≤◌, length, arith}
 use Rattle.std.proofs.lemmas.List.{length-take-le}
 use Rattle.edge_fold.specs.declared.vector_accumulator.VectorAccumulator.{VectorAccumulator}

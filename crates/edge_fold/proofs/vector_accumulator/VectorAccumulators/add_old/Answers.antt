@@ -1,3 +1,4 @@
+-- Proofs of `add_old`, src/vector_accumulators.rt.
 use Rattle.std.proofs.Common.{rules, ◌<◌, length, arith}
 use Rattle.std.proofs.lemmas.List.{length-take-le, take_more_set}
 use Rattle.edge_fold.specs.VectorAccumulators.{active}

@@ -1,3 +1,4 @@
+-- Proofs of `fill`, src/old_entries.rt.
 use Rattle.std.proofs.Common.{rules, ℕ, ◌≤◌, [], length, take, refl, sym, ap, ◌∙◌}
 use Rattle.edge_fold.specs.declared.vector_accumulator.VectorAccumulator.{VectorAccumulator}
 use Rattle.edge_fold.specs.FoldStarts.{start_of}

@@ -1,3 +1,4 @@
+-- Proofs of `join_contribution`, src/vector_accumulators.rt.
 use Rattle.std.proofs.Common.{rules, ◌≡◌, ◌≤◌, ℕ, ℤ, false, List, [], length, refl, sym, ap, arith}
 use Rattle.edge_fold.specs.declared.vector_accumulator.VectorAccumulator.{VectorAccumulator}
 use Rattle.edge_fold.specs.Contributions.{given_from, reduced_at}

@@ -1,3 +1,4 @@
+-- Proofs of `join_gathered`, src/vector_accumulators.rt.
 use Rattle.std.proofs.Common.{◌≡◌, ◌<◌, ◌≤◌, ◌==◌, ◌++◌, ◌+◌, [], cond, length, get_or, take, sym, ap, ◌∙◌}
 use Rattle.std.proofs.lemmas.List.{take_all}
 use Rattle.edge_fold.specs.Gathered.{gathered_for, numbers_of}

@@ -1,3 +1,4 @@
+-- Proofs of `join_number`, src/vector_accumulators.rt.
 use Rattle.std.proofs.Common.{rules, ◌≤◌, ◌==◌, ℕ, ℤ, Bool, [], cond, length, FitsSigned, w64, refl, sym, ap, ◌∙◌}
 use Rattle.std.proofs.lemmas.Int.{to_z-of_z}
 use Rattle.edge_fold.specs.declared.vector_accumulator.VectorAccumulator.{VectorAccumulator}

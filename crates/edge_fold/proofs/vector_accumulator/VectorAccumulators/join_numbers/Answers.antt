@@ -1,3 +1,4 @@
+-- Proofs of `join_numbers`, src/vector_accumulators.rt.
 use Rattle.std.proofs.Common.{rules, ◌≤◌, ◌==◌, ℕ, ℤ, Bool, List, [], cond, length, refl, sym, ap, ◌∙◌}
 use Rattle.vectors.specs.declared.changes.EntryChange.{EntryChange}
 use Rattle.edge_fold.specs.declared.vector_accumulator.VectorAccumulator.{VectorAccumulator}

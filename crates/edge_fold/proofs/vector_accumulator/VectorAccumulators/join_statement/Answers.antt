@@ -1,3 +1,4 @@
+-- Proofs of `join_statement`, src/statements.rt.
 use Rattle.kernels.specs.ShapePairs.{shape_given}
 use Rattle.edge_fold.specs.Contributions.{row}
 use Rattle.edge_fold.proofs.ShapePairs.{joined_none, joined_sent, joined_weighed}

@@ -1,3 +1,4 @@
+-- Proofs of `len`, src/updates.rt.
 use Rattle.edge_updates.proofs.Weighted.{seen_length}
 use Rattle.edge_updates.proofs.updates.Updates.len.Goals as goal
 

@@ -1,3 +1,4 @@
+-- Proofs of `split_at`, src/updates.rt.
 use Rattle.std.proofs.Common.{take, drop, sym, ◌∙◌, ap, arith}
 use Rattle.std.proofs.lemmas.List.{take_min, drop_min}
 use Rattle.edge_updates.specs.Weighted.{weighted}

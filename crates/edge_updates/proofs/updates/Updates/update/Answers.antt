@@ -1,3 +1,4 @@
+-- Proofs of `update`, src/updates.rt.
 use Rattle.std.proofs.Common.{arith}
 use Rattle.edge_updates.proofs.Weighted.{seen_length, seen_thing}
 use Rattle.edge_updates.proofs.updates.Updates.update.Goals as goal

@@ -1,3 +1,4 @@
+-- Proofs of `weight`, src/updates.rt.
 use Rattle.std.proofs.Common.{◌≡◌, pos, get_or, sym, ◌∙◌, rules}
 use Rattle.std.proofs.lemmas.List.{get_or_default, get_or_past}
 use Rattle.edge_updates.proofs.Weighted.{seen_weight}

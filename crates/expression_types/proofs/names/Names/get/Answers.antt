@@ -1,3 +1,4 @@
+-- Proofs of `get`, src/names.rt.
 use Rattle.std.proofs.Common.{ap, ◌∙◌}
 use Rattle.expression_types.specs.Names.{found}
 use Rattle.expression_types.proofs.NamesLaws.{found-shown}

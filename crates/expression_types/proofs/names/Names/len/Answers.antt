@@ -1,3 +1,4 @@
+-- Proofs of `len`, src/names.rt.
 use Rattle.std.proofs.Common.{ap, sym, ◌∙◌, length}
 use Rattle.expression_types.proofs.NamesLaws.{length-shown}
 use Rattle.expression_types.proofs.names.Names.len.Goals as goal

@@ -1,3 +1,4 @@
+-- Proofs of `truncate`, src/names.rt.
 use Rattle.std.proofs.Common.{ap, ◌∙◌, take}
 use Rattle.expression_types.specs.Names.{shown}
 use Rattle.expression_types.proofs.NamesLaws.{take-shown}

@@ -1,3 +1,4 @@
+-- Proofs of `beside`, src/operands.rt.
 use Rattle.std.proofs.Common.{ap, sym, ◌∙◌}
 use Rattle.typed_tree.specs.BoolExpressionTree.{bool_expression_tree, conditions_tree}
 use Rattle.typed_tree.proofs.Chains.{conditions_tree_push}

@@ -1,3 +1,4 @@
+-- Proofs of `group`, src/operands.rt.
 use Rattle.std.proofs.Common.{ap}
 use Rattle.expression_types.specs.Operands.{conditions_of}
 use Rattle.expression_types.proofs.OperandLaws.{conditions_grouped}

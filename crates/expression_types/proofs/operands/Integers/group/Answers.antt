@@ -1,3 +1,4 @@
+-- Proofs of `group`, src/operands.rt.
 use Rattle.std.proofs.Common.{ap}
 use Rattle.expression_types.specs.Operands.{integers_of}
 use Rattle.expression_types.proofs.OperandLaws.{integers_grouped}

@@ -1,3 +1,4 @@
+-- Proofs of `block`, src/adjacency.rt.
 use Rattle.flat_snapshot.specs.Lists.{lists_in}
 use Rattle.flat_snapshot.proofs.Numbered.{few_at}
 use Rattle.flat_snapshot.proofs.adjacency.Adjacency.block.Goals as goal

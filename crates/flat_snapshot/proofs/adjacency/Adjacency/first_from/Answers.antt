@@ -1,3 +1,4 @@
+-- Proofs of `first_from`, src/adjacency.rt.
 use Rattle.std.proofs.Common.{◌≡◌, ℕ, ◌+◌, ◌*◌, ◌%◌, ◌<◌, ◌≤◌, [], length, refl, sym, ◌∙◌, ap, arith}
 use Rattle.pages.specs.Vertices.{neighbours_of}
 use Rattle.flat_snapshot.specs.Lists.{lists_in, degrees_of}

@@ -1,3 +1,4 @@
+-- Proofs of `new`, src/degrees.rt.
 use Rattle.std.proofs.Common.{ap}
 use Rattle.flat_snapshot.specs.Lists.{degrees_of}
 use Rattle.flat_snapshot.proofs.Walks.{whole_from}

@@ -1,3 +1,4 @@
+-- Proofs of `destinations`, src/flat.rt.
 use Rattle.std.proofs.Common.{◌^◌, arith}
 use Rattle.ascending_lists.proofs.MapOrder.{rises_room}
 use Rattle.flat_snapshot.specs.Lists.{degrees_of}

@@ -1,3 +1,4 @@
+-- Proofs of `of`, src/flat.rt.
 use Rattle.std.proofs.Common.{◌≡◌, ◌∙◌, ap}
 use Rattle.tree_batch.specs.Digraph.{digraph}
 use Rattle.tree_batch.specs.Neighbours.{edges_of}

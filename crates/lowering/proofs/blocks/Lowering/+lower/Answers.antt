@@ -1,3 +1,4 @@
+-- Proofs of `lower` and its mutually recursive functions, src/plan.rt.
 use Rattle.std.proofs.Common.{rules, ◌≡◌, ◌≤◌, ◌+◌, ◌∷◌, [], List, false, length, refl, ap, sym, ◌∙◌, subst, arith}
 use Rattle.std.proofs.lemmas.Result.{on_ok_weaker}
 use Rattle.typed_tree.specs.IntExpressionTree.{int_expression_tree}

@@ -1,3 +1,4 @@
+-- Proofs of `fill_jump`, src/leaves.rt.
 use Rattle.std.proofs.Common.{◌≡◌, ◌∙◌, length, subst}
 use Rattle.typed_tree.specs.ProgramTree.{program_tree}
 use Rattle.plans.specs.Instruction.{Jump}

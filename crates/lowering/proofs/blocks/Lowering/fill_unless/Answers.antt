@@ -1,3 +1,4 @@
+-- Proofs of `fill_unless`, src/leaves.rt.
 use Rattle.lowering.proofs.blocks.Lowering.fill_unless.Goals as goal
 
 pub returns : goal.returns

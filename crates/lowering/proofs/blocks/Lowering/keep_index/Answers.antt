@@ -1,3 +1,4 @@
+-- Proofs of `keep_index`, src/leaves.rt.
 use Rattle.std.proofs.Common.{◌∙◌, rules}
 use Rattle.lowering.proofs.blocks.Lowering.keep_index.Goals as goal
 

@@ -1,3 +1,4 @@
+-- Proofs of `put_bounds`, src/leaves.rt.
 use Rattle.std.proofs.Common.{◌∷◌, [], ◌∙◌, ap, subst}
 use Rattle.std.proofs.lemmas.Result.{on_ok_weaker}
 use Rattle.typed_tree.specs.BlockTree.{DeclareInteger}

@@ -1,3 +1,4 @@
+-- Proofs of `put_jump`, src/leaves.rt.
 use Rattle.std.proofs.Common.{◌≡◌, ◌++◌, ◌∷◌, [], rules}
 use Rattle.typed_tree.specs.ProgramTree.{program_tree}
 use Rattle.lowering.proofs.Putting.{puts_one}

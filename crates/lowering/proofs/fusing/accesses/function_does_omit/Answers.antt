@@ -1,3 +1,4 @@
+-- Proofs of `function_does_omit`, src/fusing/accesses.rt.
 use Rattle.std.proofs.Common.{◌∙◌, map, [], ◌∷◌}
 use Rattle.typed_tree.specs.FunctionStatementTree.{function_tree}
 use Rattle.lowering.proofs.SetsRead.{function_is_apart}

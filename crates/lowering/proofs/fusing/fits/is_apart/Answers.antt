@@ -1,3 +1,4 @@
+-- Proofs of `is_apart`, src/fusing/fits.rt.
 use Rattle.std.proofs.Common.{◌∙◌}
 use Rattle.typed_tree.specs.ProgramTree.{program_tree}
 use Rattle.plans.specs.Parts.{edge_apply_tree}

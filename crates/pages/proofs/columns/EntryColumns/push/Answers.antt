@@ -1,3 +1,4 @@
+-- Proofs of `push`, src/columns.rt.
 use Rattle.std.proofs.Common.{◌≡◌, ℤ, pos, w64, List, [], ◌∷◌, ◌++◌, length, take, sym, ◌∙◌, ap, arith}
 use Rattle.std.proofs.lemmas.Int.{to_z-of_z}
 use mir.Val.{to_z, of_z}

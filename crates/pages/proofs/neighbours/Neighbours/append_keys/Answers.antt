@@ -1,3 +1,4 @@
+-- Proofs of `append_keys`, src/neighbours.rt.
 use Rattle.std.proofs.Common.{arith}
 use Rattle.pages.proofs.Decoding.{entry_count}
 use Rattle.pages.proofs.neighbours.Neighbours.append_keys.Goals as goal

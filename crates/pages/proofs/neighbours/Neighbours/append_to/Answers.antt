@@ -1,3 +1,4 @@
+-- Proofs of `append_to`, src/neighbours.rt.
 use Rattle.std.proofs.Common.{◌≡◌, ℕ, ℤ, ◌+◌, ◌-◌, List, ◌++◌, length, take, drop, sym, ◌∙◌, ap, arith, ◌≤◌, length-append, length-drop}
 use Rattle.std.proofs.lemmas.List.{length-map, length-take-le}
 use Rattle.std.specs.Map.{keys_of, values_of}

@@ -1,3 +1,4 @@
+-- Proofs of `contains`, src/neighbours.rt.
 use Rattle.std.proofs.Common.{ℕ, ◌+◌, ◌-◌, ◌/◌, ◌∙◌, sym, arith}
 use Rattle.std.specs.Map.{keys_of}
 use Rattle.ascending_lists.proofs.Cutting.{rises}

@@ -1,3 +1,4 @@
+-- Proofs of `cut`, src/neighbours.rt.
 use Rattle.std.proofs.Common.{ℕ, ◌+◌, ◌-◌, ◌/◌, arith}
 use Rattle.ascending_lists.proofs.Cutting.{rises}
 use Rattle.pages.proofs.Ascent.{rises_strictly}

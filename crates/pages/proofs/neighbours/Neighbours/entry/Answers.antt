@@ -1,3 +1,4 @@
+-- Proofs of `entry`, src/neighbours.rt.
 use Rattle.std.proofs.Common.{◌≡◌, ℕ, ℤ, pos, get_or, w64, ◌∙◌, rules}
 use Rattle.std.proofs.lemmas.Int.{to_z-of_z}
 use Rattle.std.proofs.lemmas.List.{get_or-map}

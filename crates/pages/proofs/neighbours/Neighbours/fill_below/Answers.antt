@@ -1,3 +1,4 @@
+-- Proofs of `fill_below`, src/neighbours.rt.
 use Rattle.std.proofs.Common.{◌≡◌, ℕ, ◌-◌, ◌<◌, List, reverse, length, get_or, take, refl, ◌∙◌, ap, arith}
 use Rattle.std.proofs.lemmas.List.{length-reverse, length-take-le}
 use Rattle.std.specs.Map.{keys_of}

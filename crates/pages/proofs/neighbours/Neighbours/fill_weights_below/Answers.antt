@@ -1,3 +1,4 @@
+-- Proofs of `fill_weights_below`, src/neighbours.rt.
 use Rattle.std.proofs.Common.{reverse, length, ◌∙◌, ap, arith}
 use Rattle.std.specs.Map.{values_of}
 use Rattle.std.proofs.lemmas.List.{length-map}

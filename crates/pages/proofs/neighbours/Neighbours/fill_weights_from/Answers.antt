@@ -1,3 +1,4 @@
+-- Proofs of `fill_weights_from`, src/neighbours.rt.
 use Rattle.std.proofs.Common.{◌≡◌, ◌+◌, ◌-◌, ◌*◌, length, drop, ◌∙◌, ap, arith}
 use Rattle.std.proofs.lemmas.Grind.{common_steps}
 use Rattle.pages.specs.inside.Weights.{weight_size, weights_from}

@@ -1,3 +1,4 @@
+-- Proofs of `get`, src/neighbours.rt.
 use Rattle.std.proofs.Common.{Some, w64, sym, ◌∙◌, ap, arith, rules}
 use Rattle.std.proofs.lemmas.Int.{to_z-of_z}
 use mir.Val.{SFits}

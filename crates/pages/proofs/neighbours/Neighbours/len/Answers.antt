@@ -1,3 +1,4 @@
+-- Proofs of `len`, src/neighbours.rt.
 use Rattle.std.proofs.Common.{sym}
 use Rattle.std.specs.Map.{keys_of}
 use Rattle.pages.proofs.Decoding.{ascending, keys_seen, entry_count}

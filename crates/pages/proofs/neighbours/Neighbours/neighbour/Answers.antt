@@ -1,3 +1,4 @@
+-- Proofs of `neighbour`, src/neighbours.rt.
 use Rattle.std.proofs.Common.{◌≡◌, ℕ, ◌+◌, ◌-◌, ◌∙◌, get_or, ap, arith}
 use Rattle.std.specs.Map.{keys_of}
 use Rattle.pages.proofs.Decoding.{room_at, read_at, read_first, keys_seen, keys_long}

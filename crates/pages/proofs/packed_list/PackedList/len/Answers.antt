@@ -1,3 +1,4 @@
+-- Proofs of `len`, src/packed_list.rt.
 use Rattle.std.proofs.Common.{◌-◌, ◌*◌, ◌^◌, take, drop, sym}
 use Rattle.std.specs.Map.{keys_of}
 use Rattle.pages.specs.inside.Numbers.{number_of}

@@ -1,3 +1,4 @@
+-- Proofs of `lend`, src/packed_list.rt.
 use Rattle.std.proofs.lemmas.List.{take_rest}
 use Rattle.pages.proofs.PackedLists.{lent_view}
 use Rattle.pages.proofs.packed_list.PackedList.lend.Goals as goal

@@ -1,3 +1,4 @@
+-- Proofs of `new`, src/packed_list.rt.
 use Rattle.std.proofs.Common.{◌≡◌, ◌++◌, ◌-◌, length, take, drop, arith, ap}
 use Rattle.ascending_lists.proofs.Cutting.{rises}
 use Rattle.pages.proofs.Extending.{written_back}

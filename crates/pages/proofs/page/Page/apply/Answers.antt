@@ -1,3 +1,4 @@
+-- Proofs of `apply`, src/applying.rt.
 use Rattle.std.proofs.Common.{◌≡◌, ◌≢◌, ℕ, ◌%◌, [], ◌++◌, slice_range, sym, ◌∙◌, ap, arith}
 use Rattle.pages.specs.Vertices.{neighbours_of, count_below}
 use Rattle.pages.specs.Updates.{updated, updates_of}

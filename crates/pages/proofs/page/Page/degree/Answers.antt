@@ -1,3 +1,4 @@
+-- Proofs of `degree`, src/page.rt.
 use Rattle.std.proofs.Common.{◌<◌, length, sym, ◌∙◌, ap, arith}
 use Rattle.pages.specs.inside.Entries.{lists_in}
 use Rattle.pages.proofs.Ranks.{ranked, unmarked}

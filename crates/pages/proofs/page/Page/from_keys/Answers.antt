@@ -1,3 +1,4 @@
+-- Proofs of `from_keys`, src/loading.rt.
 use Rattle.std.proofs.Common.{◌≡◌, ◌/◌, ◌%◌, ◌^◌, map, length, take, refl, ◌∙◌, ap, arith}
 use Rattle.std.proofs.lemmas.List.{length-take-le, nil_from_length}
 use Rattle.pages.proofs.Loads.{nothing_loaded, list_long, list_few, list_ascends, page_below, loaded_more, all_loaded}

@@ -1,3 +1,4 @@
+-- Proofs of `index`, src/page.rt.
 use Rattle.pages.proofs.Storing.{is_page}
 use Rattle.pages.proofs.page.Page.index.Goals as goal
 

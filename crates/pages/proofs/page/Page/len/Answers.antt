@@ -1,3 +1,4 @@
+-- Proofs of `len`, src/page.rt.
 use Rattle.std.proofs.Common.{length, ap, arith}
 use Rattle.pages.proofs.Storing.{is_page, lists_length}
 use Rattle.pages.proofs.page.Page.len.Goals as goal

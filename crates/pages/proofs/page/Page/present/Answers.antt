@@ -1,3 +1,4 @@
+-- Proofs of `present`, src/page.rt.
 use Rattle.pages.specs.inside.Entries.{lists_in}
 use Rattle.pages.proofs.Ranks.{unmarked}
 use Rattle.pages.proofs.page.Page.present.Goals as goal

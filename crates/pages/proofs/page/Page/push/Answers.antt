@@ -1,3 +1,4 @@
+-- Proofs of `push`, src/page.rt.
 use Rattle.std.proofs.Common.{length, ap, arith}
 use Rattle.ascending_lists.specs.Maps.{Rises}
 use Rattle.edge_updates.specs.Weighted.{weighted}

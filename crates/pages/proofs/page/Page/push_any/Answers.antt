@@ -1,3 +1,4 @@
+-- Proofs of `push_any`, src/applying.rt.
 use Rattle.std.proofs.Common.{◌<◌, ◌++◌, length, ◌∙◌, ap, arith}
 use Rattle.std.proofs.lemmas.Grind.{common_steps}
 use Rattle.edge_updates.specs.Weighted.{weighted}

@@ -1,3 +1,4 @@
+-- Proofs of `push_run`, src/page.rt.
 use Rattle.std.proofs.Common.{◌≡◌, ℕ, ◌-◌, List, ◌++◌, length, take, drop, slice_range, refl, ◌∙◌, ap, arith, length-append, length-drop, ℤ}
 use Rattle.std.proofs.lemmas.List.{length-take}
 use Rattle.pages.specs.declared.entry.ListEntry.{ListEntry}

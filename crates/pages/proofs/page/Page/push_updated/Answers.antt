@@ -1,3 +1,4 @@
+-- Proofs of `push_updated`, src/applying.rt.
 use Rattle.std.proofs.Common.{◌++◌, length, slice_range, sym, ◌∙◌, ap, subst, arith}
 use Rattle.std.specs.Map.{keys_of}
 use Rattle.ascending_lists.specs.Ascending.{AscendsFrom}

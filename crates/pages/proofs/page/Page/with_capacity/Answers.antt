@@ -1,3 +1,4 @@
+-- Proofs of `with_capacity`, src/page.rt.
 use Rattle.std.proofs.Common.{arith}
 use Rattle.pages.proofs.Ranks.{index_none}
 use Rattle.pages.proofs.page.Page.with_capacity.Goals as goal

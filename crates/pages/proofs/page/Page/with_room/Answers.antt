@@ -1,3 +1,4 @@
+-- Proofs of `with_room`, src/page.rt.
 use Rattle.pages.proofs.Storing.{is_page}
 use Rattle.pages.proofs.page.Page.with_room.Goals as goal
 

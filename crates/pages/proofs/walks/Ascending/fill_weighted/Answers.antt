@@ -1,3 +1,4 @@
+-- Proofs of `fill_weighted`, src/walks.rt.
 use Rattle.std.proofs.Common.{arith}
 use Rattle.pages.proofs.Filling.{filled_up}
 use Rattle.pages.proofs.walks.Ascending.fill_weighted.Goals as goal

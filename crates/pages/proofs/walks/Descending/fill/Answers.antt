@@ -1,3 +1,4 @@
+-- Proofs of `fill`, src/walks.rt.
 use Rattle.std.proofs.Common.{arith}
 use Rattle.pages.proofs.Filling.{filled_down, left_down}
 use Rattle.pages.proofs.walks.Descending.fill.Goals as goal

@@ -1,3 +1,4 @@
+-- Proofs of `fill_weighted`, src/walks.rt.
 use Rattle.std.proofs.Common.{arith}
 use Rattle.pages.proofs.Filling.{filled_down, left_down}
 use Rattle.pages.proofs.walks.Descending.fill_weighted.Goals as goal

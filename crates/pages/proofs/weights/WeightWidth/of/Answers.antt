@@ -1,3 +1,4 @@
+-- Proofs of `of`, src/weights.rt.
 use Rattle.std.proofs.Common.{◌≡◌, ℕ, ◌+◌, ◌<◌, ℤ, pos, ◌≤ℤ◌, get_or, w64, int_cmp, ◌⊎◌, subst, refl, sym, inl, inr, ◌∙◌, ap, arith, rules}
 use Rattle.std.specs.Ordering.{ord_min, ord_max}
 use Rattle.std.specs.Int.{int_min, int_max}

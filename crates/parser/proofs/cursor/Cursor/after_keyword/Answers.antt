@@ -1,3 +1,4 @@
+-- Proofs of `after_keyword`, src/cursor.rt.
 use Rattle.std.proofs.Common.{rules}
 use Rattle.parser.proofs.Keywords.{no_keyword, none_behind, is_keyword, some_behind}
 use Rattle.parser.proofs.cursor.Cursor.after_keyword.Goals as goal

@@ -1,3 +1,4 @@
+-- Proofs of `expression`, src/front.rt.
 use Rattle.syntax.specs.SourceReading.{expression}
 use Rattle.parser.proofs.cursor.Cursor.expression.Goals as goal
 

@@ -1,3 +1,4 @@
+-- Proofs of `put_below`, src/statements.rt.
 use Rattle.std.proofs.Common.{◌∷◌, [], ◌++◌, codes, ap, ◌∙◌}
 use Rattle.std.proofs.lemmas.Result.{on_ok_weaker}
 use Rattle.typed_tree.specs.ProgramTree.{program_tree}

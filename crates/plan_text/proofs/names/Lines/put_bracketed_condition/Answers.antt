@@ -1,3 +1,4 @@
+-- Proofs of `put_bracketed_condition`, src/statements.rt.
 use Rattle.std.proofs.Common.{◌∷◌, [], ◌++◌, ap, ◌∙◌}
 use Rattle.std.proofs.lemmas.Result.{on_ok_weaker}
 use Rattle.typed_tree.specs.BoolExpressionTree.{bool_expression_tree}

@@ -1,3 +1,4 @@
+-- Proofs of `of`, src/kernels_at.rt.
 use Rattle.std.proofs.Common.{rules, map}
 use Rattle.typed_tree.specs.FunctionStatementTree.{NoStep, function_tree}
 use Rattle.plans.proofs.Pairwise.{pairwise_at}

@@ -1,3 +1,4 @@
+-- Proofs of `word`, src/destination_words.rt.
 use Rattle.std.proofs.Common.{◌-◌, ◌*◌, sym, ap, ◌∙◌, arith}
 use Rattle.std.proofs.lemmas.Nat.Bits.{bit_at_ones}
 use Rattle.pull_engine.specs.Lets.{lets}

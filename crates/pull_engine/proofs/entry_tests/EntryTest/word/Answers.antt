@@ -1,3 +1,4 @@
+-- Proofs of `word`, src/entry_tests.rt.
 use Rattle.std.proofs.Common.{rules, ◌≡◌, ◌+◌, ◌*◌, ℤ, FitsSigned, to_z, of_z, w64, ap, ◌∙◌, arith}
 use Rattle.std.proofs.lemmas.Int.{to_z-of_z}
 use Rattle.algorithm_meaning.specs.Arithmetic.{compared}

@@ -1,3 +1,4 @@
+-- Proofs of `degree`, src/in_degrees.rt.
 use Rattle.std.proofs.Common.{◌≡◌, ◌+◌, ◌<◌, sym, ◌∙◌, arith}
 use Rattle.std.proofs.lemmas.List.FromFn.{get_or-map-range_with_len, length-map-range_with_len}
 use Rattle.pull_engine.proofs.DegreeTotals.{degree, few_edges}

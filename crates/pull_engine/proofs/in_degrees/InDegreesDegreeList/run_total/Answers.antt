@@ -1,3 +1,4 @@
+-- Proofs of `run_total`, src/in_degrees.rt.
 use Rattle.std.proofs.Common.{◌≡◌, ◌+◌, ◌-◌, ◌*◌, min, ap₂, ◌∙◌, arith}
 use Rattle.std.proofs.lemmas.List.FromFn.{length-map-range_with_len}
 use Rattle.crew.proofs.DegreeRows.{run_below, run_weight}

@@ -1,3 +1,4 @@
+-- Proofs of `total`, src/in_degrees.rt.
 use Rattle.std.proofs.Common.{◌+◌, ap₂, ◌∙◌, arith}
 use Rattle.pull_engine.proofs.DegreeTotals.{few_edges, whole_total}
 use Rattle.pull_engine.proofs.in_degrees.InDegreesDegreeList.total.Goals as goal

@@ -1,3 +1,4 @@
+-- Proofs of `piece`, src/pieces.rt.
 use Rattle.std.proofs.Common.{ℕ, List, Option, Some, IfSome, sym, subst}
 use Rattle.std.proofs.lemmas.Result.{IfOk-weaker}
 use Rattle.apply_options.specs.declared.reduction.Reduction.{Reduction}

@@ -1,3 +1,4 @@
+-- Proofs of `fold_chunked`, src/source_folds.rt.
 use Rattle.std.proofs.Common.{rules, FitsSigned, w64, ℕ, ℤ, pos, List, ap, sym, ◌∙◌}
 use Rattle.std.specs.List.{filter}
 use Rattle.std.specs.Map.{keys_of}

@@ -1,3 +1,4 @@
+-- Proofs of `fold_packed`, src/source_folds.rt.
 use Rattle.std.proofs.Common.{rules, FitsSigned, w64, ℤ, pos, ap, sym, ◌∙◌}
 use Rattle.std.specs.List.{filter}
 use Rattle.std.specs.Map.{keys_of}

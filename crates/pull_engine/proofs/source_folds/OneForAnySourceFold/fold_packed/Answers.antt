@@ -1,3 +1,4 @@
+-- Proofs of `fold_packed`, src/source_folds.rt.
 use Rattle.std.proofs.Common.{rules, FitsSigned, to_z, of_z, w64, ℤ, ap, sym, ◌∙◌}
 use Rattle.std.specs.List.{filter}
 use Rattle.std.specs.Map.{keys_of}

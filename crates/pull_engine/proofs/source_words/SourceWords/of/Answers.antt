@@ -1,3 +1,4 @@
+-- Proofs of `of`, src/source_words.rt.
 use Rattle.std.proofs.Common.{Option, sym, ◌∙◌, subst}
 use Rattle.kernels.specs.declared.endpoint_filter.EndpointFilter.{EndpointFilter}
 use Rattle.edge_fold.specs.Ends.{IsEndTest, IsTest}

@@ -1,3 +1,4 @@
+-- Proofs of `words`, src/source_words.rt.
 use Rattle.std.proofs.Common.{ap, sym, ◌∙◌, subst}
 use Rattle.pull_engine.specs.Sources.{AreInBits, is_source}
 use Rattle.pull_engine.specs.declared.source_words.SourceWords.{SourceWords}

@@ -1,3 +1,4 @@
+-- Proofs of `destinations`, src/pieces.rt.
 use Rattle.std.proofs.Common.{◌≡◌, ℕ, Bool, Option, IfSome, subst}
 use Rattle.kernels.specs.EdgeApply.{is_member}
 use Rattle.kernels.specs.State.{StateValue}

@@ -1,3 +1,4 @@
+-- Proofs of `for_workers`, src/work.rt.
 use Rattle.std.proofs.Common.{rules}
 use Rattle.edge_apply.specs.Words.{passes_words}
 use Rattle.pull_engine.specs.Sources.{is_source}

@@ -1,3 +1,4 @@
+-- Proofs of `gather_piece`, src/pieces.rt.
 use Rattle.std.proofs.Common.{◌≡◌, ◌-◌, ℕ, true, List, slice_range, refl, sym, ap, ◌∙◌, subst}
 use Rattle.std.specs.List.{filter, range_with_len}
 use Rattle.edge_lists.specs.Edge.{Edge}

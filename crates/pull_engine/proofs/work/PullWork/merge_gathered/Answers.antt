@@ -1,3 +1,4 @@
+-- Proofs of `merge_gathered`, src/pieces.rt.
 use Rattle.std.proofs.Common.{ℕ, true, List, refl, sym, ap, ◌∙◌, subst, arith}
 use Rattle.std.specs.List.{filter, range_with_len}
 use Rattle.std.proofs.lemmas.List.FromFn.{length-range_with_len}

@@ -1,3 +1,4 @@
+-- Proofs of `pull_piece`, src/pieces.rt.
 use Rattle.std.proofs.Common.{◌-◌, ℕ, ℤ, List, sym, ap, ◌∙◌, subst}
 use Rattle.std.proofs.lemmas.Result.{IfOk-weaker}
 use Rattle.edge_lists.specs.Edge.{Edge}

@@ -1,3 +1,4 @@
+-- Proofs of `range`, src/pieces.rt.
 use Rattle.std.proofs.Common.{refl}
 use Rattle.pull_engine.proofs.work.PullWork.range.Goals as goal
 

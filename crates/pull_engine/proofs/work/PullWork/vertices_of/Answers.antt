@@ -1,3 +1,4 @@
+-- Proofs of `vertices_of`, src/pieces.rt.
 use Rattle.std.proofs.Common.{arith}
 use Rattle.edge_apply.proofs.Listed.{piece_inside}
 use Rattle.pull_engine.proofs.work.PullWork.vertices_of.Goals as goal

@@ -1,3 +1,4 @@
+-- Proofs of `neighbour`, src/list_entries.rt.
 use Rattle.std.proofs.Common.{pos, sym, ◌∙◌}
 use Rattle.edge_fold.proofs.WeightColumns.{first_at}
 use Rattle.push_engine.proofs.list_entries.ListEntriesNeighbourEntries.neighbour.Goals as goal

@@ -1,3 +1,4 @@
+-- Proofs of `piece`, src/pieces.rt.
 use Rattle.std.proofs.Common.{true, refl}
 use Rattle.crew.specs.Partition.{piece_of}
 use Rattle.edge_apply.specs.Words.{is_set}

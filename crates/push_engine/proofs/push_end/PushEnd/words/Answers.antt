@@ -1,3 +1,4 @@
+-- Proofs of `words`, src/push_end.rt.
 use Rattle.std.proofs.Common.{sym, ap, ◌∙◌, subst}
 use Rattle.push_engine.specs.declared.push_end.PushEnd.{PushEnd}
 use Rattle.push_engine.specs.PushEnds.{IsInBits, passes_bits}

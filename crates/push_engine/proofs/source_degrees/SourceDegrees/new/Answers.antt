@@ -1,3 +1,4 @@
+-- Proofs of `new`, src/source_degrees.rt.
 use Rattle.std.proofs.Common.{◌≡◌, ℕ, ◌+◌, ◌*◌, ◌<◌, ◌≤◌, List, [], ◌∷◌, length, slice_range, take, ap, ◌∙◌, arith, length-append}
 use Rattle.std.proofs.lemmas.List.{length-map, take_all}
 use Rattle.crew.specs.Limits.{weight}

@@ -1,3 +1,4 @@
+-- Proofs of `destination_words`, src/pieces.rt.
 use Rattle.std.proofs.Common.{◌≡◌, ℕ, ◌<◌, Bool, Option, IfSome, ◌∙◌, subst}
 use Rattle.std.proofs.lemmas.Option.{IfSome_then}
 use Rattle.kernels.specs.EdgeApply.{is_member}

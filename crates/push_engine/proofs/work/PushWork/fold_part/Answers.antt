@@ -1,3 +1,4 @@
+-- Proofs of `fold_part`, src/pieces.rt.
 use Rattle.std.proofs.Common.{[], sym, ap}
 use Rattle.std.specs.List.{filter}
 use Rattle.edge_fold.proofs.Walks.{folded_along}

@@ -1,3 +1,4 @@
+-- Proofs of `gather_piece`, src/pieces.rt.
 use Rattle.std.proofs.Common.{◌-◌, ℕ, List, length, slice_range, ap, ◌∙◌, subst, arith}
 use Rattle.std.specs.List.{filter}
 use Rattle.crew.specs.Partition.{end_of, piece_of}

@@ -1,3 +1,4 @@
+-- Proofs of `merge`, src/pieces.rt.
 use Rattle.std.proofs.Common.{ℕ, true, List, refl, sym, ap, ◌∙◌, subst, arith}
 use Rattle.std.specs.List.{filter}
 use Rattle.edge_lists.specs.Edge.{Edge}

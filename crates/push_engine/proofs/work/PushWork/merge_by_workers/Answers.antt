@@ -1,3 +1,4 @@
+-- Proofs of `merge_by_workers`, src/pieces.rt.
 use Rattle.std.proofs.Common.{◌∙◌}
 use Rattle.std.proofs.lemmas.Result.{IfOk-weaker}
 use Rattle.crew.specs.Pieces.{pieces_of}

@@ -1,3 +1,4 @@
+-- Proofs of `flush`, src/reply_writer.rt.
 use Rattle.std.proofs.Common.{refl, subst}
 use Rattle.devices.specs.Drain.{TakesPart}
 use Rattle.replies.proofs.SendingLaws.{part_of_write}

@@ -1,3 +1,4 @@
+-- Proofs of `send_bytes`, src/reply_writer.rt.
 use Rattle.std.proofs.Common.{[], ap}
 use Rattle.replies.proofs.SendingLaws.{sends_none, lacks_memory, emits_failed}
 use Rattle.replies.proofs.reply_writer.ReplyWriter.send_bytes.Goals as goal

@@ -1,3 +1,4 @@
+-- Proofs of `send_edges`, src/reply_writer.rt.
 use Rattle.std.proofs.Common.{◌≡◌, [], ◌∷◌, ◌++◌, ◌∙◌, length, codes, sym, ap, append_assoc}
 use Rattle.std.specs.List.{flat_map}
 use Rattle.replies.specs.ReplyText.{word_line, edge_line}

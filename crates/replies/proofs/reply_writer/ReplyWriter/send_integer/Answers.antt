@@ -1,3 +1,4 @@
+-- Proofs of `send_integer`, src/outcome_text.rt.
 use Rattle.std.proofs.Common.{[], ap, ◌∷◌}
 use Rattle.std.specs.Fmt.{signed_decimal}
 use Rattle.replies.proofs.SendingLaws.{lacks_memory, fails_more, emits_failed}

@@ -1,3 +1,4 @@
+-- Proofs of `send_integers`, src/outcome_text.rt.
 use Rattle.std.proofs.Common.{rules, ◌≡◌, get_or, to_z, of_z, w64, ◌≤◌, ◌<◌, length, subst, arith, pos, ◌∷◌}
 use Rattle.std.proofs.lemmas.List.{take_all}
 use Rattle.std.specs.List.{flat_map}

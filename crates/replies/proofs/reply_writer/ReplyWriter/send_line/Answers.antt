@@ -1,3 +1,4 @@
+-- Proofs of `send_line`, src/reply_writer.rt.
 use Rattle.std.proofs.Common.{[], ap}
 use Rattle.replies.specs.ReplyText.{line_text}
 use Rattle.replies.proofs.SendingLaws.{lacks_memory, fails_more, emits_failed}

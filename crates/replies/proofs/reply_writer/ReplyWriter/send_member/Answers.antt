@@ -1,3 +1,4 @@
+-- Proofs of `send_member`, src/outcome_text.rt.
 use Rattle.std.proofs.Common.{[], ap, ◌∷◌, decimal}
 use Rattle.replies.proofs.SendingLaws.{lacks_memory, fails_more, emits_failed}
 use Rattle.replies.proofs.reply_writer.ReplyWriter.send_member.Goals as goal

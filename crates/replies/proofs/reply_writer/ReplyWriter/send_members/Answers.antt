@@ -1,3 +1,4 @@
+-- Proofs of `send_members`, src/outcome_text.rt.
 use Rattle.std.proofs.Common.{◌≤◌, ◌<◌, length, refl, subst, arith, ◌∷◌, decimal}
 use Rattle.std.proofs.lemmas.List.{take_all}
 use Rattle.std.specs.List.{flat_map}

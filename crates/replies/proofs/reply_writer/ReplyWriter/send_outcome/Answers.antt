@@ -1,3 +1,4 @@
+-- Proofs of `send_outcome`, src/outcome_text.rt.
 use Rattle.std.proofs.Common.{◌++◌, refl, sym, ap}
 use Rattle.std.specs.List.{flat_map}
 use Rattle.replies.specs.OutcomeText.{end_line, vector_line, set_line}

@@ -1,3 +1,4 @@
+-- Proofs of `send_set`, src/outcome_text.rt.
 use Rattle.std.proofs.Common.{[], ◌∷◌, ◌++◌, codes, refl, ap, decimal}
 use Rattle.std.specs.List.{flat_map}
 use Rattle.replies.proofs.SendingLaws.{emits_next, emits_stopped}

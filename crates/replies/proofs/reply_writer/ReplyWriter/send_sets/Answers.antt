@@ -1,3 +1,4 @@
+-- Proofs of `send_sets`, src/outcome_text.rt.
 use Rattle.std.proofs.Common.{◌≤◌, ◌<◌, length, subst, arith}
 use Rattle.std.proofs.lemmas.List.{take_all}
 use Rattle.std.specs.List.{flat_map}

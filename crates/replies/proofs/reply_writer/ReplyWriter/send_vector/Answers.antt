@@ -1,3 +1,4 @@
+-- Proofs of `send_vector`, src/outcome_text.rt.
 use Rattle.std.proofs.Common.{[], ◌∷◌, ◌++◌, codes, refl, ap}
 use Rattle.std.specs.List.{flat_map}
 use Rattle.std.specs.Fmt.{signed_decimal}

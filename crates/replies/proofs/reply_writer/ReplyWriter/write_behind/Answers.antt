@@ -1,3 +1,4 @@
+-- Proofs of `write_behind`, src/reply_writer.rt.
 use Rattle.std.proofs.Common.{[], ◌∙◌, refl, sym, ap, subst}
 use Rattle.replies.specs.Sending.{Sends}
 use Rattle.replies.proofs.SendingLaws.{fails_more, sends_written, fails_written, emits_failed}

@@ -1,3 +1,4 @@
+-- Proofs of `get`, src/named_sets.rt.
 use Rattle.std.proofs.Common.{◌<◌, ◌≤◌, length, slice_get, refl, ap, sym, arith, ◌∙◌}
 use Rattle.std.proofs.lemmas.Option.{slice_get_past, slice_get_read}
 use Rattle.algorithm_meaning.specs.Value.{members_of}

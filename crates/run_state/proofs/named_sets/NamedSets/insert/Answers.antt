@@ -1,3 +1,4 @@
+-- Proofs of `insert`, src/named_sets.rt.
 use Rattle.std.proofs.Common.{◌≡◌, ℕ, ◌+◌, ◌<◌, List, length, slice_get, FitsSigned, w64, rules, refl, ap, subst, sym, ◌∙◌, arith, get_or-set_same}
 use Rattle.std.proofs.lemmas.Int.{to_z-of_z}
 use Rattle.std.proofs.lemmas.Option.{slice_get_read}

@@ -1,3 +1,4 @@
+-- Proofs of `len`, src/named_sets.rt.
 use Rattle.std.proofs.Common.{length, ap, ◌∙◌}
 use Rattle.run_state.specs.State.{RunState}
 use Rattle.run_state.proofs.Named.{named_length}

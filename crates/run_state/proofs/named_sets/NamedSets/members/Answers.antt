@@ -1,3 +1,4 @@
+-- Proofs of `members`, src/named_sets.rt.
 use Rattle.std.proofs.Common.{List, slice_get, ap, ◌∙◌}
 use Rattle.algorithm_meaning.specs.Value.{members_of}
 use Rattle.vertex_sets.specs.VertexSet.{VertexSubset}

@@ -1,3 +1,4 @@
+-- Proofs of `open`, src/named_sets.rt.
 use Rattle.std.proofs.Common.{[], refl, ap, sym, ◌∙◌}
 use Rattle.algorithm_meaning.specs.State.{GraphValue}
 use Rattle.vertex_sets.specs.VertexSet.{VertexSubset}

@@ -1,3 +1,4 @@
+-- Proofs of `push`, src/named_sets.rt.
 use Rattle.std.proofs.Common.{◌≡◌, ℕ, List, [], ◌∷◌, ◌++◌, FitsSigned, w64, rules, ap, ap₂, subst, sym, ◌∙◌}
 use Rattle.std.proofs.lemmas.Int.{to_z-of_z}
 use Rattle.algorithm_meaning.specs.VertexSets.{with_new_set}

@@ -1,3 +1,4 @@
+-- Proofs of `replace`, src/named_sets.rt.
 use Rattle.std.proofs.Common.{◌≡◌, ℕ, ◌+◌, ◌<◌, length, FitsSigned, w64, rules, ap, subst, sym, ◌∙◌, arith}
 use Rattle.std.proofs.lemmas.Int.{to_z-of_z}
 use Rattle.algorithm_meaning.specs.VertexSets.{with_members}

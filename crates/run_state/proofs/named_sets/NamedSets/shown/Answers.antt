@@ -1,3 +1,4 @@
+-- Proofs of `shown`, src/named_sets.rt.
 use Rattle.std.proofs.Common.{◌≡◌, ℕ, List, IfOk, map, take, ap, ap₂, subst, ◌∙◌}
 use Rattle.algorithm_meaning.specs.declared.outcome.NamedSet.{NamedSet}
 use Rattle.algorithm_meaning.specs.Shown.{named_set}

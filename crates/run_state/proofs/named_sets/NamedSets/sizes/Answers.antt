@@ -1,3 +1,4 @@
+-- Proofs of `sizes`, src/named_sets.rt.
 use Rattle.std.proofs.Common.{ap, sym, ◌∙◌}
 use Rattle.run_state.specs.inside.NamedSets.{sizes_of}
 use Rattle.run_state.specs.State.{RunState}

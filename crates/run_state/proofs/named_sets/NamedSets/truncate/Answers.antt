@@ -1,3 +1,4 @@
+-- Proofs of `truncate`, src/named_sets.rt.
 use Rattle.std.proofs.Common.{List, ℕ, ap, ap₂, ◌∙◌}
 use Rattle.vertex_sets.specs.VertexSet.{VertexSubset}
 use Rattle.run_state.specs.inside.NamedSets.{named, sets_alone, with_first_sets}

@@ -1,3 +1,4 @@
+-- Proofs of `update_sets`, src/named_sets.rt.
 use Rattle.std.proofs.Common.{subst, sym}
 use Rattle.run_state.specs.State.{RunState}
 use Rattle.run_state.specs.SetUpdate.{IsUpdateOf}

@@ -1,3 +1,4 @@
+-- Proofs of `vertices`, src/named_sets.rt.
 use Rattle.std.proofs.Common.{subst}
 use Rattle.run_state.specs.inside.NamedSets.{AreAscending}
 use Rattle.run_state.specs.State.{RunState}

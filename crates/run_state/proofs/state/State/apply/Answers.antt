@@ -1,3 +1,4 @@
+-- Proofs of `apply`, src/state.rt.
 use Rattle.std.proofs.Common.{ℕ, ℤ, List, slice_get, refl, ap, ap₂, sym, subst, ◌∙◌}
 use Rattle.algorithm_meaning.specs.Entries.{with_vectors}
 use Rattle.algorithm_meaning.specs.State.{StateValue}

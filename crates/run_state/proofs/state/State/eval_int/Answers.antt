@@ -1,3 +1,4 @@
+-- Proofs of `eval_int`, src/state.rt.
 use Rattle.std.proofs.Common.{ℕ, ap, ◌∙◌}
 use Rattle.std.proofs.lemmas.Result.{IfOk-weaker}
 use Rattle.algorithm_meaning.specs.Stand.{number_in}

@@ -1,3 +1,4 @@
+-- Proofs of `main_state`, src/state.rt.
 use Rattle.std.proofs.Common.{slice_get, take, ap, sym, ◌∙◌}
 use Rattle.algorithm_meaning.specs.Value.{members_of}
 use Rattle.run_state.specs.inside.NamedSets.{size_of}

@@ -1,3 +1,4 @@
+-- Proofs of `open`, src/state.rt.
 use Rattle.std.proofs.Common.{◌≡◌, ℕ, ℤ, List, length, map, replicate, ap, sym, ◌∙◌}
 use Rattle.run_state.specs.State.{RunState, graph_value}
 use Rattle.run_state.proofs.Lengths.{opened_lengths}

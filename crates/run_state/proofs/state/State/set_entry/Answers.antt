@@ -1,3 +1,4 @@
+-- Proofs of `set_entry`, src/state.rt.
 use Rattle.std.proofs.Common.{sym, subst}
 use Rattle.vectors.specs.Vectors.{VectorsValue}
 use Rattle.run_state.specs.inside.NamedSets.{HaveLength}

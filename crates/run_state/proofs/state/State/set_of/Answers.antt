@@ -1,3 +1,4 @@
+-- Proofs of `set_of`, src/state.rt.
 use Rattle.std.proofs.Common.{ℤ, List, slice_get, refl, ap, sym, subst, ◌∙◌}
 use Rattle.std.specs.List.{filter}
 use Rattle.typed_tree.specs.ProgramTree.{ProgramTree}

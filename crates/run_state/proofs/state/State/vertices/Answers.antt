@@ -1,3 +1,4 @@
+-- Proofs of `vertices`, src/state.rt.
 use Rattle.std.proofs.Common.{subst}
 use Rattle.run_state.specs.State.{IsRunState}
 use Rattle.run_state.proofs.Runs.{is_run_state}

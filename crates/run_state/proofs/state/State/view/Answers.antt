@@ -1,3 +1,4 @@
+-- Proofs of `view`, src/state.rt.
 use Rattle.std.proofs.Common.{ℤ, List, slice_get, ap, sym, subst, ◌∙◌, arith}
 use Rattle.algorithm_meaning.specs.Value.{members_of}
 use Rattle.kernels.specs.Registers.{HasSizes}

@@ -1,3 +1,4 @@
+-- Proofs of `step`, src/job.rt.
 use Rattle.std.proofs.Common.{◌∙◌, Result, Ok, Err, OnOk, ap, sym, subst}
 use Rattle.std.specs.Arc.{arc_value}
 use Rattle.plans.specs.declared.plan.Plan.{Plan}

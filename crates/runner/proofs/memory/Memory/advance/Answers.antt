@@ -1,3 +1,4 @@
+-- Proofs of `advance`, src/control.rt.
 use Rattle.std.proofs.Common.{rules, ◌≡◌, ◌∙◌, ◌+◌, ◌++◌, ◌∷◌, [], ℤ, pos, ◌+ℤ◌, ap, reverse, to_z, of_z, w64}
 use Rattle.algorithm_meaning.specs.Arithmetic.{wrapped}
 use Rattle.algorithm_meaning.specs.Variables.{with_new_integer}

@@ -1,3 +1,4 @@
+-- Proofs of `apply_edges`, src/applies.rt.
 use Rattle.std.proofs.Common.{◌≡◌, ◌∙◌, ◌+◌, ℕ, List, Option, ap, sym, subst}
 use Rattle.algorithm_meaning.specs.EdgeApply.{after_edge_apply}
 use Rattle.algorithm_meaning.specs.State.{GraphValue}

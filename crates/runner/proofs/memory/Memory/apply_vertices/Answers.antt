@@ -1,3 +1,4 @@
+-- Proofs of `apply_vertices`, src/applies.rt.
 use Rattle.std.proofs.Common.{◌∙◌, ◌+◌, ℤ, List, slice_get, ap, subst, sym}
 use Rattle.algorithm_meaning.specs.Entries.{with_vectors}
 use Rattle.algorithm_meaning.specs.Function.{steps_of}

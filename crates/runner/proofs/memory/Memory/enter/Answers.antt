@@ -1,3 +1,4 @@
+-- Proofs of `enter`, src/control.rt.
 use Rattle.std.proofs.Common.{arith}
 use Rattle.std.proofs.lemmas.Grind.{common_steps}
 use Rattle.runner.proofs.memory.Memory.enter.Goals as goal

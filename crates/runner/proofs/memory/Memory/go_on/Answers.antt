@@ -1,3 +1,4 @@
+-- Proofs of `go_on`, src/steps.rt.
 use Rattle.std.proofs.Common.{sym, subst}
 use Rattle.plans.specs.Instruction.{OperationTree}
 use Rattle.plans.specs.declared.operation.PlanOperation.{PlanOperation}

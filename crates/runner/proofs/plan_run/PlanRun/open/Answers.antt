@@ -1,3 +1,4 @@
+-- Proofs of `open`, src/plan_run.rt.
 use Rattle.std.proofs.Common.{◌∙◌, [], List, ap, reverse}
 use Rattle.algorithm_meaning.specs.declared.state.LoopCounter.{LoopCounter}
 use Rattle.plans.specs.Machine.{At}

@@ -1,3 +1,4 @@
+-- Proofs of `show`, src/plan_run.rt.
 use Rattle.std.proofs.Common.{◌∙◌, ap, sym}
 use Rattle.algorithm_meaning.specs.declared.outcome.End.{End as Ending}
 use Rattle.algorithm_meaning.specs.Shown.{shown}

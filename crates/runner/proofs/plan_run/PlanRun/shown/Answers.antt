@@ -1,3 +1,4 @@
+-- Proofs of `shown`, src/plan_run.rt.
 use Rattle.std.proofs.Common.{Option, sym, subst}
 use Rattle.algorithm_meaning.specs.declared.outcome.End.{End as Ending}
 use Rattle.plans.specs.Instruction.{InstructionTree}

@@ -1,3 +1,4 @@
+-- Proofs of `step`, src/steps.rt.
 use Rattle.std.proofs.Common.{◌∙◌, ◌<◌, Option, ap, sym, subst}
 use Rattle.algorithm_meaning.specs.declared.outcome.End.{End as Ending}
 use Rattle.plans.specs.Instruction.{InstructionTree}

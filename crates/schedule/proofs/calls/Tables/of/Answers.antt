@@ -1,3 +1,4 @@
+-- Proofs of `of`, src/calls.rt.
 use Rattle.std.proofs.Common.{ℕ, List, subst}
 use Rattle.typed_tree.specs.declared.program.Vector.{Vector}
 use Rattle.typed_tree.specs.declared.statement.MainStatement.{MainStatement}

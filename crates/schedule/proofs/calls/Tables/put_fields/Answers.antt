@@ -1,3 +1,4 @@
+-- Proofs of `put_fields`, src/calls.rt.
 use Rattle.std.proofs.Common.{ℕ, List, ap, sym, ◌∙◌, ◌++◌}
 use Rattle.std.specs.List.{concat}
 use Rattle.apply_options.specs.ScheduleTree.{ScheduleTree}

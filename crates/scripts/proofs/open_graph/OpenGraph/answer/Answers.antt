@@ -1,3 +1,4 @@
+-- Proofs of `answer`, src/open_graph.rt.
 use Rattle.std.proofs.Common.{ap}
 use Rattle.scripts.specs.declared.commands.Command.{Command}
 use Rattle.scripts.specs.Replies.{on_open}

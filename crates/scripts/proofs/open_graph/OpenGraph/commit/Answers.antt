@@ -1,3 +1,4 @@
+-- Proofs of `commit`, src/open_graph.rt.
 use Rattle.std.proofs.Common.{ℕ, subst, sym}
 use Rattle.version_list.specs.declared.step.Reply.TheVariants.{Version}
 use Rattle.version_list.specs.Timeline.{Timeline}

@@ -1,3 +1,4 @@
+-- Proofs of `list`, src/open_graph.rt.
 use Rattle.std.proofs.Common.{◌≡◌, arith}
 use Rattle.std.proofs.lemmas.Grind.{common_steps}
 use Rattle.replies.specs.declared.line_reply.LineReply.TheVariants as line_reply

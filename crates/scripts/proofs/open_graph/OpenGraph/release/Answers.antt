@@ -1,3 +1,4 @@
+-- Proofs of `release`, src/open_graph.rt.
 use Rattle.std.proofs.Common.{◌≡◌, ◌∙◌, ℕ, Bor, Option, None, Result, ap, sym, subst}
 use Rattle.std.specs.declared.alloc.AllocError.{AllocError}
 use Rattle.std.specs.Option.{MatchOption}

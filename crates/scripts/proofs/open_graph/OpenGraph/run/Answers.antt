@@ -1,3 +1,4 @@
+-- Proofs of `run`, src/open_graph.rt.
 use Rattle.std.proofs.Common.{[], subst, append-nil}
 use Rattle.replies.specs.Sending.{Emits}
 use Rattle.replies.proofs.SendingLaws.{emits_then, emits_failed}

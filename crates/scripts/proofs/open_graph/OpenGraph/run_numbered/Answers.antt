@@ -1,3 +1,4 @@
+-- Proofs of `run_numbered`, src/open_graph.rt.
 use Rattle.std.proofs.Common.{Option, ap}
 use Rattle.algorithm_meaning.specs.ProgramTree.{ProgramTree}
 use Rattle.scripts.specs.Replies.{running, graph_of}

@@ -1,3 +1,4 @@
+-- Proofs of `send_run`, src/open_graph.rt.
 use Rattle.std.proofs.Common.{◌≡◌, ℕ, ◌<◌, ◌⊎◌, ◌||◌, ◌∙◌, Bool, Bor, Option, ap, sym, subst, inl, inr}
 use Rattle.std.specs.Option.{option_map, IfSome}
 use Rattle.version_flats.specs.VersionFlats.{IsKept}

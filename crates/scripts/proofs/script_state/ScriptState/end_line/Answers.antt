@@ -1,3 +1,4 @@
+-- Proofs of `end_line`, src/script_state.rt.
 use Rattle.std.proofs.Common.{◌∙◌, sym}
 use Rattle.std.proofs.lemmas.Bool.{eqb-true}
 use Rattle.scripts.proofs.ReadingLaws.{empty_when_none}

@@ -1,3 +1,4 @@
+-- Proofs of `finish`, src/script_state.rt.
 use Rattle.scripts.proofs.script_state.ScriptState.finish.Goals as goal
 
 pub returns-clause-emits : goal.returns-clause-emits

@@ -1,3 +1,4 @@
+-- Proofs of `is_empty`, src/words.rt.
 use Rattle.scripts.proofs.WordLaws.{is_empty-words_left}
 use Rattle.scripts.proofs.words.Words.is_empty.Goals as goal
 

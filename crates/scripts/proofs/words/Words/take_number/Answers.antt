@@ -1,3 +1,4 @@
+-- Proofs of `take_number`, src/words.rt.
 use Rattle.std.proofs.Common.{◌≡◌, ◌≢◌, ◌+◌, ◌<◌, ◌≤◌, ◌^◌, true, arith, rules, take, length, get_or, ◌∙◌}
 use Rattle.std.specs.Str.{all_ascii_digits}
 use Rattle.std.proofs.lemmas.Grind.{common_steps}

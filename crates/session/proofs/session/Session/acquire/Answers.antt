@@ -1,3 +1,4 @@
+-- Proofs of `acquire`, src/session.rt.
 use Rattle.std.proofs.Common.{sym, subst}
 use Rattle.version_list.specs.Timeline.{Timeline}
 use Rattle.version_flats.specs.VersionFlats.{AreOf}

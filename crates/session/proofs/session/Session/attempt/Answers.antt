@@ -1,3 +1,4 @@
+-- Proofs of `attempt`, src/session.rt.
 use Rattle.std.proofs.Common.{refl, sym, subst}
 use Rattle.version_list.specs.declared.step.Step.TheVariants as versions
 use Rattle.session.specs.declared.step.SessionStep.{SessionStep}

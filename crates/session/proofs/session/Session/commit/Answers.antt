@@ -1,3 +1,4 @@
+-- Proofs of `commit`, src/session.rt.
 use Rattle.std.proofs.Common.{sym, subst}
 use Rattle.version_list.specs.declared.step.Step.TheVariants.{Commit}
 use Rattle.version_list.specs.declared.step.Reply.TheVariants.{Version}

@@ -1,3 +1,4 @@
+-- Proofs of `release`, src/session.rt.
 use Rattle.std.proofs.Common.{◌≡◌, ℕ, Bor, Option, None, ap, sym, ◌∙◌, subst}
 use Rattle.std.specs.Option.{MatchOption}
 use Rattle.tree_batch.specs.Digraph.{Digraph}

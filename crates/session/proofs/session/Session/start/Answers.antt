@@ -1,3 +1,4 @@
+-- Proofs of `start`, src/session.rt.
 use Rattle.std.proofs.Common.{◌≡◌, ℕ, Bor, map, List, ◌∷◌, [], ◌++◌, ◌+◌, Option, None, length, refl, ap, sym, ◌∙◌, subst}
 use Rattle.std.specs.Arc.{arc_value}
 use Rattle.std.specs.Option.{MatchOption, option_copied}

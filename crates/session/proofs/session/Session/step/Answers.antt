@@ -1,3 +1,4 @@
+-- Proofs of `step`, src/session.rt.
 use Rattle.std.proofs.Common.{◌≡◌, List, Result, sym, subst}
 use Rattle.std.specs.Result.{IfOk, IfErr, OnErr}
 use Rattle.session.specs.declared.error.SessionError.{SessionError}

@@ -1,3 +1,4 @@
+-- Proofs of `step_job`, src/session.rt.
 use Rattle.std.proofs.Common.{List, Option, MutBor, ap, sym, subst}
 use Rattle.std.specs.List.{IsItemAtMut}
 use Rattle.std.specs.Prelude.{slice_set}

@@ -1,3 +1,4 @@
+-- Proofs of `add`, src/history_prefix.rt.
 use Rattle.std.proofs.Common.{◌≡◌, ◌==◌, true, ◌∙◌, ◌∷◌, ◌++◌, [], List, length, sym, ap, subst, arith, length-append}
 use Rattle.std.proofs.lemmas.Bool.{eq-eqb}
 use Rattle.version_list.specs.Machine.{opened}

@@ -1,3 +1,4 @@
+-- Proofs of `begins`, src/history_prefix.rt.
 use Rattle.std.proofs.Common.{◌≤◌, ap, subst, arith, length, List, inl, inr}
 use Rattle.std.proofs.lemmas.Bool.{cases_Bool, leb-true, leb-false}
 use mathlib.Core.List.{IsPrefix}

@@ -1,3 +1,4 @@
+-- Proofs of `commit`, src/locked_state.rt.
 use Rattle.std.proofs.Common.{List, sym, subst}
 use Rattle.tree_batch.specs.Digraph.{Digraph}
 use Rattle.version_list.specs.Machine.{State, opened, state_after}

@@ -1,3 +1,4 @@
+-- Proofs of `hold`, src/locked_state.rt.
 use Rattle.std.proofs.Common.{◌∙◌, List, refl, sym, ap, subst}
 use Rattle.std.specs.Arc.{arc_value}
 use Rattle.version_list.specs.declared.step.Which.{Which}

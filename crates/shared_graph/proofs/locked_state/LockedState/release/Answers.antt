@@ -1,3 +1,4 @@
+-- Proofs of `release`, src/locked_state.rt.
 use Rattle.std.proofs.Common.{◌≡◌, ◌∙◌, true, List, refl, sym, subst}
 use Rattle.version_list.specs.declared.step.Step.TheVariants.{Release}
 use Rattle.version_list.specs.declared.step.Reply.TheVariants.{Released}

@@ -1,3 +1,4 @@
+-- Proofs of `trim`, src/locked_state.rt.
 use Rattle.std.proofs.Common.{List, refl, sym, subst}
 use Rattle.version_list.specs.declared.step.Step.TheVariants.{Trim}
 use Rattle.version_list.specs.declared.step.Reply.TheVariants.{Trimmed}

@@ -1,3 +1,4 @@
+-- Proofs of `record`, src/published_log.rt.
 use Rattle.std.proofs.Common.{◌≡◌, ◌∙◌, ◌∷◌, ◌++◌, [], List, sym, ap, subst, arith}
 use Rattle.version_list.specs.Machine.{State, opened, state_after}
 use Rattle.shared_graph.specs.declared.entry.Entry.{Entry}

@@ -1,3 +1,4 @@
+-- Proofs of `reader`, src/publisher.rt.
 use Rattle.left_right.specs.Sides.{view as view_of}
 use Rattle.shared_graph.proofs.Publishing.{admits, forks, merges}
 use Rattle.shared_graph.proofs.publisher.Publisher.reader.Goals as goal

@@ -1,3 +1,4 @@
+-- Proofs of `next`, src/iter.rt.
 use Rattle.std.proofs.Common.{◌-◌, ◌<◌, length, sym, ◌∙◌, arith}
 use Rattle.shared_tree.proofs.Stacks.{pending_top, room_top, next_entries, next_room, no_room}
 use Rattle.shared_tree.proofs.iter.IterIterator.next.Goals as goal

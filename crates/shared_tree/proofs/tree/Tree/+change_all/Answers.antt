@@ -1,3 +1,4 @@
+-- Proofs of `change_all` and its mutually recursive functions, src/change_all.rt.
 use Rattle.std.proofs.Common.{refl, arith, rules}
 use Rattle.shared_tree.proofs.ChangedMaps.{below_map, above_map, map_around, changed_around, grew_around}
 use Rattle.shared_tree.proofs.tree.Tree.+change_all.Goals as goal

@@ -1,3 +1,4 @@
+-- Proofs of `len` and its mutually recursive functions, src/tree.rt.
 use Rattle.std.proofs.Common.{arith}
 use Rattle.shared_tree.proofs.Forks.{fork_length, root_room}
 use Rattle.shared_tree.proofs.tree.Tree.+len.Goals as goal

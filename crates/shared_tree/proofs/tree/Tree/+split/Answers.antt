@@ -1,3 +1,4 @@
+-- Proofs of `split` and its mutually recursive functions, src/split.rt.
 use Rattle.std.proofs.Common.{arith, ap, refl}
 use Rattle.shared_tree.proofs.ChangedMaps.{below_map, above_map}
 use Rattle.shared_tree.proofs.Forks.{fork_length}

@@ -1,3 +1,4 @@
+-- Proofs of `depth`, src/tree.rt.
 use Rattle.std.proofs.Common.{arith}
 use Rattle.shared_tree.proofs.Forks.{fork_depth}
 use Rattle.shared_tree.proofs.tree.Tree.depth.Goals as goal

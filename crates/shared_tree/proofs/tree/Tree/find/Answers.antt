@@ -1,3 +1,4 @@
+-- Proofs of `find`, src/tree.rt.
 use Rattle.std.proofs.Common.{◌∙◌, arith}
 use Rattle.shared_tree.proofs.Forks.{found_here, found_left, found_right}
 use Rattle.shared_tree.proofs.tree.Tree.find.Goals as goal

@@ -1,3 +1,4 @@
+-- Proofs of `iter`, src/iter.rt.
 use Rattle.shared_tree.proofs.Stacks.{below_room}
 use Rattle.shared_tree.proofs.tree.Tree.iter.Goals as goal
 

@@ -1,3 +1,4 @@
+-- Proofs of `append_to`, src/entries.rt.
 use Rattle.std.proofs.Common.{◌≡◌, true, refl, ◌∙◌}
 use Rattle.std.specs.Prelude.{Result, Ok, Err, OnOk, is_ok}
 use Rattle.tail_codec.specs.Columns.{AreAppended}

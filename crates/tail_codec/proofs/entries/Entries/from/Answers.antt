@@ -1,3 +1,4 @@
+-- Proofs of `from`, src/entries.rt.
 use Rattle.std.proofs.Common.{◌-◌, None, Some, length, take, drop, sym, ◌∙◌, ap, arith}
 use Rattle.std.specs.List.{zip}
 use Rattle.std.proofs.lemmas.List.{take_rest}

@@ -1,3 +1,4 @@
+-- Proofs of `has_only_ones`, src/entries.rt.
 use Rattle.std.proofs.Common.{◌≡◌, Bool, true, not, None, Some, Option, refl, ◌∙◌}
 use Rattle.std.specs.Option.{is_some}
 use Rattle.std.proofs.lemmas.Bool.{true≢false, not_from_true}

@@ -1,3 +1,4 @@
+-- Proofs of `keys`, src/entries.rt.
 use Rattle.std.proofs.Common.{sym, ◌∙◌, ap}
 use Rattle.std.specs.Map.{keys_of}
 use Rattle.std.specs.Option.{option_copied}

@@ -1,3 +1,4 @@
+-- Proofs of `len`, src/entries.rt.
 use Rattle.std.proofs.Common.{length, sym, ◌∙◌, ap}
 use Rattle.std.specs.Option.{option_copied}
 use Rattle.tail_codec.proofs.Columns.{length_in}

@@ -1,3 +1,4 @@
+-- Proofs of `up_to`, src/entries.rt.
 use Rattle.std.proofs.Common.{None, Some, take, sym, ◌∙◌, ap, arith}
 use Rattle.tail_codec.proofs.Columns.{keys_long, seen_zip, seen_ones, take_in}
 use Rattle.tail_codec.proofs.entries.Entries.up_to.Goals as goal

@@ -1,3 +1,4 @@
+-- Proofs of `weight`, src/entries.rt.
 use Rattle.std.proofs.Common.{ℕ, ◌<◌, ℤ, pos, List, length, get_or, sym, ◌∙◌, ap, arith, rules}
 use Rattle.tail_codec.proofs.Columns.{keys_long, weights_long, some_long, seen_zip, seen_ones, weight_one, weight_in}
 use Rattle.tail_codec.proofs.entries.Entries.weight.Goals as goal

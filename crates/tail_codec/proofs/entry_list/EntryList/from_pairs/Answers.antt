@@ -1,3 +1,4 @@
+-- Proofs of `from_pairs`, src/entry_list.rt.
 use Rattle.std.proofs.Common.{◌≡◌, ℕ, ◌+◌, ℤ, pos, [], ◌∷◌, ◌++◌, length-set, take, slice_index_or, to_z, of_z, w64, sym, ◌∙◌, ap, arith, rules}
 use Rattle.std.specs.List.{zip}
 use Rattle.std.proofs.lemmas.List.{take_more, take_more_set, take_all}

@@ -1,3 +1,4 @@
+-- Proofs of `fill`, src/iter.rt.
 use Rattle.std.proofs.Common.{arith, rules}
 use Rattle.tail_codec.proofs.Filling.{taken, written, untouched}
 use Rattle.tail_codec.proofs.iter.TailIter.fill.Goals as goal

@@ -1,3 +1,4 @@
+-- Proofs of `fill_weighted`, src/iter.rt.
 use Rattle.std.proofs.Common.{◌≡◌, ℕ, ℤ, pos, ◌<◌, length, to_z, of_z, w64, length-set, ◌∙◌, arith, rules}
 use Rattle.tail_codec.proofs.Filling.{taken, written, untouched}
 use Rattle.tail_codec.proofs.iter.TailIter.fill_weighted.Goals as goal

@@ -1,3 +1,4 @@
+-- Proofs of `over`, src/iter.rt.
 use Rattle.ascending_lists.specs.Ascending.{least}
 use Rattle.tail_codec.proofs.Lists.{spells_decoded}
 use Rattle.tail_codec.proofs.iter.TailIter.over.Goals as goal

@@ -1,3 +1,4 @@
+-- Proofs of `next`, src/iter.rt.
 use Rattle.std.proofs.Common.{◌≡◌, ◌+◌, ◌/◌, pos, ◌∷◌, arith, rules}
 use Rattle.tail_codec.proofs.Lists.{step}
 use Rattle.tail_codec.proofs.EntryNumbers.{small_entry}

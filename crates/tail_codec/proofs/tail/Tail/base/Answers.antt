@@ -1,3 +1,4 @@
+-- Proofs of `base`, src/tail.rt.
 use Rattle.std.proofs.Common.{subst}
 use Rattle.tail_codec.specs.Spelling.{IsBasedList}
 use Rattle.tail_codec.proofs.tail.Tail.base.Goals as goal

@@ -1,3 +1,4 @@
+-- Proofs of `cut`, src/rewrite.rt.
 use Rattle.std.proofs.Common.{◌≡◌, ℕ, ℤ, List, length, ◌∙◌, ap, sym, arith, rules}
 use Rattle.std.specs.Map.{keys_of}
 use Rattle.ascending_lists.specs.Ascending.{least}

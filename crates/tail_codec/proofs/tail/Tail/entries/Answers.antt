@@ -1,3 +1,4 @@
+-- Proofs of `entries`, src/tail.rt.
 use Rattle.std.proofs.Common.{sym, ◌∙◌, arith}
 use Rattle.std.specs.List.{zip}
 use Rattle.std.proofs.lemmas.List.{take_all}

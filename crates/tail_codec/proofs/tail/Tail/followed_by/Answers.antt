@@ -1,3 +1,4 @@
+-- Proofs of `followed_by`, src/rewrite.rt.
 use Rattle.std.proofs.Common.{◌≡◌, ◌≤◌, ◌++◌, length, ◌∙◌, arith}
 use Rattle.ascending_lists.specs.Ascending.{least}
 use Rattle.tail_codec.proofs.Writing.{written_anew, columns_anew, columns_joined, few_entries}

@@ -1,3 +1,4 @@
+-- Proofs of `from_bytes`, src/tail.rt.
 use Rattle.std.proofs.Common.{ℕ, List, Option, refl, ◌≡◌}
 use Rattle.std.proofs.lemmas.Result.{err_from_is_err_and}
 use Rattle.ascending_lists.specs.Ascending.{least}

@@ -1,3 +1,4 @@
+-- Proofs of `iter`, src/tail.rt.
 use Rattle.std.proofs.Common.{subst}
 use Rattle.tail_codec.specs.Spelling.{IsBasedList}
 use Rattle.tail_codec.proofs.tail.Tail.iter.Goals as goal

@@ -1,3 +1,4 @@
+-- Proofs of `read_into`, src/tail.rt.
 use Rattle.std.proofs.Common.{◌≡◌, ℕ, ◌+◌, ◌<◌, ℤ, to_z, of_z, w64, List, [], ◌∷◌, ◌++◌, length, length-set, take, slice_set, sym, ◌∙◌, ap, append_assoc, arith, rules}
 use Rattle.std.specs.List.{zip}
 use Rattle.std.proofs.lemmas.List.{take_more_set}

@@ -1,3 +1,4 @@
+-- Proofs of `write`, src/writer.rt.
 use Rattle.std.proofs.Common.{◌≡◌, ℕ, ℤ, Option, List, length, take, sym, ◌∙◌, ap}
 use Rattle.ascending_lists.specs.Ascending.{least}
 use Rattle.tail_codec.specs.Spelling.{Spells}

@@ -1,3 +1,4 @@
+-- Proofs of `new`, src/edges.rt.
 use Rattle.tree_batch.proofs.Listed.{neighbour_lists}
 use Rattle.tree_batch.proofs.edges.EdgeIter.new.Goals as goal
 

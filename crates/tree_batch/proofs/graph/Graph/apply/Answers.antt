@@ -1,3 +1,4 @@
+-- Proofs of `apply`, src/graph.rt.
 use Rattle.std.proofs.Common.{◌≡◌, false, sym, refl}
 use Rattle.tree_batch.specs.Entry.{misfits}
 use Rattle.tree_batch.specs.Sorted.{sorted_pairs}

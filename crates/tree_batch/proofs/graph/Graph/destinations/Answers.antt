@@ -1,3 +1,4 @@
+-- Proofs of `destinations`, src/graph.rt.
 use Rattle.std.proofs.Common.{◌^◌}
 use Rattle.vertex_blocks.specs.Blocks.{lists_of}
 use Rattle.tree_batch.proofs.Adjacency.{destinations_are}

@@ -1,3 +1,4 @@
+-- Proofs of `in_`, src/graph.rt.
 use Rattle.tree_batch.proofs.Neighbourhoods.{sources_are}
 use Rattle.tree_batch.proofs.graph.Graph.in_.Goals as goal
 

@@ -1,3 +1,4 @@
+-- Proofs of `incoming`, src/graph.rt.
 use Rattle.tree_batch.proofs.BlocksOf.{source_blocks}
 use Rattle.tree_batch.proofs.graph.Graph.incoming.Goals as goal
 

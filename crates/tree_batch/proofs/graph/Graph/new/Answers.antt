@@ -1,3 +1,4 @@
+-- Proofs of `new`, src/graph.rt.
 use Rattle.std.proofs.Common.{rules}
 use Rattle.tree_batch.proofs.Neighbourhoods.{size_is}
 use Rattle.tree_batch.proofs.graph.Graph.new.Goals as goal

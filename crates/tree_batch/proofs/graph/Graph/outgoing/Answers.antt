@@ -1,3 +1,4 @@
+-- Proofs of `outgoing`, src/graph.rt.
 use Rattle.tree_batch.proofs.BlocksOf.{destination_blocks}
 use Rattle.tree_batch.proofs.graph.Graph.outgoing.Goals as goal
 

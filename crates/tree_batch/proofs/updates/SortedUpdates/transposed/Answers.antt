@@ -1,3 +1,4 @@
+-- Proofs of `transposed`, src/transposed.rt.
 use Rattle.std.proofs.Common.{sym, ap, ◌∙◌, subst}
 use Rattle.std.specs.Map.{keys_of}
 use Rattle.edge_updates.specs.Updates.{Ascend}

@@ -1,3 +1,4 @@
+-- Proofs of `next`, src/vertices.rt.
 use Rattle.std.proofs.Common.{sym, ◌∙◌, subst, arith}
 use Rattle.vertex_blocks.specs.Blocks.{vertices_at}
 use Rattle.tree_batch.specs.VertexBlocks.{AreGraphBlocks, AreBlocksLeft}

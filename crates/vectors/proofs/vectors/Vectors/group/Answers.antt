@@ -1,3 +1,4 @@
+-- Proofs of `group`, src/vectors.rt.
 use Rattle.std.proofs.Common.{◌≡◌, ◌+◌, ◌<◌, ap, sym, ◌∙◌, subst, arith, [], ℕ, length, get_or}
 use Rattle.std.proofs.lemmas.List.{get_or_read}
 use Rattle.vectors.specs.Vectors.{HasRows, VectorsValue}

@@ -1,3 +1,4 @@
+-- Proofs of `grouped`, src/vectors.rt.
 use Rattle.std.proofs.Common.{◌≡◌, ap, sym, ◌∙◌, subst, arith, refl, List, [], ◌++◌, drop, take, ℕ, length, get_or}
 use Rattle.std.proofs.Math.Seq.{take-append_seam}
 use Rattle.vectors.specs.declared.location.Location.{Location}

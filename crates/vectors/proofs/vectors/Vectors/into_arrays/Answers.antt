@@ -1,3 +1,4 @@
+-- Proofs of `into_arrays`, src/vectors.rt.
 use Rattle.std.proofs.Common.{◌≡◌, ◌<◌, ◌∙◌, length, sym, subst, arith, ap, take}
 use Rattle.std.proofs.lemmas.List.{get_or_read}
 use Rattle.vectors.specs.Vectors.{VectorsValue}

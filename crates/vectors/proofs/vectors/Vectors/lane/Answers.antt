@@ -1,3 +1,4 @@
+-- Proofs of `lane`, src/vectors.rt.
 use Rattle.std.proofs.Common.{◌≡◌, ◌+◌, ◌*◌, ◌<◌, ap, ◌∙◌, arith, if◌then◌else◌, nat_lt, List, ℤ, length, pos}
 use Rattle.std.proofs.lemmas.List.{get_or_read}
 use Rattle.algorithm_meaning.specs.Value.{entry}

@@ -1,3 +1,4 @@
+-- Proofs of `load`, src/vectors.rt.
 use Rattle.std.proofs.Common.{rules, ◌+◌, ap, sym, ◌∙◌, subst, arith, List, [], ℕ, ℤ, pos, set, get_or, refl, FitsSigned, w64}
 use Rattle.std.proofs.lemmas.Int.{to_z-of_z}
 use Rattle.std.proofs.lemmas.List.{set-get_or}

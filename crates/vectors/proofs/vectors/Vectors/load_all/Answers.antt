@@ -1,3 +1,4 @@
+-- Proofs of `load_all`, src/vectors.rt.
 use Rattle.std.proofs.Common.{ap, ◌∙◌, arith, List, [], ℕ, ℤ}
 use Rattle.vectors.specs.Vectors.{VectorsValue}
 use Rattle.vectors.proofs.Layouts.{same_lists}

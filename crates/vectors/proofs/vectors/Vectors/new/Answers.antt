@@ -1,3 +1,4 @@
+-- Proofs of `new`, src/vectors.rt.
 use Rattle.std.proofs.Common.{◌≡◌, ◌<◌, ◌^◌, ℕ, ap, sym, ◌∙◌, subst, arith, List, [], get_or, ℤ, length}
 use Rattle.vectors.specs.Vectors.{VectorsValue}
 use Rattle.vectors.specs.inside.Layout.{IsLaidOut, location_at, own_location}

@@ -1,3 +1,4 @@
+-- Proofs of `flat`, src/version_flats.rt.
 use Rattle.std.proofs.Common.{◌≡◌, ◌∙◌, Result, Ok, Err, Some, rules}
 use Rattle.std.specs.Result.{IfOk, MatchResult}
 use Rattle.version_flats.specs.VersionFlats.{flat_of}

@@ -1,3 +1,4 @@
+-- Proofs of `finish`, src/versions.rt.
 use Rattle.std.proofs.Common.{◌+◌, refl, sym, subst}
 use Rattle.version_list.specs.declared.versions.Versions.TheInside.{Inside}
 use Rattle.version_list.specs.Timeline.{Timeline, Accepts}

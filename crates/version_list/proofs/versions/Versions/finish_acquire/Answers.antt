@@ -1,3 +1,4 @@
+-- Proofs of `finish_acquire`, src/versions.rt.
 use Rattle.std.proofs.Common.{◌+◌, ◌<◌, length, refl, sym, subst, arith}
 use Rattle.version_list.specs.declared.step.Step.TheVariants.{Acquire}
 use Rattle.version_list.specs.declared.step.Reply.TheVariants.{Ticket}

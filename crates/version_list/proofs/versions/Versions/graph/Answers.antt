@@ -1,3 +1,4 @@
+-- Proofs of `graph`, src/versions.rt.
 use Rattle.std.proofs.Common.{◌∙◌, ap, sym}
 use Rattle.version_list.specs.Machine.{ticket_graph}
 use Rattle.version_list.specs.Timeline.{Timeline}

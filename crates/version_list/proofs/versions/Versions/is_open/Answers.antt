@@ -1,3 +1,4 @@
+-- Proofs of `is_open`, src/versions.rt.
 use Rattle.std.proofs.Common.{◌∙◌, is_some, sym, ap}
 use Rattle.version_list.specs.Machine.{is_open}
 use Rattle.version_list.specs.Timeline.{Timeline}

@@ -1,3 +1,4 @@
+-- Proofs of `kept`, src/versions.rt.
 use Rattle.std.proofs.Common.{◌≡◌, ◌∙◌, Some, None, ap, sym, subst}
 use Rattle.std.specs.Option.{option_map}
 use Rattle.version_list.specs.Machine.{version_graph, ticket_version}

@@ -1,3 +1,4 @@
+-- Proofs of `kept_graph`, src/versions.rt.
 use Rattle.std.proofs.Common.{◌∙◌, ap, sym}
 use Rattle.version_list.specs.Machine.{kept_graph}
 use Rattle.version_list.specs.Timeline.{Timeline}

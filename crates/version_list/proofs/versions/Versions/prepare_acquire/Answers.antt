@@ -1,3 +1,4 @@
+-- Proofs of `prepare_acquire`, src/versions.rt.
 use Rattle.std.proofs.Common.{◌≡◌, length, refl, ap, arith}
 use Rattle.version_list.specs.declared.versions.Versions.TheInside.{Inside}
 use Rattle.version_list.specs.Machine.{State, version_graph}

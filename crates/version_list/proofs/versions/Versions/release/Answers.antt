@@ -1,3 +1,4 @@
+-- Proofs of `release`, src/versions.rt.
 use Rattle.std.proofs.Common.{◌≡◌, ◌+◌, ◌∙◌, false, Some, is_some, nat_eq, refl, sym, ap, subst}
 use Rattle.indexmap.specs.IndexMap.{get}
 use Rattle.version_list.specs.declared.step.Step.TheVariants.{Release}

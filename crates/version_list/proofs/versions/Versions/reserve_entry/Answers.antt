@@ -1,3 +1,4 @@
+-- Proofs of `reserve_entry`, src/versions.rt.
 use Rattle.std.proofs.Common.{refl, arith}
 use Rattle.version_list.specs.declared.versions.Versions.TheInside.{Inside}
 use Rattle.version_list.proofs.Stepping.{kept_reserved}

@@ -1,3 +1,4 @@
+-- Proofs of `run`, src/versions.rt.
 use Rattle.std.proofs.Common.{◌≡◌, ◌+◌, ◌<◌, List, [], ◌∷◌, ◌++◌, take, length, sym, ap, ◌∙◌, arith}
 use Rattle.std.proofs.lemmas.List.{take_more}
 use Rattle.version_list.specs.declared.step.Step.{Step}

@@ -1,3 +1,4 @@
+-- Proofs of `version`, src/versions.rt.
 use Rattle.std.proofs.Common.{◌≤◌, ◌∙◌, subst}
 use Rattle.std.specs.Option.{IfSome}
 use Rattle.version_list.specs.Machine.{newest_number}

@@ -1,3 +1,4 @@
+-- Proofs of `degree`, src/block.rt.
 use Rattle.std.proofs.Common.{length, ◌∙◌, ap}
 use Rattle.vertex_blocks.specs.inside.LongLists.{entries_in}
 use Rattle.vertex_blocks.proofs.Sums.{from_long}

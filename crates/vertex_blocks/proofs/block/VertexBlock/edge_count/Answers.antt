@@ -1,3 +1,4 @@
+-- Proofs of `edge_count`, src/block.rt.
 use Rattle.vertex_blocks.proofs.Sums.{joined_block}
 use Rattle.vertex_blocks.proofs.block.VertexBlock.edge_count.Goals as goal
 

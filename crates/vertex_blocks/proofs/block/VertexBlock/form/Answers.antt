@@ -1,3 +1,4 @@
+-- Proofs of `form`, src/block.rt.
 use Rattle.std.proofs.Common.{◌∙◌}
 use Rattle.vertex_blocks.specs.inside.LongLists.{entries_in}
 use Rattle.vertex_blocks.proofs.Sums.{from_long}

@@ -1,3 +1,4 @@
+-- Proofs of `iter`, src/block.rt.
 use Rattle.vertex_blocks.proofs.Sums.{joined_block}
 use Rattle.vertex_blocks.proofs.block.VertexBlock.iter.Goals as goal
 

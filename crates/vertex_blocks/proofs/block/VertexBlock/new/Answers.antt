@@ -1,3 +1,4 @@
+-- Proofs of `new`, src/block.rt.
 use Rattle.std.proofs.Common.{◌+◌, Some, sym, subst, arith}
 use Rattle.vertex_blocks.specs.declared.block.Parts.{Parts}
 use Rattle.vertex_blocks.specs.inside.Joined.{joined, CanJoin, IsBlockOf}

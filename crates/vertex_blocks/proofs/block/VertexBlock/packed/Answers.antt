@@ -1,3 +1,4 @@
+-- Proofs of `packed`, src/block.rt.
 use Rattle.std.proofs.Common.{◌++◌, sym, ◌∙◌, ap, append-nil}
 use Rattle.pages.specs.Vertices.{neighbours_of}
 use Rattle.vertex_blocks.proofs.block.VertexBlock.packed.Goals as goal

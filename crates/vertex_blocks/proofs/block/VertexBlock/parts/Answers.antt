@@ -1,3 +1,4 @@
+-- Proofs of `parts`, src/block.rt.
 use Rattle.vertex_blocks.proofs.Sums.{made_of}
 use Rattle.vertex_blocks.proofs.block.VertexBlock.parts.Goals as goal
 

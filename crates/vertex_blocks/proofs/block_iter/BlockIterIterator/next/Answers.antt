@@ -1,3 +1,4 @@
+-- Proofs of `next`, src/block_iter.rt.
 use Rattle.std.proofs.Common.{◌≡◌, [], ◌<◌, length, sym, ◌∙◌, ap, arith}
 use Rattle.std.proofs.lemmas.List.{nil_from_length}
 use Rattle.pages.specs.Vertices.{neighbours_of}

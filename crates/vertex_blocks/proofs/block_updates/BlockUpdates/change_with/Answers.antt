@@ -1,3 +1,4 @@
+-- Proofs of `change_with`, src/block_updates.rt.
 use Rattle.std.proofs.Common.{subst}
 use Rattle.std.specs.Option.{option_copied}
 use Rattle.std.proofs.lemmas.Result.{IfOk-weaker}

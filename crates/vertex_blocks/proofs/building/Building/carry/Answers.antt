@@ -1,3 +1,4 @@
+-- Proofs of `carry`, src/building.rt.
 use Rattle.std.proofs.Common.{◌≡◌, ◌++◌, slice_range, sym, ◌∙◌, ap, subst, arith}
 use Rattle.std.specs.Option.{option_copied}
 use Rattle.pages.specs.Vertices.{neighbours_of, count_below}

@@ -1,3 +1,4 @@
+-- Proofs of `push_list`, src/building.rt.
 use Rattle.std.proofs.Common.{◌≡◌, ◌<◌, List, ℕ, ℤ, [], ◌∷◌, ◌++◌, OnOk, length, sym, ◌∙◌, ap, subst, arith}
 use Rattle.std.specs.Map.{keys_of}
 use Rattle.ascending_lists.specs.Ascending.{AscendsFrom}

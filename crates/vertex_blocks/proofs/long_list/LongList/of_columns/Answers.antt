@@ -1,3 +1,4 @@
+-- Proofs of `of_columns`, src/long_list.rt.
 use Rattle.std.proofs.Common.{sym, ◌∙◌, ap, subst}
 use Rattle.std.specs.Map.{keys_of}
 use Rattle.ascending_lists.specs.Ascending.{AscendsFrom}

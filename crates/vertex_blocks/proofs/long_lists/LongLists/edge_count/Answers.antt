@@ -1,3 +1,4 @@
+-- Proofs of `edge_count`, src/long_lists.rt.
 use Rattle.std.proofs.Common.{[], ◌∷◌, length, take, ap, arith}
 use Rattle.ascending_lists.proofs.MapOrder.{rises_room}
 use Rattle.vertex_blocks.specs.Blocks.{edge_total}

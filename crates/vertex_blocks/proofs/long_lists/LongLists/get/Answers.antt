@@ -1,3 +1,4 @@
+-- Proofs of `get`, src/long_lists.rt.
 use Rattle.std.proofs.Common.{◌<◌, length, sym, ◌∙◌, ap, arith}
 use Rattle.pages.proofs.Ranks.{ranked, unmarked}
 use Rattle.vertex_blocks.specs.inside.LongLists.{long_entries}

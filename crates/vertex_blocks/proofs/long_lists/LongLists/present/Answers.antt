@@ -1,3 +1,4 @@
+-- Proofs of `present`, src/long_lists.rt.
 use Rattle.pages.proofs.Ranks.{unmarked}
 use Rattle.vertex_blocks.specs.inside.LongLists.{long_entries}
 use Rattle.vertex_blocks.proofs.long_lists.LongLists.present.Goals as goal

@@ -1,3 +1,4 @@
+-- Proofs of `push`, src/long_lists.rt.
 use Rattle.std.proofs.Common.{refl}
 use Rattle.ascending_lists.specs.Maps.{Rises}
 use Rattle.vertex_blocks.specs.inside.LongLists.{long_entries}

@@ -1,3 +1,4 @@
+-- Proofs of `push_run`, src/long_lists.rt.
 use Rattle.std.proofs.Common.{◌++◌, slice_range, sym, ◌∙◌, ap, subst, arith}
 use Rattle.std.proofs.lemmas.List.{take_all}
 use Rattle.ascending_lists.specs.Maps.{Rises}

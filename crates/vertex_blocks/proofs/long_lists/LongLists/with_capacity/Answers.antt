@@ -1,3 +1,4 @@
+-- Proofs of `with_capacity`, src/long_lists.rt.
 use Rattle.pages.proofs.Ranks.{index_none}
 use Rattle.vertex_blocks.proofs.long_lists.LongLists.with_capacity.Goals as goal
 

@@ -1,3 +1,4 @@
+-- Proofs of `contains`, src/neighbour_set.rt.
 use Rattle.std.specs.Map.{keys_of}
 use Rattle.vertex_blocks.proofs.Decisions.{contains_is}
 use Rattle.vertex_blocks.proofs.neighbour_set.NeighbourSet.contains.Goals as goal

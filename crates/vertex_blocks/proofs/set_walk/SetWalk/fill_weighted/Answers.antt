@@ -1,3 +1,4 @@
+-- Proofs of `fill_weighted`, src/set_walk.rt.
 use Rattle.std.proofs.Common.{◌≡◌, ◌≤◌, ℕ, ℤ, List, length, take, ◌∙◌, ap, arith}
 use Rattle.std.specs.Map.{keys_of, values_of}
 use Rattle.std.proofs.lemmas.List.{length-take-le}

@@ -1,3 +1,4 @@
+-- Proofs of `clear`, src/members.rt.
 use Rattle.std.proofs.Common.{◌≡◌, ◌*◌, Contains, length, get_or, drop, take, ◌++◌, ap, sym, subst, ◌∙◌, arith, rules}
 use Rattle.std.proofs.lemmas.List.{get_or_default}
 use Rattle.vertex_sets.specs.inside.Words.{bit_members}

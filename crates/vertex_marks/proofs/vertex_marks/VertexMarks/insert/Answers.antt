@@ -1,3 +1,4 @@
+-- Proofs of `insert`, src/marking.rt.
 use Rattle.std.proofs.Common.{◌≡◌, ◌*◌, ◌/◌, ◌%◌, ◌^◌, ◌<◌, bit_or, length, length-set, get_or, ◌∙◌, arith}
 use Rattle.std.proofs.lemmas.List.{get_or_default}
 use Rattle.vertex_marks.proofs.Setting.{marked_more, summary_more}

@@ -1,3 +1,4 @@
+-- Proofs of `insert_blocks`, src/marking.rt.
 use Rattle.std.proofs.Common.{arith}
 use Rattle.vertex_marks.proofs.Setting.{all_marked, all_summed}
 use Rattle.vertex_marks.proofs.vertex_marks.VertexMarks.insert_blocks.Goals as goal

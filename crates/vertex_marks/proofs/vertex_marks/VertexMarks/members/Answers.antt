@@ -1,3 +1,4 @@
+-- Proofs of `members`, src/members.rt.
 use Rattle.std.proofs.Common.{◌≡◌, ◌++◌, ◌*◌, ◌/◌, ◌%◌, ◌<◌, length, get_or, Contains, ap, sym, subst, ◌∙◌, rules, take_all}
 use Rattle.std.proofs.lemmas.Bool.{eqb-true, eq-eqb}
 use Rattle.std.proofs.lemmas.List.{get_or_default}

@@ -1,3 +1,4 @@
+-- Proofs of `contains`, src/flags.rt.
 use Rattle.std.proofs.Common.{◌≡◌, false, get_or, sym, ◌∙◌, rules}
 use Rattle.vertex_sets.proofs.FlagMembers.{flag_members_has}
 use Rattle.vertex_sets.proofs.flags.FlagSet.contains.Goals as goal

@@ -1,3 +1,4 @@
+-- Proofs of `empty`, src/flags.rt.
 use Rattle.std.proofs.Common.{◌≡◌, [], false, length, replicate, ap, sym, ◌∙◌, rules}
 use Rattle.vertex_sets.specs.inside.Words.{flag_members}
 use Rattle.vertex_sets.proofs.FlagMembers.{flags_none}

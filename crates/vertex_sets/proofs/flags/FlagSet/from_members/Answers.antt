@@ -1,3 +1,4 @@
+-- Proofs of `from_members`, src/flags.rt.
 use Rattle.std.proofs.Common.{◌≡◌, ◌∷◌, Contains, sym, subst, ◌∙◌}
 use Rattle.vertex_sets.specs.inside.Words.{flag_members}
 use Rattle.vertex_sets.proofs.Ascending.{one_done, all_done, contains_later}

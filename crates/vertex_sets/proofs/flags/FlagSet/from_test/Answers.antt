@@ -1,3 +1,4 @@
+-- Proofs of `from_test`, src/flags.rt.
 use Rattle.std.proofs.Common.{◌≡◌, ℕ, Bool, true, false, ◌+◌, ◌++◌, ◌∷◌, [], length, length-append, arith, cond, ap, rules}
 use Rattle.vertex_sets.specs.inside.Words.{flag_members}
 use Rattle.vertex_sets.proofs.FlagMembers.{flag_answer, next_flag, flags_push, length_flags}

@@ -1,3 +1,4 @@
+-- Proofs of `insert`, src/flags.rt.
 use Rattle.std.proofs.Common.{◌≡◌, true, false, get_or, sym, ◌∙◌, arith, rules}
 use Rattle.std.proofs.lemmas.List.{get_or_default}
 use Rattle.vertex_sets.proofs.Ascending.{one_again}

@@ -1,3 +1,4 @@
+-- Proofs of `new`, src/iter.rt.
 use Rattle.std.proofs.Common.{◌≡◌, ◌++◌, [], ap₂, ap, sym, ◌∙◌}
 use Rattle.vertex_sets.specs.inside.Words.{word_members}
 use Rattle.vertex_sets.proofs.BitMembers.{bits_none}

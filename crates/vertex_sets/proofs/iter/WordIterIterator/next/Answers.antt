@@ -1,3 +1,4 @@
+-- Proofs of `next`, src/iter.rt.
 use Rattle.std.proofs.Common.{◌≡◌, ◌^◌, ◌<◌, ◌∷◌, [], ◌∙◌, arith, rules}
 use Rattle.vertex_sets.proofs.WordMembers.{word_over, words_over, bit_taken, no_words}
 use Rattle.vertex_sets.proofs.iter.WordIterIterator.next.Goals as goal

@@ -1,3 +1,4 @@
+-- Proofs of `flags`, src/set.rt.
 use Rattle.vertex_sets.proofs.StoredSets.{flags_of}
 use Rattle.vertex_sets.proofs.set.VertexSet.flags.Goals as goal
 

@@ -1,3 +1,4 @@
+-- Proofs of `from_test`, src/set.rt.
 use Rattle.std.proofs.Common.{sym, ap, ◌∙◌}
 use Rattle.vertex_sets.specs.VertexSet.{VertexSubset}
 use Rattle.vertex_sets.proofs.set.VertexSet.from_test.Goals as goal

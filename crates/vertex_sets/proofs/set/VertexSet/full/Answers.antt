@@ -1,3 +1,4 @@
+-- Proofs of `full`, src/set.rt.
 use Rattle.std.proofs.Common.{◌<◌, sym, subst, All}
 use Rattle.vertex_sets.specs.VertexSet.{IsAscendingBelow}
 use Rattle.vertex_sets.proofs.StoredSets.{all_ascending}

@@ -1,3 +1,4 @@
+-- Proofs of `insert`, src/set.rt.
 use Rattle.std.proofs.Common.{◌≡◌, ◌<◌, length, refl, ◌∙◌, ap, subst, arith}
 use Rattle.vertex_sets.specs.declared.set.Members.TheVariants.{Listed, Flagged, Worded}
 use Rattle.vertex_sets.specs.inside.Words.{word_members}

@@ -1,3 +1,4 @@
+-- Proofs of `iter`, src/set.rt.
 use Rattle.std.proofs.Common.{◌≡◌, length, subst, arith}
 use Rattle.vertex_sets.specs.inside.Stored.{IsStored}
 use Rattle.vertex_sets.specs.declared.set.Members.TheVariants.{Worded}

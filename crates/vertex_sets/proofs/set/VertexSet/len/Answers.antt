@@ -1,3 +1,4 @@
+-- Proofs of `len`, src/set.rt.
 use Rattle.std.proofs.Common.{◌≡◌, length, ap, sym, ◌∙◌, rules}
 use Rattle.vertex_sets.specs.inside.Stored.{members_of}
 use Rattle.vertex_sets.proofs.StoredSets.{valid_set, count_bound}

@@ -1,3 +1,4 @@
+-- Proofs of `of`, src/set.rt.
 use Rattle.std.proofs.Common.{refl}
 use Rattle.vertex_sets.proofs.StoredSets.{valid_set}
 use Rattle.vertex_sets.proofs.set.VertexSet.of.Goals as goal

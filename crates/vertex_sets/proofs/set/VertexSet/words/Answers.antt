@@ -1,3 +1,4 @@
+-- Proofs of `words`, src/set.rt.
 use Rattle.vertex_sets.proofs.StoredSets.{words_of}
 use Rattle.vertex_sets.proofs.set.VertexSet.words.Goals as goal
 

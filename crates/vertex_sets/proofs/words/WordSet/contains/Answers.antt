@@ -1,3 +1,4 @@
+-- Proofs of `contains`, src/words.rt.
 use Rattle.std.proofs.Common.{◌≡◌, ◌/◌, ◌%◌, ◌^◌, get_or, bit_and, sym, ◌∙◌, ap, arith, rules}
 use Rattle.std.specs.Int.{bit_at}
 use Rattle.std.proofs.lemmas.Bool.{eqb-true, eq-eqb}

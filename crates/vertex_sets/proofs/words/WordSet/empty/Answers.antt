@@ -1,3 +1,4 @@
+-- Proofs of `empty`, src/words.rt.
 use Rattle.std.proofs.Common.{◌≡◌, [], length, replicate, ap, sym, ◌∙◌, rules}
 use Rattle.vertex_sets.specs.VertexSet.{word_count}
 use Rattle.vertex_sets.specs.inside.Words.{word_members}

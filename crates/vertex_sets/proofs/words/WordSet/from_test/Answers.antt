@@ -1,3 +1,4 @@
+-- Proofs of `from_test`, src/words.rt.
 use Rattle.std.proofs.Common.{◌≡◌, ◌+◌, ◌*◌, ◌-◌, ◌^◌, ◌<◌, ◌++◌, ◌∷◌, [], length, length-append, min, ap, ◌∙◌, arith, rules}
 use Rattle.std.proofs.lemmas.List.Elements.{All-from_get_or, Contains-get_or}
 use Rattle.vertex_sets.specs.inside.Words.{bit_members, word_members}

@@ -1,3 +1,4 @@
+-- Proofs of `full`, src/words.rt.
 use Rattle.std.proofs.Common.{◌≡◌, ◌/◌, length, set, ap, sym, ◌∙◌, rules}
 use Rattle.std.proofs.lemmas.List.FromFn.{length-range_with_len}
 use Rattle.vertex_sets.specs.VertexSet.{all_vertices, word_count}

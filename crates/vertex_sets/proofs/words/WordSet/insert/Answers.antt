@@ -1,3 +1,4 @@
+-- Proofs of `insert`, src/words.rt.
 use Rattle.std.proofs.Common.{◌≡◌, ◌/◌, ◌*◌, ◌%◌, ◌^◌, ◌<◌, length, get_or, bit_and, ◌∙◌, ap, subst, arith}
 use Rattle.std.proofs.lemmas.List.{get_or_default}
 use Rattle.vertex_sets.specs.inside.Words.{word_members}

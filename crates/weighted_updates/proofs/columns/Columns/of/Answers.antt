@@ -1,3 +1,4 @@
+-- Proofs of `of`, src/columns.rt.
 use Rattle.std.proofs.Common.{rules, arith, w64, ◌∙◌}
 use Rattle.std.proofs.lemmas.Int.{to_z-of_z}
 use Rattle.weighted_updates.proofs.PairColumns.{columns_more, longer}

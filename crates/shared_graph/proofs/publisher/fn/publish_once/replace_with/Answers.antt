@@ -1,3 +1,4 @@
+-- Proofs of the publisher that `publish_once` passes to `replace_with`, src/publisher.rt.
 use Rattle.std.proofs.Common.{sym, subst}
 use Rattle.left_right.specs.Sides.{view as view_of}
 use Rattle.shared_graph.specs.inside.Publishing.{GoesOn}
