@@ -133,7 +133,7 @@ impl<'a> View<'a> {
         self.prefix
     }
 
-    /// The same entries with owners of their own. It takes no memory; the error comes where a count of
+    /// A part with the entries of this view, and owners of its own. It takes no memory; the error comes where a count of
     /// owners is full.
     pub fn share(&self) -> Result<Part, AllocError>
         ensures { IfOk result (λ p. p ≡ self.now) }

@@ -40,7 +40,7 @@ fn add_vectors(
     Ok(())
 }
 
-/// The same of one vector.
+/// Adds a vector with its changes in all parts, if it is not there yet.
 fn add_vector(
     alloc: Global,
     parts: &[Found<Changes>],

@@ -29,7 +29,7 @@ pub fn passes(words: Option<&[u64]>, vertex: u32) -> bool
     }
 }
 
-/// The same where words are given.
+/// Moves the members of a set of words to the front. It gives how many they are.
 #[inline(always)]
 fn keep_set(words: &[u64], block: &mut [u32], count: usize) -> usize
     requires { count ≤ length block.old }

@@ -29,7 +29,7 @@ pub fn keep_members_weighted(
     }
 }
 
-/// The same where words are given.
+/// Moves the members of a set of words to the front, each with its weight. It gives how many they are.
 #[inline(always)]
 fn keep_set_weighted(words: &[u64], block: &mut [u32], weights: &mut [i64], count: usize) -> usize
     requires same { length weights.old ≡ length block.old }

@@ -36,7 +36,7 @@ impl<'a> Updates<'a> {
         Updates { updates, weights }
     }
 
-    /// The same updates, lent once more.
+    /// A second view of these updates.
     #[inline]
     pub fn lend(&self) -> Updates<'a>
         ensures { result ≡ self.now }

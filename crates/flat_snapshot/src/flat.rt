@@ -93,7 +93,7 @@ impl Flat {
         self.incoming.neighbours(destination).iter()
     }
 
-    /// The same as a set, which is smaller than a walk and may be gone over by its form.
+    /// The neighbours that `out` walks over, as a set: it is smaller than a walk, and a caller may match on its form.
     #[inline]
     pub fn out_set(&self, source: u32) -> NeighbourSet<'_>
         ensures { result ≡ destinations_of source self.now.edges }

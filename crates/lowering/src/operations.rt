@@ -29,7 +29,7 @@ pub(crate) fn integer_kernel(
     ExpressionKernel::of_integer(alloc, e, depth.integers, depth.conditions)
 }
 
-/// The same of type `bool`.
+/// The kernel of an expression of type `bool` where so much is visible.
 pub(crate) fn condition_kernel(
     alloc: Global,
     c: &BoolExpression,
@@ -93,7 +93,7 @@ pub(crate) fn operation_of(
     }
 }
 
-/// The same of statements on vectors, sets and edges, and of `print`.
+/// The operation of a statement on vectors, sets or edges, or of `print`.
 fn other_operation(
     alloc: Global,
     action: &StatementKind,
@@ -140,7 +140,7 @@ fn other_operation(
     }
 }
 
-/// The same of a statement on a vertex set, and of an apply.
+/// The operation of a statement on a vertex set, or of an apply.
 fn set_operation(action: &StatementKind) -> PlanOperation
     ensures { (keep shown : Depth) → IsOnSets (statement_kind_tree action.now) → IsOperation keep shown result (Do (statement_kind_tree action.now)) }
 {

@@ -14,7 +14,7 @@ pub fn sum_of_tails(tails: &[Tail]) -> u64 {
     sum
 }
 
-/// The same by blocks of 128.
+/// The sum of all keys of the tails, read by blocks of 128.
 pub fn sum_by_blocks(tails: &[Tail]) -> u64 {
     let mut sum = 0u64;
     let mut block = [0u32; 128];

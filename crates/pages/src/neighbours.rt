@@ -159,7 +159,7 @@ impl<'a> Neighbours<'a> {
         false
     }
 
-    /// The same list by its width. Who goes over it by index in each arm has a loop for each width, in which the width
+    /// This list by its width. A caller that goes over it by index in each arm has a loop for each width, in which the width
     /// is a literal. It takes constant time.
     #[inline(always)]
     pub fn by_width(self) -> ByWidth<'a>

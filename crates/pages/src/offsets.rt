@@ -15,7 +15,7 @@ pub(crate) struct PackedOffsets<'a> {
 }
 
 impl PackedOffsets<'_> {
-    /// The same, with its width and its mask as literals of the caller, for which a loop is made.
+    /// These offsets with a width and a mask that are literals of the caller, for which a loop is compiled.
     #[inline(always)]
     pub(crate) fn of_width(self, width: usize, mask: u32) -> Self
         requires width { width ≡ self.width }

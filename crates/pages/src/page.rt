@@ -199,7 +199,7 @@ impl Page {
 impl Clone for Page {
     ghost is_clone = { λ page copy. copy ≡ page };
 
-    /// The same page once more. It takes time in proportion to its bytes.
+    /// A copy of the page. It takes time in proportion to its bytes.
     ///
     /// The only error is out of memory.
     fn clone(&self) -> Result<Page, AllocError> {

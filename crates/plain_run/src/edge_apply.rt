@@ -145,7 +145,7 @@ fn flags_of(
     }
 }
 
-/// The same of an end that is given.
+/// For each vertex, whether a given end lets it through.
 fn flags_of_end(
     alloc: Global,
     filters: &[Function],

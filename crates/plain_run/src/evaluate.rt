@@ -215,7 +215,7 @@ pub(crate) fn is_inside(
     }
 }
 
-/// The same of all operands in a list.
+/// Whether each index in the operands is a vertex.
 #[cycle(insides)]
 fn are_inside(
     operands: &[Operand],
@@ -261,7 +261,7 @@ pub(crate) fn condition_is_inside(
     }
 }
 
-/// The same of all conditions in a list.
+/// Whether each index in the conditions is a vertex.
 #[cycle(condition_insides)]
 fn conditions_are_inside(
     conditions: &[BoolExpression],

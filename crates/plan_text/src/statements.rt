@@ -320,7 +320,7 @@ impl Lines<'_> {
         close_bracket(out)
     }
 
-    /// The same of an expression of type `bool`.
+    /// `[c]`
     fn put_bracketed_condition(
         self,
         out: &mut Vec<u8>,

@@ -1,4 +1,4 @@
-//! The tokens that may stand at the place of a fault, found by the parser.
+//! The tokens that are possible at the place of a fault, found by the parser.
 
 use parser::{ParseError, parse};
 use std::alloc::{AllocError, Global};
@@ -6,7 +6,7 @@ use std::alloc::{AllocError, Global};
 // A longer beginning of a text is not tried: each token costs a parse of it.
 const MOST_TRIED: usize = 1 << 18;
 
-// Tokens, and how they are shown. One that begins something stands for all that begin it.
+// Tokens, and how they are shown. The first token of a construct is shown for the construct.
 const TOKENS: [(&str, &str); 44] = [
     ("const", "a declaration"),
     ("print", "a statement"),
@@ -72,7 +72,7 @@ pub(crate) fn shown(index: usize) -> &'static str {
     }
 }
 
-/// The indexes of the tokens that may stand after the beginning of a text, or none for a beginning that is too long to be tried.
+/// The indexes of the tokens that are possible after the beginning of a text, or none for a beginning that is too long to be tried.
 /// The only error is out of memory.
 pub(crate) fn expected(alloc: Global, beginning: &[u8]) -> Result<Vec<usize>, AllocError> {
     let mut found = Vec::new(alloc);

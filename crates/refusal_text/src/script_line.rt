@@ -81,7 +81,7 @@ pub(crate) fn fault_of(line: &[u8], number: u16) -> LineFault<'_> {
     }
 }
 
-// Why a line is no command that may stand in its place.
+// Why a line is no command that is possible at its place.
 fn bad_line_fault(line: &[u8]) -> LineFault<'_> {
     if let Some(fault) = words_fault(line) {
         return fault;
@@ -151,7 +151,7 @@ fn spelling_fault(line: &[u8]) -> Option<&'static str> {
     None
 }
 
-// Why a word is not the number that stands at this index after a command.
+// Why a word is not the number at this index after a command.
 fn number_fault(name: &[u8], index: usize, word: &[u8]) -> Option<&'static str> {
     if name == b"add".as_slice() && index == 3 {
         return match integer(word) {

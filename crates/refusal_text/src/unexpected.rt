@@ -1,4 +1,4 @@
-//! The lines on a fault 211: the unexpected token, and the likely cause or what may stand there.
+//! The lines on a fault 211: the unexpected token, and the likely cause or what is possible there.
 
 use crate::cause::cause_of;
 use crate::expected::{expected, semicolon_helps, shown};
@@ -60,7 +60,7 @@ fn guess(alloc: Global, spot: Spot<'_>, at: usize) -> Result<Option<&'static str
     }
 }
 
-// Adds the line that lists what may stand at the fault.
+// Adds the line that lists what is possible at the fault.
 fn push_expected(
     lines: &mut Vec<u8>,
     alloc: Global,

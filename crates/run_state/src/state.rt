@@ -459,7 +459,7 @@ impl State {
         }
     }
 
-    /// The same of one function, for which the block has room.
+    /// Applies one function, for which the block has room, to the vertices of a set.
     fn apply(&mut self, set: usize, kernel: &VertexKernel, block: &mut Block)
         requires known { ∥ IsVertexKernel kernel.now ∥₁ }
         requires room { HasRegisters block.old kernel.now.room }
@@ -547,7 +547,7 @@ impl State {
         })
     }
 
-    /// The same of a run that is over: what was printed and the vectors that stand alone are handed over as they are.
+    /// What a run that is over shows. What was printed and the vectors of no group are moved, not copied.
     pub fn into_outcome(
         self,
         alloc: Global,

@@ -115,7 +115,7 @@ impl PlanRun {
             .show(alloc, &plan.names, &plan.vectors, run_end)
     }
 
-    /// The same of a run that is over: what it has is handed over. The only error is out of memory.
+    /// What a run that is over shows, moved and not copied. The only error is out of memory.
     pub(crate) fn into_outcome(
         self,
         alloc: Global,

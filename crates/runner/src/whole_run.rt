@@ -52,7 +52,7 @@ pub fn run_by<E: EdgeApplier>(
     run.into_outcome(alloc, plan, turns)
 }
 
-/// The same by one worker.
+/// Runs a plan by one worker, as `run_by` does.
 ///
 /// # Example
 ///
@@ -73,7 +73,7 @@ pub fn run_alone(
     run_by(alloc, plan, graph, turns, &mut alone)
 }
 
-/// The same by n workers, 1 to 64, of whom the caller is worker 1, in threads of their own for each edge apply: the
+/// Runs a plan by n workers, 1 to 64, of whom the caller is worker 1, in threads of their own for each edge apply: the
 /// outcome does not depend on their number, nor on who does which piece.
 ///
 /// `gate` is told of each piece of an apply before it is done. Where it watches, the pieces and the workers are exactly

@@ -99,7 +99,7 @@ fn push_sites(
     Ok(())
 }
 
-/// The same of the statements in the blocks of a statement.
+/// Puts the labels of the statements in the blocks of a statement after the others, in the order of the text.
 #[cycle(sites)]
 fn push_inner(action: &StatementKind, sites: &mut Vec<(usize, Site)>) -> Result<(), AllocError>
     ensures { OnOk result (sites.new.items ≡ sites.old.items ++ sites_in (statement_kind_tree action.now)) }

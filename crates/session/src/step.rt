@@ -27,7 +27,7 @@ pub enum SessionStep {
 impl Clone for SessionStep {
     ghost is_clone = { λ step copy. copy ≡ step };
 
-    /// The same step, with a batch of its own. The only error is out of memory.
+    /// A copy of the step, with a batch of its own. The only error is out of memory.
     fn clone(&self) -> Result<SessionStep, AllocError> {
         Ok(match self {
             SessionStep::Commit(batch) => SessionStep::Commit(batch.clone()?),

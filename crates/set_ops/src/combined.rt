@@ -30,7 +30,7 @@ impl Task {
         }
     }
 
-    /// The same of what stands above a number.
+    /// This operation on what is above a number.
     pub(crate) fn above(self, key: u32) -> Task
         ensures { result ≡ record { operation = self.operation; base = Some key } }
     {

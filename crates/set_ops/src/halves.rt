@@ -37,7 +37,7 @@ impl<'a> Drop for Halves<'a> {
 }
 
 impl<'a> Halves<'a> {
-    /// The same with owners of their own. The error comes where a count of owners is full.
+    /// These halves with owners of their own. The error comes where a count of owners is full.
     pub(crate) fn into_owned(self) -> Result<OwnedHalves, AllocError>
         ensures { IfOk result (λ h. (h.left ≡ self.entry.left) × (h.key ≡ self.entry.key)
             × (h.weight ≡ self.entry.weight) × (h.right ≡ self.entry.right)

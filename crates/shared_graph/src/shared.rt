@@ -79,7 +79,7 @@ impl<J: Naming, R: Wait + Drop> SharedGraph<J, R> {
         )
     }
 
-    /// The same with room for at most `room` entries in the history; a larger room than
+    /// Opens a graph with room for at most `room` entries in the history; a larger room than
     /// [`MAX_HISTORY`] is taken as that. The errors are those of [`SharedGraph::open`].
     pub fn open_with_room(
         rt: R,

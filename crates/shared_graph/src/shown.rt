@@ -83,7 +83,7 @@ impl Shown {
         }
     }
 
-    /// The same, with the graph shared.
+    /// This version once more, with the graph shared.
     ///
     /// Errors: `AllocError` where the graph cannot be shared once more.
     pub(crate) fn again(&self) -> Result<Shown, AllocError>

@@ -7,7 +7,7 @@ use std::alloc::AllocError;
 /// A value that can have a second owner at little cost, as a number, a tree, or a struct over an
 /// `Arc` whose model is what the `Arc` holds. A tree shares a value where it copies a node.
 pub trait Share: Sized + Drop {
-    /// The same value for one more owner. The error is out of memory, which includes a count of
+    /// This value for one more owner. The error is out of memory, which includes a count of
     /// owners that is full.
     fn share(&self) -> Result<Self, AllocError>
         ensures { IfOk result (λ other. other ≡ self.now) };

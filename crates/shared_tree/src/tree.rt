@@ -169,7 +169,7 @@ impl<V> Tree<V> {
 }
 
 impl<V: Drop> Share for Tree<V> {
-    /// The same tree with one more owner of its root. It takes no memory; the error comes where
+    /// This tree with one more owner of its root. It takes no memory; the error comes where
     /// the root's count of owners is full.
     fn share(&self) -> Result<Tree<V>, AllocError> {
         match self.link() {

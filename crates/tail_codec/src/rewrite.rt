@@ -20,7 +20,7 @@ pub struct TailCut {
 }
 
 impl Tail {
-    /// The same entries over another base, which is below them. A tail that is over this base already
+    /// The tail of these entries over another base, which is below them. A tail that is over this base already
     /// is not written anew.
     ///
     /// The only error is out of memory.

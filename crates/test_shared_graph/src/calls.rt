@@ -35,7 +35,7 @@ pub(crate) enum Call {
     Trim,
     /// Takes the newest version three times, which must have so many vertices and these edges.
     Is(u32, &'static [(u32, u32, i64)]),
-    /// The same, where it must have so many vertices and edges.
+    /// Takes the newest version, which must have so many vertices and edges.
     Counts(u32, usize),
     /// Looks at the version that was held last: its ticket, its vertices and its edges.
     Held(u64, u32, &'static [(u32, u32, i64)]),

@@ -248,7 +248,7 @@ impl Graph {
 impl Clone for Graph {
     ghost is_clone = { λ graph copy. copy ≡ graph };
 
-    /// The same graph once more. It shares the edges, so it takes constant time and no memory.
+    /// A second owner of the graph. It shares the edges, so it takes constant time and no memory.
     ///
     /// Errors: `AllocError` where the graph cannot be shared once more.
     fn clone(&self) -> Result<Graph, AllocError> {

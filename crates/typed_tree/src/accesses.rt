@@ -58,7 +58,7 @@ fn integer_passes<T: AccessTest>(e: &IntExpression, test: &T) -> bool
     }
 }
 
-/// The same of all operands in a list.
+/// Whether each access of the operands passes.
 #[cycle(integers)]
 fn operands_pass<T: AccessTest>(operands: &[Operand], test: &T) -> bool
     ensures { result ≡ operands_fold (all_pass (T.passes test.now)) operands.now }
@@ -90,7 +90,7 @@ fn condition_passes<T: AccessTest>(c: &BoolExpression, test: &T) -> bool
     }
 }
 
-/// The same of all conditions in a list.
+/// Whether each access of the conditions passes.
 #[cycle(conditions)]
 fn conditions_pass<T: AccessTest>(conditions: &[BoolExpression], test: &T) -> bool
     ensures { result ≡ conditions_fold (all_pass (T.passes test.now)) conditions.now }
@@ -116,7 +116,7 @@ fn steps_pass<T: AccessTest>(steps: &[FunctionStatement], test: &T) -> bool
     true
 }
 
-/// The same of one statement.
+/// Whether each access of one statement passes.
 #[cycle(steps)]
 fn step_passes<T: AccessTest>(step: &FunctionStatement, test: &T) -> bool
     ensures { result ≡ step_fold (all_pass (T.passes test.now)) (function_statement_tree step.now) }

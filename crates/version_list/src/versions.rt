@@ -98,7 +98,7 @@ impl Versions {
         Versions::with_room(alloc, vertices, chunk_size, MAX_HISTORY)
     }
 
-    /// The same with room for at most `room` entries in the history; a larger room than
+    /// A list of versions with room for at most `room` entries in the history; a larger room than
     /// [`MAX_HISTORY`] is taken as that. The errors are those of [`Versions::new`].
     pub fn with_room(
         alloc: Global,
