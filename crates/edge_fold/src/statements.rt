@@ -19,6 +19,9 @@ use crate::vector_accumulator::VectorAccumulators;
 use kernels::{Shape, ShapePair};
 use std::alloc::{AllocError, Global};
 
+/// A list with fewer neighbours is folded by a block of many lists, which is faster than a loop for each statement.
+const FEW_NEIGHBOURS: usize = 16;
+
 /// What two statements give a destination.
 #[derive(Clone, Copy)]
 pub(crate) struct ContributionPair {
@@ -101,9 +104,9 @@ impl VectorAccumulators {
 }
 
 impl Scratch {
-    /// Folds the edges from a source to destinations by index, with no block and however many they are, if what is given on an edge
-    /// is what two statements of a shape give. It gives whether that is so: if not, nothing is changed. The only error is out of
-    /// memory.
+    /// Folds the edges from a source to destinations by index, with no block and however many they are, if they are not few and
+    /// what is given on an edge is what two statements of a shape give. It gives whether that is so: if not, nothing is changed. The
+    /// only error is out of memory.
     #[inline(never)]
     pub(crate) fn fold_pair<E: NeighbourEntries>(
         &mut self,
@@ -117,6 +120,9 @@ impl Scratch {
             → HasFolded context.entry m steps (edges ++ row source (E.entries destinations.now)) self.new) }
         ensures unchanged { IfOk result (λ done. done ≡ false → self.new ≡ self.old) }
     {
+        if destinations.len() < FEW_NEIGHBOURS {
+            return Ok(false);
+        }
         let Some(pair) = context.shape_pair() else {
             return Ok(false);
         };
@@ -127,9 +133,9 @@ impl Scratch {
         Ok(true)
     }
 
-    /// Folds the edges from sources to a destination, with these weights or with any where none are given, if what is given on an
-    /// edge is what two statements of a shape give. It gives whether that is so: if not, nothing is changed. The only error is out
-    /// of memory.
+    /// Folds the edges from sources to a destination, with these weights or with any where none are given, if they are not few and
+    /// what is given on an edge is what two statements of a shape give. It gives whether that is so: if not, nothing is changed. The
+    /// only error is out of memory.
     pub(crate) fn fold_pair_into(
         &mut self,
         alloc: Global,
@@ -143,6 +149,9 @@ impl Scratch {
             → HasFolded context.entry m steps (edges ++ column destination (entries_of sources.now weights.now)) self.new) }
         ensures unchanged { IfOk result (λ done. done ≡ false → self.new ≡ self.old) }
     {
+        if sources.len() < FEW_NEIGHBOURS {
+            return Ok(false);
+        }
         let Some(pair) = context.reduced_pair(sources, weights) else {
             return Ok(false);
         };
