@@ -41,13 +41,16 @@ class Matrix(Edges):
         known = (["matrix"], ["coordinate"], list(FIELDS), list(SYMMETRIES))
         for word, it, choice in zip(banner[1:], words[1:], known):
             if it not in choice:
-                self.fail(f"{shown(word)} stands where {' or '.join(choice)} is wanted", 1)
+                self.fail(f"{shown(word)} is none of: {', '.join(choice)}", 1)
         self.field, self.symmetry = words[3:]
         if self.field not in SYMMETRIES[self.symmetry]:
             self.fail(f"{shown(banner[4])} does not go with {shown(banner[3])}", 1)
         if form.weights and self.field not in ("integer", "real"):
             self.fail(f"{shown(banner[3])} entries are no weights", 1)
         self.is_both_ways |= self.symmetry != "general"
+
+    def look(self, line: bytes) -> None:
+        self.has_more = self.weights is None and self.field in ("integer", "real")
 
     def passes(self, words: list[bytes]) -> bool:
         if not self.line or super().passes(words):
@@ -97,7 +100,7 @@ class Matrix(Edges):
         vertices = self.in_range(ends)
         if len(ends) // 2 > left:
             entry = b" ".join(ends[2 * left : 2 * left + 2])
-            reason = f"{shown(entry)} stands after as many entries as announced, {announced}"
+            reason = f"{shown(entry)} comes after as many entries as announced, {announced}"
             self.fail(reason, self.line + 1 + left)
         if self.symmetry == "skew-symmetric" and any(map(operator.eq, vertices[0::2], vertices[1::2])):
             at = next(i for i in range(0, len(ends), 2) if vertices[i] == vertices[i + 1])
@@ -191,6 +194,7 @@ def read_edges(name: str, found: Iterator[bytes], form: Form) -> tuple[Edges, in
         edges = Commas(name, form)
     else:
         edges = Edges(name, form)
+    edges.look(first_line(block)[1])
     while block:
         edges.read(block)
         block = next(found, b"")
@@ -200,7 +204,8 @@ def read_edges(name: str, found: Iterator[bytes], form: Form) -> tuple[Edges, in
 def read_file(path: str, form: Form, progress: Progress | None = None) -> tuple[Edges, int]:
     """Returns the edges in a file, or in standard input if the path is `-`, and the number of vertices.
 
-    `progress` shows how much of the file is read. Raises Mistake if the file cannot be read, or is not in its form; the text names the file, and the line and the word.
+    `progress` shows how much of the file is read. Raises Mistake if the file cannot be read, or is not in its form; the text names
+    the file, and the line and the word.
     """
     is_input = path == "-"
     name = "standard input" if is_input else path

@@ -53,6 +53,7 @@ class Form:
     columns: tuple[str, ...] = ()
     known: Mapping[bytes, int] | None = None
     by_names: str = "--names TABLE"
+    by_weights: str = "--weights"
     by_scale: str = "--scale N"
     by_separator: str = "--separator comma or --separator space"
     by_columns: str = "--columns A,B"
@@ -149,6 +150,16 @@ class Edges:
         self.first = 1 if form.one_based else 0
         self.last: int | None = MOST_VERTICES - 1 + self.first
         self.is_both_ways = form.both_ways
+        self.has_more = False
+
+    def look(self, line: bytes) -> None:
+        """Notes as `has_more` whether the first edge has a word that may be a weight and is not read."""
+        words = line.split()
+        self.has_more = self.weights is None and len(words) > 2 and words[0] != REMOVAL and bool(re.fullmatch(REAL, words[2]))
+
+    def unread(self) -> str | None:
+        """Says that weights may be there and were not read, or returns None."""
+        return f"the edges may have weights, which were not read; {self.options.by_weights} takes them" if self.has_more else None
 
     def fail(self, reason: str, line: int) -> NoReturn:
         """Raises the exception for a mistake."""
@@ -243,13 +254,13 @@ class Edges:
     def form(self, words: list[bytes]) -> tuple[bytes, ...]:
         """Returns an expression for each word of an edge's line, as many as this line has."""
         if len(words) < 2:
-            wanted = "an edge needs two vertices, separated by spaces or tabs"
+            wanted = "an edge needs two vertices, separated by spaces, tabs or commas"
             self.fail(f"{shown(words[0])} is only one word; {wanted}", self.line + 1)
         ends = (NATURAL, NATURAL) if self.numbers is None else (rb"(?!-\s)[^\s#%]\S*", rb"\S+")
         if self.weights is None:
             return ends + (rb"\S+",) * (len(words) - 2)
         if len(words) < 3:
-            self.fail(f"{shown(b' '.join(words))} has no weight behind the two vertices", self.line + 1)
+            self.fail(f"{shown(b' '.join(words))} has no weight after the two vertices", self.line + 1)
         return ends + (REAL,) + (rb"\S+",) * (len(words) - 3)
 
     def refuse(self, words: list[bytes]) -> None:
