@@ -95,11 +95,13 @@ class Commas(Edges):
         known = [next((at for at, it in enumerate(names) if it in some), None) for some in HEADINGS]
         if known[0] is not None and known[1] is not None:
             self.columns = [known[0], known[1], 2 if known[2] is None else known[2]]
-            self.has_more = self.weights is None and known[2] is not None
+            if known[2] is not None:
+                self.note_unread(f"the column {row[known[2]]!r} was not read", "it as the weights")
             return True
         is_number = [re.fullmatch("[+-]?[0-9]+", it) is not None for it in row[:2]]
         is_heading = self.numbers is None and not any(is_number)
-        self.has_more = self.weights is None and not is_heading and bool(re.fullmatch(REAL, "".join(row[2:3]).encode()))
+        if not is_heading:
+            self.note_third([it.encode("utf-8", "surrogateescape") for it in row])
         return is_heading
 
     def fields(self, line: bytes, number: int) -> list[str]:

@@ -50,7 +50,8 @@ class Matrix(Edges):
         self.is_both_ways |= self.symmetry != "general"
 
     def look(self, line: bytes) -> None:
-        self.has_more = self.weights is None and self.field in ("integer", "real")
+        if self.field in ("integer", "real"):
+            self.note_unread("the values of the entries were not read", "them as weights")
 
     def passes(self, words: list[bytes]) -> bool:
         if not self.line or super().passes(words):

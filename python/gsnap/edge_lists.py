@@ -150,16 +150,23 @@ class Edges:
         self.first = 1 if form.one_based else 0
         self.last: int | None = MOST_VERTICES - 1 + self.first
         self.is_both_ways = form.both_ways
-        self.has_more = False
+        self.unread = ""
 
     def look(self, line: bytes) -> None:
-        """Notes as `has_more` whether the first edge has a word that may be a weight and is not read."""
+        """Notes as `unread` what may be weights and is not read, by the line of the first edge."""
         words = line.split()
-        self.has_more = self.weights is None and len(words) > 2 and words[0] != REMOVAL and bool(re.fullmatch(REAL, words[2]))
+        if words[:1] != [REMOVAL]:
+            self.note_third(words)
 
-    def unread(self) -> str | None:
-        """Says that weights may be there and were not read, or returns None."""
-        return f"the edges may have weights, which were not read; {self.options.by_weights} takes them" if self.has_more else None
+    def note_third(self, words: list[bytes]) -> None:
+        """Notes the third of the words of the first edge, if it may be a weight and is not read."""
+        if len(words) > 2 and re.fullmatch(REAL, words[2]):
+            self.note_unread(f"the third word of the first edge, {shown(words[2])}, was not read", "such words as weights")
+
+    def note_unread(self, reason: str, what: str) -> None:
+        """Notes what is not read, unless weights are taken."""
+        if self.weights is None:
+            self.unread = f"{reason}; {self.options.by_weights} takes {what}"
 
     def fail(self, reason: str, line: int) -> NoReturn:
         """Raises the exception for a mistake."""

@@ -138,10 +138,10 @@ def opened_for(edges: Edges, count: int) -> Graph:
     return Graph(count) if edges.numbers is None else Graph(names=[spelled(it) for it in edges.numbers])
 
 
-def load_edges(graph: Graph | None, path: str, words: Sequence[str]) -> tuple[Graph, int, str | None]:
+def load_edges(graph: Graph | None, path: str, words: Sequence[str]) -> tuple[Graph, int, str]:
     """Adds the edges in a file to the pending batch of a graph, or of a new one.
 
-    Returns the graph, how many edges there are, and what is to be said of weights that were not read.
+    Returns the graph, how many edges there are, and what may be weights and was not read, or an empty text.
     Raises Mistake if the file is not in its form, OSError if it cannot be read, and ValueError for a wrong word.
     """
     form = form_of(path, words, graph is not None and graph.names is not None)
@@ -155,7 +155,7 @@ def load_edges(graph: Graph | None, path: str, words: Sequence[str]) -> tuple[Gr
         if graph is None:
             into.close()
         raise
-    return into, len(edges.ends) // 2, edges.unread()
+    return into, len(edges.ends) // 2, edges.unread
 
 
 @dataclass
