@@ -60,11 +60,11 @@ def from_pandas_edgelist(
     The vertices are the values of the columns `source` and `target`, as names, or as numbers if `names` is False. `weight` names
     a column of whole numbers. Raises KeyError if a column is missing.
     """
-    wanted = [source, target] if weight is None else [source, target, weight]
-    missing = [it for it in wanted if it not in frame.columns]
+    missing = [it for it in (source, target, weight) if it is not None and it not in frame.columns]
     if missing:
         raise KeyError(f"the table has no column {missing[0]!r}; it has: {', '.join(map(str, frame.columns))}")
-    return from_columns(*(frame[it].to_numpy() for it in wanted), names=names)
+    weights = None if weight is None else frame[weight].to_numpy()
+    return from_columns(frame[source].to_numpy(), frame[target].to_numpy(), weights, names=names)
 
 
 def from_scipy_sparse(matrix: Any, weights: bool = False) -> Graph:
