@@ -180,11 +180,21 @@ def is_of_paths(block: bytes) -> bool:
     return False
 
 
+# The first words of a file that has no edges, and what it is.
+OTHERS = (
+    (rb"\s*vertices [0-9]+( [0-9]+)?\s*", "this is a script, and not a list of edges"),
+    (rb"\s*element\s+Vertex\b.*", "this is a program, and not a list of edges"),
+)
+
+
 def read_edges(name: str, found: Iterator[bytes], form: Form) -> tuple[Edges, int]:
     """Returns the edges in blocks of whole lines, and the number of vertices. `name` is what messages call the file."""
     block = next(found, b"")
     while not first_line(block)[1] and (more := next(found, b"")):
         block += more
+    for other, said in OTHERS:
+        if re.fullmatch(other, first_line(block)[1]):
+            raise Mistake(f"{name}: {said}")
     words = block.partition(b"\n")[0].split()
     edges: Edges
     if words and words[0].lower() == BANNER:
