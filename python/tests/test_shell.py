@@ -315,6 +315,20 @@ def test_load_of_commas_and_spaces(tmp_path: Path) -> None:
     assert [" ".join(line.split()) for line in (said[4], said[-1])] == ["ann lee,bob 1", "ann lee bob 1"]
 
 
+def test_files_with_spaces(tmp_path: Path) -> None:
+    (tmp_path / "my edges.txt").write_text("0 1\n1 2\n")
+    (tmp_path / "my.program").write_text(SPIN)
+    lines = ['load "my edges.txt" both-ways', 'save "my graph.script"', 'open "my graph.script"', 'program "my.program"', "edges"]
+    failures, said = done(tmp_path, *lines)
+    assert not failures and said[1] == "saved version 1" and said[4] == "version 1: 4 edges", said
+    assert (tmp_path / "my graph.script").exists()
+
+
+def test_load_of_other_files(tmp_path: Path) -> None:
+    (tmp_path / "it.program").write_text(SPIN)
+    assert done(tmp_path, "load it.program") == (1, ["it.program: this is a program, and not a list of edges"])
+
+
 def test_load_of_a_script(tmp_path: Path) -> None:
     lines = ["vertices 4", "add 0 1", "add 1 2 5", "add 7 7", "commit", "add 0 1", "nothing"]
     lines += ["add 0 2", "add 2 3 -1", "add 3 3", "commit", "edges"]
@@ -389,7 +403,8 @@ def test_runs_on_a_held_version(tmp_path: Path) -> None:
 def test_explain(tmp_path: Path) -> None:
     status, said = done(tmp_path, "explain 103", "explain 900")
     assert status == 0
-    assert said == ["103: the chunk size is no power of two from 1 to 256", "leave it out, or take 64", "900: memory ran out"]
+    assert said[:3] == ["103: the chunk size is not a power of two from 1 to 256", "leave it out, or write 64", "900: memory ran out"]
+    assert said[3].startswith("run on a machine with more memory")
 
 
 def test_a_process_that_was_killed(tmp_path: Path, monkeypatch: pytest.MonkeyPatch) -> None:
