@@ -229,7 +229,7 @@ class Shell(Console):
         elif row is None:
             raise Wrong(f"{words!r} is no number of a refusal" if words else "it is `explain N`")
         else:
-            self.say(f"{row.number}: {row.means}", *([row.cure] if row.cure else []))
+            self.say(f"{row.number}: {row.means}", row.cure)
 
     def do_close(self, words: str) -> None:
         """close: closes the graph; the programs stay"""
