@@ -15,7 +15,7 @@ from .shell import Shell
 MOST_HISTORY = 1000
 
 ABOUT = """\
-A shell for a graph with versions: edits and questions, line by line. `help` lists the words. On a terminal there are a
+A shell for a graph with versions: edits and questions, line by line. `help` lists the commands. On a terminal there are a
 history and completion by the tab key, and Ctrl-C ends a run, not the graph.
 
 `python3 -m gsnap page SCRIPT PROGRAM ..` writes a page of a script's versions; its --help says more."""
@@ -99,7 +99,7 @@ def run_shell() -> int:
     shell = Shell(sys.stdin.isatty() and sys.stdout.isatty())
     try:
         if options.file:
-            shell.onecmd(f"load {options.file}")
+            shell.onecmd(f'load "{options.file}"' if '"' not in options.file else f"load {options.file}")
         if shell.is_terminal:
             talk(shell)
             return 0

@@ -7,6 +7,9 @@ from typing import Any
 
 from .numbers import numpy
 
+# What to do about weights that are fractions.
+SCALE = ", such as round(1000 * weight)"
+
 # A vertex is below this number, and so many vertices a graph has at most.
 MOST_VERTICES = 1 << 24
 
@@ -21,11 +24,12 @@ def whole(given: Any, name: str, least: int, bound: int) -> int:
     name the argument.
     """
     if isinstance(given, bool):
-        raise TypeError(f"{name} is {given}, and a truth value is no number")
+        raise TypeError(f"{name} is {given}, a truth value; a whole number is wanted")
     try:
         number = operator.index(given)
     except TypeError:
-        raise TypeError(f"{name} is {given!r}, and {type(given).__name__} is no whole number") from None
+        hint = SCALE if isinstance(given, float) and name.startswith("weight") else ""
+        raise TypeError(f"{name} is {given!r}, a {type(given).__name__}; a whole number is wanted{hint}") from None
     if not least <= number < bound:
         raise ValueError(f"{name} is {number}, and has to be from {least} to {bound - 1}")
     return number
@@ -59,7 +63,7 @@ def array_column(given: Any, name: str, least: int, bound: int, first: int) -> A
     """Does the same for a NumPy array."""
     assert numpy is not None
     if given.ndim != 1 or given.dtype.kind not in "iu":
-        raise TypeError(f"{name}s are an array of {given.dtype} with {given.ndim} dimensions, and not one row of whole numbers")
+        raise TypeError(f"the {name}s are {given.dtype} in {given.ndim} dimensions; one row of whole numbers is wanted{SCALE if name == 'weight' else ''}")
     if len(given) and not (int(given.min()) >= least and int(given.max()) < bound):
         for at, it in enumerate(given.tolist(), first):
             whole(it, f"{name} {at}", least, bound)

@@ -54,6 +54,9 @@ class Commas(Edges):
         super().__init__(name, form)
         self.columns: list[int] | None = None
 
+    def look(self, line: bytes) -> None:
+        """Leaves it to `is_heading`, which finds the columns."""
+
     def read(self, block: bytes) -> None:
         """Reads whole lines."""
         at = 0
@@ -92,9 +95,14 @@ class Commas(Edges):
         known = [next((at for at, it in enumerate(names) if it in some), None) for some in HEADINGS]
         if known[0] is not None and known[1] is not None:
             self.columns = [known[0], known[1], 2 if known[2] is None else known[2]]
+            if known[2] is not None:
+                self.note_unread(f"the column {row[known[2]]!r} was not read", "it as the weights")
             return True
         is_number = [re.fullmatch("[+-]?[0-9]+", it) is not None for it in row[:2]]
-        return self.numbers is None and not any(is_number)
+        is_heading = self.numbers is None and not any(is_number)
+        if not is_heading:
+            self.note_third([it.encode("utf-8", "surrogateescape") for it in row])
+        return is_heading
 
     def fields(self, line: bytes, number: int) -> list[str]:
         """Returns the fields of a line."""

@@ -1,10 +1,11 @@
-"""What the shell's lines stand on: one graph and its tickets, words of a line, what is said if a line fails, and completion."""
+"""What the commands of the shell share: one graph and its tickets, words of a line, what is said if a line fails, and completion."""
 from __future__ import annotations
 
 import cmd
 import glob
 import inspect
 import os
+import shlex
 import time
 from collections.abc import Callable, Hashable, Iterator
 from contextlib import contextmanager
@@ -34,6 +35,22 @@ GROUPS = {
 OF_FILES = ("load", "save", "open", "program")
 
 
+def parted(words: str) -> list[str]:
+    """Returns the words of a text. One in double quotes may have spaces, such as the name of a file."""
+    parts = shlex.shlex(words, posix=True)
+    parts.whitespace_split, parts.quotes, parts.escape, parts.commenters = True, '"', "", ""
+    try:
+        return list(parts)
+    except ValueError:
+        raise Wrong('a `"` is not closed') from None
+
+
+def file_of(words: str) -> str:
+    """Returns the file that a text names, perhaps in double quotes."""
+    is_quoted = len(words) > 2 and words[0] == words[-1] == '"'
+    return os.path.expanduser(words[1:-1] if is_quoted else words)
+
+
 class Wrong(Exception):
     """A line that cannot be done: why, and what can be done."""
 
@@ -49,7 +66,7 @@ class Console(cmd.Cmd):
         super().__init__()
         self.is_terminal = self.use_rawinput = is_terminal
         self.prompt = "gsnap> " if is_terminal else ""
-        self.intro = f"gsnap {version()}. `help` lists the words, `quit` ends." if is_terminal else None
+        self.intro = f"gsnap {version()}. `help` lists the commands, `quit` ends." if is_terminal else None
         self.graph: Graph | None = None
         self.held: dict[int, Held] = {}
         self.programs: list[Program] = []
@@ -192,12 +209,12 @@ class Console(cmd.Cmd):
         return lines.partition(": ")[2].splitlines()
 
     def do_help(self, arg: str) -> None:
-        """help [WORD]: lists the words, or says what one does"""
+        """help [COMMAND]: lists the commands, or says what one does"""
         word = arg.strip()
         if word in self.all_words():
             self.say(self.usage_of(word), *(f"  {line}".rstrip() for line in self.help_of(word)))
         elif word:
-            raise Wrong(f"{word!r} begins no line; `help` lists the words that do")
+            raise Wrong(f"`{word}` is not a command; `help` lists the commands")
         else:
             for group, words in GROUPS.items():
                 self.say(f"{group}:", *(f"  {self.usage_of(it):<34} {self.short_help_of(it)}" for it in words.split()))
@@ -222,7 +239,7 @@ class Console(cmd.Cmd):
         return self.completenames(str(args[0]))
 
     def completedefault(self, *args: object) -> list[str]:
-        """Returns what may stand behind a word and begins with a text: files, tickets, numbers."""
+        """Returns what may follow a word and begins with a text: files, tickets, numbers."""
         text, line = str(args[0]), str(args[1])
         before = line[: int(str(args[2]))].split()
         found: list[str] = []

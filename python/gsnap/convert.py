@@ -58,8 +58,11 @@ def from_pandas_edgelist(
     """Makes a graph of a pandas.DataFrame with a row for each edge, as version 1.
 
     The vertices are the values of the columns `source` and `target`, as names, or as numbers if `names` is False. `weight` names
-    a column of whole numbers.
+    a column of whole numbers. Raises KeyError if a column is missing.
     """
+    missing = [it for it in (source, target, weight) if it is not None and it not in frame.columns]
+    if missing:
+        raise KeyError(f"the table has no column {missing[0]!r}; it has: {', '.join(map(str, frame.columns))}")
     weights = None if weight is None else frame[weight].to_numpy()
     return from_columns(frame[source].to_numpy(), frame[target].to_numpy(), weights, names=names)
 

@@ -41,13 +41,17 @@ class Matrix(Edges):
         known = (["matrix"], ["coordinate"], list(FIELDS), list(SYMMETRIES))
         for word, it, choice in zip(banner[1:], words[1:], known):
             if it not in choice:
-                self.fail(f"{shown(word)} stands where {' or '.join(choice)} is wanted", 1)
+                self.fail(f"{shown(word)} is none of: {', '.join(choice)}", 1)
         self.field, self.symmetry = words[3:]
         if self.field not in SYMMETRIES[self.symmetry]:
             self.fail(f"{shown(banner[4])} does not go with {shown(banner[3])}", 1)
         if form.weights and self.field not in ("integer", "real"):
             self.fail(f"{shown(banner[3])} entries are no weights", 1)
         self.is_both_ways |= self.symmetry != "general"
+
+    def look(self, line: bytes) -> None:
+        if self.field in ("integer", "real"):
+            self.note_unread("the values of the entries were not read", "them as weights")
 
     def passes(self, words: list[bytes]) -> bool:
         if not self.line or super().passes(words):
@@ -97,7 +101,7 @@ class Matrix(Edges):
         vertices = self.in_range(ends)
         if len(ends) // 2 > left:
             entry = b" ".join(ends[2 * left : 2 * left + 2])
-            reason = f"{shown(entry)} stands after as many entries as announced, {announced}"
+            reason = f"{shown(entry)} comes after as many entries as announced, {announced}"
             self.fail(reason, self.line + 1 + left)
         if self.symmetry == "skew-symmetric" and any(map(operator.eq, vertices[0::2], vertices[1::2])):
             at = next(i for i in range(0, len(ends), 2) if vertices[i] == vertices[i + 1])
@@ -176,11 +180,21 @@ def is_of_paths(block: bytes) -> bool:
     return False
 
 
+# The first words of a file that has no edges, and what it is.
+OTHERS = (
+    (rb"\s*vertices [0-9]+( [0-9]+)?\s*", "this is a script, and not a list of edges"),
+    (rb"\s*element\s+Vertex\b.*", "this is a program, and not a list of edges"),
+)
+
+
 def read_edges(name: str, found: Iterator[bytes], form: Form) -> tuple[Edges, int]:
     """Returns the edges in blocks of whole lines, and the number of vertices. `name` is what messages call the file."""
     block = next(found, b"")
     while not first_line(block)[1] and (more := next(found, b"")):
         block += more
+    for other, said in OTHERS:
+        if re.fullmatch(other, first_line(block)[1]):
+            raise Mistake(f"{name}: {said}")
     words = block.partition(b"\n")[0].split()
     edges: Edges
     if words and words[0].lower() == BANNER:
@@ -191,6 +205,7 @@ def read_edges(name: str, found: Iterator[bytes], form: Form) -> tuple[Edges, in
         edges = Commas(name, form)
     else:
         edges = Edges(name, form)
+    edges.look(first_line(block)[1])
     while block:
         edges.read(block)
         block = next(found, b"")
@@ -200,7 +215,8 @@ def read_edges(name: str, found: Iterator[bytes], form: Form) -> tuple[Edges, in
 def read_file(path: str, form: Form, progress: Progress | None = None) -> tuple[Edges, int]:
     """Returns the edges in a file, or in standard input if the path is `-`, and the number of vertices.
 
-    `progress` shows how much of the file is read. Raises Mistake if the file cannot be read, or is not in its form; the text names the file, and the line and the word.
+    `progress` shows how much of the file is read. Raises Mistake if the file cannot be read, or is not in its form; the text names
+    the file, and the line and the word.
     """
     is_input = path == "-"
     name = "standard input" if is_input else path

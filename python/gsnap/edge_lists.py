@@ -53,6 +53,7 @@ class Form:
     columns: tuple[str, ...] = ()
     known: Mapping[bytes, int] | None = None
     by_names: str = "--names TABLE"
+    by_weights: str = "--weights"
     by_scale: str = "--scale N"
     by_separator: str = "--separator comma or --separator space"
     by_columns: str = "--columns A,B"
@@ -149,6 +150,23 @@ class Edges:
         self.first = 1 if form.one_based else 0
         self.last: int | None = MOST_VERTICES - 1 + self.first
         self.is_both_ways = form.both_ways
+        self.unread = ""
+
+    def look(self, line: bytes) -> None:
+        """Notes as `unread` what may be weights and is not read, by the line of the first edge."""
+        words = line.split()
+        if words[:1] != [REMOVAL]:
+            self.note_third(words)
+
+    def note_third(self, words: list[bytes]) -> None:
+        """Notes the third of the words of the first edge, if it may be a weight and is not read."""
+        if len(words) > 2 and re.fullmatch(REAL, words[2]):
+            self.note_unread(f"the third word of the first edge, {shown(words[2])}, was not read", "such words as weights")
+
+    def note_unread(self, reason: str, what: str) -> None:
+        """Notes what is not read, unless weights are taken."""
+        if self.weights is None:
+            self.unread = f"{reason}; {self.options.by_weights} takes {what}"
 
     def fail(self, reason: str, line: int) -> NoReturn:
         """Raises the exception for a mistake."""
@@ -243,13 +261,13 @@ class Edges:
     def form(self, words: list[bytes]) -> tuple[bytes, ...]:
         """Returns an expression for each word of an edge's line, as many as this line has."""
         if len(words) < 2:
-            wanted = "an edge needs two vertices, separated by spaces or tabs"
+            wanted = "an edge needs two vertices, separated by spaces, tabs or commas"
             self.fail(f"{shown(words[0])} is only one word; {wanted}", self.line + 1)
         ends = (NATURAL, NATURAL) if self.numbers is None else (rb"(?!-\s)[^\s#%]\S*", rb"\S+")
         if self.weights is None:
             return ends + (rb"\S+",) * (len(words) - 2)
         if len(words) < 3:
-            self.fail(f"{shown(b' '.join(words))} has no weight behind the two vertices", self.line + 1)
+            self.fail(f"{shown(b' '.join(words))} has no weight after the two vertices", self.line + 1)
         return ends + (REAL,) + (rb"\S+",) * (len(words) - 3)
 
     def refuse(self, words: list[bytes]) -> None:

@@ -1,6 +1,7 @@
 """Graphs in files: scripts that make the versions that are kept again, and the names beside them."""
 from __future__ import annotations
 
+import errno
 import gzip
 import json
 import os
@@ -46,6 +47,10 @@ def opened(path: Path, is_packed: bool, mode: str) -> IO[bytes]:
 
 def replace(path: Path, pieces: Iterable[bytes], is_packed: bool = False) -> None:
     """Writes a file beside its place and then moves it there, so that there is never half of it."""
+    if not path.name or path.is_dir():
+        raise IsADirectoryError(errno.EISDIR, os.strerror(errno.EISDIR), os.fspath(path))
+    if not path.parent.is_dir():
+        raise FileNotFoundError(errno.ENOENT, os.strerror(errno.ENOENT), os.fspath(path.parent))
     part = path.with_name(f".{path.name}.{os.getpid()}")
     try:
         with opened(part, is_packed, "wb") as out:
@@ -102,7 +107,7 @@ def read_script(path: Path) -> tuple[Journal, list[bytes], int]:
 
 def read_names(path: Path) -> Names | None:
     """Returns the names that are beside a file, or None if there are none."""
-    if not names_path(path).exists():
+    if not path.name or not names_path(path).exists():
         return None
     names = Names()
     with open(names_path(path), encoding="utf-8") as lines:

@@ -76,12 +76,13 @@ def form_of(path: str, words: Sequence[str], is_named: bool) -> Form:
             raise ValueError(f"{word!r} is none of {', '.join(WORDS)}")
     separator = "comma" if "commas" in rest else "space" if "spaces" in rest else ""
     form = Form(
-        "weights" in rest or int(scale or 1) > 1,
+        "weights" in rest or int(scale or 1) > 1 or (columns or "").count(",") > 1,
         int(scale or 1),
         both_ways="both-ways" in rest,
         separator=separator,
         columns=tuple(columns.split(",")) if columns else (),
         by_names=f"`load {path} names`",
+        by_weights=f"`load {path} weights`",
         by_scale=f"`load {path} scale N`",
         by_separator=f"`load {path} commas` or `spaces`",
         by_columns=f"`load {path} columns A,B`",
@@ -137,9 +138,10 @@ def opened_for(edges: Edges, count: int) -> Graph:
     return Graph(count) if edges.numbers is None else Graph(names=[spelled(it) for it in edges.numbers])
 
 
-def load_edges(graph: Graph | None, path: str, words: Sequence[str]) -> tuple[Graph, int]:
-    """Adds the edges in a file to the pending batch of a graph, or of a new one; returns the graph, and how many edges there are.
+def load_edges(graph: Graph | None, path: str, words: Sequence[str]) -> tuple[Graph, int, str]:
+    """Adds the edges in a file to the pending batch of a graph, or of a new one.
 
+    Returns the graph, how many edges there are, and what may be weights and was not read, or an empty text.
     Raises Mistake if the file is not in its form, OSError if it cannot be read, and ValueError for a wrong word.
     """
     form = form_of(path, words, graph is not None and graph.names is not None)
@@ -153,7 +155,7 @@ def load_edges(graph: Graph | None, path: str, words: Sequence[str]) -> tuple[Gr
         if graph is None:
             into.close()
         raise
-    return into, len(edges.ends) // 2
+    return into, len(edges.ends) // 2, edges.unread
 
 
 @dataclass

@@ -17,6 +17,9 @@ from .places import refusal_text
 # What `gsnap check` says of a text that does not compile.
 REFUSAL = re.compile(r"refused (?P<number>[0-9]+)(?: at (?P<offset>[0-9]+))?$", re.MULTILINE)
 
+# With what the text of a program begins, comments aside. No other str without a line feed is a text.
+BEGINNING = re.compile(r"\s*element\s")
+
 # A declaration of a constant number in a program's text.
 CONSTANT = r"(?m)^(?P<head>const {name} : int = )-?[0-9]+;"
 
@@ -36,11 +39,12 @@ def written(text: str) -> Path:
 
 
 def read(text_or_path: str | os.PathLike[str]) -> tuple[str, str]:
-    """Returns the name and the text of a program; a str with a line feed in it is a text, any other a path."""
-    if isinstance(text_or_path, str) and "\n" in text_or_path:
+    """Returns the name and the text of a program; a str that has a line feed or begins with `element` is a text, another a path."""
+    if isinstance(text_or_path, str) and ("\n" in text_or_path or BEGINNING.match(text_or_path)):
         return "program", text_or_path
     if not isinstance(text_or_path, (str, os.PathLike)):
-        raise TypeError(f"a program is a text or a path, not {type(text_or_path).__name__}")
+        call = "; call it, as in gsnap.components()" if callable(text_or_path) else ""
+        raise TypeError(f"a program is a text or a path, not {type(text_or_path).__name__}{call}")
     with open(text_or_path, encoding="utf-8", newline="") as file:
         return os.fspath(text_or_path), file.read()
 
@@ -48,8 +52,8 @@ def read(text_or_path: str | os.PathLike[str]) -> tuple[str, str]:
 class Program:
     """A program, compiled by `gsnap check`.
 
-    `text_or_path` is the program's text, if it has a line feed in it, else the path of a file that is read now. `constants` puts
-    other numbers into declarations `const NAME : int = NUMBER;` of the text. Two programs of one text are equal.
+    `text_or_path` is the program's text, if it has a line feed or begins with `element`, else the path of a file that is read now.
+    `constants` puts other numbers into declarations `const NAME : int = NUMBER;` of the text. Two programs of one text are equal.
 
     Raises ProgramRefused if the program does not compile, with the line, the place, the cause and the cure; OSError if the file
     cannot be read; KeyError for a constant that the text does not declare so; and NoProgram if there is no gsnap.

@@ -51,7 +51,7 @@ def reachable(source: Hashable, target: Hashable) -> Ready:
 
 
 def distances(start: Hashable) -> Ready:
-    """Distances in edges: `distance` is that from `start`, or -1 if there is no path."""
+    """Distances in edges: `distance` is the number of edges of a shortest path from `start`, or -1 if there is no path."""
     return Ready("distances", (("start", start),))
 
 
@@ -63,7 +63,7 @@ def hops(start: Hashable, edges: int = 2) -> Ready:
 def shortest_paths(start: Hashable) -> Ready:
     """Shortest paths by weights: `distance` is the least sum of weights from `start`, or 1,000,000,000 if there is no path.
 
-    There may be no circle of a negative sum.
+    No cycle may have a negative sum.
     """
     return Ready("shortest", (("start", start),))
 
@@ -87,7 +87,7 @@ def levels() -> Ready:
 
 
 def components() -> Ready:
-    """Connected components: `label` is the least vertex of each; prints how many there are. Wants each edge in both directions."""
+    """Connected components, of edges in both directions: `label` is the least vertex of each; prints how many there are."""
     return Ready("components")
 
 
@@ -107,17 +107,17 @@ def layers() -> Ready:
 
 
 def triangles() -> Ready:
-    """Triangles: `triangles` counts those of each vertex. Wants each edge in both directions."""
+    """Triangles, of edges in both directions: `triangles` counts those of each vertex."""
     return Ready("triangles")
 
 
 def k_core() -> Ready:
-    """Core numbers: `core` is the greatest k of a k-core that has the vertex. Wants each edge in both directions."""
+    """Core numbers, of edges in both directions: `core` is the greatest k of a k-core that has the vertex."""
     return Ready("cores")
 
 
 def bipartite() -> Ready:
-    """Two sides: `side` is 0 or 1, such that no edge joins equals, if that can be. Wants each edge in both directions."""
+    """Two sides, of edges in both directions: `side` is 0 or 1, so that no edge joins vertices of one side, if that is possible."""
     return Ready("bipartite")
 
 

@@ -7,11 +7,11 @@ from typing import NamedTuple
 
 from .data import text_of
 
-ROW = re.compile(r"\| (?P<number>[0-9]+) \| (?P<means>.*?) \| (?:.* \| (?P<cure>.*?)|[0-9]+) \|")
+ROW = re.compile(r"\| (?P<number>[0-9]+) \| (?P<means>.*?) \| .* \| (?P<cure>.*?) \|")
 
 
 class Row(NamedTuple):
-    """What the table has of one number. `cure` is empty if there is nothing to do in a program or script."""
+    """What the table has of one number: what it means, and what to do."""
 
     number: int
     means: str
@@ -22,7 +22,7 @@ class Row(NamedTuple):
 def rows() -> dict[int, Row]:
     """Returns all rows of the table, by their numbers."""
     found = filter(None, map(ROW.match, text_of("REFUSALS.md").splitlines()))
-    return {int(it["number"]): Row(int(it["number"]), it["means"], it["cure"] or "") for it in found}
+    return {int(it["number"]): Row(int(it["number"]), it["means"], it["cure"]) for it in found}
 
 
 def row_of(number: int) -> Row | None:

@@ -154,7 +154,7 @@ def first_line(line: bytes, printed: list[str]) -> Reply | None:
 def parse(lines: Iterable[bytes], read: ReadNumbers = list_of) -> Iterator[Reply]:
     """Yields each reply in the lines that gsnap wrote; `read` makes the numbers of a vector or a set.
 
-    A line that is no reply is what a run prints, until its line `end`. Raises Mistake for a line that is none of gsnap's.
+    A line that is no reply is what a run prints, until its line `end`. Raises Mistake for a line that gsnap does not write.
 
     >>> list(parse([b"open 2\\n", b"7\\n", b"end finished turns 1\\n", b"vector x: 5 6\\n"]))[1].vectors
     {'x': [5, 6]}
@@ -168,7 +168,7 @@ def parse(lines: Iterable[bytes], read: ReadNumbers = list_of) -> Iterator[Reply
             found = first_line(line, printed)
         except (ValueError, IndexError):
             shown = line.decode(errors="replace").rstrip()[:60]
-            raise Mistake(f"{shown!r}, line {at} of the replies, is none of gsnap's") from None
+            raise Mistake(f"line {at}, {shown!r}, is not a reply of gsnap") from None
         if found is None:
             printed.append(line.decode(errors="replace").rstrip("\n"))
             continue

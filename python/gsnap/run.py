@@ -124,7 +124,8 @@ class Run(Mapping[str, Any]):
 
     def __repr__(self) -> str:
         printed = f", printed {self.printed}" if self.printed else ""
-        return f"<gsnap.Run on version {self.version}: {self.end} after {self.turns} turns{printed}: {' '.join(self)}>"
+        shown = f": {' '.join(self)}" if len(self) else ""
+        return f"<gsnap.Run on version {self.version}: {self.end} after {self.turns} turns{printed}{shown}>"
 
     def _repr_html_(self) -> str:
         """Returns the table that a notebook shows, of the first rows."""

@@ -7,18 +7,19 @@ from dataclasses import dataclass
 from typing import NoReturn
 
 MOST_VERTICES = MOST_HISTORY = 16_777_216
+HOLD_TAKES = "takes no number, or `at` and 1 number"
 EDIT = re.compile(rb"(?:add|del) ([0-9]{1,9}) ([0-9]{1,9})\n|add ([0-9]{1,9}) ([0-9]{1,9}) -?[0-9]{1,18}\n")
-WORDS = {  # how many numbers follow, and the least number that no number reaches
-    b"vertices": ((1, 2), 1 << 32),
-    b"add": ((2, 3), 1 << 32),
-    b"del": ((2,), 1 << 32),
-    b"grow": ((1,), 1 << 32),
-    b"commit": ((0,), 0),
-    b"hold": ((0,), 0),
-    b"hold at": ((1,), 1 << 64),
-    b"release": ((1,), 1 << 64),
-    b"edges": ((0, 1), 1 << 64),
-    b"run": ((3, 4), 1 << 64),
+WORDS = {  # how many numbers follow, in digits and in words, and the least number that is too great
+    b"vertices": ((1, 2), "takes 1 or 2 numbers", 1 << 32),
+    b"add": ((2, 3), "takes 2 or 3 numbers", 1 << 32),
+    b"del": ((2,), "takes 2 numbers", 1 << 32),
+    b"grow": ((1,), "takes 1 number", 1 << 32),
+    b"commit": ((0,), "takes no number", 0),
+    b"hold": ((0,), HOLD_TAKES, 0),
+    b"hold at": ((1,), HOLD_TAKES, 1 << 64),
+    b"release": ((1,), "takes 1 number", 1 << 64),
+    b"edges": ((0, 1), "takes no number or 1", 1 << 64),
+    b"run": ((3, 4), "takes 3 or 4 numbers", 1 << 64),
 }
 
 
@@ -50,19 +51,22 @@ def refuse(number: int, reason: str) -> NoReturn:
 
 def shown(word: bytes) -> str:
     """Returns a word as a message shows it."""
-    return repr(word[:40].decode(errors="backslashreplace"))
+    return f"`{word[:40].decode(errors='backslashreplace')}`"
 
 
 def spelling(line: bytes) -> str | None:
-    """Returns why a line is not words with single spaces between them, or None."""
-    for byte, name in ((b"\t", "a tab"), (b"\r", "a carriage return"), (b"\0", "a byte 0")):
-        if byte in line:
-            return f"{name} stands in it, where words are apart by one space"
+    """Returns why a line is not words with single spaces between them, or None. The program says it in the same words."""
+    if line.startswith((b"#", b"//")):
+        return "a script has no comments"
+    if b"\t" in line:
+        return "a tab is in it: words are separated by one space"
+    if b"\r" in line:
+        return "a carriage return is in it: a line ends with a line feed alone"
     if line.startswith(b" "):
-        return "a space stands before its first word"
+        return "a space is before its first word"
     if line.endswith(b" "):
-        return "a space stands behind its last word"
-    return "two spaces stand together" if b"  " in line else None
+        return "a space is after its last word"
+    return "two spaces are between two words" if b"  " in line else None
 
 
 def command(line: bytes) -> tuple[bytes, list[int]]:
@@ -71,35 +75,43 @@ def command(line: bytes) -> tuple[bytes, list[int]]:
     if reason:
         refuse(801, reason)
     word, *rest = line.split(b" ")
+    name = word
     if word == b"hold" and rest:
         if rest[0] != b"at":
-            refuse(801, f"{shown(rest[0])} stands where 'at' is wanted, as in `hold at 3`")
+            refuse(801, f"{shown(rest[0])} is not `at`, as in `hold at 3`")
         word, rest = b"hold at", rest[1:]
+    if word == b"element":
+        refuse(801, "this is a program: `gsnap script SCRIPT PROGRAM` takes it after the script")
     if word not in WORDS:
-        refuse(801, f"{shown(word)} begins no line")
-    counts, bound = WORDS[word]
+        refuse(801, f"{shown(word)} is not a command")
+    counts, takes, bound = WORDS[word]
     if len(rest) not in counts:
-        wanted = " or ".join(map(str, counts))
-        refuse(801, f"{len(rest)} numbers follow {shown(word)}, where {wanted} are wanted")
+        refuse(801, f"{shown(name)} {takes}")
     weights = rest[2:] if word == b"add" else []
-    for weight in weights:
-        want_weight(weight)
     for number in rest[: len(rest) - len(weights)]:
         want_number(number, bound)
-    return word, [int(number) for number in rest]
+    for weight in weights:
+        want_weight(weight)
+    return word, [value(number) for number in rest]
+
+
+def value(word: bytes) -> int:
+    """Returns the number that a word of digits is, perhaps after a `-`; one of more than 20 digits is only known to be too great."""
+    sign, digits = (-1, word[1:]) if word.startswith(b"-") else (1, word)
+    return sign * int(digits.lstrip(b"0")[:21] or b"0")
 
 
 def want_weight(word: bytes) -> None:
     """Refuses a word that is no weight."""
-    if not re.fullmatch(rb"-?[0-9]+", word) or not -(1 << 63) <= int(word) < 1 << 63:
-        refuse(801, f"{shown(word)} is no weight: decimal digits, with a - or none, from -2^63 to 2^63 - 1")
+    if not re.fullmatch(rb"-?[0-9]+", word) or not -(1 << 63) <= value(word) < 1 << 63:
+        refuse(801, f"{shown(word)} is not a weight: decimal digits, perhaps after a `-`, from -2^63 to 2^63 - 1")
 
 
 def want_number(word: bytes, bound: int) -> None:
     """Refuses a word that is no number below a bound."""
     if not re.fullmatch(rb"[0-9]+", word):
-        refuse(801, f"{shown(word)} is no number: decimal digits without a sign")
-    if int(word) >= bound:
+        refuse(801, f"{shown(word)} is not a number: decimal digits without a sign")
+    if value(word) >= bound:
         refuse(801, f"{shown(word)} is above {bound - 1}")
 
 
@@ -149,9 +161,9 @@ class Script:
     def open(self, vertices: int, chunk: int = 64) -> None:
         """Takes a line `vertices`."""
         if not 1 <= vertices <= MOST_VERTICES:
-            refuse(111, f"{vertices} is no number of vertices from 1 to {MOST_VERTICES}")
+            refuse(111, f"`{vertices}` is not a number of vertices from 1 to {MOST_VERTICES}")
         if chunk not in (1, 2, 4, 8, 16, 32, 64, 128, 256):
-            refuse(103, f"{chunk} is no power of two from 1 to 256")
+            refuse(103, f"`{chunk}` is not a power of two from 1 to 256")
         self.vertices = vertices
 
     def edit(self, at: int, ends: list[int]) -> None:
@@ -173,7 +185,7 @@ class Script:
         after = max(vertices, self.asked)
         self.pending, self.farthest, self.asked, self.misgrown = 0, (-1, 0), 0, None
         if misgrown:
-            reason = f"line {misgrown[0]} asks for {misgrown[1]} vertices, where {vertices} to {MOST_VERTICES} may be"
+            reason = f"line {misgrown[0]} asks for {misgrown[1]} vertices, and {vertices} to {MOST_VERTICES} are possible"
             refuse(111, f"{reason}; the whole batch is dropped")
         if vertex >= after:
             reason = f"line {line} names vertex {vertex}, and the vertices are 0 to {after - 1}"
@@ -200,17 +212,17 @@ class Script:
     def want_ticket(self, ticket: int) -> None:
         """Refuses a ticket that is not open."""
         if ticket not in self.tickets:
-            never = f"so far {self.issued} were given" if ticket > self.issued or not ticket else "it was released"
-            refuse(122, f"ticket {ticket} is not open: {never}")
+            last = f"the last one given is {self.issued}" if self.issued else "none was given"
+            refuse(122, f"ticket {ticket} is not open: {'it was released' if 1 <= ticket <= self.issued else last}")
 
     def run(self, program: int, _turns: int, workers: int, ticket: int | None = None) -> None:
         """Takes a line `run`."""
         if program < 1 or self.programs is not None and program > self.programs:
-            refuse(412, f"there is no program {program}: programs are numbered from 1")
+            refuse(412, f"`{program}` is not the number of a program of the command line")
         if ticket is not None:
             self.want_ticket(ticket)
         if not 1 <= workers <= 64:
-            refuse(411, f"{workers} is no number of workers from 1 to 64")
+            refuse(411, f"`{workers}` is not a number of workers from 1 to 64")
 
 
 def faults(lines: Iterable[bytes], script: Script) -> Iterator[Fault]:

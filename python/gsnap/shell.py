@@ -5,7 +5,7 @@ import os
 from itertools import islice
 
 from . import files
-from .console import READY, Console, Wrong
+from .console import READY, Console, Wrong, file_of, parted
 from .graph import Graph, Held
 from .loading import Adds, is_script, load_edges, script_parts
 from .places import FAULT, statement_text
@@ -87,9 +87,9 @@ class Shell(Console):
         graph = self.opened()
         with self.timed():
             found = graph.edges(self.held_by(numbers[0]) if numbers else None)
-        self.say(f"version {found.version}: {len(found)} edges")
-        if len(found):
-            self.say(*table(["from", "to", "weight"], islice(found, MOST_ROWS), len(found)))
+            self.say(f"version {found.version}: {len(found)} edges")
+            if len(found):
+                self.say(*table(["from", "to", "weight"], islice(found, MOST_ROWS), len(found)))
 
     def do_status(self, words: str) -> None:
         """status: says which version is the newest, what is pending, and which tickets are open"""
@@ -101,7 +101,7 @@ class Shell(Console):
     def do_program(self, words: str) -> None:
         """program [FILE]: compiles the program in FILE, and gives it the next number; else lists the programs"""
         if words:
-            self.programs.append(Program(os.path.expanduser(words)))
+            self.programs.append(Program(file_of(words)))
         first = len(self.programs) - 1 if words else 0
         for number, it in enumerate(self.programs[first:], first + 1):
             self.say(f"program {number}: {it.name}")
@@ -119,7 +119,7 @@ class Shell(Console):
         """Runs a ready program, whose name is the first word of the line."""
         word, *words = line.split()
         if word not in READY:
-            raise Wrong(f"{word!r} begins no line; `help` lists the words that do")
+            raise Wrong(f"`{word}` is not a command; `help` lists the commands")
         self.opened()
         words, held = self.place_of(words)
         self.show_run(self.ready_of(word, words), held)
@@ -129,10 +129,10 @@ class Shell(Console):
         graph = self.opened()
         with self.timed():
             run = graph.run(program, turns, workers, held)
-        self.say(*run_lines(run))
-        if run.statement is not None:
-            name = program.name if isinstance(program, Program) else program.recipe
-            self.say(statement_text(name, program.text, run.statement))
+            self.say(*run_lines(run))
+            if run.statement is not None:
+                name = program.name if isinstance(program, Program) else program.recipe
+                self.say(statement_text(name, program.text, run.statement))
 
     # Files
 
@@ -141,17 +141,19 @@ class Shell(Console):
 
         If the first line of FILE is `vertices N`, it is a script, whose lines are done as if they were typed. Else it has edges:
         an edge list, a matrix of the Matrix Market, or a graph of the DIMACS challenge of shortest paths, packed by gzip or not.
-        If no graph is open, they are version 1 of a new one; else they join the pending batch. Words after FILE:
+        If no graph is open, they are version 1 of a new one; else they join the pending batch. A FILE with spaces is written in
+        double quotes. Words after FILE:
           weights      each edge has a weight, a whole number
-          scale N      weights are multiplied by N, such as 1000 for three places behind the point
+          scale N      weights are taken and multiplied by N, such as 1000 for three decimal places
           names        vertices are any words; that is so without this word if the first edge has words that are no numbers
           one-based    vertices are numbered from 1
           both-ways    each edge is added reversed too
           commas       commas separate words; that is so without this word for a file .csv, and if the first line has commas alone
           spaces       spaces or tabs separate words
-          columns A,B  of a file with commas: the columns with these headings have the sources and the destinations
+          columns A,B  of a file with commas: the columns with these headings have the sources and the destinations;
+                       `columns A,B,W` takes the column W as weights too
         """
-        path, *more = words.split() or [""]
+        path, *more = parted(words) or [""]
         if not path:
             raise Wrong("it is `load FILE`; `help load` says more")
         path = os.path.expanduser(path)
@@ -163,13 +165,15 @@ class Shell(Console):
 
     def load_edges(self, path: str, words: list[str]) -> None:
         """Takes the edges in a file."""
-        graph, count = load_edges(self.graph, path, words)
+        graph, count, unread = load_edges(self.graph, path, words)
         if self.graph is not None:
             self.say(f"{count} edges are pending; `commit` makes the next version")
-            return
-        self.take(graph)
-        graph.commit()
-        self.do_status("")
+        else:
+            self.take(graph)
+            graph.commit()
+            self.do_status("")
+        if unread:
+            self.say(unread)
 
     def load_script(self, path: str) -> None:
         """Does the lines of a script; a line that fails is named by its place."""
@@ -191,7 +195,7 @@ class Shell(Console):
         before = self.failures
         word = line.partition(" ")[0]
         if line and word not in SCRIPT_WORDS:
-            self.fail(f"refused 801: {word!r} begins no line of a script")
+            self.fail(f"refused 801: `{word}` is not a command of a script")
         else:
             self.attempt(line)
         if self.failures > before:
@@ -203,7 +207,7 @@ class Shell(Console):
         if not words:
             raise Wrong("it is `save FILE`")
         graph = self.opened()
-        graph.save(os.path.expanduser(words))
+        graph.save(file_of(words))
         left = f"; {graph.pending} pending entries are not in it" if graph.pending else ""
         self.say(f"saved version {graph.version}{left}")
 
@@ -212,8 +216,8 @@ class Shell(Console):
         if not words:
             raise Wrong("it is `open FILE`")
         with self.timed():
-            self.take(files.open_graph(os.path.expanduser(words)))
-        self.do_status("")
+            self.take(files.open_graph(file_of(words)))
+            self.do_status("")
 
     # Others
 
@@ -225,7 +229,7 @@ class Shell(Console):
         elif row is None:
             raise Wrong(f"{words!r} is no number of a refusal" if words else "it is `explain N`")
         else:
-            self.say(f"{row.number}: {row.means}", *([row.cure] if row.cure else []))
+            self.say(f"{row.number}: {row.means}", row.cure)
 
     def do_close(self, words: str) -> None:
         """close: closes the graph; the programs stay"""

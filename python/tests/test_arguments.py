@@ -213,6 +213,13 @@ def test_a_program_that_does_not_compile(graph):
     is_as_before(graph)
 
 
+def test_a_text_of_one_line(graph):
+    text = "element Vertex end element Edge end func main() print 7; end"
+    assert graph.run(text).printed == [7] and gsnap.Program(text).text == text
+    with pytest.raises(TypeError, match=r"not function; call it, as in gsnap.components\(\)"):
+        graph.run(gsnap.distances)
+
+
 def test_one_text_for_programs_is_one_program():
     text = "element Vertex end\nelement Edge end\nfunc main() print 5; end\n"
     with gsnap.Graph(2, programs=text) as graph:

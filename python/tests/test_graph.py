@@ -244,6 +244,18 @@ def test_save_and_open(tmp_path, name):
     assert (path.read_bytes()[:2] == b"\x1f\x8b") == name.endswith(".gz")
 
 
+def test_folders_are_no_files_of_graphs(tmp_path):
+    with gsnap.Graph(2) as graph:
+        for given in (".", tmp_path):
+            for call in (graph.save, gsnap.open):
+                with pytest.raises(IsADirectoryError) as caught:
+                    call(given)
+                assert caught.value.filename == str(given)
+        with pytest.raises(FileNotFoundError) as missing:
+            graph.save(tmp_path / "lost" / "it.script")
+        assert missing.value.filename == str(tmp_path / "lost")
+
+
 def test_a_saved_script_is_a_script(tmp_path):
     path = tmp_path / "graph.script"
     with gsnap.from_edges([(0, 1)]) as graph:

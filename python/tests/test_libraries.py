@@ -67,8 +67,10 @@ def test_pandas():
     numbers = pandas.DataFrame({"u": [0, 1], "v": [1, 5]})
     with gsnap.from_pandas_edgelist(numbers, "u", "v", names=False) as graph:
         assert (graph.vertices, graph.names) == (6, None)
-    with pytest.raises((TypeError, ValueError), match="weight"):
+    with pytest.raises(TypeError, match=r"weights are float64 .* such as round\(1000 \* weight\)"):
         gsnap.from_pandas_edgelist(frame.assign(cost=[0.5, 1.0]), weight="cost")
+    with pytest.raises(KeyError, match="no column 'lost'; it has: "):
+        gsnap.from_pandas_edgelist(frame, target="lost")
 
 
 def test_scipy():

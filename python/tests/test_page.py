@@ -310,7 +310,7 @@ def test_the_command_refuses_and_leaves_what_was_there(tmp_path: Path) -> None:
         (["a.script", "bytes.program"], 1, "page: a program is no text in UTF-8"),
         (["a.script", "--names", "wrong.names"], 1, "page: wrong.names:1: 'ann' is no number and a name"),
         (["empty.script", "--out", "a.html"], 1, "page: the script opens no graph"),
-        (["a.script", "--out", "none/a.html"], 2, "page: none/"),
+        (["a.script", "--out", "none/a.html"], 2, "page: none"),
         ([], 2, "usage: python3 -m gsnap page"),
     ]
     for words, wanted, text in cases:

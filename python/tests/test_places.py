@@ -19,8 +19,8 @@ def test_rows() -> None:
     assert len(numbers) > 35 and set(refusals.rows()) == numbers
     for number, row in refusals.rows().items():
         assert row.number == number and row.means, number
-        assert bool(row.cure) == (number < 900), number
-    assert refusals.row_of(103) == (103, "the chunk size is no power of two from 1 to 256", "leave it out, or take 64")
+        assert row.cure, number
+    assert refusals.row_of(103) == (103, "the chunk size is not a power of two from 1 to 256", "leave it out, or write 64")
     assert refusals.row_of(401) is None
 
 

@@ -22,6 +22,10 @@ EXAMPLES = PACKAGE.parent / "examples"
 SHELL = (sys.executable, "-m", "gsnap")
 HEAD = "element Vertex end\nelement Edge end\nconst edges : edgeset{Edge}(Vertex, Vertex) = load(argv[1]);\n"
 HEAD += "const x : vector{Vertex}(int) = 0;\n"
+# Files with what may be weights.
+UNREAD = ("general.mtx", "skew.mtx", "heading.csv", "friends.list")
+# Words after `load FILE` by which weights are taken, or columns without them are chosen.
+TAKE_WEIGHTS = {"weights", "scale", "columns"}
 SPIN = HEAD + "func main()\n  while true\n    x[0] = 1;\n  end\nend\n"
 FAULT = HEAD + "func main()\n  x[0] = 1;\n  x[9] = 2;\nend\n"
 
@@ -60,7 +64,7 @@ def main_does(folder: Path, text: str, *words: str) -> subprocess.CompletedProce
 
 
 def test_banner_help_and_end(terminal: Terminal) -> None:
-    assert "gsnap 0." in terminal.wait("`help` lists the words, `quit` ends.")
+    assert "gsnap 0." in terminal.wait("`help` lists the commands, `quit` ends.")
     terminal.type("help")
     shown = terminal.wait("  quit ")
     assert "  commit " in shown and "  bfs START [at T] " in shown
@@ -73,8 +77,9 @@ def test_banner_help_and_end(terminal: Terminal) -> None:
 def test_lines_runs_and_times(terminal: Terminal) -> None:
     terminal.type("vertices 5", "add 0 1", "add 1 0", "commit")
     terminal.wait("version 1")
-    terminal.type("components")
-    shown = terminal.wait("     4      4")
+    terminal.type("components", "status")
+    shown = terminal.wait("0 entries are pending")
+    assert "     4      4" in shown
     assert "printed 4\n" in shown and "version 1: finished, " in shown and "vertex  label" in shown
     assert shown.count(" s\n") == 2
 
@@ -171,22 +176,22 @@ def test_replies_to_lines(tmp_path: Path) -> None:
 @pytest.mark.parametrize(
     ("line", "why"),
     [
-        ("add 0", "refused 801: 1 numbers follow 'add'"),
-        ("add 0 x", "refused 801: 'x' is no number"),
-        ("add 0 1 9223372036854775808", "is no weight"),
+        ("add 0", "refused 801: `add` takes 2 or 3 numbers"),
+        ("add 0 x", "refused 801: `x` is not a number"),
+        ("add 0 1 9223372036854775808", "is not a weight"),
         ("del 0 1 2", "refused 801"),
         ("grow 2", "vertices is 2, and has to be from 3"),
         ("vertices 4", "a graph is open already"),
         ("names", "a graph is open already"),
         ("commit 1", "refused 801"),
         ("hold at 5", "121"),
-        ("hold 1", "refused 801: '1' stands where 'at' is wanted"),
+        ("hold 1", "refused 801: `1` is not `at`, as in `hold at 3`"),
         ("release 5", "refused 122: ticket 5 is not open; no ticket is open"),
         ("edges 5", "refused 122"),
         ("run 1", "refused 412"),
         ("run", "it is `run P`"),
         ("bfs", "it is `bfs START [at T]`"),
-        ("bfs ann", "'ann' is no number"),
+        ("bfs ann", "`ann` is not a number"),
         ("bfs 7", "start is 7"),
         ("components 1", "it is `components [at T]`"),
         ("components at 3", "refused 122"),
@@ -203,8 +208,11 @@ def test_replies_to_lines(tmp_path: Path) -> None:
         ("save", "it is `save FILE`"),
         ("save nowhere/x.script", "nowhere"),
         ("open lost.script", "lost.script: No such file or directory"),
-        ("help nothing", "'nothing' begins no line"),
-        ("nothing", "'nothing' begins no line"),
+        ("help nothing", "`nothing` is not a command"),
+        ("nothing", "`nothing` is not a command"),
+        ('load "edges.txt', 'a `"` is not closed'),
+        ("open .", ".: Is a directory"),
+        ("save .", ".: Is a directory"),
     ],
 )
 def test_a_line_that_cannot_be_done(tmp_path: Path, line: str, why: str) -> None:
@@ -257,10 +265,11 @@ def test_names(tmp_path: Path) -> None:
         ("paths.gr", "", 4, "0 1 7;0 2 2;1 2 3;1 3 1;2 1 3"),
         ("from_one.list", "one-based", 16777216, "0 1 1;1 16777215 1"),
         ("friends.list", "", 4, "4000000000 ann 1;ann bob 1;bob eve 1;eve eve 1"),
-        ("friends.list", "weights", 0, "'eve eve' has no weight behind the two vertices"),
+        ("friends.list", "weights", 0, "'eve eve' has no weight after the two vertices"),
         ("capitals.mtx", "names", 4, "1 2 1;2 1 1;2 3 1;3 2 1;4 4 1"),
         ("heading.csv", "weights", 3, "0 1 7;1 2 9;2 0 -3"),
         ("heading.csv", "columns to,from", 3, "0 2 1;1 0 1;2 1 1"),
+        ("heading.csv", "columns to,from,weight", 3, "0 2 -3;1 0 7;2 1 9"),
         ("heading.csv", "columns to,lost", 0, "no column has the heading 'lost'; there are: id, from, to, weight"),
         ("snap.txt", "commas", 0, "has too few words; an edge needs two vertices, separated by commas"),
     ],
@@ -274,7 +283,9 @@ def test_load_of_edges(tmp_path: Path, name: str, words: str, vertices: int, edg
             assert failures and edges in said[0]
             continue
         assert said[0].startswith(f"version 1: {vertices} vertices"), said
-        assert sorted(" ".join(line.split()) for line in said[3:]) == sorted(edges.split(";"))
+        unread = [line for line in said if " not read; " in line]
+        assert len(unread) == (name in UNREAD and not set(words.split()) & TAKE_WEIGHTS), said
+        assert sorted(" ".join(line.split()) for line in said[3 + len(unread) :]) == sorted(edges.split(";"))
 
 
 @pytest.mark.parametrize(
@@ -304,6 +315,20 @@ def test_load_of_commas_and_spaces(tmp_path: Path) -> None:
     assert [" ".join(line.split()) for line in (said[4], said[-1])] == ["ann lee,bob 1", "ann lee bob 1"]
 
 
+def test_files_with_spaces(tmp_path: Path) -> None:
+    (tmp_path / "my edges.txt").write_text("0 1\n1 2\n")
+    (tmp_path / "my.program").write_text(SPIN)
+    lines = ['load "my edges.txt" both-ways', 'save "my graph.script"', 'open "my graph.script"', 'program "my.program"', "edges"]
+    failures, said = done(tmp_path, *lines)
+    assert not failures and said[1] == "saved version 1" and said[4] == "version 1: 4 edges", said
+    assert (tmp_path / "my graph.script").exists()
+
+
+def test_load_of_other_files(tmp_path: Path) -> None:
+    (tmp_path / "it.program").write_text(SPIN)
+    assert done(tmp_path, "load it.program") == (1, ["it.program: this is a program, and not a list of edges"])
+
+
 def test_load_of_a_script(tmp_path: Path) -> None:
     lines = ["vertices 4", "add 0 1", "add 1 2 5", "add 7 7", "commit", "add 0 1", "nothing"]
     lines += ["add 0 2", "add 2 3 -1", "add 3 3", "commit", "edges"]
@@ -311,7 +336,7 @@ def test_load_of_a_script(tmp_path: Path) -> None:
     status, said = done(tmp_path, "load it.script", "status")
     assert status == 2
     assert said[0] == "open 4" and "111" in said[1] and said[2] == "it.script:5: `commit` was not done"
-    assert said[3] == "refused 801: 'nothing' begins no line of a script"
+    assert said[3] == "refused 801: `nothing` is not a command of a script"
     assert said[4:6] == ["it.script:7: `nothing` was not done", "version 1"]
     assert said[8:12] == ["   0   1       1", "   0   2       1", "   2   3      -1", "   3   3       1"]
     (tmp_path / "none.script").write_text("vertices 0\n" + "add 0 1\n" * 50 + "commit\n")
@@ -378,7 +403,8 @@ def test_runs_on_a_held_version(tmp_path: Path) -> None:
 def test_explain(tmp_path: Path) -> None:
     status, said = done(tmp_path, "explain 103", "explain 900")
     assert status == 0
-    assert said == ["103: the chunk size is no power of two from 1 to 256", "leave it out, or take 64", "900: memory ran out"]
+    assert said[:3] == ["103: the chunk size is not a power of two from 1 to 256", "leave it out, or write 64", "900: memory ran out"]
+    assert said[3].startswith("run on a machine with more memory")
 
 
 def test_a_process_that_was_killed(tmp_path: Path, monkeypatch: pytest.MonkeyPatch) -> None:

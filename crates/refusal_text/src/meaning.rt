@@ -29,14 +29,14 @@ fn of_tokens(number: u16) -> Option<(&'static str, &'static str)> {
     match number {
         BAD_BYTE => Some((
             "a byte begins no token",
-            "take the byte out; a label is `#name#` without spaces, `!` stands in `!=` alone",
+            "remove the byte; a comment begins with `//`, a label is `#name#` without spaces, and conditions are joined by `and`, `or` and `not`",
         )),
         NUMBER_TOO_LARGE => Some((
             "a number is above 9223372036854775807",
             "write a smaller number; the least int is `-9223372036854775807 - 1`",
         )),
         UNFINISHED_TEXT => Some((
-            "a text in quotes is not closed on its line, or holds a byte outside 0x20 to 0x7E",
+            "a text in quotes is not closed on its line, or has a byte outside 0x20 to 0x7E",
             "close it; there are no escapes",
         )),
         TOO_DEEP => Some((
@@ -59,7 +59,7 @@ fn of_types(number: u16) -> Option<(&'static str, &'static str)> {
         )),
         WRONG_TYPE => Some((
             "the type or the kind is wrong there",
-            "docs/LANGUAGE.md lists what each place takes",
+            "docs/LANGUAGE.md lists the type that each place takes",
         )),
         NOT_REDUCTION => Some((
             "an edge function assigns an entry of a vector",
@@ -70,20 +70,20 @@ fn of_types(number: u16) -> Option<(&'static str, &'static str)> {
             "use a second vector",
         )),
         WRONG_INDEX => Some((
-            "an entry is read or written at a vertex that is not allowed there",
-            "write at the second parameter; in `main` take the entry into a variable first",
+            "an entry is read or written at a vertex that is not allowed there, or an index in `main` contains an entry",
+            "an edge function writes only at its second vertex; in `main` take the entry into a variable first",
         )),
         PRINT_OUTSIDE_MAIN => Some((
-            "`print` stands in another function than `main`",
+            "a `print` is in another function than `main`",
             "print in `main`, after the apply",
         )),
         NO_MAIN => Some((
-            "there is no function `main` without parameters and result",
+            "there is no function `main` that has neither parameters nor a result",
             "add `func main() .. end`",
         )),
         BAD_LABEL => Some((
-            "a label stands twice in the text",
-            "rename one; functions and `main` share their labels",
+            "a label is twice in the text",
+            "rename one; labels in functions and in `main` must differ too",
         )),
         _ => None,
     }
@@ -96,11 +96,11 @@ fn of_schedule(number: u16) -> Option<(&'static str, &'static str)> {
             "write the label without `#`, as the statement has it",
         )),
         NO_APPLY => Some((
-            "the label stands before no apply, or before a vertex apply where an edge apply is wanted",
-            "put the label before the apply; a label in a function is no apply",
+            "the label is not that of an apply, or is that of a vertex apply in a call for edge applies",
+            "put the label before the apply in `main`",
         )),
         BAD_ARGUMENT => Some((
-            "a call has too few or too many arguments, or a value that its table does not have",
+            "a call has too few or too many arguments, or a value that does not exist",
             "take a value of the table in docs/LANGUAGE.md",
         )),
         GIVEN_TWICE => Some((
@@ -108,19 +108,19 @@ fn of_schedule(number: u16) -> Option<(&'static str, &'static str)> {
             "keep one of the calls",
         )),
         NOT_ADJACENT => Some((
-            "the second of two fused statements does not stand right behind the first in one block",
-            "name them in the order of the text, and move what stands between",
+            "the second of two fused statements does not follow the first at once in the same block",
+            "name them in the order of the text, and move what is between them",
         )),
         DIFFERENT_SETS => Some((
-            "two fused applies are of other kinds, sets, sources or destinations",
+            "two fused applies have different kinds, sets, sources or destinations",
             "give both the same `from` and `to`",
         )),
         NOT_INDEPENDENT => Some((
             "the second of two fused edge applies depends on what the first writes",
-            "leave them apart",
+            "do not fuse them",
         )),
         BAD_FIELDS => Some((
-            "fewer than two fields are fused, or a name is no vector, stands twice, or is in an earlier group",
+            "fewer than two fields are fused, or a name is not a vector, is named twice, or is in an earlier group",
             "name each vector once, in one group",
         )),
         _ => None,

@@ -50,7 +50,7 @@ abbrev pub script_with : List Text → Asked
 script_with [] = the_input
 script_with (script ∷ programs) = a_script script programs
 
--- a race of the files and numbers that were found; 2 workers and 1,000,000 turns where none are given
+-- a race of the files and numbers that were found; 2 workers and 1,000,000 turns if none are given
 abbrev pub race_of : List Row → Asked
 race_of rows =
     a_race (file_of (codes "SCRIPT") rows) (files_of (codes "PROGRAM") rows) (number_of (codes "workers") 1 64 2 rows)

@@ -72,7 +72,7 @@ const CHECK_HELP: &str =
 const PLAN_ABOUT: &str = "Compiles the program in a file, and prints its plan";
 
 const PLAN_HELP: &str =
-    "Each line of the plan is one step of a run, as docs/LANGUAGE.md lists them. A text is refused as by `check`.\n\
+    "Each line of the plan is one step of a run, as docs/PLANS.md lists them. A text is refused as by `check`.\n\
     Example: gsnap plan examples/reachability.program";
 
 const SCRIPT_ABOUT: &str =
@@ -91,17 +91,17 @@ const SCRIPT_HELP: &str =
     edges [T]        lists the edges of the newest version, or of the ticket's\n\
     run P TURNS WORKERS [T]   runs the P-th PROGRAM for at most TURNS turns by WORKERS workers, 1 to 64\n\
     \n\
-    A line that is refused is answered `refused N` and changes nothing; of a SCRIPT that is a file, standard error names the first ten\n\
-    such lines with their causes. The exit status is 0, also if lines were refused; 1 if a program's text is refused; 3 if a run ended\n\
-    by a fault; 4 out of memory; 5 if reading or writing fails.\n\
+    A line that is refused is answered `refused N` and changes nothing, but a refused commit drops its batch. Of a SCRIPT that is a file,\n\
+    standard error names the first ten such lines with their causes. The exit status is 0, also if lines were refused; 1 if a program's\n\
+    text is refused; 3 if a run ended by a fault; 4 out of memory; 5 if reading or writing fails.\n\
     docs/SCRIPTS.md says more.\n\
     Example: gsnap script examples/squares.script examples/squares.program";
 
 const RACE_ABOUT: &str = "Runs programs while a script's batches are committed";
 
 const RACE_HELP: &str =
-    "The script is `vertices`, and then only `add`, `del`, `grow` and `commit`. Each PROGRAM runs on the version that is the newest when it \
-    begins, and again once all batches are committed.\n\
+    "The script is `vertices`, and then only `add`, `del`, `grow` and `commit`. Each PROGRAM runs on the version that is the\n\
+    newest when it begins, and again once all batches are committed.\n\
     Example: gsnap race examples/race.script examples/reachability.program";
 
 /// All commands.
@@ -283,7 +283,7 @@ fn workers_option<'a>(alloc: Global) -> Arg<'a>
     Arg::new(alloc, WORKERS)
         .long(WORKERS)
         .value_parser(value_parser!(usize).range(1..=MAX_WORKERS as i64))
-        .help("How many workers a run has, 1 to 64; 2 where none are given")
+        .help("How many workers a run has, 1 to 64; 2 if none is given")
 }
 
 fn turns_option<'a>(alloc: Global) -> Arg<'a>
@@ -293,5 +293,5 @@ fn turns_option<'a>(alloc: Global) -> Arg<'a>
     Arg::new(alloc, TURNS)
         .long(TURNS)
         .value_parser(value_parser!(u64))
-        .help("How many turns a run may use; 1000000 where none are given")
+        .help("How many turns a run may use; 1000000 if none is given")
 }

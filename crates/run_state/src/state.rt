@@ -347,6 +347,7 @@ impl State {
     ) -> Result<(), AllocError>
         ensures ok { OnOk result ((p : ProgramTree) (g : GraphValue) → AreFunctionKernels functions.now p → g.vertices ≡ self.old.vertices
             → self.new ≡ with_state self.old (after_declare_set p g name (set_value members) self.old.state)) }
+        ensures vectors { self.new.state.vectors ≡ self.old.state.vectors }
         ensures turns { self.new.state.turns ≡ self.old.state.turns }
         ensures vertices { self.new.vertices ≡ self.old.vertices }
         ensures groups { self.new.groups ≡ self.old.groups }
@@ -368,6 +369,7 @@ impl State {
     ) -> Result<(), AllocError>
         ensures ok { OnOk result ((p : ProgramTree) (g : GraphValue) → AreFunctionKernels functions.now p → g.vertices ≡ self.old.vertices
             → self.new ≡ with_state self.old (after_assign_set p g index (set_value members) self.old.state)) }
+        ensures vectors { self.new.state.vectors ≡ self.old.state.vectors }
         ensures turns { self.new.state.turns ≡ self.old.state.turns }
         ensures vertices { self.new.vertices ≡ self.old.vertices }
         ensures groups { self.new.groups ≡ self.old.groups }
@@ -486,6 +488,9 @@ impl State {
     pub fn view<'a>(&'a self, functions: &'a FunctionKernels, graph: &'a Flat) -> RunView<'a>
         ensures seen { (p : ProgramTree) (g : GraphValue) → AreFunctionKernels functions.now p → graph.now.vertices ≡ g.vertices → graph.now.edges ≡ g.edges
             → IsViewOf result p self.now.state g }
+        ensures functions { result.functions.now ≡ functions.now }
+        ensures vectors { result.vectors.now.vectors ≡ self.now.state.vectors }
+        ensures graph { result.graph.now ≡ graph.now }
         ensures entries { HasEntryForEach self.now.vertices self.now.state.vectors }
         ensures valid { IsRunState self.now }
     {

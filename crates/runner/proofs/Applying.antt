@@ -90,6 +90,15 @@ turns_stay s (update.Other index set) = refl
 pub turns_of_both : (s : StateValue) (a b : SetUpdate) → (with_update (with_update s a) b).turns ≡ s.turns
 turns_of_both s a b = turns_stay (with_update s a) b ∙ turns_stay s a
 
+-- nor does it write to a vector
+vectors_stay : (s : StateValue) (a : SetUpdate) → (with_update s a).vectors ≡ s.vectors
+vectors_stay s update.Nothing = refl
+vectors_stay s (update.New name set) = refl
+vectors_stay s (update.Other index set) = refl
+
+pub vectors_of_both : (s : StateValue) (a b : SetUpdate) → (with_update (with_update s a) b).vectors ≡ s.vectors
+vectors_of_both s a b = vectors_stay (with_update s a) b ∙ vectors_stay s a
+
 -- the statement is this apply
 module _ (p : ProgramTree) (g : GraphValue) (number : ℕ) (s : StateValue) where
   abbrev IsDoneBy : StatementKindTree → Option EdgeApplyTree → Type 0

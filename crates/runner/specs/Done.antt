@@ -64,15 +64,19 @@ IsControl (op.Jump to) = Unit {0}
 IsControl op.End = Unit {0}
 IsControl other = ⊥
 
--- it takes values of expressions, and the run goes on at the next index
+-- it writes to an entry of a vector
+abbrev pub WritesEntry : PlanOperation → Type 0
+WritesEntry (op.SetEntry vector index k) = Unit {0}
+WritesEntry (op.ReduceEntry vector index reduction k) = Unit {0}
+WritesEntry other = ⊥
+
+-- it takes values of expressions and writes to no vector, and the run goes on at the next index
 abbrev pub TakesValues : PlanOperation → Type 0
 TakesValues (op.DeclareInteger name k) = Unit {0}
 TakesValues (op.DeclareCondition name k) = Unit {0}
 TakesValues (op.SetInteger slot k) = Unit {0}
 TakesValues (op.SetCondition slot k) = Unit {0}
 TakesValues (op.ReduceInteger slot reduction k) = Unit {0}
-TakesValues (op.SetEntry vector index k) = Unit {0}
-TakesValues (op.ReduceEntry vector index reduction k) = Unit {0}
 TakesValues (op.AddVertex slot k) = Unit {0}
 TakesValues (op.PrintInteger k) = Unit {0}
 TakesValues (op.PrintCondition k) = Unit {0}

@@ -20,10 +20,11 @@ ghost use Rattle.kernels.specs.Meaning.{IsVertexCode};
 ghost use Rattle.runner.specs.Done.{HasDone, HaveTrees, IsAsBefore};
 ghost use Rattle.runner.specs.Position.{IsOn};
 ghost use Rattle.runner.specs.Results.{IsUpdateFor, result_of_second, with_both};
+ghost use Rattle.vectors.specs.Changes.{with_all_changes};
 
 use crate::changed_vertices::changed_vertices;
 use crate::edge_applier::EdgeApplier;
-use crate::edge_maps::{EdgeMap, edge_map};
+use crate::edge_maps::EdgeMap;
 use crate::flow::Flow;
 use crate::memory::Memory;
 use apply_options::ApplySchedule;
@@ -82,8 +83,10 @@ impl Memory {
         applies: EdgeApplies<'_>,
         by: &mut E,
     ) -> Result<(), AllocError>
-        requires applier { E.is_ready by.old }
-        ensures applier { E.is_ready by.new }
+        requires applier { E.is_ready by.old functions.now applies.graph.now }
+        requires knows { E.knows by.old self.old.state.state.vectors }
+        ensures applier { E.is_ready by.new functions.now applies.entry.graph.now }
+        ensures knows { OnOk result (E.knows by.new self.new.state.state.vectors) }
         ensures done { OnOk result ((p : ProgramTree) (g : GraphValue) (t : OperationTree) → g ≡ graph_value applies.entry.graph.now → IsOn g self.old
             → AreFunctionKernels functions.now p → ApplyEdgesOf applies.entry.ends applies.entry.first applies.entry.second t → OperationReduces p t
             → HasDone instruction.now Flow.Next self.old self.new p g t) }
@@ -107,7 +110,7 @@ impl Memory {
             schedule,
         };
         let view = self.state.view(functions, graph);
-        let changes = edge_map(alloc, view, asked, by)?;
+        let changes = by.apply_edges(alloc, view, asked)?;
         let second = result_of(second);
         take_changes(
             alloc,
@@ -150,6 +153,7 @@ fn take_changes(
 ) -> Result<(), AllocError>
     ensures ok { OnOk result ((after : List (List ℤ)) → AreChangesTo state.old.vertices state.old.state.vectors after changes.now.vectors.items
         → state.new ≡ with_state state.old (with_both state.old.vertices first second after state.old.state)) }
+    ensures written { OnOk result (state.new.state.vectors ≡ with_all_changes changes.now.vectors.items state.old.state.vectors) }
     ensures turns { state.new.state.turns ≡ state.old.state.turns }
     ensures vertices { state.new.vertices ≡ state.old.vertices }
     ensures groups { state.new.groups ≡ state.old.groups }

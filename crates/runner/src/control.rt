@@ -27,6 +27,7 @@ impl Memory {
         requires visible { IsFor instruction.now.keep test.now }
         ensures done { IfOk result (λ flow. (p : ProgramTree) (g : GraphValue) (t : OperationTree) → IsOn g self.old
             → HasCondition instruction.now.keep test.now (λ c. Unless c to) t → HasDone instruction.now flow self.old self.new p g t) }
+        ensures vectors { self.new.state.state.vectors ≡ self.old.state.state.vectors }
         ensures vertices { self.new.state.vertices ≡ self.old.state.vertices }
         ensures groups { self.new.state.groups ≡ self.old.state.groups }
         ensures err { OnErr result (IsAsBefore self.old self.new) }
@@ -50,6 +51,7 @@ impl Memory {
         requires visible { IsFor instruction.now.shown end.now }
         ensures done { IfOk result (λ flow. (p : ProgramTree) (g : GraphValue) (t : OperationTree) (name : ℕ) → IsOn g self.old
             → HasInteger instruction.now.shown end.now (λ e. Enter name e) t → HasDone instruction.now flow self.old self.new p g t) }
+        ensures vectors { self.new.state.state.vectors ≡ self.old.state.state.vectors }
         ensures vertices { self.new.state.vertices ≡ self.old.state.vertices }
         ensures groups { self.new.state.groups ≡ self.old.state.groups }
         ensures err { OnErr result (IsAsBefore self.old self.new) }
@@ -72,6 +74,7 @@ impl Memory {
     /// Leaves the innermost loop for the index unless its value is below its bound.
     pub(crate) fn unless_below(&mut self, instruction: &Instruction, to: usize) -> Flow
         ensures done { (p : ProgramTree) (g : GraphValue) (name : ℕ) → HasDone instruction.now result self.old self.new p g (UnlessBelow name to) }
+        ensures vectors { self.new.state.state.vectors ≡ self.old.state.state.vectors }
         ensures vertices { self.new.state.vertices ≡ self.old.state.vertices }
         ensures groups { self.new.state.groups ≡ self.old.state.groups }
     {
@@ -87,6 +90,7 @@ impl Memory {
     /// The innermost loop goes on to its next value.
     pub(crate) fn advance(&mut self, instruction: &Instruction) -> Result<(), AllocError>
         ensures done { OnOk result ((p : ProgramTree) (g : GraphValue) (name : ℕ) → HasDone instruction.now Flow.Next self.old self.new p g (Advance name)) }
+        ensures vectors { self.new.state.state.vectors ≡ self.old.state.state.vectors }
         ensures vertices { self.new.state.vertices ≡ self.old.state.vertices }
         ensures groups { self.new.state.groups ≡ self.old.state.groups }
         ensures err { OnErr result (IsAsBefore self.old self.new) }
@@ -113,6 +117,7 @@ impl Memory {
     /// Uses a turn, or ends where none is left.
     pub(crate) fn turn(&mut self, instruction: &Instruction) -> Flow
         ensures done { (p : ProgramTree) (g : GraphValue) → HasDone instruction.now result self.old self.new p g Turn }
+        ensures vectors { self.new.state.state.vectors ≡ self.old.state.state.vectors }
         ensures vertices { self.new.state.vertices ≡ self.old.state.vertices }
         ensures groups { self.new.state.groups ≡ self.old.state.groups }
     {

@@ -1,22 +1,58 @@
-//! The edge applier: who does the edge applies of a run.
-ghost use Rattle.std.specs.Prelude.{◌≡◌, None, IfOk};
+//! The edge applier, who does the edge applies of a run, and the engines that do one from nothing.
+ghost use Rattle.std.specs.Prelude.{◌≡◌, ℤ, List, None, IfOk};
 ghost use Rattle.edge_fold.specs.Changed.{AreApart};
 ghost use Rattle.edge_apply.specs.Applied.{AreChangesOf};
+ghost use Rattle.flat_snapshot.specs.Digraph.{Digraph};
+ghost use Rattle.plans.specs.declared.functions.FunctionKernels.{FunctionKernels};
+ghost use Rattle.runner.specs.EdgeMap.{AreChangesOfApply};
 ghost use Rattle.runner.specs.HybridSources.{AreSourcesOf, traversal_of};
+ghost use Rattle.vectors.specs.Changes.{with_all_changes};
 
 use crate::direction::{Traversal, hybrid_sources};
+use crate::edge_maps::{EdgeMap, edge_map};
 use edge_apply::Apply;
 use edge_fold::Scratch;
 use pull_engine::pull;
 use push_engine::push;
+use run_state::RunView;
 use std::alloc::{AllocError, Global};
 use vectors::Changes;
 use vertex_sets::VertexSet;
 
-/// Who does the edge applies of a run: one worker or many, it does not matter to the run. It serves any apply after one that
-/// it has done, whatever became of that.
+/// Who does the edge applies of a run. An applier may keep what it did, and what it knows of the run's vectors since: so it is
+/// for the functions of one plan and for one graph, and the run says when it writes to its vectors by anything but an edge
+/// apply.
 pub trait EdgeApplier {
-    /// It does applies as it promises.
+    /// It does applies of these functions on this graph.
+    ghost is_ready: { Self → FunctionKernels → Digraph → Type 0 };
+
+    /// What it knows of the vectors of the run is true of these.
+    ghost knows: { Self → List (List ℤ) → Type 0 };
+
+    /// Knows nothing of the vectors any more: from now on they may be any.
+    fn forget_vectors(&mut self)
+        ensures ready { (functions : FunctionKernels) (graph : Digraph) → is_ready self.old functions graph → is_ready self.new functions graph }
+        ensures knows { (vectors : List (List ℤ)) → knows self.new vectors };
+
+    /// What an edge apply changes, as [`crate::edge_map`] says. The only error is out of memory. It serves any apply after this
+    /// one, whatever became of it.
+    fn apply_edges(
+        &mut self,
+        alloc: Global,
+        run: RunView<'_>,
+        asked: EdgeMap,
+    ) -> Result<Changes, AllocError>
+        requires ready { is_ready self.old run.functions.now run.graph.now }
+        requires knows { knows self.old run.vectors.now.vectors }
+        ensures changes { IfOk result (λ c. AreChangesOfApply run.entry asked c.vectors.items) }
+        ensures ready { is_ready self.new run.entry.functions.now run.entry.graph.now }
+        ensures knows { IfOk result (λ c. knows self.new (with_all_changes c.vectors.items run.entry.vectors.now.vectors)) };
+}
+
+/// The engines: what an apply changes, by push or by pull, by one worker or many. They keep nothing of a run, and serve any
+/// apply after one that they have done, whatever became of that.
+pub trait ApplyEngine {
+    /// They do applies as they promise.
     ghost is_ready: { Self → Type 0 };
 
     /// The sources of a hybrid that a filter lets through, in a set, and none for other applies. Each vertex is tested once.
@@ -65,6 +101,23 @@ impl SerialApplier {
 }
 
 impl EdgeApplier for SerialApplier {
+    ghost is_ready = { λ _ _ _. Unit {0} };
+
+    ghost knows = { λ _ _. Unit {0} };
+
+    fn forget_vectors(&mut self) {}
+
+    fn apply_edges(
+        &mut self,
+        alloc: Global,
+        run: RunView<'_>,
+        asked: EdgeMap,
+    ) -> Result<Changes, AllocError> {
+        edge_map(alloc, run, asked, self)
+    }
+}
+
+impl ApplyEngine for SerialApplier {
     ghost is_ready = { λ _. Unit {0} };
 
     fn sources(
@@ -128,6 +181,36 @@ impl<
         &mut Vec<Scratch>,
     ) -> Result<Changes, AllocError>,
 > EdgeApplier for ParallelApplier<F> {
+    // The closure may be called with the direction of an apply, and gives what the apply changes.
+    ghost is_ready = { λ s _ _. ((alloc : _) (apply : _) (traversal : _) (scratch : _) (states : _) → traversal ≡ traversal_of apply
+        → F.pre s.by alloc apply traversal scratch states)
+        × ((alloc : _) (apply : _) (traversal : _) (scratch : _) (states : _) (r : _) (scratch_after : _) (states_after : _)
+        → F.post s.by alloc apply traversal scratch states r scratch_after states_after
+        → IfOk r (λ c. AreApart c.vectors.items) × IfOk r (λ c. AreChangesOf apply c.vectors.items)) };
+
+    ghost knows = { λ _ _. Unit {0} };
+
+    fn forget_vectors(&mut self) {}
+
+    fn apply_edges(
+        &mut self,
+        alloc: Global,
+        run: RunView<'_>,
+        asked: EdgeMap,
+    ) -> Result<Changes, AllocError> {
+        edge_map(alloc, run, asked, self)
+    }
+}
+
+impl<
+    F: Fn(
+        Global,
+        Apply<'_>,
+        Traversal,
+        &mut Scratch,
+        &mut Vec<Scratch>,
+    ) -> Result<Changes, AllocError>,
+> ApplyEngine for ParallelApplier<F> {
     // The closure may be called with the direction of an apply, and gives what the apply changes.
     ghost is_ready = { λ s. ((alloc : _) (apply : _) (traversal : _) (scratch : _) (states : _) → traversal ≡ traversal_of apply
         → F.pre s.by alloc apply traversal scratch states)

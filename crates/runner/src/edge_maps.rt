@@ -12,7 +12,7 @@ ghost use Rattle.plans.specs.Reducing.{indices_of, steps_at};
 ghost use Rattle.runner.specs.EdgeMap.{AreChangesOfApply, IsApplyOfRun};
 
 use crate::direction::Traversal;
-use crate::edge_applier::EdgeApplier;
+use crate::edge_applier::ApplyEngine;
 use crate::ends::end_of;
 use apply_options::{ApplySchedule, Direction, Parallelization};
 use edge_apply::Apply;
@@ -42,7 +42,7 @@ pub struct EdgeMap {
 /// vectors, the sets and the graph stay as they are.
 ///
 /// The only error is out of memory. Who does the apply serves any apply after this one, whatever became of it.
-pub fn edge_map<E: EdgeApplier>(
+pub fn edge_map<E: ApplyEngine>(
     alloc: Global,
     run: RunView<'_>,
     asked: EdgeMap,
@@ -58,7 +58,7 @@ pub fn edge_map<E: EdgeApplier>(
 }
 
 /// What an apply of the engines changes, by push or by pull, as [`edge_map`] says.
-fn push_or_pull<E: EdgeApplier>(
+fn push_or_pull<E: ApplyEngine>(
     alloc: Global,
     apply: Apply<'_>,
     by: &mut E,

@@ -94,6 +94,7 @@ impl Memory {
         requires visible { IsFor instruction.now.keep vertex.now }
         ensures done { IfOk result (λ flow. (p : ProgramTree) (g : GraphValue) (t : OperationTree) → IsOn g self.old
             → HasInteger instruction.now.keep vertex.now (λ e. Do (AddVertex slot e)) t → HasDone instruction.now flow self.old self.new p g t) }
+        ensures vectors { self.new.state.state.vectors ≡ self.old.state.state.vectors }
         ensures vertices { self.new.state.vertices ≡ self.old.state.vertices }
         ensures groups { self.new.state.groups ≡ self.old.state.groups }
         ensures err { OnErr result (IsAsBefore self.old self.new) }

@@ -94,13 +94,14 @@ impl Job {
     ///
     /// The only error is out of memory, and then nothing is changed.
     pub fn step<E: EdgeApplier>(&mut self, alloc: Global, by: &mut E) -> Result<Stand, AllocError>
-        requires { E.is_ready by.old }
-        ensures applier { E.is_ready by.new }
+        requires { E.is_ready by.old self.old.plan.functions self.old.graph }
+        ensures applier { E.is_ready by.new self.old.plan.functions self.old.graph }
         ensures steps { OnOk result ((p : ProgramTree) (s : ScheduleTree) → IsPlan self.old.plan p s → AppliesReduce p (plan_of p s)
             → self.new ≡ job_value self.old.plan self.old.graph self.old.turns (step p (graph_value self.old.graph) (plan_of p s) self.old.stands)) }
         ensures stand { IfOk result (λ stand. stand ≡ stand_of self.new.stands) }
         ensures err { OnErr result (self.new ≡ self.old) }
     {
+        by.forget_vectors();
         self.run.step(alloc, &self.plan, &self.graph, by)?;
         match self.run.end {
             Some(end) => Ok(Stand::Ended(end)),

@@ -77,6 +77,7 @@ impl PlanRun {
         requires room { self.old.index + 1 < 2 ^ 64 }
         ensures configuration { configuration_of self.new
             ≡ after_flow flow instruction.now.number instruction.now.shown self.old.index (loops_of self.old.memory) self.old.memory.state.state }
+        ensures vectors { self.new.memory.state.state.vectors ≡ self.old.memory.state.state.vectors }
         ensures vertices { self.new.memory.state.vertices ≡ self.old.memory.state.vertices }
         ensures groups { self.new.memory.state.groups ≡ self.old.memory.state.groups }
     {
@@ -91,6 +92,7 @@ impl PlanRun {
     /// Ends, and what is shown is what is visible.
     fn finish(&mut self, shown: Depth, end: End)
         ensures configuration { configuration_of self.new ≡ Ended (forget_beyond shown self.old.memory.state.state) end }
+        ensures vectors { self.new.memory.state.state.vectors ≡ self.old.memory.state.state.vectors }
         ensures vertices { self.new.memory.state.vertices ≡ self.old.memory.state.vertices }
         ensures groups { self.new.memory.state.groups ≡ self.old.memory.state.groups }
     {

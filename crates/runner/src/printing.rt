@@ -25,6 +25,7 @@ impl Memory {
         requires visible { IsFor instruction.now.keep value.now }
         ensures done { IfOk result (λ flow. (p : ProgramTree) (g : GraphValue) (t : OperationTree) → IsOn g self.old
             → HasInteger instruction.now.keep value.now (λ e. Do (PrintInteger e)) t → HasDone instruction.now flow self.old self.new p g t) }
+        ensures vectors { self.new.state.state.vectors ≡ self.old.state.state.vectors }
         ensures vertices { self.new.state.vertices ≡ self.old.state.vertices }
         ensures groups { self.new.state.groups ≡ self.old.state.groups }
         ensures err { OnErr result (IsAsBefore self.old self.new) }
@@ -51,6 +52,7 @@ impl Memory {
         requires visible { IsFor instruction.now.keep value.now }
         ensures done { IfOk result (λ flow. (p : ProgramTree) (g : GraphValue) (t : OperationTree) → IsOn g self.old
             → HasCondition instruction.now.keep value.now (λ c. Do (PrintCondition c)) t → HasDone instruction.now flow self.old self.new p g t) }
+        ensures vectors { self.new.state.state.vectors ≡ self.old.state.state.vectors }
         ensures vertices { self.new.state.vertices ≡ self.old.state.vertices }
         ensures groups { self.new.state.groups ≡ self.old.state.groups }
         ensures err { OnErr result (IsAsBefore self.old self.new) }

@@ -28,6 +28,7 @@ impl Memory {
         ensures done { OnOk result ((p : ProgramTree) (g : GraphValue) → IsOn g self.old → AreFunctionKernels functions.now p
             → HasDone instruction.now Flow.Next self.old self.new p g (Do (DeclareSet name (set_value members)))) }
         ensures turns { OnOk result (self.new.state.state.turns ≡ self.old.state.state.turns) }
+        ensures vectors { self.new.state.state.vectors ≡ self.old.state.state.vectors }
         ensures vertices { self.new.state.vertices ≡ self.old.state.vertices }
         ensures groups { self.new.state.groups ≡ self.old.state.groups }
         ensures err { OnErr result (IsAsBefore self.old self.new) }
@@ -49,6 +50,7 @@ impl Memory {
         ensures done { OnOk result ((p : ProgramTree) (g : GraphValue) → IsOn g self.old → AreFunctionKernels functions.now p
             → HasDone instruction.now Flow.Next self.old self.new p g (Do (AssignSet slot (set_value members)))) }
         ensures turns { OnOk result (self.new.state.state.turns ≡ self.old.state.state.turns) }
+        ensures vectors { self.new.state.state.vectors ≡ self.old.state.state.vectors }
         ensures vertices { self.new.state.vertices ≡ self.old.state.vertices }
         ensures groups { self.new.state.groups ≡ self.old.state.groups }
         ensures err { OnErr result (IsAsBefore self.old self.new) }

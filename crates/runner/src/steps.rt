@@ -12,7 +12,7 @@ ghost use Rattle.plans.specs.Functions.{AreFunctionKernels};
 ghost use Rattle.plans.specs.Operation.{IsInstruction, IsOperation};
 ghost use Rattle.plans.specs.PlanOf.{IsPlan};
 ghost use Rattle.run_state.specs.State.{graph_value};
-ghost use Rattle.runner.specs.Done.{HasDone, HaveTrees, IsAsBefore, IsControl, IsKept, IsLevel, IsReady, TakesValues};
+ghost use Rattle.runner.specs.Done.{HasDone, HaveTrees, IsAsBefore, IsControl, IsKept, IsLevel, IsReady, TakesValues, WritesEntry};
 ghost use Rattle.runner.specs.Groups.{AreGroupsOf};
 ghost use Rattle.runner.specs.Position.{configuration_of, IsOn, steps_left};
 ghost use Rattle.runner.specs.Resting.{resting};
@@ -39,8 +39,10 @@ impl PlanRun {
     ) -> Result<(), AllocError>
         requires graph { self.old.memory.state.vertices ≡ graph.now.vertices }
         requires groups { AreGroupsOf plan.now graph.now self.old.memory.state.groups }
-        requires applier { E.is_ready by.old }
-        ensures applier { E.is_ready by.new }
+        requires applier { E.is_ready by.old plan.now.functions graph.now }
+        requires knows { E.knows by.old self.old.memory.state.state.vectors }
+        ensures applier { E.is_ready by.new plan.now.functions graph.now }
+        ensures knows { OnOk result (E.knows by.new self.new.memory.state.state.vectors) }
         ensures steps { OnOk result ((p : ProgramTree) (s : ScheduleTree) → IsPlan plan.now p s → AppliesReduce p (plan_of p s)
             → configuration_of self.new ≡ step p (graph_value graph.now) (plan_of p s) (configuration_of self.old)) }
         ensures fewer { OnOk result (self.old.end ≡ None → steps_left plan.now self.new < steps_left plan.now self.old) }
@@ -81,8 +83,10 @@ impl Memory {
         requires ready { IsReady i.now.keep i.now.shown i.now.operation }
         requires known { ∥ HaveTrees plan.now.functions ∥₁ }
         requires graph { self.old.state.vertices ≡ graph.now.vertices }
-        requires applier { E.is_ready by.old }
-        ensures applier { E.is_ready by.new }
+        requires applier { E.is_ready by.old plan.now.functions graph.now }
+        requires knows { E.knows by.old self.old.state.state.vectors }
+        ensures applier { E.is_ready by.new plan.now.functions graph.now }
+        ensures knows { IfOk result (λ flow. E.knows by.new self.new.state.state.vectors) }
         ensures done { IfOk result (λ flow. (p : ProgramTree) (t : InstructionTree) → AreFunctionKernels plan.now.functions p → IsInstruction i.now t
             → FitTogether p t.operation → OperationReduces p t.operation → HasDone i.now flow self.old self.new p (graph_value graph.now) t.operation) }
         ensures level { IfOk result (λ flow. (p : ProgramTree) (t : InstructionTree) → IsInstruction i.now t
@@ -103,6 +107,7 @@ impl Memory {
             }
             PlanOperation::ApplyVertices { set, first, second } => {
                 self.apply_vertices(functions, i, *set, *first, *second)?;
+                by.forget_vectors();
                 Ok(Flow::Next)
             }
             PlanOperation::ApplyEdges {
@@ -126,6 +131,10 @@ impl Memory {
             | PlanOperation::Turn
             | PlanOperation::Jump { .. }
             | PlanOperation::End => self.go_on(i),
+            PlanOperation::SetEntry { .. } | PlanOperation::ReduceEntry { .. } => {
+                by.forget_vectors();
+                self.write_entry(i)
+            }
             _ => self.evaluate(i),
         }
     }
@@ -137,6 +146,7 @@ impl Memory {
         requires control { IsControl i.now.operation }
         ensures done { IfOk result (λ flow. (p : ProgramTree) (g : GraphValue) (t : OperationTree) → IsOn g self.old
             → IsOperation i.now.keep i.now.shown i.now.operation t → HasDone i.now flow self.old self.new p g t) }
+        ensures vectors { self.new.state.state.vectors ≡ self.old.state.state.vectors }
         ensures vertices { self.new.state.vertices ≡ self.old.state.vertices }
         ensures groups { self.new.state.groups ≡ self.old.state.groups }
         ensures err { OnErr result (IsAsBefore self.old self.new) }
@@ -156,13 +166,41 @@ impl Memory {
         }
     }
 
-    /// Does an instruction that takes values of expressions and goes on at the next index.
+    /// Does an instruction that writes to an entry of a vector.
+    fn write_entry(&mut self, i: &Instruction) -> Result<Flow, AllocError>
+        requires kept { IsKept i.now.keep self.old.state.state }
+        requires ready { IsReady i.now.keep i.now.shown i.now.operation }
+        requires entry { WritesEntry i.now.operation }
+        ensures done { IfOk result (λ flow. (p : ProgramTree) (g : GraphValue) (t : OperationTree) → IsOn g self.old
+            → IsOperation i.now.keep i.now.shown i.now.operation t → HasDone i.now flow self.old self.new p g t) }
+        ensures vertices { self.new.state.vertices ≡ self.old.state.vertices }
+        ensures groups { self.new.state.groups ≡ self.old.state.groups }
+        ensures err { OnErr result (IsAsBefore self.old self.new) }
+    {
+        match &i.operation {
+            PlanOperation::SetEntry {
+                vector,
+                index,
+                value,
+            } => self.set_entry(i, *vector, index, value),
+            PlanOperation::ReduceEntry {
+                vector,
+                index,
+                reduction,
+                value,
+            } => self.reduce_entry(i, *vector, index, *reduction, value),
+            _ => unreachable!(),
+        }
+    }
+
+    /// Does an instruction that takes values of expressions, writes to no vector, and goes on at the next index.
     fn evaluate(&mut self, i: &Instruction) -> Result<Flow, AllocError>
         requires kept { IsKept i.now.keep self.old.state.state }
         requires ready { IsReady i.now.keep i.now.shown i.now.operation }
         requires values { TakesValues i.now.operation }
         ensures done { IfOk result (λ flow. (p : ProgramTree) (g : GraphValue) (t : OperationTree) → IsOn g self.old
             → IsOperation i.now.keep i.now.shown i.now.operation t → HasDone i.now flow self.old self.new p g t) }
+        ensures vectors { self.new.state.state.vectors ≡ self.old.state.state.vectors }
         ensures vertices { self.new.state.vertices ≡ self.old.state.vertices }
         ensures groups { self.new.state.groups ≡ self.old.state.groups }
         ensures err { OnErr result (IsAsBefore self.old self.new) }
@@ -177,17 +215,6 @@ impl Memory {
                 reduction,
                 value,
             } => self.reduce_integer(i, *slot, *reduction, value),
-            PlanOperation::SetEntry {
-                vector,
-                index,
-                value,
-            } => self.set_entry(i, *vector, index, value),
-            PlanOperation::ReduceEntry {
-                vector,
-                index,
-                reduction,
-                value,
-            } => self.reduce_entry(i, *vector, index, *reduction, value),
             PlanOperation::AddVertex { slot, vertex } => self.add_vertex(i, *slot, vertex),
             PlanOperation::PrintInteger { value } => self.print_integer(i, value),
             PlanOperation::PrintCondition { value } => self.print_condition(i, value),

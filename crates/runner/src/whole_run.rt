@@ -40,12 +40,13 @@ pub fn run_by<E: EdgeApplier>(
     turns: u64,
     by: &mut E,
 ) -> Result<Outcome, AllocError>
-    requires { E.is_ready by.old }
+    requires { E.is_ready by.old plan.now.functions graph.now }
     ensures means { IfOk result (λ o. (p : ProgramTree) (s : ScheduleTree) → IsPlan plan.now p s → AppliesReduce p (plan_of p s)
         → o ≡ meaning p (graph_value graph.now) turns) }
-    ensures ready { E.is_ready by.new }
+    ensures ready { E.is_ready by.new plan.now.functions graph.now }
 {
     let mut run = PlanRun::open(alloc, plan, graph, turns)?;
+    by.forget_vectors();
     'steps: while run.end.is_none() {
         run.step(alloc, plan, graph, by)?;
     }

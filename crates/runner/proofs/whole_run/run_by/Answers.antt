@@ -13,7 +13,8 @@ steps-init over c = record {
   on = c.in_ok-run.ensures.vertices;
   groups = c.in_ok-run.ensures.groups;
   reached = λ p s plan reduces. reached_first p (graph_value c.args.graph.now) (plan_of p s) c.args.turns (configuration_of c.in_ok-run.run') (c.in_ok-run.ensures.configuration p plan.vectors plan.sets);
-  applier = c.requires;
+  applier = c.forget_vectors.ensures.ready c.args.plan.now.functions c.args.graph.now c.requires;
+  knows = c.forget_vectors.ensures.knows c.in_ok-run.run'.memory.state.state.vectors;
 }
 
 pub steps-preserved : goal.steps-preserved
@@ -22,6 +23,7 @@ steps-preserved over c = record {
   groups = subst (AreGroupsOf c.args.plan.now c.args.graph.now) (sym c.step.ensures.groups) c.steps.invariant.groups;
   reached = λ p s plan reduces. reached_next p (graph_value c.args.graph.now) (plan_of p s) c.args.turns (configuration_of c.steps.run) (configuration_of c.step.new.self) (c.steps.invariant.reached p s plan reduces) (c.in_ok-step.ensures.steps p s plan reduces);
   applier = c.step.ensures.applier;
+  knows = c.in_ok-step.ensures.knows;
 }
 
 pub returns-clause-means : goal.returns-clause-means

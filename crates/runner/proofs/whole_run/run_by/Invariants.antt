@@ -10,13 +10,15 @@ use Rattle.runner.specs.Position.{configuration_of, steps_left}
 use Rattle.runner.proofs.Running.{IsReached}
 use Rattle.runner.proofs.whole_run.run_by.Given as goal
 
--- the run is on the graph, its vectors stand in the groups of the plan, and it stands where the machine gets to
+-- the run is on the graph, its vectors stand in the groups of the plan, it stands where the machine gets to, and the applier knows
+-- its vectors
 abbrev pub invariant-steps : goal.invariant-steps
 invariant-steps g l = record {
   on : l.run.memory.state.vertices ≡ l.graph.vertices;
   groups : AreGroupsOf l.plan l.graph l.run.memory.state.groups;
   reached : (p : ProgramTree) (s : ScheduleTree) → IsPlan l.plan p s → AppliesReduce p (plan_of p s) → IsReached p (graph_value l.graph) (plan_of p s) l.turns (configuration_of l.run);
-  applier : g.E.EdgeApplier.is_ready l.by;
+  applier : g.E.EdgeApplier.is_ready l.by l.plan.functions l.graph;
+  knows : g.E.EdgeApplier.knows l.by l.run.memory.state.state.vectors;
 }
 
 abbrev pub decreases-steps : goal.decreases-steps
