@@ -1,4 +1,4 @@
-use Rattle.std.proofs.Common.{rules, ◌≡◌, nat_le, inl, inr, true, false, ℕ, List, sym, ◌∙◌, subst}
+use Rattle.std.proofs.Common.{rules, ◌≡◌, nat_le, inr, true, false, ℕ, List, sym, ◌∙◌, subst}
 use Rattle.std.proofs.lemmas.Bool.{leb-false, leb-true}
 use Rattle.vertex_marks.specs.Marks.{is_marked}
 use Rattle.follow_engine.specs.Spent.{AreChosen}
@@ -8,13 +8,8 @@ use Rattle.follow_engine.proofs.Chosen.{member_tested, pull_work}
 use Rattle.follow_engine.proofs.Followed.{changes_followed}
 use Rattle.follow_engine.proofs.following.follow.Goals as goal
 
-pub returns-then-mark_reached-clause-spent : goal.returns-then-mark_reached-clause-spent
-returns-then-mark_reached-clause-spent c none =
-    let off : c.mark_reached.result ≡ false = search rules in
-    inl (c.mark_reached.ensures.spent off)
-
-pub returns-then-fits_budget-clause-spent : goal.returns-then-fits_budget-clause-spent
-returns-then-fits_budget-clause-spent c none =
+pub returns-then-not-fits_budget-clause-spent : goal.returns-then-not-fits_budget-clause-spent
+returns-then-not-fits_budget-clause-spent c none =
     let apply = c.args.apply.now in
     let on : c.mark_reached.result ≡ true = search rules in
     let off : c.fits_budget.result ≡ false = search rules in
