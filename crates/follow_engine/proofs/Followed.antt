@@ -2,18 +2,13 @@
 use Rattle.std.proofs.Common.{◌≡◌, inl, inr, ℕ, ◌<◌, ◌≤◌, ℤ, pos, FitsSigned, Bool, true, false, ◌&&◌, List, [], length, slice_index_or, refl, sym, ap, ◌∙◌, subst, arith}
 use Rattle.std.specs.Int.{w64}
 use Rattle.std.specs.List.{filter}
-use Rattle.apply_options.specs.declared.reduction.Reduction.{Reduction}
-use Rattle.kernels.specs.FunctionStatementTree.{FunctionStatementsTree}
 use Rattle.kernels.specs.EdgeApply.{after_edges, is_member}
 use Rattle.kernels.specs.Registers.{HasSizes}
 use Rattle.kernels.specs.State.{StateValue}
 use Rattle.kernels.specs.Value.{entry}
-use Rattle.vectors.specs.declared.changes.EntryChange.{EntryChange}
 use Rattle.vectors.specs.declared.changes.VectorChanges.{VectorChanges}
 use Rattle.edge_fold.specs.Between.{edges_between}
 use Rattle.edge_fold.specs.Changed.{changed, changes_of}
-use Rattle.edge_fold.specs.Ends.{IsEndTest}
-use Rattle.edge_fold.specs.Folded.{AreKernels}
 use Rattle.edge_apply.specs.declared.apply.Apply.{Apply}
 use Rattle.edge_apply.proofs.Listed.{member_filtered}
 use Rattle.follow_engine.specs.declared.differences.Differences.{Differences}
@@ -21,7 +16,7 @@ use Rattle.follow_engine.specs.declared.differences.FormerApply.{FormerApply}
 use Rattle.follow_engine.specs.Following.{Follows}
 use Rattle.follow_engine.specs.Local.{AgreeAt}
 use Rattle.follow_engine.specs.Reached.{is_reached}
-use Rattle.follow_engine.specs.Reduced.{AreChangesReduced, IsGivenAlways}
+use Rattle.follow_engine.specs.Reduced.{AreChangesReduced}
 use Rattle.follow_engine.specs.Spliced.{spliced}
 use Rattle.follow_engine.specs.Spent.{AreChosen}
 use Rattle.follow_engine.specs.inside.Among.{ArePulledAmong}

@@ -8,6 +8,5 @@ mod Untouched
 mod Followed
 mod Marked
 mod Merges
-mod Budgets
 mod Chosen
 pub mod Recorded

@@ -1,5 +1,5 @@
 -- Code that reads the two ends of an edge alone does the same over vectors that agree at both.
-use Rattle.std.proofs.Common.{◌≡◌, ℕ, ℤ, pos, Bool, true, false, ◌&&◌, Option, Some, None, List, [], ◌∷◌, ◌++◌, refl, sym, ap, ap₂, ◌∙◌}
+use Rattle.std.proofs.Common.{◌≡◌, ℕ, ℤ, pos, true, Option, Some, None, List, [], ◌∷◌, ◌++◌, refl, sym, ap, ap₂, ◌∙◌}
 use Rattle.std.proofs.lemmas.Bool.{and_parts, false≢true}
 use Rattle.std.specs.Borrow.{Bor}
 use Rattle.edge_lists.specs.Edge.{Edge, unit_edge}
@@ -12,7 +12,7 @@ use Rattle.kernels.specs.EdgeApply.{all_give, gives}
 use Rattle.kernels.specs.State.{StateValue}
 use Rattle.kernels.specs.Registers.{CodeInput, HasSizes, Registers, is_nonzero, run, step, with_number}
 use Rattle.kernels.specs.FunctionCode.{each, given_by}
-use Rattle.kernels.specs.Meaning.{IsEdgeCode, IsFilterCode, edge_input, given_in}
+use Rattle.kernels.specs.Meaning.{IsEdgeCode, edge_input, given_in}
 use Rattle.kernels.specs.ContributionCode.{ContributionCode}
 use Rattle.kernels.specs.RegisterInstruction.{RegisterInstruction}
 use Rattle.kernels.specs.RegisterInstruction.TheVariants as code

@@ -18,8 +18,8 @@ returns-then-not-fits_budget-clause-spent c none =
     inr (
       work,
       pull_work apply c.args.former.now.apply c.args.differences.now (is_marked c.mark_reached.new.marks) c.in_ok-reached.reached.items chosen c.in_ok-reached.ensures.ascending
-      c.in_ok-reached.ensures.marked (c.mark_reached.ensures.reached on)
-      (subst (λ (vs : List ℕ). AreChosen apply vs chosen) c.deref.ensures.value c.in_ok-among.ensures),
+          c.in_ok-reached.ensures.marked (c.mark_reached.ensures.reached on)
+          (subst (λ (vs : List ℕ). AreChosen apply vs chosen) c.deref.ensures.value c.in_ok-among.ensures),
       leb-false work c.args.budget (subst (λ (vs : List ℕ). nat_le (edges_to apply.flat.now.edges vs) c.args.budget ≡ false) c.deref-2.ensures.value (sym c.fits_budget.ensures ∙ off)),
     )
 
@@ -29,14 +29,13 @@ returns-clause-within c =
     let on : c.mark_reached.result ≡ true = search rules in
     let fits : c.fits_budget.result ≡ true = search rules in
     let chosen = c.in_ok-among.among.items in
-    let work = edges_to apply.flat.now.edges chosen in
-    (
+    let work = edges_to apply.flat.now.edges chosen in (
       c.mark_reached.ensures.within on,
       (
         work,
         pull_work apply c.args.former.now.apply c.args.differences.now (is_marked c.mark_reached.new.marks) c.in_ok-reached.reached.items chosen c.in_ok-reached.ensures.ascending
-        c.in_ok-reached.ensures.marked (c.mark_reached.ensures.reached on)
-        (subst (λ (vs : List ℕ). AreChosen apply vs chosen) c.deref.ensures.value c.in_ok-among.ensures),
+            c.in_ok-reached.ensures.marked (c.mark_reached.ensures.reached on)
+            (subst (λ (vs : List ℕ). AreChosen apply vs chosen) c.deref.ensures.value c.in_ok-among.ensures),
         leb-true work c.args.budget (subst (λ (vs : List ℕ). nat_le (edges_to apply.flat.now.edges vs) c.args.budget ≡ true) c.deref-2.ensures.value (sym c.fits_budget.ensures ∙ fits)),
       ),
     )

@@ -1,4 +1,4 @@
-use Rattle.std.proofs.Common.{rules, ◌≡◌, true, false, List, Vec, Global, sym, ap, ap₂, ◌∙◌, subst}
+use Rattle.std.proofs.Common.{rules, ◌≡◌, true, false, List, sym, ap, ap₂, ◌∙◌, subst}
 use Rattle.vectors.specs.declared.changes.EntryChange.{EntryChange}
 use Rattle.vectors.specs.declared.changes.VectorChanges.{VectorChanges}
 use Rattle.vertex_marks.specs.Marks.{is_marked}
