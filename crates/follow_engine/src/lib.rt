@@ -25,6 +25,8 @@ mod differences;
 mod following;
 mod reached;
 mod splicing;
+#[cfg(test)]
+mod tests;
 mod vector_splices;
 
 pub use differences::{Differences, FormerApply};
