@@ -83,7 +83,7 @@ pub(crate) fn pull_among(
 }
 
 /// The set of those of some numbers that are vertices. The only error is out of memory.
-fn set_of(alloc: Global, vertices: u32, members: &[u32]) -> Result<VertexSet, AllocError>
+pub(crate) fn set_of(alloc: Global, vertices: u32, members: &[u32]) -> Result<VertexSet, AllocError>
     ensures { IfOk result (λ s. (v : ℕ) → v < vertices → is_member v s.members ≡ is_member v members.now) }
 {
     let mut set = VertexSet::empty(alloc, vertices, Form::Bits)?;
@@ -95,7 +95,7 @@ fn set_of(alloc: Global, vertices: u32, members: &[u32]) -> Result<VertexSet, Al
     Ok(set)
 }
 
-/// Reads the sizes of sets, by which each is known to be an int. It changes nothing.
+/// Reads the sizes of sets, so that each is known to be an int. It changes nothing.
 pub(crate) fn read_sizes(sizes: &[i64])
     ensures { (p : ℕ) → FitsSigned w64 (slice_index_or sizes.now p (pos 0)) }
 {

@@ -16,12 +16,13 @@ use vectors::Changes;
 use vertex_marks::VertexMarks;
 
 /// What an apply changes, found beside the record of a former apply of the same functions: for each vector the vertices whose
-/// entries change, ascending, with the entries after it (`AreChangesReduced`). The differences name all in which the two
-/// applies differ.
+/// entries change, ascending, with the entries after the apply (`AreChangesReduced`). The differences name all in which the
+/// two applies differ (`Follows`).
 ///
-/// It goes over at most `budget` edges to find the destinations that may change otherwise than then, and pulls into them if at
-/// most `budget` edges go to those that pass. It answers `None` if either is not enough. Nothing is changed but the marks and
-/// the scratch, which hold nothing that a later call reads.
+/// It marks the destinations that the differences reach, and goes over at most `budget` edges for that. Then it pulls into
+/// those that the second end lets through, if at most `budget` edges lead to them. If `budget` is not enough for either, the
+/// answer is `None`. The vectors and the record stay as they are; a later call reads nothing of what is in the marks and in the
+/// scratch.
 ///
 /// The only error is out of memory.
 pub fn follow(

@@ -12,10 +12,10 @@ use flat_snapshot::Flat;
 use kernels::EndpointFilter;
 use vertex_marks::VertexMarks;
 
-/// Marks the destinations whose entries an apply may change otherwise than the former one did: the vertices that are named,
-/// the destinations of named edges, and those of the edges from named sources. It goes over at most `budget` edges, and
-/// answers whether these were enough. If they were not, what is marked means nothing. Named numbers that are no vertices are
-/// passed over.
+/// Marks the destinations whose entries an apply may change otherwise than the former apply did: the vertices that are named,
+/// the destinations of named edges, and those of the edges from named sources and from sources with a named entry. It goes
+/// over at most `budget` edges, and answers whether these were enough. If they were not, what is marked means nothing. A named
+/// number that is no vertex is not marked.
 pub fn mark_reached(
     apply: &Apply<'_>,
     former: &Apply<'_>,

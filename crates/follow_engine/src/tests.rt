@@ -1,5 +1,7 @@
-//! Tests of marks and splices, by tables. A call of `follow` has to be proved to follow, which nothing tests at run time yet.
+//! Tests of marks and splices, by tables. A call of `follow` has to be proved to follow, and no call tests at run time yet that
+//! functions are local.
 
+use crate::among::set_of;
 use crate::{Differences, mark_reached, splice};
 use apply_options::{Direction, Parallelization, Reduction};
 use edge_apply::Apply;
@@ -11,69 +13,89 @@ use tree_batch::{Batch, Entry, Graph};
 use typed_tree::{Endpoint, Function, FunctionStatement, IntExpression};
 use vectors::{EntryChange, Vectors};
 use vertex_marks::VertexMarks;
-use vertex_sets::{Form, VertexSet};
+use vertex_sets::VertexSet;
 
-// A fork of six vertices that comes together, and a vertex that no edge reaches.
-const FORK: [(u32, u32); 5] = [(0, 1), (0, 2), (1, 3), (2, 3), (3, 4)];
+// Some vertices.
+type Vertices = &'static [u32];
 
 // An apply that follows: its sources and those of the former one, or none if all vertices are; what differs, in the order of the
 // fields of `Differences`; the budget; and the vertices that are reached, or none if the budget is spent.
 type Row = (
-    Option<[&'static [u32]; 2]>,
-    [&'static [u32]; 3],
+    [Option<Vertices>; 2],
+    [Vertices; 3],
     &'static [(u32, u32)],
     usize,
-    Option<&'static [u32]>,
+    Option<Vertices>,
 );
 
+const ALL: [Option<Vertices>; 2] = [None, None];
+
+const ENTERED: [Option<Vertices>; 2] = [Some(&[0]), Some(&[])];
+
+const LEFT: [Option<Vertices>; 2] = [Some(&[]), Some(&[0])];
+
+const MOVED: [Option<Vertices>; 2] = [Some(&[1]), Some(&[0])];
+
+const STAYED: [Option<Vertices>; 2] = [Some(&[0]), Some(&[0])];
+
+// In the fork of `graph`.
 const ROWS: [Row; 14] = [
-    (None, [&[], &[], &[]], &[], 0, Some(&[])),
-    (None, [&[5], &[], &[]], &[], 0, Some(&[5])),
-    (None, [&[3], &[], &[]], &[], 1, Some(&[3, 4])),
-    (None, [&[3], &[], &[]], &[], 0, None),
-    (Some([&[0], &[0]]), [&[3], &[], &[]], &[], 0, Some(&[3])),
-    (Some([&[0], &[]]), [&[], &[0], &[]], &[], 2, Some(&[1, 2])),
-    (Some([&[0], &[]]), [&[], &[0], &[]], &[], 1, None),
-    (Some([&[], &[0]]), [&[], &[0], &[]], &[], 9, Some(&[1, 2])),
-    (Some([&[1], &[0]]), [&[1], &[0], &[]], &[], 2, None),
-    (
-        Some([&[1], &[0]]),
-        [&[1], &[0], &[]],
-        &[],
-        3,
-        Some(&[1, 2, 3]),
-    ),
-    (None, [&[], &[], &[4, 0]], &[], 0, Some(&[0, 4])),
-    (None, [&[], &[], &[]], &[(1, 5)], 0, Some(&[5])),
-    (
-        Some([&[], &[1]]),
-        [&[], &[], &[]],
-        &[(1, 5), (2, 0)],
-        0,
-        Some(&[5]),
-    ),
-    (None, [&[9], &[6], &[7]], &[(0, 8)], 0, Some(&[])),
+    (ALL, [&[], &[], &[]], &[], 0, Some(&[])),
+    (ALL, [&[5], &[], &[]], &[], 0, Some(&[5])),
+    (ALL, [&[3], &[], &[]], &[], 1, Some(&[3, 4])),
+    (ALL, [&[3], &[], &[]], &[], 0, None),
+    (STAYED, [&[3], &[], &[]], &[], 0, Some(&[3])),
+    (ENTERED, [&[], &[0], &[]], &[], 2, Some(&[1, 2])),
+    (ENTERED, [&[], &[0], &[]], &[], 1, None),
+    (LEFT, [&[], &[0], &[]], &[], 9, Some(&[1, 2])),
+    (MOVED, [&[1], &[0], &[]], &[], 2, None),
+    (MOVED, [&[1], &[0], &[]], &[], 3, Some(&[1, 2, 3])),
+    (ALL, [&[], &[], &[4, 0]], &[], 0, Some(&[0, 4])),
+    (ALL, [&[], &[], &[]], &[(1, 5)], 0, Some(&[5])),
+    (LEFT, [&[], &[], &[]], &[(0, 5), (2, 1)], 0, Some(&[5])),
+    (ALL, [&[9], &[6], &[7]], &[(0, 8)], 0, Some(&[])),
 ];
 
-// The graph of these edges.
-fn graph_of(alloc: Global, vertices: u32, edges: &[(u32, u32)]) -> Result<Flat, Fail> {
-    let mut batch = Batch::new(alloc);
-    for (source, destination) in edges {
-        batch.push(Entry::Add(*source, *destination, 1))?;
-    }
-    let graph = Graph::new(vertices, 64)?.apply(alloc, &batch)?;
-    Ok(Flat::of(alloc, &graph)?)
+// What applies are lent.
+#[derive(Drop)]
+struct Lent {
+    flat: Flat,
+    vectors: Vectors,
+    kernel: EdgeKernel,
 }
 
-// The set of those of some numbers that are vertices.
-fn set_of(alloc: Global, vertices: u32, members: &[u32]) -> Result<VertexSet, AllocError> {
-    let mut set = VertexSet::empty(alloc, vertices, Form::List)?;
-    for member in members {
-        if *member < vertices {
-            set.insert(*member)?;
+impl Lent {
+    fn new(alloc: Global) -> Result<Lent, Fail> {
+        Ok(Lent {
+            flat: graph(alloc)?,
+            vectors: Vectors::new(alloc, Vec::new(alloc))?,
+            kernel: taking_least(alloc)?,
+        })
+    }
+
+    fn apply<'a>(&'a self, from: Option<EndpointFilter<'a>>) -> Apply<'a> {
+        Apply {
+            flat: &self.flat,
+            vectors: &self.vectors,
+            sizes: &[],
+            from,
+            to: None,
+            first: &self.kernel,
+            second: None,
+            direction: Direction::DensePull,
+            parallelization: Parallelization::Serial,
         }
     }
-    Ok(set)
+}
+
+// A fork of six vertices that comes together, and a vertex that no edge reaches.
+fn graph(alloc: Global) -> Result<Flat, Fail> {
+    let mut batch = Batch::new(alloc);
+    for (source, destination) in [(0, 1), (0, 2), (1, 3), (2, 3), (3, 4)] {
+        batch.push(Entry::Add(source, destination, 1))?;
+    }
+    let graph = Graph::new(6, 64)?.apply(alloc, &batch)?;
+    Ok(Flat::of(alloc, &graph)?)
 }
 
 // An edge function by which each destination takes the least entry of its sources.
@@ -84,39 +106,29 @@ fn taking_least(alloc: Global) -> Result<EdgeKernel, AllocError> {
     EdgeKernel::of_function(alloc, &Function { name: 0, steps })
 }
 
-// The vertices that are reached in the fork, or none if the budget is spent.
-fn reached(alloc: Global, row: &Row) -> Result<Option<Vec<u32>>, Fail> {
-    let (sources, [entries, entered, destinations], edges, budget, _) = *row;
-    let flat = graph_of(alloc, 6, &FORK)?;
-    let vectors = Vectors::new(alloc, Vec::new(alloc))?;
-    let first = taking_least(alloc)?;
-    let [now, was] = sources.unwrap_or([&[], &[]]);
-    let (now, was) = (set_of(alloc, 6, now)?, set_of(alloc, 6, was)?);
-    let all = Apply {
-        flat: &flat,
-        vectors: &vectors,
-        sizes: &[],
-        from: None,
-        to: None,
-        first: &first,
-        second: None,
-        direction: Direction::DensePull,
-        parallelization: Parallelization::Serial,
-    };
-    let mut apply = all;
-    let mut former = all;
-    if sources.is_some() {
-        apply.from = Some(EndpointFilter::Members(&now));
-        former.from = Some(EndpointFilter::Members(&was));
+// The end of these members, if they are given.
+fn end_of<'a>(given: Option<Vertices>, members: &'a VertexSet) -> Option<EndpointFilter<'a>> {
+    match given {
+        Some(_) => Some(EndpointFilter::Members(members)),
+        None => None,
     }
+}
+
+// The vertices that are reached, or none if the budget is spent.
+fn reached(alloc: Global, lent: &Lent, row: &Row) -> Result<Option<Vec<u32>>, AllocError> {
+    let ([now, was], [entries, sources, destinations], edges, budget, _) = *row;
+    let members = set_of(alloc, 6, now.unwrap_or(&[]))?;
+    let former_members = set_of(alloc, 6, was.unwrap_or(&[]))?;
+    let apply = lent.apply(end_of(now, &members));
+    let former = lent.apply(end_of(was, &former_members));
     let differences = Differences {
         entries,
-        sources: entered,
+        sources,
         destinations,
         edges,
     };
     let mut marks = VertexMarks::new(alloc);
-    marks.make_room(flat.vertices() as usize)?;
+    marks.make_room(apply.flat.vertices() as usize)?;
     if !mark_reached(&apply, &former, &differences, budget, &mut marks) {
         return Ok(None);
     }
@@ -124,8 +136,8 @@ fn reached(alloc: Global, row: &Row) -> Result<Option<Vec<u32>>, Fail> {
 }
 
 // Whether a row's vertices are reached.
-fn is_reached_so(alloc: Global, row: &Row) -> Result<bool, Fail> {
-    let found = reached(alloc, row)?;
+fn is_reached_so(alloc: Global, lent: &Lent, row: &Row) -> Result<bool, AllocError> {
+    let found = reached(alloc, lent, row)?;
     Ok(match (&found, row.4) {
         (Some(found), Some(wanted)) => found.as_slice() == wanted,
         (None, None) => true,
@@ -135,8 +147,9 @@ fn is_reached_so(alloc: Global, row: &Row) -> Result<bool, Fail> {
 
 #[test]
 fn named_vertices_edges_and_rows_are_reached(rt: HostRuntime) -> Result<(), Fail> {
+    let lent = Lent::new(rt.alloc())?;
     for (index, row) in ROWS.iter().enumerate() {
-        let is_right = is_reached_so(rt.alloc(), row)?;
+        let is_right = is_reached_so(rt.alloc(), &lent, row)?;
         assert!(rt; is_right, "row {index}");
     }
     Ok(())

@@ -85,7 +85,7 @@ fn add_vector(
     Ok(())
 }
 
-/// The changes in a vector, none where it is not named.
+/// The changes in a vector, none if it is not named.
 fn changes_in(changes: &Changes, vector: usize) -> &[EntryChange]
     ensures { result.now ≡ changes_of vector changes.now.vectors.items }
 {
