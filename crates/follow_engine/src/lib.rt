@@ -23,6 +23,7 @@
 mod among;
 mod differences;
 mod following;
+mod laws;
 mod reached;
 mod splicing;
 #[cfg(test)]
@@ -31,5 +32,6 @@ mod vector_splices;
 
 pub use differences::{Differences, FormerApply};
 pub use following::follow;
+pub use laws::found_changes_may_be_followed;
 pub use reached::mark_reached;
 pub use splicing::splice;
