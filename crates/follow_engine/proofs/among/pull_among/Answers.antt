@@ -1,0 +1,19 @@
+use Rattle.std.proofs.Common.{List, refl, ap, ◌∙◌, arith}
+use Rattle.std.proofs.lemmas.Result.{IfOk-weaker}
+use Rattle.kernels.specs.EdgeApply.{after_edges, is_member}
+use Rattle.kernels.specs.Value.{entry}
+use Rattle.edge_lists.specs.Edge.{Edge}
+use Rattle.edge_fold.specs.Changed.{changed}
+use Rattle.edge_apply.proofs.Filtered.{to_agree}
+use Rattle.follow_engine.proofs.among.pull_among.Goals as goal
+
+pub returns-clause-changes : goal.returns-clause-changes
+returns-clause-changes c =
+    let g = c.args.apply.now.flat.now in
+    let members = c.in_ok-set.set.members in
+    IfOk-weaker c.pull.result _ _
+    (λ cs is m steps from vectors sizes kernels is_from x r by long.
+    is m steps from (λ v. is_member v members) vectors sizes kernels is_from (λ v. refl) x r by long
+    ∙ ap (λ (es : List Edge). changed g.vertices (entry m.vectors x) (entry (after_edges steps m.sets m.vectors es m.vectors) x))
+    (to_agree g from (λ v. is_member v members) (λ v. is_member v c.args.destinations.now) c.vertices.ensures.graph (λ v l. c.in_ok-set.ensures v (let count = c.vertices.ensures.count in omega (arith, l, count)))))
+    c.pull.ensures.changes

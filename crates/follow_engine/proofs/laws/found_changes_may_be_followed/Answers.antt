@@ -1,0 +1,5 @@
+use Rattle.follow_engine.proofs.Recorded.{changes_recorded}
+use Rattle.follow_engine.proofs.laws.found_changes_may_be_followed.Goals as goal
+
+pub returns : goal.returns
+returns c = changes_recorded

@@ -1,0 +1,26 @@
+-- Functions that read entries of the two ends of an edge alone.
+use Rattle.std.specs.Prelude.{◌≡◌, ℕ, ℤ, Bool, true, false, ◌&&◌, Option, Some, None, List, [], ◌∷◌}
+use Rattle.std.specs.Borrow.{Bor}
+use Rattle.kernels.specs.RegisterInstruction.{RegisterInstruction}
+use Rattle.kernels.specs.RegisterInstruction.TheVariants as code
+use Rattle.kernels.specs.Value.{entry}
+use Rattle.kernels.specs.declared.kernel.EdgeKernel.{EdgeKernel}
+
+-- the instruction reads neither an entry at an index, which may be another vertex, nor the size of a set
+abbrev pub is_local_instruction : RegisterInstruction → Bool
+is_local_instruction (code.EntryAt to vector) = false
+is_local_instruction (code.Size to set) = false
+is_local_instruction i = true
+
+abbrev pub is_local_code : List RegisterInstruction → Bool
+is_local_code [] = true
+is_local_code (i ∷ is) = is_local_instruction i && is_local_code is
+
+-- the code of one kernel, or of two
+abbrev pub are_local : EdgeKernel → Option (Bor EdgeKernel) → Bool
+are_local first None = is_local_code first.code.items
+are_local first (Some second) = is_local_code first.code.items && is_local_code second.now.code.items
+
+-- the vectors have the same entries at a vertex
+abbrev pub AgreeAt : (a b : List (List ℤ)) → (v : ℕ) → Type 0
+AgreeAt a b v = (x : ℕ) → entry a x v ≡ entry b x v
