@@ -5,7 +5,7 @@ use Rattle.follow_engine.specs.Spent.{AreChosen}
 use Rattle.follow_engine.specs.Work.{edges_to}
 use Rattle.follow_engine.specs.inside.Among.{ArePulledAmong}
 use Rattle.follow_engine.proofs.Chosen.{member_tested, pull_work}
-use Rattle.follow_engine.proofs.Followed.{changes_followed}
+use Rattle.follow_engine.proofs.FollowedChanges.{changes_followed}
 use Rattle.follow_engine.proofs.following.follow.Goals as goal
 
 pub returns-then-not-fits_budget-clause-spent : goal.returns-then-not-fits_budget-clause-spent
