@@ -5,7 +5,7 @@ mod Splits
 mod Sizes
 mod Ends
 mod Untouched
-mod Followed
+mod FollowedChanges
 mod Marked
 mod Merges
 mod Chosen

@@ -1,4 +1,4 @@
-//! A former apply with its changes, and in what an apply differs from it.
+//! What an apply follows: a former apply with its changes, and in what the two differ.
 use edge_apply::Apply;
 use vectors::Changes;
 
@@ -21,4 +21,14 @@ pub struct Differences<'a> {
 pub struct FormerApply<'a> {
     pub apply: Apply<'a>,
     pub changes: &'a Changes,
+}
+
+/// What an apply follows, and how far.
+#[derive(Clone, Copy)]
+pub struct Followed<'a> {
+    pub former: FormerApply<'a>,
+    /// All in which the apply differs from the former one.
+    pub differences: Differences<'a>,
+    /// How many edges may be gone over to mark destinations, and how many to the destinations that are pulled.
+    pub budget: usize,
 }

@@ -1,12 +1,14 @@
 //! An apply that follows the record of a former one.
-ghost use Rattle.std.specs.Prelude.{◌≡◌, None, IfOk, IfSome};
+ghost use Rattle.std.specs.Prelude.{◌≡◌, ◌<◌, ℕ, None, IfOk, IfSome};
 ghost use Rattle.edge_fold.specs.Changed.{AreApart};
+ghost use Rattle.vertex_marks.specs.Marks.{is_marked};
 ghost use Rattle.follow_engine.specs.Following.{CanFollow};
+ghost use Rattle.follow_engine.specs.Reached.{is_reached};
 ghost use Rattle.follow_engine.specs.Reduced.{AreChangesReduced};
 ghost use Rattle.follow_engine.specs.Spent.{IsSpent, IsWithin};
 
 use crate::among::{chosen, fits_budget, pull_among, read_sizes};
-use crate::differences::{Differences, FormerApply};
+use crate::differences::Followed;
 use crate::reached::mark_reached;
 use crate::vector_splices::splice_all;
 use edge_apply::Apply;
@@ -19,27 +21,30 @@ use vertex_marks::VertexMarks;
 /// entries change, ascending, with the entries after the apply (`AreChangesReduced`). The differences name all in which the
 /// two applies differ (`CanFollow`).
 ///
-/// It marks the destinations that the differences reach, and goes over at most `budget` edges for that. Then it pulls into
-/// those that the second end lets through, if at most `budget` edges lead to them. If `budget` is not enough for either, the
-/// answer is `None`. The vectors and the record stay as they are; a later call reads nothing of what is in the marks and in the
-/// scratch.
+/// It marks the destinations that the differences reach, and goes over at most as many edges for that as the budget has. Then
+/// it pulls into those that the second end lets through, if no more edges than that lead to them. If the budget is not enough
+/// for either, the answer is `None`. If changes come back, the marked vertices are the reached destinations. The vectors and the
+/// record stay as they are, and a later call reads nothing of what is in the marks and in the scratch.
 ///
 /// The only error is out of memory.
 pub fn follow(
     alloc: Global,
     apply: &Apply<'_>,
-    former: &FormerApply<'_>,
-    differences: &Differences<'_>,
-    budget: usize,
+    followed: &Followed<'_>,
     marks: &mut VertexMarks,
     scratch: &mut Scratch,
 ) -> Result<Option<Changes>, AllocError>
-    requires { CanFollow apply.now former.now differences.now }
+    requires { CanFollow apply.now followed.now.former followed.now.differences }
     ensures once { IfOk result (λ found. IfSome found (λ c. AreApart c.vectors.items)) }
     ensures changes { IfOk result (λ found. IfSome found (λ c. AreChangesReduced apply.now c.vectors.items)) }
-    ensures within { IfOk result (λ found. IfSome found (λ _. IsWithin apply.now former.now.apply differences.now budget)) }
-    ensures spent { IfOk result (λ found. found ≡ None → IsSpent apply.now former.now.apply differences.now budget) }
+    ensures marked { IfOk result (λ found. IfSome found (λ _. (v : ℕ) → v < apply.now.flat.now.vertices
+        → is_marked marks.new v ≡ is_reached apply.now followed.now.former.apply followed.now.differences v)) }
+    ensures within { IfOk result (λ found. IfSome found (λ _. IsWithin apply.now followed.now.former.apply followed.now.differences followed.now.budget)) }
+    ensures spent { IfOk result (λ found. found ≡ None → IsSpent apply.now followed.now.former.apply followed.now.differences followed.now.budget) }
 {
+    let former = &followed.former;
+    let differences = &followed.differences;
+    let budget = followed.budget;
     let vertices = apply.flat.vertices();
     read_sizes(former.apply.sizes);
     marks.clear();

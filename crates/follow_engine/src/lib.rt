@@ -2,7 +2,7 @@
 //!
 //! A run on a version of a graph does mostly what a run of the same program on a former version did. [`follow`] does an edge
 //! apply beside the record of a former one. It is lent the former apply with its changes ([`FormerApply`]), and the names of
-//! all in which the two applies differ ([`Differences`]): vertices with other entries, vertices that are a source or a
+//! all in which the two applies differ ([`Differences`], both in a [`Followed`]): vertices with other entries, vertices that are a source or a
 //! destination in one of the two alone, and edges that one of the two graphs has alone or with another weight. More may be
 //! named than differs.
 //!
@@ -30,7 +30,7 @@ mod splicing;
 mod tests;
 mod vector_splices;
 
-pub use differences::{Differences, FormerApply};
+pub use differences::{Differences, Followed, FormerApply};
 pub use following::follow;
 pub use laws::found_changes_may_be_followed;
 pub use reached::mark_reached;

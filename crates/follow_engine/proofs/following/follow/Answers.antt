@@ -5,7 +5,7 @@ use Rattle.follow_engine.specs.Spent.{AreChosen}
 use Rattle.follow_engine.specs.Work.{edges_to}
 use Rattle.follow_engine.specs.inside.Among.{ArePulledAmong}
 use Rattle.follow_engine.proofs.Chosen.{member_tested, pull_work}
-use Rattle.follow_engine.proofs.Followed.{changes_followed}
+use Rattle.follow_engine.proofs.FollowedChanges.{changes_followed}
 use Rattle.follow_engine.proofs.following.follow.Goals as goal
 
 pub returns-then-not-fits_budget-clause-spent : goal.returns-then-not-fits_budget-clause-spent
@@ -17,11 +17,16 @@ returns-then-not-fits_budget-clause-spent c none =
     let work = edges_to apply.flat.now.edges chosen in
     inr (
       work,
-      pull_work apply c.args.former.now.apply c.args.differences.now (is_marked c.mark_reached.new.marks) c.in_ok-reached.reached.items chosen c.in_ok-reached.ensures.ascending
+      pull_work apply c.args.followed.now.former.apply c.args.followed.now.differences (is_marked c.mark_reached.new.marks) c.in_ok-reached.reached.items chosen c.in_ok-reached.ensures.ascending
           c.in_ok-reached.ensures.marked (c.mark_reached.ensures.reached on)
           (subst (λ (vs : List ℕ). AreChosen apply vs chosen) c.deref.ensures.value c.in_ok-among.ensures),
-      leb-false work c.args.budget (subst (λ (vs : List ℕ). nat_le (edges_to apply.flat.now.edges vs) c.args.budget ≡ false) c.deref-2.ensures.value (sym c.fits_budget.ensures ∙ off)),
+      leb-false work c.args.followed.now.budget (subst (λ (vs : List ℕ). nat_le (edges_to apply.flat.now.edges vs) c.args.followed.now.budget ≡ false) c.deref-2.ensures.value (sym c.fits_budget.ensures ∙ off)),
     )
+
+pub returns-clause-marked : goal.returns-clause-marked
+returns-clause-marked c =
+    let on : c.mark_reached.result ≡ true = search rules in
+    c.mark_reached.ensures.reached on
 
 pub returns-clause-within : goal.returns-clause-within
 returns-clause-within c =
@@ -33,10 +38,10 @@ returns-clause-within c =
       c.mark_reached.ensures.within on,
       (
         work,
-        pull_work apply c.args.former.now.apply c.args.differences.now (is_marked c.mark_reached.new.marks) c.in_ok-reached.reached.items chosen c.in_ok-reached.ensures.ascending
+        pull_work apply c.args.followed.now.former.apply c.args.followed.now.differences (is_marked c.mark_reached.new.marks) c.in_ok-reached.reached.items chosen c.in_ok-reached.ensures.ascending
             c.in_ok-reached.ensures.marked (c.mark_reached.ensures.reached on)
             (subst (λ (vs : List ℕ). AreChosen apply vs chosen) c.deref.ensures.value c.in_ok-among.ensures),
-        leb-true work c.args.budget (subst (λ (vs : List ℕ). nat_le (edges_to apply.flat.now.edges vs) c.args.budget ≡ true) c.deref-2.ensures.value (sym c.fits_budget.ensures ∙ fits)),
+        leb-true work c.args.followed.now.budget (subst (λ (vs : List ℕ). nat_le (edges_to apply.flat.now.edges vs) c.args.followed.now.budget ≡ true) c.deref-2.ensures.value (sym c.fits_budget.ensures ∙ fits)),
       ),
     )
 
@@ -48,7 +53,7 @@ returns-clause-changes c =
     let reached = c.in_ok-reached.reached.items in
     let chosen = c.in_ok-among.among.items in
     let found = c.in_ok-changes.changes.vectors.items in
-    changes_followed apply c.args.former.now c.args.differences.now test reached chosen found c.in_ok-splice_all.field-0.vectors.items (record {
+    changes_followed apply c.args.followed.now.former c.args.followed.now.differences test reached chosen found c.in_ok-splice_all.field-0.vectors.items (record {
       follows = c.requires;
       sizes = c.read_sizes.ensures;
       tested = c.mark_reached.ensures.reached on;
