@@ -25,7 +25,7 @@ passes filters s None v = true
 passes filters s (Some (end.Members slot)) v = is_member v (members_of (slice_get s.sets slot.index))
 passes filters s (Some (end.Function function)) v = lets_through filters function s.sets s.vectors v
 
--- the same of a vertex of the graph
+-- whether the number is a vertex of the graph that the end lets through
 abbrev pub is_end : List FunctionTree → GraphValue → StateValue → Option VertexFilter → ℕ → Bool
 is_end filters g s end v = nat_lt v g.vertices && passes filters s end v
 

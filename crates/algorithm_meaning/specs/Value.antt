@@ -81,7 +81,7 @@ stays_inside vertices vectors sets scope (integer.Negative e) = stays_inside ver
 stays_inside vertices vectors sets scope (integer.Arithmetic o a b) =
     stays_inside vertices vectors sets scope a && stays_inside vertices vectors sets scope b
 
--- the same of an expression of type bool; both sides of `and` and `or` count
+-- whether an expression of type bool reads entries at vertices alone; both sides of `and` and `or` count
 abbrev pub condition_stays_inside : ℕ → List (List ℤ) → List SetBinding → ScopeValue → BoolExpressionTree → Bool
 condition_stays_inside vertices vectors sets scope (condition.Literal b) = true
 condition_stays_inside vertices vectors sets scope (condition.Constant name b) = true

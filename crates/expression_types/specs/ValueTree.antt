@@ -148,7 +148,7 @@ abbrev pub operands_read_entry : List Operand → Bool
 operands_read_entry [] = false
 operands_read_entry (o ∷ others) = reads_entry (int_expression_tree o.integer) || operands_read_entry others
 
--- the same of a condition
+-- whether a condition reads an entry of a vector
 abbrev pub condition_reads_entry : BoolExpressionTree → Bool
 condition_reads_entry (condition.Literal b) = false
 condition_reads_entry (condition.Constant name b) = false

@@ -20,7 +20,7 @@ LetsThrough filters s None v = Unit {0}
 LetsThrough filters s (Some (Members slot)) v = Contains (members_of (slice_get s.sets slot.index)) v
 LetsThrough filters s (Some (Function function)) v = result_of (steps_of (slice_get filters function)) s.sets s.vectors v ≡ true
 
--- the same of a vertex of the graph
+-- the number is a vertex of the graph that the end lets through
 pub record IsEndOf (filters : List FunctionTree) (g : GraphValue) (s : StateValue) (filter : Option VertexFilter) (v : ℕ) : Type 0 where
   pub vertex : v < g.vertices
   pub passes : LetsThrough filters s filter v

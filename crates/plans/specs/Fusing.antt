@@ -83,14 +83,14 @@ integer_sizes e = integer_fold (gathered set_of) e
 abbrev pub condition_sizes : BoolExpressionTree → List ℕ
 condition_sizes c = condition_fold (gathered set_of) c
 
--- the same of statements of functions
+-- the sets whose sizes statements of functions read
 abbrev pub step_sizes : FunctionStatementTree → List ℕ
 step_sizes step = step_fold (gathered set_of) step
 
 abbrev pub steps_sizes : FunctionStatementsTree → List ℕ
 steps_sizes steps = steps_fold (gathered set_of) steps
 
--- the same of the function at an index
+-- the sets whose sizes the function at an index reads
 abbrev pub steps_sizes_where : Option FunctionTree → List ℕ
 steps_sizes_where f = steps_fold_where (gathered set_of) f
 
@@ -143,7 +143,7 @@ integer_is_local e = integer_fold (all_pass is_local) e
 abbrev pub condition_is_local : BoolExpressionTree → Bool
 condition_is_local c = condition_fold (all_pass is_local) c
 
--- the same of statements of vertex functions
+-- whether statements of vertex functions read and write their own vertex alone
 abbrev pub step_is_local : FunctionStatementTree → Bool
 step_is_local step = step_fold (all_pass is_local) step
 

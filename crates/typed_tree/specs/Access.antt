@@ -45,7 +45,7 @@ step_writes step = step_fold written step
 abbrev pub steps_write : FunctionStatementsTree → List ℕ
 steps_write steps = steps_fold written steps
 
--- the same of the function at an index
+-- what the function at an index uses and writes; one that is not there uses nothing
 abbrev pub steps_use_where : Option FunctionTree → List ℕ
 steps_use_where f = steps_fold_where used f
 

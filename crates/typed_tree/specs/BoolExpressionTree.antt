@@ -30,12 +30,12 @@ abbrev mutual
   bool_expression_tree (rust.Compare comparison left right) = Compare comparison (int_expression_tree left) (int_expression_tree right)
   bool_expression_tree (rust.Connect' connective p first shape conditions) = conditions_row connective (bool_expression_tree first) conditions
 
-  -- the conditions in a list inside an expression, after what stands on the left
+  -- a condition with those that follow it inside an expression, joined by `and` or `or`
   pub conditions_row : {n : _} → Connective → BoolExpressionTree → Row_of-BoolExpression n → BoolExpressionTree
   conditions_row connective left end_of-BoolExpression = left
   conditions_row connective left (more_of-BoolExpression c rest) = conditions_row connective (Connect connective left (bool_expression_tree c)) rest
 
--- the same of a list
+-- a condition with those of a list that follows it, joined by `and` or `or`
 abbrev pub conditions_tree : Connective → BoolExpressionTree → List BoolExpression → BoolExpressionTree
 conditions_tree connective left [] = left
 conditions_tree connective left (c ∷ rest) = conditions_tree connective (Connect connective left (bool_expression_tree c)) rest

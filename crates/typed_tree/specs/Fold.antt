@@ -68,7 +68,7 @@ module _ {R : Type 0} (f : Fold R) where
     steps_fold NoStep = f.none
     steps_fold (StepThen step rest) = f.join (step_fold step) (steps_fold rest)
 
-  -- the same of the function at an index; one that is not there does nothing
+  -- the fold of the function at an index; one that is not there gives what an empty one does
   abbrev pub steps_fold_where : Option FunctionTree → R
   steps_fold_where None = f.none
   steps_fold_where (Some g) = steps_fold g.steps
@@ -76,13 +76,13 @@ module _ {R : Type 0} (f : Fold R) where
   abbrev pub function_fold : List FunctionTree → ℕ → R
   function_fold functions index = steps_fold_where (slice_get functions index)
 
-  -- the same of an end of an edge apply
+  -- the fold of an end of an edge apply
   abbrev pub end_fold : List FunctionTree → Option VertexFilter → R
   end_fold filters None = f.none
   end_fold filters (Some (end.Members slot)) = f.access (ReadSet slot.index)
   end_fold filters (Some (end.Function index)) = function_fold filters index
 
-  -- for proofs only: the same of operands, and of conditions, in a row
+  -- for proofs only: the folds of operands, and of conditions, in a row
   abbrev pub operands_fold : List Operand → R
   operands_fold [] = f.none
   operands_fold (o ∷ os) = f.join (integer_fold (int_expression_tree o.integer)) (operands_fold os)

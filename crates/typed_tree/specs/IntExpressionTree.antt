@@ -38,12 +38,12 @@ abbrev mutual
   int_expression_tree (rust.Negative' signs p e) = negated signs (int_expression_tree e)
   int_expression_tree (rust.Arithmetic' p first shape operands) = operands_row (int_expression_tree first) operands
 
-  -- the operators in a list inside an expression, after what stands on the left
+  -- an expression with the operators and operands that follow it inside an expression
   pub operands_row : {n : _} → IntExpressionTree → Row_of-Operand n → IntExpressionTree
   operands_row left end_of-Operand = left
   operands_row left (more_of-Operand operator e rest) = operands_row (Arithmetic operator left (int_expression_tree e)) rest
 
--- the same of a list
+-- an expression with the operators and operands of a list that follows it
 abbrev pub operands_tree : IntExpressionTree → List Operand → IntExpressionTree
 operands_tree left [] = left
 operands_tree left (o ∷ rest) = operands_tree (Arithmetic o.operator left (int_expression_tree o.integer)) rest
