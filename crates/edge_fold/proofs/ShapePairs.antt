@@ -25,7 +25,7 @@ use Rattle.edge_fold.specs.Contributions.{IsBy, all_given, column, each_given, e
 use Rattle.edge_fold.specs.EntryNumbers.{IsEntryContribution, each_weighed, entry_numbers_given}
 use Rattle.edge_fold.specs.Folded.{HasFolded, IsContextOf, waiting}
 use Rattle.edge_fold.specs.ReducedContributions.{IsReducedContribution, numbers_given}
-use Rattle.edge_fold.specs.Statements.{ArePairContributions, IsEntryOf, IsEntryless, IsPairOf, IsSourceless}
+use Rattle.edge_fold.specs.Statements.{ArePairContributions, IsEntryOf}
 use Rattle.edge_fold.specs.VectorAccumulators.{HaveJoined}
 use Rattle.edge_fold.proofs.Edges.{on_in_rounds, on_same, one_function, sent_row}
 use Rattle.edge_fold.proofs.EntryRows.{weighed_row, weighed_together}
@@ -48,26 +48,6 @@ pub one_given : (f : ApplyContext) (m : StateValue) (steps : List FunctionStatem
 one_given f m steps edge gs are alone gives =
     let one = one_function f.first.now f.second steps alone are.kernels in
     ap (λ (ss : List FunctionStatementsTree). all_given m ss edge) one.alone ∙ append-nil (given_in m one.a edge) ∙ gives one.a one.kernel
-
--- a statement that gives neither a source's number nor an entry with the weight gives nothing
-nothing_given : (t : Shape) (m : StateValue) (edge : Edge) → IsEntryless t → IsSourceless t → shape_given t m edge ≡ []
-nothing_given shape.Other m edge no_entry no_source = refl
-nothing_given (shape.Source x r) m edge no_entry no_source = absurd no_source
-nothing_given (shape.Entry x r y) m edge no_entry no_source = absurd no_source
-nothing_given (shape.EntryPlus x r y n) m edge no_entry no_source = absurd no_source
-nothing_given (shape.Constant x r n) m edge no_entry no_source = absurd no_source
-nothing_given (shape.EntryWith x r y o) m edge no_entry no_source = absurd no_entry
-
-nothing_on : (x : ℕ) (es : List Edge) → given_on x (λ edge. []) es ≡ []
-nothing_on x [] = refl
-nothing_on x (e ∷ es) = nothing_on x es
-
-pub joined_none : (f : ApplyContext) (m : StateValue) (t : Shape) (x : ℕ) (r : Reduction) (s : VectorAccumulators) (es : List Edge) → IsEntryless t → IsSourceless t
-    → HaveJoined f x r s s (given_on x (shape_given t m) es)
-joined_none f m t x r s es no_entry no_source =
-    subst (λ (gs : List (ℕ × ℤ)). HaveJoined f x r s s gs)
-    (sym (on_same x (shape_given t m) (λ edge. []) (λ edge. nothing_given t m edge no_entry no_source) es ∙ nothing_on x es))
-    (joined_nothing f x r s)
 
 -- what a statement gives along a row
 pub joined_sent : (f : ApplyContext) (x : ℕ) (r : Reduction) (a b : VectorAccumulators) (source : ℕ) (sent : SourceContribution) (gives : Edge → List (ℕ × Reduction × ℤ)) (es : List (ℕ × ℤ))
@@ -119,25 +99,6 @@ by_first r x all first second each by edge = IsBy-left r x (first edge) (second 
 
 by_second : (r : Reduction) (x : ℕ) (all first second : Edge → List (ℕ × Reduction × ℤ)) → ((edge : Edge) → all edge ≡ first edge ++ second edge) → ((edge : Edge) → IsBy r x (all edge)) → (edge : Edge) → IsBy r x (second edge)
 by_second r x all first second each by edge = IsBy-right r x (first edge) (second edge) (subst (λ (gs : List (ℕ × Reduction × ℤ)). IsBy r x gs) (each edge) (by edge))
-
--- a statement was joined to slots, along a row
-abbrev pub HasJoinedStatement : ApplyContext → Shape → (source : ℕ) → List (ℕ × ℤ) → (before after : VectorAccumulators) → Type 0
-HasJoinedStatement f t source es a b = (m : StateValue) → f.vectors.now.vectors ≡ m.vectors → (x : ℕ) (r : Reduction) → ((edge : Edge) → IsBy r x (shape_given t m edge))
-    → HaveJoined f x r a b (given_on x (shape_given t m) (row source es))
-
-pub folded_pair : (f : ApplyContext) (m : StateValue) (steps : List FunctionStatementsTree) (p : ShapePair) (source : ℕ) (es : List (ℕ × ℤ)) (edges : List Edge) (a b : Scratch) (between : VectorAccumulators)
-    → b.pairs ≡ a.pairs → IsContextOf f m steps → IsPairOf m p (all_given m steps)
-    → HasJoinedStatement f p.first source es a.slots between → HasJoinedStatement f p.second source es between b.slots
-    → HasFolded f m steps edges a → HasFolded f m steps (edges ++ row source es) b
-folded_pair f m steps p source es edges a b between same are is one other has x r by =
-    let all = all_given m steps in
-    let first = shape_given p.first m in
-    let second = shape_given p.second m in
-    folded_before f m steps edges (row source es) a b x r (ap (λ ps. waiting f.weighted ps) same)
-    (joined_pair f x r a.slots between b.slots all first second (row source es) is
-    (one m are.vectors x r (by_first r x all first second is by))
-    (other m are.vectors x r (by_second r x all first second is by)))
-    (has x r by)
 
 -- what is sent was joined to slots, at a destination
 abbrev pub HasJoinedSent : ApplyContext → SourceContribution → (d : ℕ) → (before after : VectorAccumulators) → Type 0

@@ -28,21 +28,3 @@ pub record ArePairContributions (p : ContributionPair) (gives : Edge → List (�
   pub each : (edge : Edge) → gives edge ≡ first edge ++ second edge
   pub of_first : IsEntryContribution p.first first es
   pub of_second : IsEntryContribution p.second second es
-
--- a statement gives no number that is the same on all edges from a source
-abbrev pub IsSourceless : Shape → Type 0
-IsSourceless shape.Other = Unit
-IsSourceless (shape.Source x r) = ⊥
-IsSourceless (shape.Entry x r y) = ⊥
-IsSourceless (shape.EntryPlus x r y n) = ⊥
-IsSourceless (shape.Constant x r n) = ⊥
-IsSourceless (shape.EntryWith x r y o) = Unit
-
--- a statement gives no entry with the weight
-abbrev pub IsEntryless : Shape → Type 0
-IsEntryless shape.Other = Unit
-IsEntryless (shape.Source x r) = Unit
-IsEntryless (shape.Entry x r y) = Unit
-IsEntryless (shape.EntryPlus x r y n) = Unit
-IsEntryless (shape.Constant x r n) = Unit
-IsEntryless (shape.EntryWith x r y o) = ⊥

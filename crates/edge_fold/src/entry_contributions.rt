@@ -8,7 +8,7 @@ ghost use Rattle.kernels.specs.ShapePairs.{shape_given};
 ghost use Rattle.edge_fold.specs.Folded.{IsContextOf};
 ghost use Rattle.edge_fold.specs.Contributions.{all_given, entries_of};
 ghost use Rattle.edge_fold.specs.EntryNumbers.{IsEntryContribution};
-ghost use Rattle.edge_fold.specs.Statements.{IsEntryOf, IsEntryless};
+ghost use Rattle.edge_fold.specs.Statements.{IsEntryOf};
 
 use crate::apply_context::{ApplyContext, EntryContribution, SourceContribution};
 use crate::entry_numbers::{EntryWith, reduce_all_entries};
@@ -72,8 +72,7 @@ impl ApplyContext<'_> {
 /// What a statement of a shape gives on every edge, where it is an entry of the source with the weight.
 #[inline]
 pub(crate) fn entry_of(shape: Shape) -> Option<EntryContribution>
-    ensures given { IfSome result (λ g. (m : StateValue) → IsEntryOf m g (shape_given shape m)) }
-    ensures none { result ≡ None → IsEntryless shape }
+    ensures { IfSome result (λ g. (m : StateValue) → IsEntryOf m g (shape_given shape m)) }
 {
     match shape {
         Shape::EntryWith(vector, reduction, from, operator) => Some(EntryContribution {

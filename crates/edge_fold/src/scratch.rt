@@ -80,7 +80,7 @@ impl Scratch {
                 .join_weights(alloc, context, given, source, destinations)?;
             return Ok(true);
         }
-        self.fold_pair(alloc, context, source, destinations)
+        Ok(false)
     }
 
     /// Folds the edges from a source to destinations, at most `PAIRS`, with any weights, where no function reads weights.

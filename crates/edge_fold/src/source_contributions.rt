@@ -5,7 +5,6 @@ ghost use Rattle.algorithm_meaning.specs.State.{StateValue};
 ghost use Rattle.kernels.specs.ShapePairs.{shape_given};
 ghost use Rattle.edge_fold.specs.Folded.{IsContextOf};
 ghost use Rattle.edge_fold.specs.Contributions.{all_given};
-ghost use Rattle.edge_fold.specs.Statements.{IsSourceless};
 
 use crate::apply_context::{ApplyContext, SourceContribution};
 use algorithm_meaning::arithmetic_of;
@@ -28,9 +27,8 @@ impl ApplyContext<'_> {
     /// What a statement of a shape gives on every edge from a source, if it is the same on all.
     #[inline(always)]
     pub(crate) fn sent_by(self, shape: Shape, source: u32) -> Option<SourceContribution>
-        ensures given { IfSome result (λ s. (m : StateValue) → self.entry.vectors.now.vectors ≡ m.vectors
+        ensures { IfSome result (λ s. (m : StateValue) → self.entry.vectors.now.vectors ≡ m.vectors
             → (d : ℕ) (w : ℤ) → shape_given shape m (source, d, w) ≡ (s.vector, s.reduction, s.number) ∷ []) }
-        ensures none { result ≡ None → IsSourceless shape }
     {
         match shape {
             Shape::Other | Shape::EntryWith(_, _, _, _) => None,

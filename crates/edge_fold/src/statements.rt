@@ -1,25 +1,22 @@
 //! Statements: contributions of an edge function of two statements, each of a shape, of which one is folded after the other.
-ghost use Rattle.std.specs.Prelude.{◌≡◌, ◌++◌, ℕ, true, false, List, None, IfSome, IfOk, OnOk};
-ghost use Rattle.apply_options.specs.declared.reduction.Reduction.{Reduction};
+ghost use Rattle.std.specs.Prelude.{◌≡◌, ◌++◌, true, false, List, IfSome, IfOk};
 ghost use Rattle.edge_lists.specs.Edge.{Edge};
 ghost use Rattle.typed_tree.specs.FunctionStatementTree.{FunctionStatementsTree};
 ghost use Rattle.algorithm_meaning.specs.State.{StateValue};
 ghost use Rattle.kernels.specs.ShapePairs.{shape_given};
 ghost use Rattle.edge_fold.specs.Folded.{IsContextOf, HasFolded};
-ghost use Rattle.edge_fold.specs.Contributions.{IsBy, all_given, column, entries_of, given_on, row};
+ghost use Rattle.edge_fold.specs.Contributions.{all_given, column, entries_of};
 ghost use Rattle.edge_fold.specs.EntryNumbers.{IsEntryContribution};
 ghost use Rattle.edge_fold.specs.Statements.{ArePairContributions, IsPairOf};
-ghost use Rattle.edge_fold.specs.VectorAccumulators.{HaveJoined};
 
 use crate::apply_context::{ApplyContext, SourceContribution};
 use crate::entry_contributions::entry_of;
-use crate::neighbour_entries::{NeighbourEntries, UnitColumn};
+use crate::neighbour_entries::UnitColumn;
 use crate::scratch::Scratch;
-use crate::vector_accumulator::VectorAccumulators;
 use kernels::{Shape, ShapePair};
 use std::alloc::{AllocError, Global};
 
-/// A list with fewer neighbours is folded by a block of many lists, which is faster than a loop for each statement.
+/// A destination with fewer sources is folded in a block of many lists, which is faster than a loop for each statement.
 const FEW_NEIGHBOURS: usize = 16;
 
 /// What two statements give a destination.
@@ -76,63 +73,7 @@ impl ApplyContext<'_> {
     }
 }
 
-impl VectorAccumulators {
-    /// Reduces the entries of a vector at destinations with what a statement of a shape gives them from a source. `Other` gives
-    /// nothing. The only error is out of memory, after which a part was done.
-    fn join_statement<E: NeighbourEntries>(
-        &mut self,
-        alloc: Global,
-        context: ApplyContext<'_>,
-        shape: Shape,
-        source: u32,
-        destinations: &E,
-    ) -> Result<(), AllocError>
-        ensures { OnOk result ((m : StateValue) → context.entry.vectors.now.vectors ≡ m.vectors → (x : ℕ) (r : Reduction)
-            → ((edge : Edge) → IsBy r x (shape_given shape m edge))
-            → HaveJoined context.entry x r self.old self.new (given_on x (shape_given shape m) (row source (E.entries destinations.now)))) }
-    {
-        if let Some(given) = entry_of(shape) {
-            self.join_weights(alloc, context, given, source, destinations)?;
-            return Ok(());
-        }
-        if let Some(sent) = context.sent_by(shape, source) {
-            self.join_number(alloc, context, sent, destinations)?;
-            return Ok(());
-        }
-        Ok(())
-    }
-}
-
 impl Scratch {
-    /// Folds the edges from a source to destinations by index, with no block and however many they are, if they are not few and
-    /// what is given on an edge is what two statements of a shape give. It gives whether that is so: if not, nothing is changed. The
-    /// only error is out of memory.
-    #[inline(never)]
-    pub(crate) fn fold_pair<E: NeighbourEntries>(
-        &mut self,
-        alloc: Global,
-        context: ApplyContext<'_>,
-        source: u32,
-        destinations: &E,
-    ) -> Result<bool, AllocError>
-        ensures folded { IfOk result (λ done. done ≡ true → (m : StateValue) (steps : List FunctionStatementsTree) (edges : List Edge)
-            → IsContextOf context.entry m steps → HasFolded context.entry m steps edges self.old
-            → HasFolded context.entry m steps (edges ++ row source (E.entries destinations.now)) self.new) }
-        ensures unchanged { IfOk result (λ done. done ≡ false → self.new ≡ self.old) }
-    {
-        if destinations.len() < FEW_NEIGHBOURS {
-            return Ok(false);
-        }
-        let Some(pair) = context.shape_pair() else {
-            return Ok(false);
-        };
-        self.slots
-            .join_statement(alloc, context, pair.first, source, destinations)?;
-        self.slots
-            .join_statement(alloc, context, pair.second, source, destinations)?;
-        Ok(true)
-    }
-
     /// Folds the edges from sources to a destination, with these weights or with any where none are given, if they are not few and
     /// what is given on an edge is what two statements of a shape give. It gives whether that is so: if not, nothing is changed. The
     /// only error is out of memory.

@@ -15,4 +15,4 @@ returns c m steps are edge =
     let number = arithmetic given.operator (entry m.vectors given.from edge.0) edge.2 in
     let g : ℕ × Reduction × ℤ = (given.vector, given.reduction, number) in
     one_given f m steps edge (g ∷ []) are alone
-    (λ a kernel. shaped_given c.shape.result m edge (given_in m a edge) g (c.shape.ensures a m f.sizes.now edge kernel are.sizes) (c.in_ok-given.ensures.given m edge))
+    (λ a kernel. shaped_given c.shape.result m edge (given_in m a edge) g (c.shape.ensures a m f.sizes.now edge kernel are.sizes) (c.in_ok-given.ensures m edge))

@@ -11,7 +11,7 @@ pub returns : goal.returns
 returns c =
     let f = c.args.self in
     let alone : f.second ≡ None = search rules in
-    IfSome_then c.sent_by.result c.sent_by.ensures.given
+    IfSome_then c.sent_by.result c.sent_by.ensures
     (λ sent gives m steps are d w.
     let edge : Edge = (c.args.source, d, w) in
     let g : ℕ × Reduction × ℤ = (sent.vector, sent.reduction, sent.number) in

@@ -8,16 +8,16 @@ use Rattle.kernels.specs.declared.shape.Shape.{Shape}
 use Rattle.kernels.specs.ShapePairs.{shape_given}
 use Rattle.edge_fold.proofs.apply_context.ApplyContext.sent_by.Goals as goal
 
-pub returns-in-Source-clause-given : goal.returns-in-Source-clause-given
-returns-in-Source-clause-given c m vectors d w =
+pub returns-in-Source : goal.returns-in-Source
+returns-in-Source c m vectors d w =
     let x = c.in-Source.vector in
     let r = c.in-Source.reduction in
     let fits : FitsSigned w64 c.from.result = search rules in
     ap (λ (t : Shape). shape_given t m (c.args.source, d, w)) c.in-Source.is
     ∙ ap (λ (n : ℤ). (x, r, n) ∷ []) (sym (to_z-of_z w64 c.from.result fits ∙ c.from.ensures))
 
-pub returns-in-Entry-clause-given : goal.returns-in-Entry-clause-given
-returns-in-Entry-clause-given c m vectors d w =
+pub returns-in-Entry : goal.returns-in-Entry
+returns-in-Entry c m vectors d w =
     let x = c.in-Entry.vector in
     let r = c.in-Entry.reduction in
     let y = c.in-Entry.from in
@@ -26,8 +26,8 @@ returns-in-Entry-clause-given c m vectors d w =
     let number = to_z-of_z w64 c.get.result fits ∙ c.get.ensures ∙ c.lane.ensures s ∙ ap (λ (vs : List (List ℤ)). entry vs y s) vectors in
     ap (λ (t : Shape). shape_given t m (s, d, w)) c.in-Entry.is ∙ ap (λ (n : ℤ). (x, r, n) ∷ []) (sym number)
 
-pub returns-in-EntryPlus-clause-given : goal.returns-in-EntryPlus-clause-given
-returns-in-EntryPlus-clause-given c m vectors d w =
+pub returns-in-EntryPlus : goal.returns-in-EntryPlus
+returns-in-EntryPlus c m vectors d w =
     let x = c.in-EntryPlus.vector in
     let r = c.in-EntryPlus.reduction in
     let y = c.in-EntryPlus.from in
