@@ -6,7 +6,8 @@ use Rattle.std.proofs.lemmas.Bool.{cases_order, cases_lt, lt-ltb, le-ltb, le-leb
 use Rattle.std.proofs.lemmas.List.{append-nil, drop_more, take_more_set, take-set-le}
 use Rattle.ascending_lists.specs.declared.set_operation.Operation.{Operation}
 use Rattle.ascending_lists.specs.declared.set_operation.Operation.TheVariants.{Union, Difference}
-use Rattle.ascending_lists.specs.Operations.{combined, most, takes_second}
+use Rattle.ascending_lists.specs.Operations.{combined, most}
+use Rattle.ascending_lists.specs.inside.Operations.{takes_second}
 use Rattle.ascending_lists.specs.Sets.{union, difference}
 use Rattle.ascending_lists.specs.Ascending.{AscendsFrom}
 use Rattle.ascending_lists.proofs.Ascending.{ascends_from}

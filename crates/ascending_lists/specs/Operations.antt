@@ -1,5 +1,5 @@
 -- What a set operation makes of two ascending lists.
-use Rattle.std.specs.Prelude.{ℕ, ◌+◌, Bool, true, false, List}
+use Rattle.std.specs.Prelude.{ℕ, ◌+◌, List}
 use Rattle.ascending_lists.specs.Sets.{union, difference}
 use Rattle.ascending_lists.specs.declared.set_operation.Operation.{Operation}
 use Rattle.ascending_lists.specs.declared.set_operation.Operation.TheVariants.{Union, Difference}
@@ -13,8 +13,3 @@ combined Difference xs ys = difference xs ys
 abbrev pub most : Operation → ℕ → ℕ → ℕ
 most Union m n = m + n
 most Difference m n = m
-
--- whether the answer has what the second list has alone
-abbrev pub takes_second : Operation → Bool
-takes_second Union = true
-takes_second Difference = false

@@ -2,7 +2,8 @@
 
 ghost use Rattle.std.specs.Prelude.{◌≡◌, ◌+◌, ◌^◌, ◌<◌, ◌≤◌, length, None, IfOk};
 ghost use Rattle.ascending_lists.specs.inside.Merging.{IsMerged};
-ghost use Rattle.ascending_lists.specs.Operations.{combined, most, takes_second};
+ghost use Rattle.ascending_lists.specs.Operations.{combined, most};
+ghost use Rattle.ascending_lists.specs.inside.Operations.{takes_second};
 ghost use Rattle.ascending_lists.specs.Ascending.{Ascends};
 
 use std::alloc::{AllocError, Global};

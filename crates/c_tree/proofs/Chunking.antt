@@ -7,7 +7,8 @@ use Rattle.std.proofs.lemmas.List.{append-nil}
 use Rattle.std.proofs.lemmas.List.Elements.{All-nil, All-cons, All-head, All-tail}
 use Rattle.tail_codec.specs.Spelling.{BasedList, based_list}
 use Rattle.c_tree.specs.Heads.{is_head}
-use Rattle.c_tree.specs.Chunks.{HeadValue, head_value, before_head, prefix_of, chunks_of, entries_of, together, HasNoHead, IsChunk, IsChunking}
+use Rattle.c_tree.specs.Chunks.{HeadValue, head_value, before_head, prefix_of, chunks_of, HasNoHead}
+use Rattle.c_tree.specs.inside.Chunks.{entries_of, together, IsChunk, IsChunking}
 use Rattle.c_tree.specs.inside.Cutting.{from_head}
 
 module _ (b : ℕ) where

@@ -6,8 +6,9 @@ use Rattle.ascending_lists.specs.Ascending.{AscendsFrom, Ascends}
 use Rattle.ascending_lists.proofs.Ascending.{ascends_from, ascends_front, ascends_back}
 use Rattle.ascending_lists.proofs.MapKeys.{keys_append}
 use Rattle.tail_codec.specs.Spelling.{BasedList, based_list}
-use Rattle.c_tree.specs.Chunks.{HeadValue, head_value, before_head, chunks_of, entries_of, together}
-use Rattle.c_tree.specs.Parts.{IsPart}
+use Rattle.c_tree.specs.Chunks.{HeadValue, head_value, before_head, chunks_of}
+use Rattle.c_tree.specs.inside.Chunks.{entries_of, together}
+use Rattle.c_tree.specs.inside.Parts.{IsPart}
 use Rattle.c_tree.specs.inside.Cutting.{from_head}
 use Rattle.c_tree.proofs.Chunking.{cut_at_head, none_before_head, before_from_head, chunks_from_head, head_first, chunks_at_head, whole_again, are_chunks}
 

@@ -12,8 +12,10 @@ use Rattle.ascending_lists.proofs.MapKeys.{keys_append}
 use Rattle.tail_codec.specs.Spelling.{BasedList, based_list}
 use Rattle.shared_tree.specs.Balanced.{Balanced, empty, IsFork}
 use Rattle.c_tree.specs.Heads.{is_head}
-use Rattle.c_tree.specs.Chunks.{HeadValue, head_value, ChunkedSet, IsSetOf, entries_of, together, HasNoHead, IsChunk}
-use Rattle.c_tree.specs.Parts.{in_chunks, IsPart, IsRoot}
+use Rattle.c_tree.specs.Chunks.{HeadValue, head_value, ChunkedSet, IsSetOf, HasNoHead}
+use Rattle.c_tree.specs.inside.Chunks.{entries_of, together, IsChunk}
+use Rattle.c_tree.specs.inside.Parts.{in_chunks, IsPart}
+use Rattle.c_tree.specs.Parts.{IsRoot}
 use Rattle.c_tree.proofs.Making.{keys_front, keys_back, keys_after, heads_rise}
 use Rattle.c_tree.proofs.Turns.{entries_append, together_at, all_left, all_right}
 

@@ -8,7 +8,8 @@ use Rattle.tail_codec.specs.Appending.{least_after, IsAppended}
 use Rattle.tail_codec.specs.Spelling.{BasedList, SpellsNumbers, entry_numbers, weight_number}
 use Rattle.tail_codec.proofs.Writing.{spells-joined}
 use Rattle.shared_tree.specs.Balanced.{Balanced, IsFork}
-use Rattle.c_tree.specs.Chunks.{HeadValue, together}
+use Rattle.c_tree.specs.Chunks.{HeadValue}
+use Rattle.c_tree.specs.inside.Chunks.{together}
 use Rattle.c_tree.specs.inside.Spelled.{StandsOverItsHead, SpellsUpTo}
 use Rattle.c_tree.proofs.Making.{keys_front, keys_after}
 use Rattle.c_tree.proofs.Turns.{together_at, all_left, all_right}

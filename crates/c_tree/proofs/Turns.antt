@@ -10,7 +10,8 @@ use Rattle.ascending_lists.proofs.MapKeys.{entries_rise}
 use Rattle.ascending_lists.proofs.MapOrder.{rises_from, rises_front, rises_right, lookup_left, lookup_here, lookup_right}
 use Rattle.tail_codec.specs.Spelling.{BasedList}
 use Rattle.shared_tree.specs.Balanced.{Balanced, empty, IsFork}
-use Rattle.c_tree.specs.Chunks.{HeadValue, entries_of, together}
+use Rattle.c_tree.specs.Chunks.{HeadValue}
+use Rattle.c_tree.specs.inside.Chunks.{entries_of, together}
 
 pub entries_append : (xs ys : List (ℕ × HeadValue)) → entries_of (xs ++ ys) ≡ entries_of xs ++ entries_of ys
 entries_append [] ys = refl

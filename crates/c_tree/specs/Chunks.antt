@@ -1,5 +1,5 @@
 -- The one way in which entries are cut into chunks.
-use Rattle.std.specs.Prelude.{◌≡◌, ℕ, ℤ, false, true, if◌then◌else◌, None, Some, List, [], ◌∷◌, ◌++◌}
+use Rattle.std.specs.Prelude.{◌≡◌, ℕ, ℤ, false, if◌then◌else◌, None, Some, List, ◌∷◌}
 use Rattle.std.specs.List.{All}
 use Rattle.std.specs.Map.{keys_of}
 use Rattle.ascending_lists.specs.Ascending.{Ascends}
@@ -32,31 +32,9 @@ chunks_of b (e ∷ es) =
     then (e.0, head_value e.1 (based_list (Some e.0) (before_head b es))) ∷ chunks_of b es
     else chunks_of b es
 
--- the entries of chunks one after another: that of the head, and those of its tail
-abbrev pub entries_of : List (ℕ × HeadValue) → List (ℕ × ℤ)
-entries_of [] = []
-entries_of (c ∷ cs) = (c.0, c.1.weight) ∷ (c.1.tail.entries ++ entries_of cs)
-
--- a prefix and chunks put together
-abbrev pub together : BasedList → List (ℕ × HeadValue) → List (ℕ × ℤ)
-together prefix chunks = prefix.entries ++ entries_of chunks
-
 -- no key is a head
 abbrev pub HasNoHead : ℕ → List (ℕ × ℤ) → Type 0
 HasNoHead b es = All (λ k. is_head b k ≡ false) (keys_of es)
-
--- a head with a tail that stands over it and has no head
-pub record IsChunk (b : ℕ) (c : ℕ × HeadValue) : Type 0 where
-  pub head : is_head b c.0 ≡ true
-  pub base : c.1.tail.base ≡ Some c.0
-  pub tail : HasNoHead b c.1.tail.entries
-
--- A prefix and chunks that are es cut at its heads.
-pub record IsChunking (b : ℕ) (es : List (ℕ × ℤ)) (prefix : BasedList) (chunks : List (ℕ × HeadValue)) : Type 0 where
-  pub whole : es ≡ together prefix chunks
-  pub base : prefix.base ≡ None
-  pub front : HasNoHead b prefix.entries
-  pub each : All (IsChunk b) chunks
 
 -- entries with ascending keys, the chunk size at which they are cut, and how many nodes the longest way
 -- down the tree of their chunks has

@@ -1,9 +1,10 @@
 //! Sets of entries in chunks: how they are made, looked up and counted.
 
 ghost use Rattle.std.specs.Prelude.{◌≡◌, ◌↔◌, ◌+◌, ◌*◌, ◌^◌, ◌<◌, ◌≤◌, [], length, IsTrue, IfOk};
-ghost use Rattle.c_tree.specs.Chunks.{ChunkedSet, IsChunkedSet, IsChunking, prefix_of, chunks_of};
+ghost use Rattle.c_tree.specs.Chunks.{ChunkedSet, IsChunkedSet, prefix_of, chunks_of};
+ghost use Rattle.c_tree.specs.inside.Chunks.{IsChunking};
 ghost use Rattle.c_tree.specs.Outcome.{Opens};
-ghost use Rattle.c_tree.specs.Parts.{IsMadeOf, in_chunks};
+ghost use Rattle.c_tree.specs.inside.Parts.{IsMadeOf, in_chunks};
 
 use crate::chunk_size::ChunkSize;
 use crate::error::CTreeError;
@@ -43,7 +44,7 @@ impl Drop for CTree {
 impl Model for CTree {
     ghost use Rattle.c_tree.specs.Heads.{IsChunkSize};
     ghost use Rattle.c_tree.specs.Chunks.{ChunkedSet};
-    ghost use Rattle.c_tree.specs.Parts.{IsMadeOf, in_chunks};
+    ghost use Rattle.c_tree.specs.inside.Parts.{IsMadeOf, in_chunks};
 
     ghost Value = { ChunkedSet };
 

@@ -4,7 +4,7 @@ ghost use Rattle.std.specs.Prelude.{◌≡◌, ◌≤◌, length, take, drop, mi
 ghost use Rattle.std.specs.Iterator.{YieldsFirst, item_count};
 ghost use Rattle.std.specs.Map.{keys_of, values_of};
 ghost use Rattle.c_tree.specs.inside.Blocks.{IsRead};
-ghost use Rattle.c_tree.specs.Chunks.{together};
+ghost use Rattle.c_tree.specs.inside.Chunks.{together};
 
 use crate::tail::ChunkTail;
 use shared_tree::Tree;
@@ -21,7 +21,7 @@ pub struct Iter<'a> {
 
 impl<'a> Model for Iter<'a> {
     ghost use Rattle.std.specs.Prelude.{ℕ, ℤ, List, ◌++◌};
-    ghost use Rattle.c_tree.specs.Chunks.{entries_of};
+    ghost use Rattle.c_tree.specs.inside.Chunks.{entries_of};
 
     ghost Value = { List (ℕ × ℤ) };
 

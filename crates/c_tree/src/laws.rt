@@ -2,13 +2,8 @@
 
 ghost use Rattle.std.specs.Prelude.{◌≡◌, ℕ, ℤ, List};
 ghost use Rattle.tail_codec.specs.Spelling.{BasedList};
-ghost use Rattle.c_tree.specs.Chunks.{
-  HeadValue,
-  prefix_of,
-  chunks_of,
-  together,
-  IsChunking,
-};
+ghost use Rattle.c_tree.specs.Chunks.{HeadValue, prefix_of, chunks_of};
+ghost use Rattle.c_tree.specs.inside.Chunks.{together, IsChunking};
 
 /// The law that a list of entries has exactly one chunking at a chunk size, its prefix and its chunks,
 /// and that prefix, heads with their weights, and tails put together give the list back. The call does nothing.

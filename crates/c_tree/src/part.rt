@@ -4,7 +4,7 @@ ghost use Rattle.std.specs.Prelude.{◌≡◌, length, None, IfOk};
 ghost use Rattle.std.specs.Map.{keys_of};
 ghost use Rattle.ascending_lists.specs.Ascending.{Ascends};
 ghost use Rattle.c_tree.specs.Chunks.{HasNoHead, IsSetOf};
-ghost use Rattle.c_tree.specs.Parts.{IsPart, in_chunks};
+ghost use Rattle.c_tree.specs.inside.Parts.{IsPart, in_chunks};
 
 use crate::chunk_size::ChunkSize;
 use crate::ctree::CTree;
@@ -36,7 +36,7 @@ impl Drop for Part {
 
 impl Model for Part {
     ghost use Rattle.c_tree.specs.Chunks.{ChunkedSet};
-    ghost use Rattle.c_tree.specs.Parts.{IsPart, in_chunks};
+    ghost use Rattle.c_tree.specs.inside.Parts.{IsPart, in_chunks};
 
     ghost Value = { ChunkedSet };
 

@@ -6,7 +6,7 @@ ghost use Rattle.std.specs.Map.{keys_of};
 ghost use Rattle.tail_codec.specs.Appending.{IsAppended};
 ghost use Rattle.ascending_lists.specs.Ascending.{Ascends};
 ghost use Rattle.tail_codec.specs.Spelling.{Spells};
-ghost use Rattle.c_tree.specs.Chunks.{together};
+ghost use Rattle.c_tree.specs.inside.Chunks.{together};
 ghost use Rattle.c_tree.specs.inside.Spelled.{StandsOverItsHead, SpellsUpTo};
 
 use crate::ctree::CTree;

@@ -3,8 +3,10 @@
 ghost use Rattle.std.specs.Prelude.{◌≡◌, ◌↔◌, ◌^◌, ◌≤◌, None, [], length, IsTrue, IfOk, MatchOption};
 ghost use Rattle.std.specs.Map.{keys_of};
 ghost use Rattle.ascending_lists.specs.Ascending.{Ascends};
-ghost use Rattle.c_tree.specs.Chunks.{HasNoHead, chunks_of, together};
-ghost use Rattle.c_tree.specs.Parts.{IsPart, IsRoot, in_chunks};
+ghost use Rattle.c_tree.specs.Chunks.{HasNoHead, chunks_of};
+ghost use Rattle.c_tree.specs.inside.Chunks.{together};
+ghost use Rattle.c_tree.specs.inside.Parts.{IsPart, in_chunks};
+ghost use Rattle.c_tree.specs.Parts.{IsRoot};
 
 use crate::chunk_size::ChunkSize;
 use crate::heads::Heads;
@@ -27,7 +29,7 @@ pub struct View<'a> {
 
 impl<'a> Model for View<'a> {
     ghost use Rattle.c_tree.specs.Chunks.{ChunkedSet};
-    ghost use Rattle.c_tree.specs.Parts.{IsPart, in_chunks};
+    ghost use Rattle.c_tree.specs.inside.Parts.{IsPart, in_chunks};
 
     ghost Value = { ChunkedSet };
 

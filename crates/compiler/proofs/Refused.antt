@@ -14,7 +14,7 @@ use Rattle.plans.specs.PlanOf.{IsPlan, program_of}
 use Rattle.plans.specs.Reducing.{AppliesReduce}
 use Rattle.lowering.specs.Text.{HasText}
 use Rattle.compiler.specs.Outcome.{Compiles, IsTyped}
-use Rattle.compiler.specs.Refusal.{of_schedule}
+use Rattle.compiler.specs.inside.Refusal.{of_schedule}
 
 pub is_typed : (text : List ℕ) (source : SourceTree) (len : ℕ) (program : ProgramTree) → len ≡ length text → IsSource text source → Checks source len (Ok program) → IsTyped text program
 is_typed text source len program long parsed typed =

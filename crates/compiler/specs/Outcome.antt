@@ -1,17 +1,17 @@
 -- Answers to compiling a text: its plan, or the first refusal.
 use Rattle.std.specs.Prelude.{◌≡◌, ℕ, ◌≤◌, List, length, Result, Ok, Err, IfSome}
 use Rattle.parser.specs.SourceTrees.{SourceTree}
-use Rattle.schedule.specs.ProgramTree.{ProgramTree}
-use Rattle.parser.specs.declared.error.ParseError.TheVariants as parser
 use Rattle.parser.specs.Outcome.{Answers, IsSource}
+use Rattle.parser.specs.declared.error.ParseError.TheVariants as parser
 use Rattle.expression_types.specs.declared.fault.Fault.{Fault}
 use Rattle.types.specs.Program.{Checks}
+use Rattle.schedule.specs.ProgramTree.{ProgramTree}
 use Rattle.schedule.specs.Calls.{schedule_of}
 use Rattle.schedule.specs.ScheduleTree.{ScheduleTree}
 use Rattle.schedule.specs.declared.error.ScheduleRule.{ScheduleRule}
 use Rattle.plans.specs.declared.plan.Plan.{Plan}
 use Rattle.plans.specs.Plan.{plan_of}
-use Rattle.plans.specs.PlanOf.{IsCompiled, IsPlan, program_of}
+use Rattle.plans.specs.PlanOf.{IsPlan, program_of}
 use Rattle.plans.specs.Reducing.{AppliesReduce}
 use Rattle.lowering.specs.Text.{HasText}
 use Rattle.compiler.specs.declared.error.CompileError.{CompileError}
@@ -33,10 +33,6 @@ pub record IsPlanOfText (text : List ℕ) (plan : Plan) : Type 0 where
   pub planned : IsPlan plan (program_of plan) schedule
   pub written : HasText plan (program_of plan) schedule
   pub reducing : AppliesReduce (program_of plan) (plan_of (program_of plan) schedule)
-
--- the plan is that of a text's program
-abbrev pub is_compiled : {text : List ℕ} {plan : Plan} → IsPlanOfText text plan → IsCompiled plan
-is_compiled of = record { schedule = of.schedule; planned = of.planned; reducing = of.reducing }
 
 -- the text is this program, and its schedule is accepted
 pub record IsProgram (text : List ℕ) (program : ProgramTree) : Type 0 where

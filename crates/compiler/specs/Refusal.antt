@@ -1,13 +1,7 @@
 -- The numbers and offsets of refusals.
 use Rattle.std.specs.Prelude.{ℕ, Option, Some, None}
-use Rattle.parser.specs.declared.error.ParseError.{ParseError}
-use Rattle.parser.specs.declared.error.ParseError.TheVariants as parser
 use Rattle.parser.specs.Refusal as parse_refusal
 use Rattle.expression_types.specs.Faults.{number_of as rule_number}
-use Rattle.types.specs.declared.error.CheckError.{CheckError}
-use Rattle.types.specs.declared.error.CheckError.TheVariants as check
-use Rattle.schedule.specs.declared.error.ScheduleError.{ScheduleError}
-use Rattle.schedule.specs.declared.error.ScheduleError.TheVariants as schedule
 use Rattle.schedule.specs.Refusal.{number_of_rule}
 use Rattle.compiler.specs.declared.error.CompileError.{CompileError}
 use Rattle.compiler.specs.declared.error.CompileError.TheVariants.{NotParsed, NotTyped, NotScheduled, NoMemory}
@@ -24,18 +18,3 @@ offset_of (NotParsed e) = parse_refusal.offset_of e
 offset_of (NotTyped fault) = Some fault.at
 offset_of (NotScheduled rule at) = Some at
 offset_of NoMemory = None
-
--- what becomes of a refusal of the parser
-abbrev pub of_parser : ParseError → CompileError
-of_parser parser.NoMemory = NoMemory
-of_parser e = NotParsed e
-
--- what becomes of a refusal of the rules of types
-abbrev pub of_types : CheckError → CompileError
-of_types (check.Faulty fault) = NotTyped fault
-of_types check.NoMemory = NoMemory
-
--- what becomes of a refusal of a schedule
-abbrev pub of_schedule : ScheduleError → CompileError
-of_schedule (schedule.Faulty rule at) = NotScheduled rule at
-of_schedule schedule.NoMemory = NoMemory

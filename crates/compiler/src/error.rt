@@ -2,7 +2,8 @@
 
 ghost use Rattle.std.specs.Prelude.{◌≡◌};
 ghost use Rattle.compiler.specs.declared.error.CompileError.TheVariants.{NoMemory};
-ghost use Rattle.compiler.specs.Refusal.{number_of, offset_of, of_parser, of_schedule, of_types};
+ghost use Rattle.compiler.specs.Refusal.{number_of, offset_of};
+ghost use Rattle.compiler.specs.inside.Refusal.{of_parser, of_schedule, of_types};
 
 use expression_types::Fault;
 use parser::ParseError;

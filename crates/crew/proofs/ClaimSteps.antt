@@ -6,7 +6,7 @@ use lib.ListN.{get_elem?}
 use Rattle.atomic_table.specs.Table.{State, keeps, Allows, Splits, Joins}
 use Rattle.atomic_table.proofs.Lists.{at_set, at_snoc}
 use Rattle.crew.specs.declared.claim_word.ClaimView.{ClaimView}
-use Rattle.crew.specs.ClaimWord.{claim_view, times, once_below, total, AreClaimed, IsClaimWord, Claims}
+use Rattle.crew.specs.inside.ClaimWord.{claim_view, times, once_below, total, AreClaimed, IsClaimWord, Claims}
 use Rattle.crew.specs.inside.Claims.{worker_rights}
 
 pub times-append : (x : ℕ) (xs ys : List ℕ) → times x (xs ++ ys) ≡ times x xs + times x ys

@@ -9,7 +9,7 @@ use Rattle.std.proofs.lemmas.Bool.Decides.{nat_tests}
 use mathlib.Core.Logic.{dite}
 use native.Mathlib.Decide.{dec_lt}
 use Rattle.crew.specs.declared.piece_results.Found.{Found}
-use Rattle.crew.specs.ClaimWord.{times}
+use Rattle.crew.specs.inside.ClaimWord.{times}
 use Rattle.crew.specs.inside.Claims.{pieces_at}
 use Rattle.crew.specs.inside.Finding.{IsAnswered, HasAdded}
 use Rattle.crew.specs.Pieces.{IsFoundAt, AreFound, pieces_of}

@@ -5,7 +5,7 @@ use Rattle.std.proofs.lemmas.Bool.Decides.{nat_tests}
 use mathlib.Core.Logic.{dite}
 use native.Mathlib.Decide.{dec_lt}
 use Rattle.crew.specs.declared.claim_word.ClaimView.{ClaimView}
-use Rattle.crew.specs.ClaimWord.{claim_view, times, once_below, all_rights, Claims}
+use Rattle.crew.specs.inside.ClaimWord.{claim_view, times, once_below, all_rights, Claims}
 use Rattle.crew.specs.inside.Claims.{worker_rights, pieces_at}
 use Rattle.crew.proofs.Findings.{pieces_at-append, times-pieces_at}
 

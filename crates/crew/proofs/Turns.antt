@@ -6,7 +6,7 @@ use Rattle.std.proofs.Math.Nat.{add-mod_right}
 use mathlib.Core.Logic.{dite}
 use native.Mathlib.Decide.{dec_lt}
 use Rattle.atomic_table.proofs.Lists.{one_turn}
-use Rattle.crew.specs.ClaimWord.{times}
+use Rattle.crew.specs.inside.ClaimWord.{times}
 use Rattle.crew.specs.inside.Workers.{EachAt}
 use Rattle.crew.proofs.ClaimSteps.{times-append}
 

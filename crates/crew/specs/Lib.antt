@@ -1,4 +1,3 @@
-pub mod ClaimWord
 pub mod Outcome
 pub mod Pieces
 pub mod Refusal

@@ -1,3 +1,4 @@
+pub mod ClaimWord
 -- What the code is made of: no public contract cites these definitions.
 pub mod Claims
 pub mod Cuts

@@ -4,7 +4,7 @@
 //! a view, which says what its worker knows of the word. `specs/ClaimWord.antt` has the rule.
 
 ghost use Rattle.std.specs.Prelude.{◌≡◌, ◌+◌, ◌-◌, ◌<◌, ◌≤◌, [], ◌++◌, length, IfOk};
-ghost use Rattle.crew.specs.ClaimWord.{claim_view, all_rights, IsClaimWord, Claims};
+ghost use Rattle.crew.specs.inside.ClaimWord.{claim_view, all_rights, IsClaimWord, Claims};
 ghost use Rattle.crew.specs.inside.Claims.{IsClaimAt, view_of, worker_rights};
 
 use atomic_table::{Join, Play, Seat, Shared, Split, Table, TableRule};
@@ -24,7 +24,7 @@ pub struct ClaimRule;
 
 impl TableRule<(), ClaimView, ()> for ClaimRule {
     ghost use Rattle.std.specs.Prelude.{[]};
-    ghost use Rattle.crew.specs.ClaimWord.{claim_view, all_rights, IsClaimWord};
+    ghost use Rattle.crew.specs.inside.ClaimWord.{claim_view, all_rights, IsClaimWord};
 
     ghost holds = { λ _ s. IsClaimWord s.words s.views };
 

@@ -2,7 +2,7 @@
 
 ghost use Rattle.std.specs.Prelude.{◌≡◌, ◌+◌, ◌-◌, ◌*◌, ◌^◌, ◌<◌, ◌≤◌, [], length, max, IfOk};
 ghost use Rattle.std.specs.List.{All};
-ghost use Rattle.crew.specs.ClaimWord.{claim_view, all_rights};
+ghost use Rattle.crew.specs.inside.ClaimWord.{claim_view, all_rights};
 ghost use Rattle.crew.specs.inside.Claims.{IsClaimAt, view_of, worker_rights};
 ghost use Rattle.crew.specs.inside.Finding.{AreAll, IsAnswered};
 ghost use Rattle.crew.specs.inside.Workers.{IsHired, HasClaimed};

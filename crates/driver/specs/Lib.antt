@@ -4,3 +4,4 @@ pub mod Reading
 pub mod Racing
 pub mod Serving
 pub mod Running
+pub mod inside

@@ -4,14 +4,13 @@ use Rattle.std.specs.Borrow.{Bor}
 use Rattle.std.specs.declared.io.Error.{Error}
 use Rattle.algorithm_meaning.specs.ProgramTree.{ProgramTree}
 use Rattle.scripts.specs.Script.{Input, Written}
-use Rattle.races.specs.RaceScript.{Order, ReadsScript, order_by, order_of}
+use Rattle.races.specs.RaceScript.{Order, ReadsScript, order_of}
 use Rattle.races.specs.Race.{IsRace, MayRun, has_faulted}
 use Rattle.races.specs.Refused.{MayOpen, RefusesRace}
 use Rattle.races.specs.RaceText.{TakesBeginning, race_text}
 use Rattle.races.specs.declared.error.RaceError.{RaceError}
 use Rattle.races.specs.declared.error.RaceScriptError.{RaceScriptError}
 use Rattle.races.specs.declared.outcomes.Race.{Race}
-use Rattle.races.specs.declared.reading.RaceScript.{RaceScript}
 use Rattle.driver.specs.declared.compiled_plan.CompiledPlan.{CompiledPlan}
 use Rattle.driver.specs.declared.error.ServeError.{ServeError}
 use Rattle.driver.specs.declared.error.ServeError.TheVariants.{NoMemory, WriteFailed}
@@ -34,11 +33,6 @@ pub record RefusesScript (holds : List ℕ → Type 0) (file : List ℕ) (e : Se
   pub name : Bor (List ℕ)
   pub named : name.now ≡ file
   pub outcome : e ≡ of_race_script name error
-
--- what is made of the file with the script
-abbrev pub ReadsFile : (List ℕ → Type 0) → (Error → Type 0) → List ℕ → Result RaceScript ServeError → Type 0
-ReadsFile holds fails file (Ok script) = HoldsScript holds (order_by script)
-ReadsFile holds fails file (Err e) = FailsRead fails file e ⊎ RefusesScript holds file e
 
 -- the files may hold these programs and this script, whose graph may be opened, and this is a race of them, by workers that may run
 pub record IsRaceOf (holds : List ℕ → List ℕ → Type 0) (script : List ℕ) (names : List (List ℕ)) (workers turns : ℕ) (race : Race) : Type 0 where

@@ -1,17 +1,15 @@
 -- Files, and the texts and plans that are made of them.
-use Rattle.std.specs.Prelude.{◌≡◌, ◌≢◌, ℕ, List, [], ◌∷◌, ◌⊎◌, Result, Ok, Err, map}
+use Rattle.std.specs.Prelude.{◌≡◌, ◌≢◌, ℕ, List, ◌∷◌, ◌⊎◌, Result, Ok, Err}
 use Rattle.std.specs.Borrow.{Bor}
 use Rattle.std.specs.Global.{Vec}
 use Rattle.std.specs.declared.io.Error.{Error}
-use Rattle.compiler.specs.declared.error.CompileError.{CompileError}
-use Rattle.compiler.specs.declared.error.CompileError.TheVariants as compiler
-use Rattle.compiler.specs.Outcome.{Compiles, IsPlanOfText, IsProgram}
-use Rattle.plans.specs.declared.plan.Plan.{Plan}
 use Rattle.algorithm_meaning.specs.ProgramTree.{ProgramTree}
+use Rattle.plans.specs.declared.plan.Plan.{Plan}
+use Rattle.compiler.specs.declared.error.CompileError.{CompileError}
+use Rattle.compiler.specs.Outcome.{Compiles, IsPlanOfText, IsProgram}
+use Rattle.compiler.specs.declared.error.CompileError.TheVariants as compiler
 use Rattle.driver.specs.Endings.{of_file_read}
 use Rattle.driver.specs.declared.error.ServeError.{ServeError}
-use Rattle.driver.specs.declared.compiled_plan.CompiledPlan.{CompiledPlan}
-use Rattle.driver.specs.Programs.{tree_of}
 use Rattle.driver.specs.declared.error.ServeError.TheVariants.{NoMemory, ReadFailed, FileFailed, WriteFailed, Refused, RaceRefused, Closed}
 
 -- a read answered with bytes that the file may hold, or failed as it may fail
@@ -46,11 +44,6 @@ pub record FailsRead (fails : Error → Type 0) (name : List ℕ) (e : ServeErro
   pub named : file.now ≡ name
   pub outcome : e ≡ of_file_read file error
 
--- what is read of the file of this name
-abbrev pub ReadsWhole : (List ℕ → Type 0) → (Error → Type 0) → List ℕ → Result (Vec ℕ) ServeError → Type 0
-ReadsWhole holds fails name (Ok bytes) = holds bytes.items
-ReadsWhole holds fails name (Err e) = FailsRead fails name e
-
 -- The file of this name is no program: it cannot be read, or its text is refused. Nothing is said where memory runs out.
 abbrev pub IsNoProgram : (List ℕ → Type 0) → (Error → Type 0) → List ℕ → ServeError → Type 0
 IsNoProgram holds fails name NoMemory = Unit {0}
@@ -60,11 +53,6 @@ IsNoProgram holds fails name WriteFailed = ⊥
 IsNoProgram holds fails name (Refused file error) = (file.now ≡ name) × HoldsRefused holds error
 IsNoProgram holds fails name (RaceRefused file number) = ⊥
 IsNoProgram holds fails name Closed = ⊥
-
--- what is made of the file of this name
-abbrev pub CompilesFile : (List ℕ → Type 0) → (Error → Type 0) → List ℕ → Result Plan ServeError → Type 0
-CompilesFile holds fails name (Ok plan) = HoldsPlan holds plan
-CompilesFile holds fails name (Err e) = IsNoProgram holds fails name e
 
 -- the files of these names may hold these programs, one for one
 abbrev pub HoldPrograms : (List ℕ → List ℕ → Type 0) → List (List ℕ) → List ProgramTree → Type 0
@@ -84,8 +72,3 @@ pub record LacksScript (holds : List ℕ → List ℕ → Type 0) (fails : List 
   pub programs : List ProgramTree
   pub compiled : HoldPrograms holds names programs
   pub failed : FailsRead (fails script) script e
-
--- what is made of the files of these names
-abbrev pub CompilesFiles : (List ℕ → List ℕ → Type 0) → (List ℕ → Error → Type 0) → List (List ℕ) → Result (Vec CompiledPlan) ServeError → Type 0
-CompilesFiles holds fails names (Ok programs) = HoldPrograms holds names (map tree_of programs.items)
-CompilesFiles holds fails names (Err e) = LacksProgram holds fails names e

@@ -2,7 +2,8 @@
 
 ghost use Rattle.std.specs.Prelude.{List, ℕ};
 ghost use Rattle.std.specs.declared.io.Error.{Error};
-ghost use Rattle.driver.specs.Reading.{AnswersRead, ReadsWhole};
+ghost use Rattle.driver.specs.Reading.{AnswersRead};
+ghost use Rattle.driver.specs.inside.Reading.{ReadsWhole};
 
 use crate::error::{ServeError, of_file_read};
 use std::alloc::Global;

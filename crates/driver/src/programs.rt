@@ -1,7 +1,8 @@
 //! Programs that were compiled, as scripts run them.
 ghost use Rattle.std.specs.Prelude.{◌≡◌, map, IfOk};
 ghost use Rattle.crew.specs.Outcome.{AreWorkers};
-ghost use Rattle.driver.specs.Programs.{tree_of, ShowsMeaning};
+ghost use Rattle.driver.specs.Programs.{tree_of};
+ghost use Rattle.driver.specs.inside.Programs.{ShowsMeaning};
 
 use crate::compiled_plan::CompiledPlan;
 use crate::first_fault::FirstFault;

@@ -3,7 +3,8 @@
 ghost use Rattle.std.specs.Prelude.{◌≡◌, IfOk, map};
 ghost use Rattle.scripts.specs.Script.{bytes_written_by};
 ghost use Rattle.driver.specs.Endings.{of_race, of_race_script};
-ghost use Rattle.driver.specs.Racing.{RacesFiles, ReadsFile};
+ghost use Rattle.driver.specs.Racing.{RacesFiles};
+ghost use Rattle.driver.specs.inside.Racing.{ReadsFile};
 
 use crate::compiled_plan::CompiledPlan;
 use crate::error::ServeError;

@@ -2,9 +2,9 @@
 
 ghost use Rattle.std.specs.Prelude.{◌≡◌, map, IfOk};
 ghost use Rattle.crew.specs.Outcome.{AreWorkers};
-ghost use Rattle.driver.specs.Programs.{ShowsMeaning};
+ghost use Rattle.driver.specs.inside.Programs.{ShowsMeaning};
 ghost use Rattle.scripts.specs.Script.{input as input_of, bytes_written_by, RunsScript};
-ghost use Rattle.driver.specs.Reading.{CompilesFile, CompilesFiles};
+ghost use Rattle.driver.specs.inside.Reading.{CompilesFile, CompilesFiles};
 ghost use Rattle.driver.specs.Serving.{end_of, ChecksFile, PrintsPlan, RunsFiles, RunsInput, RunsStream, Serves};
 
 use crate::compiled_plan::CompiledPlan;

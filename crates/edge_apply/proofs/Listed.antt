@@ -14,7 +14,7 @@ use Rattle.flat_snapshot.specs.Maps.{lookup, Rises as Climbs}
 use Rattle.edge_fold.specs.Between.{firsts}
 use Rattle.vertex_sets.specs.VertexSet.{IsAscendingBelow}
 use Rattle.vertex_sets.proofs.Ascending.{Rises, rises, rises_from_lower, rises_range, range_has, same_list, below}
-use Rattle.edge_apply.specs.Lists.{AscendsFrom}
+use Rattle.edge_apply.specs.inside.Lists.{AscendsFrom}
 use Rattle.edge_apply.proofs.Inserted.{contained, counted}
 
 pub ascends : (low : ℕ) (us : List ℕ) → Rises low us → AscendsFrom low us

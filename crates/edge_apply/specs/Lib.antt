@@ -3,7 +3,6 @@ pub mod Words
 pub mod Contexts
 pub mod Applied
 pub mod Pieces
-pub mod Merged
 pub mod GatheredNumbers
 pub mod ChangedSets
 pub mod inside

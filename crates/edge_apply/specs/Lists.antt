@@ -1,12 +1,7 @@
 -- Lists of vertices, and the sets of the ends of an apply.
-use Rattle.std.specs.Prelude.{◌≡◌, ℕ, ◌+◌, ◌≤◌, Option, Some, None, List, [], ◌∷◌}
+use Rattle.std.specs.Prelude.{◌≡◌, ℕ, Option, Some, None}
 use Rattle.kernels.specs.declared.endpoint_filter.EndpointFilter.{EndpointFilter}
 use Rattle.kernels.specs.declared.endpoint_filter.EndpointFilter.TheVariants as end
-
--- each is above the one before it, and the first is not below this
-abbrev pub AscendsFrom : ℕ → List ℕ → Type 0
-AscendsFrom low [] = Unit {0}
-AscendsFrom low (u ∷ us) = (low ≤ u) × AscendsFrom (u + 1) us
 
 -- a set of an end is one of as many vertices
 abbrev pub IsEndOf : ℕ → Option EndpointFilter → Type 0

@@ -1,2 +1,4 @@
+pub mod Merged
+pub mod Lists
 -- What the code is made of: no public contract cites these definitions.
 pub mod Propositions

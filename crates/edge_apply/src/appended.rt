@@ -2,7 +2,7 @@
 ghost use Rattle.std.specs.Prelude.{◌≡◌, ℕ, ◌==◌, false, List, [], IfOk, OnOk};
 ghost use Rattle.std.specs.List.{flat_map};
 ghost use Rattle.edge_fold.specs.Changed.{AreApart, changes_of, changes_or, is_named};
-ghost use Rattle.edge_apply.specs.Merged.{changes_in_parts};
+ghost use Rattle.edge_apply.specs.inside.Merged.{changes_in_parts};
 
 use crate::modified::changes_in;
 use crew::Found;

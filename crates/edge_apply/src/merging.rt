@@ -10,7 +10,7 @@ ghost use Rattle.edge_fold.specs.Changed.{AreApart};
 ghost use Rattle.edge_fold.specs.Folded.{AreKernels};
 ghost use Rattle.edge_apply.specs.Applied.{AreChangesOn};
 ghost use Rattle.edge_apply.specs.GatheredNumbers.{numbers_for, numbers_found};
-ghost use Rattle.edge_apply.specs.Merged.{IsMerged};
+ghost use Rattle.edge_apply.specs.inside.Merged.{IsMerged};
 ghost use Rattle.edge_apply.specs.Pieces.{EachAscending, EachGathered};
 
 use crate::appended::append_changes;

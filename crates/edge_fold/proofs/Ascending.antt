@@ -12,7 +12,8 @@ use Rattle.vectors.specs.declared.changes.EntryChange.{EntryChange}
 use Rattle.vertex_marks.specs.Marks.{is_marked}
 use Rattle.edge_fold.specs.declared.accumulator.Accumulator.{Accumulator}
 use Rattle.edge_fold.specs.declared.gathered.GatheredIn.{GatheredIn}
-use Rattle.edge_fold.specs.Gathered.{AreAscending, IsAscending, gathered_for, is_between, number_at, numbers_of}
+use Rattle.edge_fold.specs.Gathered.{AreAscending, IsAscending, gathered_for, is_between, numbers_of}
+use Rattle.edge_fold.specs.inside.Gathered.{number_at}
 use Rattle.edge_fold.specs.Contributions.{reduced_at}
 use Rattle.edge_fold.proofs.Folds.{reduced_at-append}
 use Rattle.edge_fold.proofs.Gathering.{gathered_for-push, numbers_of-append}

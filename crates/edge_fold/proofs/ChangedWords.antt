@@ -9,7 +9,8 @@ use Rattle.vectors.specs.declared.changes.EntryChange.{EntryChange}
 use Rattle.vertex_sets.specs.inside.Words.{bit_members}
 use Rattle.vertex_sets.proofs.BitMembers.{bits_lowest, bits_none}
 use Rattle.vertex_sets.proofs.WordMembers.{next_bit}
-use Rattle.edge_fold.specs.Changed.{change_at, changed_from, entries_at}
+use Rattle.edge_fold.specs.Changed.{change_at, changed_from}
+use Rattle.edge_fold.specs.inside.Changed.{entries_at}
 use Rattle.edge_fold.proofs.ChangedRows.{changed_from-append, one_change}
 
 first_changed : (old new : ℕ → ℤ) (a : ℕ) (us : List ℕ) (cs : List EntryChange) (b e : Bool) → b ≡ not e → int_equal (old a) (new a) ≡ e → entries_at new us ≡ cs

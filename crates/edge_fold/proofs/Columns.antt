@@ -10,8 +10,10 @@ use Rattle.algorithm_meaning.specs.Arithmetic.{reduced}
 use Rattle.algorithm_meaning.proofs.Reductions.{reductions}
 use Rattle.edge_fold.specs.declared.apply_context.SourceContribution.{SourceContribution}
 use Rattle.edge_fold.specs.Between.{firsts}
-use Rattle.edge_fold.specs.Contributions.{column, each_given, entries_of, for_vector, given_on, pairs, reduced_at}
-use Rattle.edge_fold.specs.ReducedContributions.{IsReducedTo, IsReducedContribution, numbers_given, reduced_with}
+use Rattle.edge_fold.specs.Contributions.{column, entries_of, for_vector, given_on, pairs, reduced_at}
+use Rattle.edge_fold.specs.inside.Contributions.{each_given}
+use Rattle.edge_fold.specs.inside.ReducedContributions.{IsReducedTo, IsReducedContribution, numbers_given}
+use Rattle.edge_fold.specs.ReducedContributions.{reduced_with}
 use Rattle.edge_fold.proofs.Edges.{pairs-append, unit_pairs-append}
 
 -- two numbers may be reduced to one before a third is reduced with them

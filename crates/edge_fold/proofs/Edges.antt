@@ -11,7 +11,8 @@ use Rattle.kernels.specs.declared.kernel.EdgeKernel.{EdgeKernel}
 use Rattle.kernels.specs.Kernels.{IsEdgeKernel}
 use Rattle.edge_fold.specs.Between.{firsts}
 use Rattle.edge_fold.specs.Folded.{AreKernels}
-use Rattle.edge_fold.specs.Contributions.{each_given, entries_of, for_vector, given_from, given_on, pairs, reduced_at, row}
+use Rattle.edge_fold.specs.inside.Contributions.{each_given, given_from}
+use Rattle.edge_fold.specs.Contributions.{entries_of, for_vector, given_on, pairs, reduced_at, row}
 use Rattle.edge_fold.proofs.Folds.{for_vector-append, given_on-append, reduced_at-append, reduced_at-swap}
 
 -- what a block's pairs are given, by the pairs

@@ -5,8 +5,10 @@ use Rattle.edge_lists.specs.Edge.{Edge}
 use Rattle.apply_options.specs.declared.reduction.Reduction.{Reduction}
 use Rattle.algorithm_meaning.specs.Arithmetic.{reduced}
 use Rattle.edge_fold.specs.declared.apply_context.SourceContribution.{SourceContribution}
-use Rattle.edge_fold.specs.EntryNumbers.{IsEntryContribution, IsReducedOver, each_weighed, entry_numbers_given, reduced_over}
-use Rattle.edge_fold.specs.Contributions.{column, each_given, entries_of, for_vector, given_on, reduced_at, row}
+use Rattle.edge_fold.specs.inside.EntryNumbers.{IsEntryContribution, IsReducedOver, each_weighed, entry_numbers_given}
+use Rattle.edge_fold.specs.EntryNumbers.{reduced_over}
+use Rattle.edge_fold.specs.Contributions.{column, entries_of, for_vector, given_on, reduced_at, row}
+use Rattle.edge_fold.specs.inside.Contributions.{each_given}
 use Rattle.edge_fold.proofs.Columns.{equal, grouped, joined_at, nothing_either, one_for}
 
 pub one_entry_more : (r : Reduction) (f : ℕ → ℤ → ℤ) (n : ℤ) (k : ℕ) (es : List (ℕ × ℤ)) → k < length es

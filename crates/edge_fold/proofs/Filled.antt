@@ -5,7 +5,8 @@ use Rattle.std.proofs.lemmas.List.{append-nil, drop_all, drop_more}
 use Rattle.apply_options.specs.declared.reduction.Reduction.{Reduction}
 use Rattle.algorithm_meaning.specs.Arithmetic.{reduced}
 use Rattle.edge_fold.specs.declared.apply_context.FoldStart.{FoldStart}
-use Rattle.edge_fold.specs.Contributions.{each_given, reduced_at}
+use Rattle.edge_fold.specs.inside.Contributions.{each_given}
+use Rattle.edge_fold.specs.Contributions.{reduced_at}
 use Rattle.edge_fold.specs.FoldStarts.{combined}
 use Rattle.edge_fold.proofs.Entries.{joined_again}
 use Rattle.edge_fold.proofs.JoinedSlots.{combined_more}

@@ -12,8 +12,8 @@ use Rattle.vectors.specs.declared.changes.EntryChange.{EntryChange}
 use Rattle.vectors.specs.declared.changes.VectorChanges.{VectorChanges}
 use Rattle.edge_fold.specs.declared.vector_accumulator.VectorAccumulator.{VectorAccumulator}
 use Rattle.edge_fold.specs.Changed.{AreApart, change_at, changed, changed_from, changes_or, is_named}
-use Rattle.edge_fold.specs.Held.{held}
-use Rattle.edge_fold.specs.VectorAccumulators.{held_in}
+use Rattle.edge_fold.specs.inside.Held.{held}
+use Rattle.edge_fold.specs.inside.VectorAccumulators.{held_in}
 use Rattle.edge_fold.proofs.ChangedRows.{nothing_changed}
 
 same : (m n : ℕ) → (m == n) ≡ true → m ≡ n

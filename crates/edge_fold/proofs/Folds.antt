@@ -5,7 +5,8 @@ use Rattle.edge_lists.specs.Edge.{Edge}
 use Rattle.apply_options.specs.declared.reduction.Reduction.{Reduction}
 use Rattle.algorithm_meaning.specs.Arithmetic.{reduced}
 use Rattle.algorithm_meaning.proofs.Reductions.{reductions}
-use Rattle.edge_fold.specs.Contributions.{for_vector, given_from, given_on, reduced_at}
+use Rattle.edge_fold.specs.Contributions.{for_vector, given_on, reduced_at}
+use Rattle.edge_fold.specs.inside.Contributions.{given_from}
 
 -- a number reduced with one that is given to a vertex
 abbrev joined : Reduction → ℕ → ℤ → ℕ × ℤ → ℤ

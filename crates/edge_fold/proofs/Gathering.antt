@@ -11,11 +11,13 @@ use Rattle.edge_fold.specs.declared.accumulator.Accumulator.{Accumulator}
 use Rattle.edge_fold.specs.declared.apply_context.FoldStart.TheVariants as start
 use Rattle.edge_fold.specs.declared.gathered.GatheredIn.{GatheredIn}
 use Rattle.edge_fold.specs.declared.vector_accumulator.VectorAccumulator.{VectorAccumulator}
-use Rattle.edge_fold.specs.Gathered.{IsGatheredBy, gathered_for, number_at, numbers_of}
+use Rattle.edge_fold.specs.Gathered.{IsGatheredBy, gathered_for, numbers_of}
+use Rattle.edge_fold.specs.inside.Gathered.{number_at}
 use Rattle.edge_fold.specs.Contributions.{reduced_at}
 use Rattle.edge_fold.specs.Held.{held_with}
 use Rattle.edge_fold.specs.FoldStarts.{combined}
-use Rattle.edge_fold.specs.VectorAccumulators.{held_in_with, of_slot, index_in, reduction_in}
+use Rattle.edge_fold.specs.VectorAccumulators.{held_in_with, of_slot, reduction_in}
+use Rattle.edge_fold.specs.inside.VectorAccumulators.{index_in}
 use Rattle.edge_fold.proofs.Folds.{reduced_at-append}
 use Rattle.edge_fold.proofs.SlotRows.{of_slot-none, of_slot-push, of_slot-there, same_test}
 

@@ -19,7 +19,8 @@ use Rattle.edge_fold.specs.Folded.{HasFoldedFor, waiting}
 use Rattle.edge_fold.specs.Contributions.{all_given, given_on, pairs, reduced_at}
 use Rattle.edge_fold.specs.Held.{held_with}
 use Rattle.edge_fold.specs.FoldStarts.{combined, first_entry, seed}
-use Rattle.edge_fold.specs.VectorAccumulators.{HaveJoined, active, held_in, held_in_with, index_in, reduction_in}
+use Rattle.edge_fold.specs.inside.VectorAccumulators.{HaveJoined, held_in, index_in}
+use Rattle.edge_fold.specs.VectorAccumulators.{active, held_in_with, reduction_in}
 use Rattle.edge_fold.proofs.Edges.{fold_before, fold_more}
 use Rattle.edge_fold.proofs.Folds.{reduced_at-append}
 use Rattle.edge_fold.proofs.SlotRows.{first_vector, of_slot-change}

@@ -21,12 +21,13 @@ use Rattle.edge_fold.specs.declared.scratch.Scratch.{Scratch}
 use Rattle.edge_fold.specs.declared.statements.ContributionPair.{ContributionPair}
 use Rattle.edge_fold.specs.declared.vector_accumulator.VectorAccumulators.{VectorAccumulators}
 use Rattle.edge_fold.specs.Between.{firsts}
-use Rattle.edge_fold.specs.Contributions.{IsBy, all_given, column, each_given, entries_of, given_on, reduced_at, row}
-use Rattle.edge_fold.specs.EntryNumbers.{IsEntryContribution, each_weighed, entry_numbers_given}
+use Rattle.edge_fold.specs.Contributions.{IsBy, all_given, column, entries_of, given_on, reduced_at, row}
+use Rattle.edge_fold.specs.inside.Contributions.{each_given}
+use Rattle.edge_fold.specs.inside.EntryNumbers.{IsEntryContribution, each_weighed, entry_numbers_given}
 use Rattle.edge_fold.specs.Folded.{HasFolded, IsContextOf, waiting}
-use Rattle.edge_fold.specs.ReducedContributions.{IsReducedContribution, numbers_given}
-use Rattle.edge_fold.specs.Statements.{ArePairContributions, IsEntryOf}
-use Rattle.edge_fold.specs.VectorAccumulators.{HaveJoined}
+use Rattle.edge_fold.specs.inside.ReducedContributions.{IsReducedContribution, numbers_given}
+use Rattle.edge_fold.specs.inside.Statements.{ArePairContributions, IsEntryOf}
+use Rattle.edge_fold.specs.inside.VectorAccumulators.{HaveJoined}
 use Rattle.edge_fold.proofs.Edges.{on_in_rounds, on_same, one_function, sent_row}
 use Rattle.edge_fold.proofs.EntryRows.{weighed_row, weighed_together}
 use Rattle.edge_fold.proofs.Folds.{reduced_at-append}

@@ -6,7 +6,8 @@ use Rattle.std.proofs.Math.Seq.{take-set-lt}
 use Rattle.apply_options.specs.declared.reduction.Reduction.{Reduction}
 use Rattle.edge_fold.specs.declared.vector_accumulator.VectorAccumulator.{VectorAccumulator}
 use Rattle.edge_fold.specs.Held.{held_with}
-use Rattle.edge_fold.specs.VectorAccumulators.{held_in_with, of_slot, index_in, reduction_in}
+use Rattle.edge_fold.specs.VectorAccumulators.{held_in_with, of_slot, reduction_in}
+use Rattle.edge_fold.specs.inside.VectorAccumulators.{index_in}
 
 same : (m n : ℕ) → (m == n) ≡ true → m ≡ n
 same m n h = grind (arith, nat_tests)

@@ -1,5 +1,5 @@
 -- Changes of an apply: the vertices whose entries differ after it, with their new entries.
-use Rattle.std.specs.Prelude.{◌≡◌, ℕ, ◌+◌, zero, suc, ℤ, ◌==◌, Bool, false, if◌then◌else◌, List, [], ◌∷◌, ◌++◌}
+use Rattle.std.specs.Prelude.{◌≡◌, ℕ, ◌+◌, zero, suc, ℤ, ◌==◌, Bool, false, if◌then◌else◌, List, ◌∷◌, ◌++◌}
 use Rattle.std.specs.List.{list_any}
 use Rattle.algorithm_meaning.specs.Arithmetic.{int_equal}
 use Rattle.vectors.specs.declared.changes.EntryChange.{EntryChange}
@@ -17,11 +17,6 @@ changed_from old new v (suc n) = change_at old new v ++ changed_from old new (v 
 -- those of a graph of n vertices
 abbrev pub changed : (n : ℕ) → (old new : ℕ → ℤ) → List EntryChange
 changed n old new = changed_from old new 0 n
-
--- the new entries at these vertices
-abbrev pub entries_at : (new : ℕ → ℤ) → List ℕ → List EntryChange
-entries_at new [] = []
-entries_at new (v ∷ vs) = record { vertex = v; number = new v } ∷ entries_at new vs
 
 -- the changes of a vector, or these if it has none
 abbrev pub changes_or : (vector : ℕ) → List VectorChanges → List EntryChange → List EntryChange

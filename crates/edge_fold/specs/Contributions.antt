@@ -1,7 +1,7 @@
 -- Contributions of edges to vertices, and entries reduced with them.
-use Rattle.std.specs.Prelude.{◌≡◌, ℕ, ◌+◌, ℤ, ◌==◌, if◌then◌else◌, List, [], ◌∷◌, ◌++◌, map}
-use Rattle.edge_lists.specs.Edge.{Edge, unit_weight}
+use Rattle.std.specs.Prelude.{◌≡◌, ℕ, ℤ, ◌==◌, if◌then◌else◌, List, ◌∷◌, ◌++◌, map}
 use Rattle.apply_options.specs.declared.reduction.Reduction.{Reduction}
+use Rattle.edge_lists.specs.Edge.{Edge, unit_weight}
 use Rattle.typed_tree.specs.FunctionStatementTree.{FunctionStatementsTree}
 use Rattle.algorithm_meaning.specs.Arithmetic.{reduced}
 use Rattle.algorithm_meaning.specs.State.{StateValue}
@@ -17,20 +17,10 @@ abbrev pub for_vector : (vector : ℕ) → (vertex : ℕ) → List (ℕ × Reduc
 for_vector x d [] = []
 for_vector x d (g ∷ gs) = if g.0 == x then (d, g.2) ∷ for_vector x d gs else for_vector x d gs
 
--- what is given for a vector to these destinations of pairs, from pair i on
-abbrev pub given_from : (vector : ℕ) → (ℕ → List (ℕ × Reduction × ℤ)) → (i : ℕ) → (destinations : List ℕ) → List (ℕ × ℤ)
-given_from x gives i [] = []
-given_from x gives i (d ∷ ds) = for_vector x d (gives i) ++ given_from x gives (i + 1) ds
-
 -- what is given for a vector on these edges
 abbrev pub given_on : (vector : ℕ) → (Edge → List (ℕ × Reduction × ℤ)) → List Edge → List (ℕ × ℤ)
 given_on x gives [] = []
 given_on x gives (edge ∷ edges) = for_vector x edge.1 (gives edge) ++ given_on x gives edges
-
--- one number for each destination
-abbrev pub each_given : ℤ → List ℕ → List (ℕ × ℤ)
-each_given n [] = []
-each_given n (d ∷ ds) = (d, n) ∷ each_given n ds
 
 -- the edges from a source to neighbours; an entry is a neighbour and a weight
 abbrev pub row : ℕ → List (ℕ × ℤ) → List Edge

@@ -1,15 +1,14 @@
 -- Folds of a scratch: the edges that it has folded, and the entries that it has of them.
-use Rattle.std.specs.Prelude.{◌≡◌, ◌||◌, ℕ, ◌<◌, ℤ, Bool, false, if◌then◌else◌, Option, Some, None, List, [], ◌∷◌, take}
+use Rattle.std.specs.Prelude.{◌≡◌, ◌||◌, ℕ, ◌<◌, ℤ, Bool, false, if◌then◌else◌, Option, Some, None, List, ◌∷◌, take}
 use Rattle.std.specs.Borrow.{Bor}
-use Rattle.edge_lists.specs.Edge.{Edge}
 use Rattle.apply_options.specs.declared.reduction.Reduction.{Reduction}
+use Rattle.edge_lists.specs.Edge.{Edge}
 use Rattle.typed_tree.specs.FunctionStatementTree.{FunctionStatementsTree}
 use Rattle.algorithm_meaning.specs.State.{StateValue}
 use Rattle.kernels.specs.declared.kernel.EdgeKernel.{EdgeKernel}
 use Rattle.kernels.specs.Registers.{HasSizes}
 use Rattle.kernels.specs.Kernels.{IsEdgeKernel, IsWeightless}
 use Rattle.edge_fold.specs.declared.apply_context.ApplyContext.{ApplyContext}
-use Rattle.edge_fold.specs.declared.pairs.PairColumns.{PairColumns}
 use Rattle.edge_fold.specs.declared.pairs.Pairs.{Pairs}
 use Rattle.edge_fold.specs.declared.scratch.Scratch.{Scratch}
 use Rattle.edge_fold.specs.Contributions.{IsReducedBy, all_given, given_on, pairs, reduced_at}
@@ -43,10 +42,6 @@ pub record IsContextOf (f : ApplyContext) (m : StateValue) (steps : List Functio
 -- the edges that wait; if no weight counts each has weight 1, whatever is in the column of weights
 abbrev pub waiting : (weighted : Bool) → Pairs → List Edge
 waiting weighted p = pairs (take p.count p.sources) (take p.count p.destinations) (if weighted then take p.count p.weights else [])
-
--- the edges of columns of pairs
-abbrev pub edges_in : PairColumns → List Edge
-edges_in c = pairs c.sources.now c.destinations.now c.weights.now
 
 -- for a vector to which the functions give by one reduction: the new entries of the graph's vertices, reduced with what the
 -- pairs that wait give, are the first ones reduced with what these edges give

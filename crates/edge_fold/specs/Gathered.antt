@@ -1,13 +1,11 @@
 -- Gathered numbers: what a piece of an apply gives vertices, before it meets the old entries.
-use Rattle.std.specs.Prelude.{◌≡◌, ℕ, ◌<◌, ℤ, pos, ◌==◌, ◌&&◌, nat_le, nat_lt, Bool, if◌then◌else◌, List, [], ◌∷◌, ◌++◌, slice_index_or}
+use Rattle.std.specs.Prelude.{◌≡◌, ℕ, ◌<◌, ℤ, ◌==◌, ◌&&◌, nat_le, nat_lt, Bool, if◌then◌else◌, List, ◌∷◌, ◌++◌}
 use Rattle.std.specs.List.Sorted.{IsNonDecreasingBy}
-use Rattle.edge_lists.specs.Edge.{Edge}
 use Rattle.apply_options.specs.declared.reduction.Reduction.{Reduction}
+use Rattle.edge_lists.specs.Edge.{Edge}
 use Rattle.typed_tree.specs.FunctionStatementTree.{FunctionStatementsTree}
 use Rattle.algorithm_meaning.specs.State.{StateValue}
 use Rattle.vectors.specs.declared.changes.EntryChange.{EntryChange}
-use Rattle.vertex_marks.specs.Marks.{is_marked}
-use Rattle.edge_fold.specs.declared.accumulator.Accumulator.{Accumulator}
 use Rattle.edge_fold.specs.declared.gathered.Gathered.{Gathered}
 use Rattle.edge_fold.specs.declared.gathered.GatheredIn.{GatheredIn}
 use Rattle.edge_fold.specs.Contributions.{IsReducedBy, all_given, given_on, reduced_at}
@@ -16,10 +14,6 @@ use Rattle.edge_fold.specs.Contributions.{IsReducedBy, all_given, given_on, redu
 abbrev pub numbers_of : List EntryChange → List (ℕ × ℤ)
 numbers_of [] = []
 numbers_of (c ∷ cs) = (c.vertex, c.number) ∷ numbers_of cs
-
--- what an accumulator has at a vertex
-abbrev pub number_at : Accumulator → ℕ → List EntryChange
-number_at a v = if is_marked a.marks v then record { vertex = v; number = slice_index_or a.values.items v (pos 0) } ∷ [] else []
 
 -- what is gathered for a vector
 abbrev pub gathered_for : (vector : ℕ) → List GatheredIn → List (ℕ × ℤ)

@@ -1,29 +1,8 @@
 -- Accumulators: the entries that one has for marked vertices, and how a number changes them.
-use Rattle.std.specs.Prelude.{◌≡◌, ℕ, ℤ, pos, true, Contains, if◌then◌else◌, List, slice_index_or}
-use Rattle.apply_options.specs.declared.reduction.Reduction.{Reduction}
-use Rattle.vertex_marks.specs.Marks.{is_marked, room as marks_room}
+use Rattle.std.specs.Prelude.{ℕ, ℤ, pos, if◌then◌else◌, slice_index_or}
+use Rattle.vertex_marks.specs.Marks.{is_marked}
 use Rattle.edge_fold.specs.declared.accumulator.Accumulator.{Accumulator}
-use Rattle.edge_fold.specs.declared.initial_entries.InitialEntries.{InitialEntries}
-use Rattle.edge_fold.specs.Contributions.{reduced_at}
-use Rattle.edge_fold.specs.FoldStarts.{combined, opening_seed, start_of}
 
 -- a number combined with the new entry at a vertex, or the number where nothing was given
 abbrev pub held_with : (ℤ → ℤ → ℤ) → Accumulator → ℕ → ℤ → ℤ
 held_with combine a v h = if is_marked a.marks v then combine h (slice_index_or a.values.items v (pos 0)) else h
-
--- the new entry at a vertex, or this one where nothing was given
-abbrev pub held : Accumulator → ℕ → ℤ → ℤ
-held a v old = held_with (λ h y. y) a v old
-
--- all these vertices were given something
-abbrev pub AreMarked : Accumulator → List ℕ → Type 0
-AreMarked a vs = (v : ℕ) → Contains vs v → is_marked a.marks v ≡ true
-
--- for how many vertices there is room
-abbrev pub room : Accumulator → ℕ
-room a = marks_room a.marks
-
--- after a join an accumulator has what was given to vertices, too
-abbrev pub AreJoined : InitialEntries → Reduction → (before after : Accumulator) → List (ℕ × ℤ) → Type 0
-AreJoined o r a b gs = (v : ℕ) (h : ℤ) → held_with (combined (start_of o) r) b v (opening_seed o v h)
-    ≡ reduced_at r v (held_with (combined (start_of o) r) a v (opening_seed o v h)) gs

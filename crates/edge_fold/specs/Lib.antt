@@ -9,4 +9,4 @@ pub mod Gathered
 pub mod Ends
 pub mod ReducedContributions
 pub mod EntryNumbers
-pub mod Statements
+pub mod inside

@@ -1,27 +1,9 @@
 -- Reduced contributions: what several sources give a destination, as one number.
-use Rattle.std.specs.Prelude.{◌≡◌, ℕ, ℤ, List, [], ◌∷◌}
-use Rattle.edge_lists.specs.Edge.{Edge}
+use Rattle.std.specs.Prelude.{ℕ, ℤ, List, ◌∷◌}
 use Rattle.apply_options.specs.declared.reduction.Reduction.{Reduction}
 use Rattle.algorithm_meaning.specs.Arithmetic.{reduced}
-use Rattle.edge_fold.specs.declared.apply_context.SourceContribution.{SourceContribution}
-use Rattle.edge_fold.specs.Contributions.{reduced_at}
 
 -- a number reduced with those of sources
 abbrev pub reduced_with : Reduction → (number : ℕ → ℤ) → ℤ → List ℕ → ℤ
 reduced_with r number n [] = n
 reduced_with r number n (s ∷ ss) = reduced_with r number (reduced r n (number s)) ss
-
--- a vertex is given the number of each source
-abbrev pub numbers_given : (number : ℕ → ℤ) → (v : ℕ) → List ℕ → List (ℕ × ℤ)
-numbers_given number v [] = []
-numbers_given number v (s ∷ ss) = (v, number s) ∷ numbers_given number v ss
-
--- to reduce with this number is to reduce with those of the sources
-abbrev pub IsReducedTo : Reduction → (number : ℕ → ℤ) → List ℕ → ℤ → Type 0
-IsReducedTo r number ss n = (d v : ℕ) (h : ℤ) → reduced_at r v h ((d, n) ∷ []) ≡ reduced_at r v h (numbers_given number d ss)
-
--- each edge gives the number of its source, and to reduce with what is sent is to reduce with those of these sources
-pub record IsReducedContribution (sent : SourceContribution) (gives : Edge → List (ℕ × Reduction × ℤ)) (ss : List ℕ) : Type 0 where
-  pub number : ℕ → ℤ
-  pub each : (s d : ℕ) (w : ℤ) → gives (s, d, w) ≡ (sent.vector, sent.reduction, number s) ∷ []
-  pub all : IsReducedTo sent.reduction number ss sent.number

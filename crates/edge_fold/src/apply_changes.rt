@@ -14,8 +14,9 @@ ghost use Rattle.edge_fold.specs.declared.apply_context.ApplyContext.{ApplyConte
 ghost use Rattle.edge_fold.specs.declared.apply_context.FoldStart.TheVariants.{OldEntry};
 ghost use Rattle.edge_fold.specs.Ends.{IsEndTest, IsTest};
 ghost use Rattle.edge_fold.specs.Folded.{IsContextOf, HasFolded};
-ghost use Rattle.edge_fold.specs.Held.{held};
-ghost use Rattle.edge_fold.specs.VectorAccumulators.{active, held_in};
+ghost use Rattle.edge_fold.specs.inside.Held.{held};
+ghost use Rattle.edge_fold.specs.VectorAccumulators.{active};
+ghost use Rattle.edge_fold.specs.inside.VectorAccumulators.{held_in};
 ghost use Rattle.algorithm_meaning.specs.EdgeApply.{after_edges};
 
 use crate::apply_context::ApplyContext;

@@ -4,7 +4,8 @@ ghost use Rattle.typed_tree.specs.FunctionStatementTree.{FunctionStatementsTree}
 ghost use Rattle.algorithm_meaning.specs.State.{StateValue};
 ghost use Rattle.kernels.specs.Registers.{HasSizes};
 ghost use Rattle.edge_fold.specs.Folded.{AreKernels, AreWeightless, are_weighted};
-ghost use Rattle.edge_fold.specs.FoldStarts.{first_entry, opening_seed, start_of};
+ghost use Rattle.edge_fold.specs.FoldStarts.{first_entry};
+ghost use Rattle.edge_fold.specs.inside.FoldStarts.{opening_seed, start_of};
 
 use crate::initial_entries::InitialEntries;
 use apply_options::Reduction;

@@ -2,7 +2,7 @@
 ghost use Rattle.std.specs.Prelude.{◌≡◌, ℕ, ℤ, ◌<◌, ◌≤◌, ◌++◌, Contains, IfOk, OnOk};
 ghost use Rattle.std.specs.List.Sorted.{IsNonDecreasing};
 ghost use Rattle.edge_fold.specs.Changed.{change_at, changed};
-ghost use Rattle.edge_fold.specs.Held.{AreMarked, held};
+ghost use Rattle.edge_fold.specs.inside.Held.{AreMarked, held};
 ghost use Rattle.vectors.specs.Lanes.{lane_entry};
 
 use crate::accumulator::Accumulator;

@@ -7,8 +7,8 @@ ghost use Rattle.algorithm_meaning.specs.State.{StateValue};
 ghost use Rattle.kernels.specs.ShapePairs.{shape_given};
 ghost use Rattle.edge_fold.specs.Folded.{IsContextOf};
 ghost use Rattle.edge_fold.specs.Contributions.{all_given, entries_of};
-ghost use Rattle.edge_fold.specs.EntryNumbers.{IsEntryContribution};
-ghost use Rattle.edge_fold.specs.Statements.{IsEntryOf};
+ghost use Rattle.edge_fold.specs.inside.EntryNumbers.{IsEntryContribution};
+ghost use Rattle.edge_fold.specs.inside.Statements.{IsEntryOf};
 
 use crate::apply_context::{ApplyContext, EntryContribution, SourceContribution};
 use crate::entry_numbers::{EntryWith, reduce_all_entries};

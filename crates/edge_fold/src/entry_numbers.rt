@@ -1,7 +1,8 @@
 //! Numbers that depend on the source of an edge and on its weight.
 ghost use Rattle.std.specs.Prelude.{◌≡◌, ◌<◌, ℕ, ℤ, pos, List, IfSome, length, get_or};
 ghost use Rattle.edge_fold.specs.Contributions.{entries_of};
-ghost use Rattle.edge_fold.specs.EntryNumbers.{IsReducedOver, entry_with, number_with, reduced_over};
+ghost use Rattle.edge_fold.specs.inside.EntryNumbers.{IsReducedOver, number_with};
+ghost use Rattle.edge_fold.specs.EntryNumbers.{entry_with, reduced_over};
 
 use crate::neighbour_entries::{NeighbourEntries, WeightedColumns};
 use algorithm_meaning::{arithmetic_of, reduce};

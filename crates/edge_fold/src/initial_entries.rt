@@ -1,7 +1,8 @@
 //! Initial entries: what the new entries of a vector begin with.
 ghost use Rattle.std.specs.Prelude.{◌≡◌, ℤ};
 ghost use Rattle.algorithm_meaning.specs.Arithmetic.{reduced};
-ghost use Rattle.edge_fold.specs.FoldStarts.{combined, opening_seed, start_of};
+ghost use Rattle.edge_fold.specs.FoldStarts.{combined};
+ghost use Rattle.edge_fold.specs.inside.FoldStarts.{opening_seed, start_of};
 
 use algorithm_meaning::reduce;
 use apply_options::Reduction;

@@ -2,12 +2,15 @@
 ghost use Rattle.std.specs.Prelude.{◌≡◌, ℕ, ℤ, pos, ◌^◌, ◌∷◌, [], ◌<◌, ◌≤◌, true, false, Contains, drop, length, slice_index_or, vec_len, IfOk, OnOk};
 ghost use Rattle.std.specs.List.Sorted.{IsNonDecreasing};
 ghost use Rattle.edge_fold.specs.Gathered.{numbers_of};
-ghost use Rattle.edge_fold.specs.EntryNumbers.{each_weighed, number_with};
+ghost use Rattle.edge_fold.specs.inside.EntryNumbers.{each_weighed, number_with};
 ghost use Rattle.edge_fold.specs.Between.{firsts};
-ghost use Rattle.edge_fold.specs.Contributions.{each_given, for_vector, given_from, reduced_at};
-ghost use Rattle.edge_fold.specs.FoldStarts.{combined, opening_seed, start_of};
+ghost use Rattle.edge_fold.specs.inside.Contributions.{each_given, given_from};
+ghost use Rattle.edge_fold.specs.Contributions.{for_vector, reduced_at};
+ghost use Rattle.edge_fold.specs.FoldStarts.{combined};
+ghost use Rattle.edge_fold.specs.inside.FoldStarts.{opening_seed, start_of};
 ghost use Rattle.edge_fold.specs.declared.initial_entries.InitialEntries.{InitialEntries};
-ghost use Rattle.edge_fold.specs.Held.{AreJoined, AreMarked, held, held_with, room};
+ghost use Rattle.edge_fold.specs.inside.Held.{AreJoined, AreMarked, held, room};
+ghost use Rattle.edge_fold.specs.Held.{held_with};
 ghost use Rattle.vertex_marks.specs.Marks.{is_marked};
 ghost use Rattle.kernels.specs.ContributionColumns.{contribution_at, truth_at};
 

@@ -5,8 +5,9 @@ ghost use Rattle.typed_tree.specs.FunctionStatementTree.{FunctionStatementsTree}
 ghost use Rattle.algorithm_meaning.specs.State.{StateValue};
 ghost use Rattle.vectors.specs.Lanes.{lane_entry};
 ghost use Rattle.edge_fold.specs.Folded.{IsContextOf, HasFolded};
-ghost use Rattle.edge_fold.specs.Held.{AreJoined, held_with};
-ghost use Rattle.edge_fold.specs.VectorAccumulators.{HaveJoined};
+ghost use Rattle.edge_fold.specs.inside.Held.{AreJoined};
+ghost use Rattle.edge_fold.specs.Held.{held_with};
+ghost use Rattle.edge_fold.specs.inside.VectorAccumulators.{HaveJoined};
 ghost use Rattle.edge_fold.specs.declared.initial_entries.InitialEntries.TheVariants as opening;
 
 use crate::accumulator::Accumulator;

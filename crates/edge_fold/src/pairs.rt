@@ -27,7 +27,8 @@ pub(crate) struct PairColumns<'a> {
 }
 
 impl Pairs {
-    ghost use Rattle.edge_fold.specs.Folded.{edges_in, waiting};
+    ghost use Rattle.edge_fold.specs.inside.Folded.{edges_in};
+    ghost use Rattle.edge_fold.specs.Folded.{waiting};
     ghost use Rattle.edge_fold.specs.Contributions.{column, entries_of, row};
 
     /// None.

@@ -5,7 +5,7 @@ ghost use Rattle.algorithm_meaning.specs.State.{StateValue};
 ghost use Rattle.kernels.specs.ShapePairs.{shape_given};
 ghost use Rattle.edge_fold.specs.Folded.{IsContextOf};
 ghost use Rattle.edge_fold.specs.Contributions.{all_given};
-ghost use Rattle.edge_fold.specs.ReducedContributions.{IsReducedContribution};
+ghost use Rattle.edge_fold.specs.inside.ReducedContributions.{IsReducedContribution};
 
 use crate::apply_context::{ApplyContext, SourceContribution};
 use crate::source_numbers::{OneNumber, OwnEntry, OwnEntryPlus, OwnNumber, reduce_numbers};

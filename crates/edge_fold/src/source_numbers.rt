@@ -2,7 +2,8 @@
 ghost use Rattle.std.specs.Prelude.{◌≡◌, ℕ, ℤ, pos, IfSome};
 ghost use Rattle.typed_tree.specs.declared.expression.Operator.TheVariants as operator;
 ghost use Rattle.algorithm_meaning.specs.Arithmetic.{arithmetic};
-ghost use Rattle.edge_fold.specs.ReducedContributions.{IsReducedTo, reduced_with};
+ghost use Rattle.edge_fold.specs.inside.ReducedContributions.{IsReducedTo};
+ghost use Rattle.edge_fold.specs.ReducedContributions.{reduced_with};
 ghost use Rattle.vectors.specs.Lanes.{lane_entry};
 
 use algorithm_meaning::{arithmetic_of, reduce};

@@ -6,8 +6,8 @@ ghost use Rattle.algorithm_meaning.specs.State.{StateValue};
 ghost use Rattle.kernels.specs.ShapePairs.{shape_given};
 ghost use Rattle.edge_fold.specs.Folded.{IsContextOf, HasFolded};
 ghost use Rattle.edge_fold.specs.Contributions.{all_given, column, entries_of};
-ghost use Rattle.edge_fold.specs.EntryNumbers.{IsEntryContribution};
-ghost use Rattle.edge_fold.specs.Statements.{ArePairContributions, IsPairOf};
+ghost use Rattle.edge_fold.specs.inside.EntryNumbers.{IsEntryContribution};
+ghost use Rattle.edge_fold.specs.inside.Statements.{ArePairContributions, IsPairOf};
 
 use crate::apply_context::{ApplyContext, SourceContribution};
 use crate::entry_contributions::entry_of;

@@ -3,11 +3,13 @@ ghost use Rattle.std.specs.Prelude.{◌≡◌, ℕ, ℤ, ◌==◌, if◌then◌e
 ghost use Rattle.edge_fold.specs.Gathered.{IsGatheredBy, gathered_for, numbers_of};
 ghost use Rattle.algorithm_meaning.specs.Arithmetic.{arithmetic};
 ghost use Rattle.algorithm_meaning.specs.Value.{entry};
-ghost use Rattle.edge_fold.specs.EntryNumbers.{each_weighed};
+ghost use Rattle.edge_fold.specs.inside.EntryNumbers.{each_weighed};
 ghost use Rattle.edge_fold.specs.Between.{firsts};
-ghost use Rattle.edge_fold.specs.Contributions.{IsBy, each_given, given_from};
+ghost use Rattle.edge_fold.specs.Contributions.{IsBy};
+ghost use Rattle.edge_fold.specs.inside.Contributions.{each_given, given_from};
 ghost use Rattle.edge_fold.specs.Held.{held_with};
-ghost use Rattle.edge_fold.specs.VectorAccumulators.{HaveJoined, active, held_in_with, index_in, reduction_in};
+ghost use Rattle.edge_fold.specs.inside.VectorAccumulators.{HaveJoined, index_in};
+ghost use Rattle.edge_fold.specs.VectorAccumulators.{active, held_in_with, reduction_in};
 ghost use Rattle.kernels.specs.declared.columns.TheConstants.{PAIRS};
 ghost use Rattle.kernels.specs.ContributionColumns.{contribution_at};
 ghost use Rattle.kernels.specs.Kernels.{HasRegisters, given_at};

@@ -4,7 +4,8 @@ ghost use Rattle.std.specs.Int.{bit_at};
 ghost use Rattle.algorithm_meaning.specs.Arithmetic.{int_equal};
 ghost use Rattle.vertex_sets.specs.inside.Words.{bit_members};
 ghost use Rattle.vectors.specs.Lanes.{lane_entry};
-ghost use Rattle.edge_fold.specs.Changed.{changed, changed_from, entries_at};
+ghost use Rattle.edge_fold.specs.Changed.{changed, changed_from};
+ghost use Rattle.edge_fold.specs.inside.Changed.{entries_at};
 
 use crate::changes::push_change;
 use algorithm_meaning::compare;

@@ -1,5 +1,5 @@
 -- Edges, and the edges between pairs of ends.
-use Rattle.std.specs.Prelude.{ℕ, ℤ, pos, List, map}
+use Rattle.std.specs.Prelude.{ℕ, ℤ, pos}
 
 -- an edge: its source, its destination and its weight
 abbrev pub Edge : Type 0
@@ -12,7 +12,3 @@ unit_weight = pos 1
 -- the edge between these ends that is given none
 abbrev pub unit_edge : ℕ × ℕ → Edge
 unit_edge ends = (ends.0, ends.1, unit_weight)
-
--- so it is between each two of these ends
-abbrev pub unit_edges : List (ℕ × ℕ) → List Edge
-unit_edges es = map unit_edge es

@@ -1,8 +1,10 @@
 -- Entries of vectors in operators in a row.
 use Rattle.std.proofs.Common.{◌≡◌, refl, sym, ◌∙◌, Bool, true, false, ◌||◌, ℕ, zero, suc, List, [], ◌∷◌}
 use Rattle.typed_tree.specs.declared.expression.Operand.{Operand}
-use Rattle.typed_tree.specs.IntExpressionTree.{IntExpressionTree, Arithmetic, int_expression_tree, negated, operands_tree}
-use Rattle.expression_types.specs.ValueTree.{reads_entry, operands_read_entry}
+use Rattle.typed_tree.specs.IntExpressionTree.{IntExpressionTree, Arithmetic, int_expression_tree, negated}
+use Rattle.typed_tree.specs.inside.IntExpressionTree.{operands_tree}
+use Rattle.expression_types.specs.ValueTree.{reads_entry}
+use Rattle.expression_types.specs.inside.ValueTree.{operands_read_entry}
 
 or_false : (a : Bool) → (a || false) ≡ a
 or_false true = refl

@@ -7,7 +7,8 @@ use Rattle.syntax.specs.declared.expression.Unary.{Unary}
 use Rattle.syntax.specs.declared.expression.Term.{Term}
 use Rattle.syntax.specs.declared.expression.Comparison.{Comparison}
 use Rattle.syntax.specs.declared.expression.Conjunction.{Conjunction}
-use Rattle.syntax.specs.ExpressionViews.{unary_of, term_of, comparison_of, conjunction_of, term_from, sum_from, conjunction_from, expression_from}
+use Rattle.syntax.specs.ExpressionViews.{unary_of, term_from, sum_from, conjunction_from, expression_from}
+use Rattle.syntax.specs.inside.ExpressionViews.{term_of, comparison_of, conjunction_of}
 use Rattle.syntax.specs.ExpressionTrees.{ConjunctionTree, ComparisonTree, TermTree, UnaryTree}
 use Rattle.typed_tree.specs.declared.expression.Connective.TheVariants as connective
 use Rattle.expression_types.specs.declared.fault.Fault.{Fault}

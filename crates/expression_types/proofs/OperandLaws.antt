@@ -8,8 +8,10 @@ use Rattle.typed_tree.specs.declared.expression.Connective.{Connective}
 use Rattle.typed_tree.specs.declared.expression.IntExpression.{IntExpression}
 use Rattle.typed_tree.specs.declared.expression.IntExpression.TheViews as integer_views
 use Rattle.typed_tree.specs.declared.expression.Operand.{Operand}
-use Rattle.typed_tree.specs.BoolExpressionTree.{BoolExpressionTree, Connect, bool_expression_tree, conditions_tree}
-use Rattle.typed_tree.specs.IntExpressionTree.{int_expression_tree, operands_tree}
+use Rattle.typed_tree.specs.BoolExpressionTree.{BoolExpressionTree, Connect, bool_expression_tree}
+use Rattle.typed_tree.specs.inside.BoolExpressionTree.{conditions_tree}
+use Rattle.typed_tree.specs.IntExpressionTree.{int_expression_tree}
+use Rattle.typed_tree.specs.inside.IntExpressionTree.{operands_tree}
 use Rattle.typed_tree.proofs.Chains.{int_expression_tree-Arithmetic, bool_expression_tree-Connect}
 use Rattle.expression_types.specs.declared.fault.Fault.{Fault}
 use Rattle.expression_types.specs.WithFaults.{outcome}

@@ -4,7 +4,6 @@ pub mod Faults
 pub mod Least
 pub mod Names
 pub mod WithFaults
-pub mod Operands
 pub mod Operators
 pub mod ScopeTree
 pub mod ValueTree

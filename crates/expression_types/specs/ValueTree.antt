@@ -1,15 +1,14 @@
 -- Values: typed expressions, without pointers.
-use Rattle.std.specs.Prelude.{ℕ, Bool, true, false, ◌||◌, List, [], ◌∷◌, Option, Some, None}
+use Rattle.std.specs.Prelude.{ℕ, Bool, true, false, ◌||◌, Option, Some, None}
 use Rattle.typed_tree.specs.declared.expression.Endpoint.{Endpoint}
-use Rattle.typed_tree.specs.declared.expression.Operand.{Operand}
 use Rattle.typed_tree.specs.declared.expression.VarRef.{VarRef}
-use Rattle.typed_tree.specs.IntExpressionTree as integer
 use Rattle.typed_tree.specs.IntExpressionTree.{IntExpressionTree, int_expression_tree}
-use Rattle.typed_tree.specs.BoolExpressionTree as condition
 use Rattle.typed_tree.specs.BoolExpressionTree.{BoolExpressionTree, bool_expression_tree}
+use Rattle.typed_tree.specs.IntExpressionTree as integer
+use Rattle.typed_tree.specs.BoolExpressionTree as condition
 use Rattle.expression_types.specs.declared.scope.Entity.{Entity}
-use Rattle.expression_types.specs.declared.scope.Entity.TheVariants as entity
 use Rattle.expression_types.specs.declared.value.Value.{Value}
+use Rattle.expression_types.specs.declared.scope.Entity.TheVariants as entity
 use Rattle.expression_types.specs.declared.value.Value.TheVariants as rust
 
 -- an expression of type int, bool, Vertex or vertexset{Vertex}, or one with a faulty part
@@ -142,11 +141,6 @@ reads_entry (integer.Entry vector index) = true
 reads_entry (integer.SetSize slot) = false
 reads_entry (integer.Negative e) = reads_entry e
 reads_entry (integer.Arithmetic operator left right) = reads_entry left || reads_entry right
-
--- in one of the operands
-abbrev pub operands_read_entry : List Operand → Bool
-operands_read_entry [] = false
-operands_read_entry (o ∷ others) = reads_entry (int_expression_tree o.integer) || operands_read_entry others
 
 -- whether a condition reads an entry of a vector
 abbrev pub condition_reads_entry : BoolExpressionTree → Bool

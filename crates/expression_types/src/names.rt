@@ -20,7 +20,7 @@ impl<T: Drop> Drop for Names<T> {
 
 impl<T> Model for Names<T> {
     ghost use Rattle.std.specs.Prelude.{ℕ, List};
-    ghost use Rattle.expression_types.specs.Names.{shown};
+    ghost use Rattle.expression_types.specs.inside.Names.{shown};
 
     ghost Value = { List (List ℕ × T) };
 

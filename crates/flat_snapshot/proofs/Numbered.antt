@@ -7,7 +7,7 @@ use Rattle.ascending_lists.proofs.MapOrder.{rises_append, rises_to, rises_room}
 use Rattle.pages.specs.Vertices.{neighbours_of}
 use Rattle.vertex_blocks.specs.Blocks.{Block, IsBlock, AreNeighbourLists, vertices_at, numbered}
 use Rattle.tree_batch.specs.VertexBlocks.{HaveFew}
-use Rattle.flat_snapshot.specs.Lists.{lists_in, AreBlocks}
+use Rattle.flat_snapshot.specs.inside.Lists.{lists_in, AreBlocks}
 
 -- the vertices of a block rise
 pub numbered_rises : (k low high : ℕ) (es : Block) → Rises low high es → Rises (64 * k + low) (64 * k + high) (numbered k es)

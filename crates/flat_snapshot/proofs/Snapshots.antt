@@ -5,12 +5,14 @@ use Rattle.std.proofs.lemmas.Bool.{cases_eq, ne_eqb, eq-eqb}
 use Rattle.ascending_lists.specs.Maps.{Rises, lookup}
 use Rattle.ascending_lists.proofs.MapOrder.{rises_append, rises_from, rises_to}
 use Rattle.pages.specs.Vertices.{neighbours_of}
-use Rattle.tree_batch.specs.Digraph.{Digraph, digraph, IsDigraph}
+use Rattle.tree_batch.specs.Digraph.{Digraph, IsDigraph}
+use Rattle.tree_batch.specs.inside.Digraph.{digraph}
 use Rattle.tree_batch.specs.Neighbours.{destinations_of, sources_of, edges_of}
 use Rattle.tree_batch.specs.VertexBlocks.{AreBlocksOf}
 use Rattle.vertex_blocks.specs.Blocks.{Block, AreNeighbourLists, AreBlocks, numbered, lists_of}
-use Rattle.flat_snapshot.specs.Lists.{degrees_of}
-use Rattle.flat_snapshot.specs.FlatEdges.{AreDegreesOf, IsFlat}
+use Rattle.flat_snapshot.specs.inside.Lists.{degrees_of}
+use Rattle.flat_snapshot.specs.FlatEdges.{AreDegreesOf}
+use Rattle.flat_snapshot.specs.inside.FlatEdges.{IsFlat}
 use Rattle.flat_snapshot.proofs.Numbered.{numbered_rises, numbered_lists}
 
 rises_degrees : (a h : ℕ) (es : List (ℕ × List (ℕ × ℤ))) → Rises a h es → Rises a h (degrees_of es)

@@ -4,7 +4,8 @@ use Rattle.std.proofs.lemmas.Bool.{cases_eq, cases_lt, ne_eqb, eq-eqb, lt-ltb, l
 use Rattle.ascending_lists.specs.Maps.{Rises}
 use Rattle.ascending_lists.proofs.MapOrder.{rises_room}
 use Rattle.pages.specs.Vertices.{neighbours_of}
-use Rattle.vertex_blocks.specs.Blocks.{AreNeighbourLists, vertices_from}
+use Rattle.vertex_blocks.specs.Blocks.{AreNeighbourLists}
+use Rattle.vertex_blocks.specs.inside.Blocks.{vertices_from}
 use Rattle.flat_snapshot.proofs.Numbered.{none_below}
 
 -- all are at their least bound or above it

@@ -1,4 +1,3 @@
-pub mod Lists
 pub mod FlatEdges
 pub use Rattle.ascending_lists.specs.Maps
 pub use Rattle.tree_batch.specs.Digraph

@@ -4,9 +4,10 @@ ghost use Rattle.std.specs.Prelude.{◌≡◌, ℕ, ◌+◌, ◌^◌, ◌<◌, �
 ghost use Rattle.std.specs.Option.{option_copied};
 ghost use Rattle.ascending_lists.specs.Maps.{Rises};
 ghost use Rattle.pages.specs.Vertices.{neighbours_of};
-ghost use Rattle.vertex_blocks.specs.Blocks.{lists_of, AreBlocks, vertices_at, vertices_from};
+ghost use Rattle.vertex_blocks.specs.Blocks.{lists_of, AreBlocks, vertices_at};
+ghost use Rattle.vertex_blocks.specs.inside.Blocks.{vertices_from};
 ghost use Rattle.tree_batch.specs.VertexBlocks.{HaveFew};
-ghost use Rattle.flat_snapshot.specs.Lists.{degrees_of};
+ghost use Rattle.flat_snapshot.specs.inside.Lists.{degrees_of};
 ghost use Rattle.flat_snapshot.specs.inside.Slots.{IsPadded, IsPut};
 
 use crate::degrees::Degrees;
@@ -32,7 +33,7 @@ impl Drop for Adjacency {
 impl Model for Adjacency {
     ghost use Rattle.std.specs.Prelude.{ℕ, ℤ, List, ◌≤◌, ◌^◌, length};
     ghost use Rattle.tree_batch.specs.VertexBlocks.{HaveFew};
-    ghost use Rattle.flat_snapshot.specs.Lists.{lists_in, AreBlocks as AreInPlace};
+    ghost use Rattle.flat_snapshot.specs.inside.Lists.{lists_in, AreBlocks as AreInPlace};
 
     ghost Value = { List (ℕ × List (ℕ × ℤ)) };
 

@@ -2,7 +2,7 @@
 
 ghost use Rattle.std.specs.Prelude.{◌≡◌};
 ghost use Rattle.std.specs.Iterator.{YieldsFirst, item_count};
-ghost use Rattle.flat_snapshot.specs.Lists.{degrees_of};
+ghost use Rattle.flat_snapshot.specs.inside.Lists.{degrees_of};
 
 use crate::adjacency::Adjacency;
 use std::marker::Model;
@@ -17,8 +17,8 @@ pub struct Degrees<'a> {
 
 impl<'a> Model for Degrees<'a> {
     ghost use Rattle.std.specs.Prelude.{ℕ, List};
-    ghost use Rattle.vertex_blocks.specs.Blocks.{vertices_from};
-    ghost use Rattle.flat_snapshot.specs.Lists.{degrees_of};
+    ghost use Rattle.vertex_blocks.specs.inside.Blocks.{vertices_from};
+    ghost use Rattle.flat_snapshot.specs.inside.Lists.{degrees_of};
 
     ghost Value = { List (ℕ × ℕ) };
 

@@ -37,9 +37,10 @@ impl Drop for Flat {
 }
 
 impl Model for Flat {
-    ghost use Rattle.tree_batch.specs.Digraph.{Digraph, digraph};
+    ghost use Rattle.tree_batch.specs.Digraph.{Digraph};
+    ghost use Rattle.tree_batch.specs.inside.Digraph.{digraph};
     ghost use Rattle.tree_batch.specs.Neighbours.{edges_of};
-    ghost use Rattle.flat_snapshot.specs.FlatEdges.{IsFlat};
+    ghost use Rattle.flat_snapshot.specs.inside.FlatEdges.{IsFlat};
 
     ghost Value = { Digraph };
 

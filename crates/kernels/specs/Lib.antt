@@ -1,4 +1,3 @@
-pub mod VertexBlocks
 pub mod Kernels
 pub mod ContributionColumns
 pub mod Expressions

@@ -6,7 +6,7 @@ use Rattle.std.specs.Str.{all_ascii_digits}
 use Rattle.lexer.specs.declared.symbol.Symbol.{Symbol}
 use Rattle.lexer.specs.declared.symbol.Symbol.TheVariants as symbol
 use Rattle.lexer.specs.declared.token.TokenKind.TheVariants as kind
-use Rattle.lexer.specs.Runs.{Class, Blank, Letter, Digit, Hash, Quote, Punctuation, class_of}
+use Rattle.lexer.specs.inside.Runs.{Class, Blank, Letter, Digit, Hash, Quote, Punctuation, class_of}
 use Rattle.lexer.specs.Spelling.{symbol_spelling}
 use Rattle.lexer.specs.Tokens.{IsWord, PieceKind, White, Comment, Lexeme, IsPiece}
 use Rattle.lexer.proofs.ShapeLaws.{class_of-white, class_of-letter, class_of-digit}

@@ -7,7 +7,7 @@ use Rattle.lexer.specs.declared.error.LexError.{LexError}
 use Rattle.lexer.specs.declared.error.LexError.TheVariants.{BadByte, NumberTooLarge, UnfinishedText, NoMemory}
 use Rattle.lexer.specs.declared.token.Token.{Token}
 use Rattle.lexer.specs.declared.token.TokenKind.TheVariants as kind
-use Rattle.lexer.specs.Runs.{IsFirst}
+use Rattle.lexer.specs.inside.Runs.{IsFirst}
 use Rattle.lexer.specs.Tokens.{PieceKind, White, Comment, Lexeme, IsGap, IsPiece, Piece, IsLongest, bytes_of, AreLongest, IsSmall, AreSmall, IsReadUpTo, token_of, tokens_from, HasTokens, BeginsNoPiece, BeginsBadByte, BeginsUnfinishedText, BeginsLargeNumber, FaultsAt, Reads}
 use Rattle.lexer.proofs.KindLaws.{kind_unique}
 use Rattle.lexer.proofs.ShapeLaws.{piece_nonempty}

@@ -1,7 +1,7 @@
 -- Laws of runs of bytes.
 use Rattle.std.proofs.Common.{◌≡◌, ℕ, ◌<◌, ◌≤◌, Bool, true, false, List, [], ◌∷◌, length, take, drop, get_or, zero, suc, arith}
 use Rattle.lexer.specs.Bytes.{Every}
-use Rattle.lexer.specs.Runs.{EndsRun, IsRun}
+use Rattle.lexer.specs.inside.Runs.{EndsRun, IsRun}
 
 -- the bytes before a place pass a test that each of them passes
 every_before : (test : ℕ → Bool) (bytes : List ℕ) (i : ℕ) → ((k : ℕ) → k < i → test (get_or bytes k 0) ≡ true) → i ≤ length bytes → Every test (take i bytes)

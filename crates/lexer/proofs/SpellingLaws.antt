@@ -7,9 +7,10 @@ use Rattle.lexer.specs.declared.keyword.Keyword.TheVariants as keyword
 use Rattle.lexer.specs.declared.symbol.Symbol.{Symbol}
 use Rattle.lexer.specs.declared.symbol.Symbol.TheVariants as symbol
 use Rattle.lexer.specs.Bytes.{Every, is_letter, is_word_byte}
-use Rattle.lexer.specs.Runs.{Class, Letter, Punctuation, class_of}
+use Rattle.lexer.specs.inside.Runs.{Class, Letter, Punctuation, class_of}
 use Rattle.lexer.specs.declared.keyword.TheConstants.{KEYWORDS}
-use Rattle.lexer.specs.Spelling.{keyword_spelling, place_of, symbol_spelling}
+use Rattle.lexer.specs.Spelling.{keyword_spelling, symbol_spelling}
+use Rattle.lexer.specs.inside.Spelling.{place_of}
 use Rattle.lexer.specs.Tokens.{IsWord}
 
 -- what a keyword is found by

@@ -1,6 +1,6 @@
 pub mod Bytes
 pub mod Outcome
 pub mod Refusal
-pub mod Runs
 pub mod Spelling
 pub mod Tokens
+pub mod inside

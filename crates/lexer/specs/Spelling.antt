@@ -1,8 +1,8 @@
 -- How keywords and symbols are spelled.
-use Rattle.std.specs.Prelude.{ℕ, ◌+◌, ◌*◌, ◌%◌, List, ◌∷◌, length, codes}
+use Rattle.std.specs.Prelude.{ℕ, List, codes}
 use Rattle.lexer.specs.declared.keyword.Keyword.{Keyword}
-use Rattle.lexer.specs.declared.keyword.Keyword.TheVariants as keyword
 use Rattle.lexer.specs.declared.symbol.Symbol.{Symbol}
+use Rattle.lexer.specs.declared.keyword.Keyword.TheVariants as keyword
 use Rattle.lexer.specs.declared.symbol.Symbol.TheVariants as symbol
 
 abbrev pub keyword_spelling : Keyword → List ℕ
@@ -76,8 +76,3 @@ symbol_spelling symbol.Arrow = codes "->"
 symbol_spelling symbol.PlusAssign = codes "+="
 symbol_spelling symbol.MinAssign = codes "min="
 symbol_spelling symbol.MaxAssign = codes "max="
-
--- the place of a text in the table of keywords, told by its length and its first two bytes
-abbrev pub place_of : List ℕ → ℕ
-place_of (first ∷ second ∷ others) = (length (first ∷ second ∷ others) % 100 + first + 26 * second) % 100
-place_of _ = 0

@@ -2,7 +2,7 @@
 ghost use Rattle.std.specs.Prelude.{◌≡◌, ◌≢◌, ◌+◌, ◌^◌, ◌<◌, ℕ, true, List, ◌∷◌, length, slice_index, MatchBool};
 ghost use Rattle.std.specs.Char.{is_ascii_digit};
 ghost use Rattle.lexer.specs.Bytes.{Every, is_letter, is_word_byte};
-ghost use Rattle.lexer.specs.Runs.{Punctuation, class_of, IsFront, IsReduction, IsPair};
+ghost use Rattle.lexer.specs.inside.Runs.{Punctuation, class_of, IsFront, IsReduction, IsPair};
 ghost use Rattle.lexer.specs.Tokens.{IsWord, IsName};
 
 use crate::bytes::{begins_with, is_letter, is_white, line_len, quotable_len, white_len, word_len};

@@ -1,7 +1,8 @@
 //! The reserved words of the language.
 ghost use Rattle.std.specs.Prelude.{◌≡◌, ◌≢◌, IfNone, IfSome};
 ghost use Rattle.lexer.specs.declared.keyword.Keyword.{Keyword};
-ghost use Rattle.lexer.specs.Spelling.{keyword_spelling, place_of};
+ghost use Rattle.lexer.specs.Spelling.{keyword_spelling};
+ghost use Rattle.lexer.specs.inside.Spelling.{place_of};
 
 /// A reserved word. Each is spelled as its variant, with a small first letter unless it says otherwise.
 #[derive(Clone, Copy, Debug, PartialEq, Eq)]

@@ -4,7 +4,7 @@ use Rattle.typed_tree.specs.declared.statement.SetValue.{SetValue}
 use Rattle.typed_tree.specs.declared.statement.SetValue.TheVariants as set
 use Rattle.plans.specs.Instruction.{ResultTree}
 use Rattle.plans.specs.Fusing.{EdgeApplyTree, modifying}
-use Rattle.lowering.specs.Kinds.{IsModified}
+use Rattle.lowering.specs.inside.Kinds.{IsModified}
 
 -- there is an edge apply of which the set gets what it changes
 pub modified_apply : (result : ℕ → ResultTree) (value : SetValue) → IsModified value → (x : EdgeApplyTree) × (modifying result value ≡ Some x)

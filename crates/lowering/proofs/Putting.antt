@@ -5,7 +5,7 @@ use Rattle.typed_tree.specs.ProgramTree.{ProgramTree}
 use Rattle.plans.specs.Instruction.{InstructionTree}
 use Rattle.plans.specs.declared.instruction.Instruction.{Instruction}
 use Rattle.plans.proofs.Pairwise.{pairwise_append}
-use Rattle.lowering.specs.Putting.{Fills, KeepsIndex, Puts}
+use Rattle.lowering.specs.inside.Putting.{Fills, KeepsIndex, Puts}
 use Rattle.lowering.specs.Text.{AreWritten, IsWritten}
 
 pub puts_nothing : (p : ProgramTree) (a : List Instruction) → Puts p a a []

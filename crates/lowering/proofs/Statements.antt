@@ -13,7 +13,7 @@ use Rattle.plans.specs.Plan.{behind, behind_all, in_loop, main_depth, plan_of, w
 use Rattle.plans.proofs.Indices.{length_in, length-plan, length-plan_all}
 use Rattle.plans.specs.declared.instruction.Instruction.{Instruction}
 use Rattle.plans.proofs.Pairwise.{pairwise_append}
-use Rattle.lowering.specs.Putting.{BeginsLoop, Fills, KeepsIndex, Puts}
+use Rattle.lowering.specs.inside.Putting.{BeginsLoop, Fills, KeepsIndex, Puts}
 use Rattle.lowering.specs.Text.{AreWritten, IsWritten}
 use Rattle.lowering.proofs.Putting.{index_length, puts_both, puts_filled, puts_length, puts_nothing}
 

@@ -6,8 +6,8 @@ ghost use Rattle.typed_tree.specs.IntExpressionTree.{int_expression_tree};
 ghost use Rattle.typed_tree.specs.ProgramTree.{program_tree};
 ghost use Rattle.plans.specs.Fusing.{fusion_role_of, takes_next};
 ghost use Rattle.plans.specs.Plan.{behind, behind_all, plan, plan_all, plan_in};
-ghost use Rattle.lowering.specs.Putting.{Puts};
-ghost use Rattle.lowering.specs.Visible.{depth_of};
+ghost use Rattle.lowering.specs.inside.Putting.{Puts};
+ghost use Rattle.lowering.specs.inside.Visible.{depth_of};
 
 use crate::fusing::pair_at;
 use crate::leaves::{ForRange, InstructionHead};

@@ -8,12 +8,13 @@ ghost use Rattle.apply_options.specs.ScheduleTree.{no_choice};
 ghost use Rattle.plans.specs.Instruction.{Advance, Do, Enter, Jump, Turn, Unless, UnlessBelow};
 ghost use Rattle.plans.specs.Plan.{chosen, in_loop, loop_step, plain as plain_tree, with_integer};
 ghost use Rattle.plan_text.specs.Words.{spaced};
-ghost use Rattle.plans.specs.Parts.{part_tree, together_tree};
+ghost use Rattle.plans.specs.Parts.{part_tree};
+ghost use Rattle.plans.specs.inside.Parts.{together_tree};
 ghost use Rattle.plans.specs.Operation.{IsOperation};
-ghost use Rattle.lowering.specs.Kinds.{HasNoBlock};
-ghost use Rattle.lowering.specs.Putting.{BeginsLoop, Fills, KeepsIndex, Puts};
+ghost use Rattle.lowering.specs.inside.Kinds.{HasNoBlock};
+ghost use Rattle.lowering.specs.inside.Putting.{BeginsLoop, Fills, KeepsIndex, Puts};
 ghost use Rattle.lowering.specs.Text.{IsWritten, operation_words, shown_part};
-ghost use Rattle.lowering.specs.Visible.{depth_of};
+ghost use Rattle.lowering.specs.inside.Visible.{depth_of};
 
 use crate::blocks::Lowering;
 use crate::operations::{condition_kernel, integer_kernel, operation_of};

@@ -8,7 +8,7 @@ ghost use Rattle.plans.specs.Fusing.{EdgeApplyTree, edge_apply_of as edge_apply_
 ghost use Rattle.plans.specs.Instruction.{Do};
 ghost use Rattle.plans.specs.SetExpression.{set_value};
 ghost use Rattle.plans.specs.Operation.{IsFor, IsOperation};
-ghost use Rattle.lowering.specs.Kinds.{HasNoBlock, IsModified, IsOnSets, IsOther};
+ghost use Rattle.lowering.specs.inside.Kinds.{HasNoBlock, IsModified, IsOnSets, IsOther};
 
 use crate::fusing::edge_apply_of;
 use algorithm_meaning::Depth;

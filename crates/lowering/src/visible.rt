@@ -1,8 +1,9 @@
 //! Visible variables: how many of each kind a statement sees.
 ghost use Rattle.std.specs.Prelude.{◌≡◌, IfOk, OnOk, length};
 ghost use Rattle.typed_tree.specs.BlockTree.{statement_kind_tree};
-ghost use Rattle.plans.specs.Plan.{IsWithin, behind, with_integer};
-ghost use Rattle.lowering.specs.Visible.{depth_of};
+ghost use Rattle.plans.specs.inside.Plan.{IsWithin};
+ghost use Rattle.plans.specs.Plan.{behind, with_integer};
+ghost use Rattle.lowering.specs.inside.Visible.{depth_of};
 
 use algorithm_meaning::Depth;
 use std::alloc::{AllocError, Global};

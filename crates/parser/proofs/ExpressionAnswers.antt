@@ -9,7 +9,7 @@ use Rattle.syntax.proofs.ExpressionReadings.{expressions_sound, expressions_comp
 use Rattle.parser.specs.declared.cursor.Cursor.{Cursor}
 use Rattle.parser.specs.declared.syntax_error.SyntaxError.{SyntaxError}
 use Rattle.parser.specs.declared.syntax_error.SyntaxError.TheVariants.{Unexpected, NoMemory}
-use Rattle.parser.specs.Readers.{Gives, AnswersBegins}
+use Rattle.parser.specs.inside.Readers.{Gives, AnswersBegins}
 
 pub answers : (depth : ℕ) (ws : List Terminal) (answer : Result (ExpressionTree × Cursor) SyntaxError)
     → Gives (λ (e : ExpressionTree). e) answer (expression_at depth ws) → AnswersBegins depth ws answer

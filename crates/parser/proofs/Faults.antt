@@ -3,7 +3,7 @@ use Rattle.std.proofs.Common.{◌≡◌, sym, subst, ℕ, List, Option, None, Er
 use Rattle.parser.specs.declared.syntax_error.SyntaxError.{SyntaxError}
 use Rattle.parser.specs.declared.syntax_error.SyntaxError.TheVariants.{Unexpected, NoMemory}
 use Rattle.syntax.specs.Terminals.{Terminal}
-use Rattle.parser.specs.Readers.{Gives}
+use Rattle.parser.specs.inside.Readers.{Gives}
 
 pub passed_on : {T U A B : Type 0} (view : T → A) (view' : U → B) (e : SyntaxError) (read : Option (A × List Terminal)) (read' : Option (B × List Terminal))
     → Gives view (Err e) read → (read ≡ None → read' ≡ None) → Gives view' (Err e) read'

@@ -10,7 +10,8 @@ use Rattle.syntax.specs.Terminals.{Terminal, Name, OfSymbol, Identifier, keyword
 use Rattle.syntax.specs.ExpressionTrees.{ExpressionTree}
 use Rattle.parser.specs.inside.Literals.{literal_at}
 use Rattle.parser.proofs.Fronts.{none_open_bracket}
-use Rattle.syntax.specs.ExpressionReading.{Reader, no_expression, primary_at, primary_by, expression_in, expression_at, named_by, after_open_bracket, after_dot}
+use Rattle.syntax.specs.ExpressionReading.{Reader, no_expression, primary_at, primary_by, expression_at, named_by, after_open_bracket, after_dot}
+use Rattle.syntax.specs.inside.ExpressionReading.{expression_in}
 
 pub primary_at-is : (depth : ℕ) (ws : List Terminal) → primary_at depth ws ≡ primary_by (expression_in depth) ws
 primary_at-is zero ws = refl

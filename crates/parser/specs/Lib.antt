@@ -1,5 +1,4 @@
 pub mod Outcome
-pub mod Readers
 pub mod Refusal
 pub use Rattle.syntax.specs.SourceTrees
 pub use Rattle.syntax.specs.SourceViews

@@ -1,10 +1,8 @@
 -- What parsing a text answers.
-use Rattle.std.specs.Prelude.{◌≡◌, ◌≢◌, ℕ, ◌≤◌, List, [], ◌∷◌, length, drop, Option, Some, None, Result, Ok, Err, IfSome}
+use Rattle.std.specs.Prelude.{◌≡◌, ◌≢◌, ℕ, ◌≤◌, List, ◌∷◌, length, drop, Result, Ok, Err, IfSome}
 use Rattle.lexer.specs.declared.token.Token.{Token}
-use Rattle.lexer.specs.declared.error.LexError.TheVariants as lexer
 use Rattle.lexer.specs.Tokens.{HasTokens, Reads}
-use Rattle.parser.specs.declared.syntax_error.SyntaxError.{SyntaxError}
-use Rattle.parser.specs.declared.syntax_error.SyntaxError.TheVariants as syntax
+use Rattle.lexer.specs.declared.error.LexError.TheVariants as lexer
 use Rattle.syntax.specs.Terminals.{terminals_of}
 use Rattle.syntax.specs.declared.declaration.Source.{Source}
 use Rattle.syntax.specs.SourceTrees.{SourceTree}
@@ -74,9 +72,3 @@ tree_or_error (Err error) = Err error
 -- the offset of a refusal is one of the text, or its length
 abbrev pub StandsIn : List ℕ → ParseError → Type 0
 StandsIn text error = IfSome (offset_of error) (λ at. at ≤ length text)
-
--- the source is what the reading function gives
-abbrev pub GivesSource : Result Source SyntaxError → Option SourceTree → Type 0
-GivesSource (Ok source) read = read ≡ Some (source_tree source)
-GivesSource (Err (syntax.Unexpected left)) read = read ≡ None
-GivesSource (Err syntax.NoMemory) read = Unit {0}

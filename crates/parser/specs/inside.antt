@@ -1,3 +1,5 @@
+pub mod Readers
+pub mod Outcome
 -- What the code is made of: no public contract cites these definitions.
 pub mod Blocks
 pub mod Declarations

@@ -1,10 +1,11 @@
 //! Blocks, and the statements that hold blocks.
 ghost use Rattle.std.specs.Prelude.{◌≡◌, ◌<◌, ◌≤◌, length, IfOk};
 ghost use Rattle.syntax.specs.Terminals.{OfKeyword};
-ghost use Rattle.parser.specs.Readers.{terminals, Gives};
+ghost use Rattle.parser.specs.inside.Readers.{terminals, Gives};
 ghost use Rattle.syntax.specs.SourceTrees.{While, For, If, IfElse};
 ghost use Rattle.syntax.specs.SourceReading.{block_at, statement_by, begins_statement as begins_statement_at, after_terminal};
-ghost use Rattle.syntax.specs.SourceViews.{statement_kind_tree, statement_of, block_tree};
+ghost use Rattle.syntax.specs.SourceViews.{statement_kind_tree, block_tree};
+ghost use Rattle.syntax.specs.inside.SourceViews.{statement_of};
 ghost use Rattle.parser.specs.inside.Blocks.{action_at, block_in, declared_at, printed_at, range_at, to_end_by, otherwise_by, opening_of, opened_by};
 ghost use Rattle.parser.specs.inside.Views.{statements_tree};
 

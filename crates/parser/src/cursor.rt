@@ -4,7 +4,7 @@ ghost use Rattle.lexer.specs.Tokens.{slice_of};
 ghost use Rattle.parser.specs.declared.syntax_error.SyntaxError.TheVariants.{Unexpected};
 ghost use Rattle.syntax.specs.Terminals.{OfSymbol, OfKeyword, keyword_terminal, terminals_of};
 ghost use Rattle.syntax.specs.SourceReading.{after_terminal};
-ghost use Rattle.parser.specs.Readers.{terminals, terminal_at, Finds, IsAfter, IsExpected, Passes};
+ghost use Rattle.parser.specs.inside.Readers.{terminals, terminal_at, Finds, IsAfter, IsExpected, Passes};
 ghost use Rattle.syntax.specs.ExpressionReading.{addition, multiplication, relation, prefix};
 
 use crate::syntax_error::SyntaxError;

@@ -1,7 +1,7 @@
 //! Declarations.
 ghost use Rattle.std.specs.Prelude.{◌≡◌, ◌<◌, ◌≤◌, length, option_map, IfOk};
 ghost use Rattle.syntax.specs.Terminals.{OfSymbol};
-ghost use Rattle.parser.specs.Readers.{terminals, Gives};
+ghost use Rattle.parser.specs.inside.Readers.{terminals, Gives};
 ghost use Rattle.syntax.specs.SourceReading.{after_terminal, each_at, parameters_at, result_by};
 ghost use Rattle.syntax.specs.SourceReading.{begins_declaration as begins_declaration_at, next_declaration, declaration_by, block as block_at_limit};
 ghost use Rattle.syntax.specs.SourceViews.{parameter_tree, declaration_tree};

@@ -1,9 +1,11 @@
 //! The reader of expressions: one function for each level of the grammar.
 ghost use Rattle.std.specs.Prelude.{◌≡◌, ◌≤◌, length, None, IfOk};
-ghost use Rattle.parser.specs.Readers.{terminals, Gives, Passes, AnswersBegins};
-ghost use Rattle.syntax.specs.ExpressionViews.{primary_of, unary_of, term_of, sum_of, comparison_of, conjunction_of};
+ghost use Rattle.parser.specs.inside.Readers.{terminals, Gives, Passes, AnswersBegins};
+ghost use Rattle.syntax.specs.ExpressionViews.{primary_of, unary_of};
+ghost use Rattle.syntax.specs.inside.ExpressionViews.{term_of, sum_of, comparison_of, conjunction_of};
 ghost use Rattle.parser.specs.inside.Literals.{literal_at};
-ghost use Rattle.syntax.specs.ExpressionReading.{no_expression, expression_in, primary_at, named_by, after_open_bracket, after_dot, after_size_call};
+ghost use Rattle.syntax.specs.ExpressionReading.{no_expression, primary_at, named_by, after_open_bracket, after_dot, after_size_call};
+ghost use Rattle.syntax.specs.inside.ExpressionReading.{expression_in};
 ghost use Rattle.syntax.specs.ExpressionReading.{truth_of as truth_of_terminal, unary_at, term_at, sum_at, comparison_at, conjunction_at, expression_at};
 
 use crate::cursor::Cursor;

@@ -2,7 +2,7 @@
 ghost use Rattle.std.specs.Prelude.{◌≡◌, ◌<◌, ◌≤◌, ℕ, ◌∷◌, [], length, map, Some, option_map, IsTrue, IfSome, IfOk};
 ghost use Rattle.std.specs.List.{list_all};
 ghost use Rattle.syntax.specs.Terminals.{OfKeyword, OfSymbol, keyword_terminal};
-ghost use Rattle.parser.specs.Readers.{terminals, Gives, Passes};
+ghost use Rattle.parser.specs.inside.Readers.{terminals, Gives, Passes};
 ghost use Rattle.syntax.specs.SourceReading.{after_terminals, name_at, number_at, text_at};
 ghost use Rattle.syntax.specs.SourceReading.{label_at, argument_at, after_terminal, expression as expression_at_limit};
 ghost use Rattle.syntax.specs.SourceViews.{text_of};

@@ -1,7 +1,7 @@
 //! Initial and assigned values.
 ghost use Rattle.std.specs.Prelude.{◌≡◌, ◌≤◌, ℕ, List, [], ◌∷◌, length, IfOk};
 ghost use Rattle.syntax.specs.Terminals.{Terminal, OfKeyword, keyword_terminal};
-ghost use Rattle.parser.specs.Readers.{terminals, Gives};
+ghost use Rattle.parser.specs.inside.Readers.{terminals, Gives};
 ghost use Rattle.syntax.specs.SourceReading.{in_parentheses, closed, end_at, ends_at, method_at, initial_at, value_at, assigned_at};
 ghost use Rattle.syntax.specs.SourceViews.{initial_tree, ends_tree};
 ghost use Rattle.parser.specs.inside.Fronts.{begins_call as begins_call_at, is_called, called_terminal, name_pair_at};

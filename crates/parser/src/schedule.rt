@@ -1,7 +1,7 @@
 //! The schedule's part of a source.
 ghost use Rattle.std.specs.Prelude.{◌≡◌, ◌<◌, ◌≤◌, length, option_map, IfOk};
 ghost use Rattle.syntax.specs.Terminals.{OfKeyword, OfSymbol};
-ghost use Rattle.parser.specs.Readers.{terminals, Gives};
+ghost use Rattle.parser.specs.inside.Readers.{terminals, Gives};
 ghost use Rattle.syntax.specs.SourceReading.{after_terminal, each_at, next_text, next_call, next_chain, call_at, chain_at, setting_at, schedule_by};
 ghost use Rattle.syntax.specs.SourceViews.{text_of, call_tree, chain_tree};
 ghost use Rattle.parser.specs.inside.Fronts.{begun_setting};

@@ -1,12 +1,13 @@
 //! A whole source.
 ghost use Rattle.std.specs.Prelude.{◌≡◌, ◌-◌, ◌≤◌, ℕ, List, Result, Ok, Err, drop, length, IfOk};
-ghost use Rattle.parser.specs.Readers.{terminals};
+ghost use Rattle.parser.specs.inside.Readers.{terminals};
 ghost use Rattle.syntax.specs.Offsets.{StandWhere};
 ghost use Rattle.syntax.specs.SourceReading.{source_at};
 ghost use Rattle.syntax.specs.SourceSpelling.{source_terminals};
 ghost use Rattle.syntax.specs.SourceTrees.{SourceTree};
 ghost use Rattle.parser.specs.declared.error.ParseError.{ParseError};
-ghost use Rattle.parser.specs.Outcome.{Answers, Parses, StandsIn, GivesSource, beginning_of, tree_or_error, without_place};
+ghost use Rattle.parser.specs.Outcome.{Answers, Parses, StandsIn, beginning_of, tree_or_error, without_place};
+ghost use Rattle.parser.specs.inside.Outcome.{GivesSource};
 
 use crate::cursor::Cursor;
 use crate::declaration::declarations;

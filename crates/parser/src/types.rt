@@ -1,6 +1,6 @@
 //! Types, and names with their types.
 ghost use Rattle.std.specs.Prelude.{◌≡◌, ◌<◌, ◌≤◌, ℕ, length, IfOk};
-ghost use Rattle.parser.specs.Readers.{terminals, Gives};
+ghost use Rattle.parser.specs.inside.Readers.{terminals, Gives};
 ghost use Rattle.syntax.specs.SourceReading.{edgeset_at, type_at, typed_at};
 ghost use Rattle.syntax.specs.SourceViews.{parameter_tree};
 ghost use Rattle.parser.specs.inside.Fronts.{begun_type, type_behind};

@@ -3,8 +3,10 @@ use Rattle.std.proofs.Common.{◌≡◌, ℕ, zero, suc, ℤ, Bool, true, false,
 use Rattle.typed_tree.specs.declared.expression.Connective.{Connective}
 use Rattle.typed_tree.specs.declared.expression.Operand.{Operand}
 use Rattle.typed_tree.specs.declared.expression.BoolExpression.{BoolExpression}
-use Rattle.typed_tree.specs.IntExpressionTree.{IntExpressionTree, Arithmetic, negated, int_expression_tree, operands_tree}
-use Rattle.typed_tree.specs.BoolExpressionTree.{BoolExpressionTree, Connect, turned, bool_expression_tree, conditions_tree}
+use Rattle.typed_tree.specs.IntExpressionTree.{IntExpressionTree, Arithmetic, negated, int_expression_tree}
+use Rattle.typed_tree.specs.inside.IntExpressionTree.{operands_tree}
+use Rattle.typed_tree.specs.BoolExpressionTree.{BoolExpressionTree, Connect, turned, bool_expression_tree}
+use Rattle.typed_tree.specs.inside.BoolExpressionTree.{conditions_tree}
 use Rattle.algorithm_meaning.specs.declared.state.SetBinding.{SetBinding}
 use Rattle.algorithm_meaning.specs.Arithmetic.{negative}
 use Rattle.algorithm_meaning.specs.State.{ScopeValue}

@@ -4,9 +4,11 @@ use Rattle.typed_tree.specs.declared.expression.Connective.{Connective}
 use Rattle.typed_tree.specs.declared.expression.Operand.{Operand}
 use Rattle.typed_tree.specs.declared.expression.BoolExpression.{BoolExpression}
 use Rattle.typed_tree.specs.IntExpressionTree as integer
-use Rattle.typed_tree.specs.IntExpressionTree.{IntExpressionTree, negated, int_expression_tree, operands_tree}
+use Rattle.typed_tree.specs.IntExpressionTree.{IntExpressionTree, negated, int_expression_tree}
+use Rattle.typed_tree.specs.inside.IntExpressionTree.{operands_tree}
 use Rattle.typed_tree.specs.BoolExpressionTree as condition
-use Rattle.typed_tree.specs.BoolExpressionTree.{BoolExpressionTree, turned, bool_expression_tree, conditions_tree}
+use Rattle.typed_tree.specs.BoolExpressionTree.{BoolExpressionTree, turned, bool_expression_tree}
+use Rattle.typed_tree.specs.inside.BoolExpressionTree.{conditions_tree}
 use Rattle.typed_tree.specs.ProgramTree.{ProgramTree}
 use Rattle.std.specs.Global.{Box}
 use Rattle.typed_tree.specs.declared.expression.IntExpression.{IntExpression}

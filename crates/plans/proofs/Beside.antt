@@ -16,10 +16,11 @@ use Rattle.algorithm_meaning.specs.Variables.{new_integer, new_condition, set_in
 use Rattle.algorithm_meaning.specs.Function.{WorkValue, first_work, after_set, after_reduce, after_step, after_steps, after_block}
 use Rattle.algorithm_meaning.specs.Filter.{result_of}
 use Rattle.algorithm_meaning.specs.EdgeApply.{gives}
-use Rattle.typed_tree.specs.Access.{is_none_of, are_apart, integer_reads, condition_reads, step_uses, steps_use}
+use Rattle.typed_tree.specs.Access.{is_none_of, are_apart}
+use Rattle.typed_tree.specs.inside.Access.{integer_reads, condition_reads, step_uses, steps_use}
 use Rattle.std.proofs.lemmas.Bool.{and_parts}
 use Rattle.edge_lists.specs.Edge.{Edge}
-use Rattle.plans.specs.Fusing.{integer_sizes, condition_sizes, step_sizes, steps_sizes}
+use Rattle.plans.specs.inside.Fusing.{integer_sizes, condition_sizes, step_sizes, steps_sizes}
 use Rattle.algorithm_meaning.specs.declared.state.SetBinding.{SetBinding}
 
 pub both_parts : (P : ℕ → Bool) (xs ys : List ℕ) → list_all P (xs ++ ys) ≡ true → (list_all P xs ≡ true) × (list_all P ys ≡ true)

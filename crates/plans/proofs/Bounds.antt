@@ -26,7 +26,7 @@ use Rattle.plans.specs.declared.operation.PlanOperation.{PlanOperation}
 use Rattle.plans.specs.declared.operation.PlanOperation.TheVariants as op
 use Rattle.plans.specs.SetExpression.{set_value}
 use Rattle.plans.specs.Operation.{IsOperation, AreInstructions}
-use Rattle.plans.specs.Outline.{outline, outline_of, most_steps_of}
+use Rattle.plans.specs.inside.Outline.{outline, outline_of, most_steps_of}
 
 -- the bound sees no difference
 record SameBound (o t : OperationTree) : Type 0 where

@@ -5,7 +5,8 @@ use Rattle.std.proofs.lemmas.List.{length-take-le}
 use Rattle.typed_tree.specs.BlockTree.{StatementKindTree, DeclareInteger, DeclareCondition, SetInteger, SetCondition, ReduceInteger, SetEntry, ReduceEntry, DeclareSet, AssignSet, AddVertex, PrintInteger, PrintCondition, ApplyVertex, ApplyEdges, If, IfElse, While, For, BlockTree, Empty, Then}
 use Rattle.algorithm_meaning.specs.State.{StateValue}
 use Rattle.algorithm_meaning.specs.declared.state.Depth.{Depth}
-use Rattle.plans.specs.Plan.{IsWithin, in_loop, behind, behind_all}
+use Rattle.plans.specs.inside.Plan.{IsWithin}
+use Rattle.plans.specs.Plan.{in_loop, behind, behind_all}
 use Rattle.algorithm_meaning.specs.Loop.{depth_of, forget_beyond}
 
 pub within_itself : (d : Depth) → IsWithin d d

@@ -12,7 +12,8 @@ use Rattle.algorithm_meaning.specs.Loop.{for_test, for_body, after_for, both_bou
 use Rattle.algorithm_meaning.specs.declared.state.LoopCounter.{LoopCounter}
 use Rattle.algorithm_meaning.specs.declared.state.Depth.{Depth}
 use Rattle.plans.specs.Instruction.{Do, Enter, UnlessBelow, Advance, Turn, Jump, InstructionTree}
-use Rattle.plans.specs.Plan.{IsWithin, with_integer, in_loop, plain, loop_step}
+use Rattle.plans.specs.inside.Plan.{IsWithin}
+use Rattle.plans.specs.Plan.{with_integer, in_loop, plain, loop_step}
 use Rattle.plans.specs.Machine.{Configuration, At, Ended, go_on, after_turn, after_enter}
 use Rattle.plans.proofs.Depths.{forgotten-all}
 use Rattle.plans.proofs.Proper.{IsProper}

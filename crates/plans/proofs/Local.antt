@@ -15,7 +15,7 @@ use Rattle.algorithm_meaning.specs.Variables.{new_integer, new_condition, set_in
 use Rattle.algorithm_meaning.specs.Function.{WorkValue, first_work, after_set, after_reduce, after_step, after_steps, after_block}
 use Rattle.algorithm_meaning.specs.VertexApply.{after_vertex}
 use Rattle.std.proofs.lemmas.Bool.{and_parts}
-use Rattle.plans.specs.Fusing.{integer_is_local, condition_is_local, step_is_local, steps_are_local}
+use Rattle.plans.specs.inside.Fusing.{integer_is_local, condition_is_local, step_is_local, steps_are_local}
 use Rattle.algorithm_meaning.specs.declared.state.SetBinding.{SetBinding}
 use Rattle.plans.proofs.Columns.{column, entry_in, put, entry-column, column-here}
 

@@ -11,9 +11,11 @@ use Rattle.algorithm_meaning.specs.Value.{members_of}
 use Rattle.algorithm_meaning.specs.Function.{steps_of}
 use Rattle.algorithm_meaning.specs.Filter.{result_of}
 use Rattle.algorithm_meaning.specs.EdgeApply.{is_member, passes, matching}
-use Rattle.typed_tree.specs.Access.{is_none_of, are_apart, steps_use, steps_use_where, steps_write, steps_write_where, end_reads}
+use Rattle.typed_tree.specs.Access.{is_none_of, are_apart, end_reads}
+use Rattle.typed_tree.specs.inside.Access.{steps_use, steps_use_where, steps_write, steps_write_where}
 use Rattle.std.proofs.lemmas.Bool.{and_parts}
-use Rattle.plans.specs.Fusing.{steps_sizes, steps_sizes_where, end_sets, is_same_end}
+use Rattle.plans.specs.inside.Fusing.{steps_sizes, steps_sizes_where}
+use Rattle.plans.specs.Fusing.{end_sets, is_same_end}
 use Rattle.plans.proofs.Beside.{AgreeBut, SetsAgreeBut, result_same}
 
 pub uses_of : (f : Option FunctionTree) → steps_use (steps_of f) ≡ steps_use_where f

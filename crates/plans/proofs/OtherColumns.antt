@@ -8,7 +8,7 @@ use Rattle.algorithm_meaning.specs.Value.{entry, with_entry, reduce_at, value, t
 use Rattle.algorithm_meaning.specs.Function.{WorkValue, first_work, after_set, after_reduce, after_step, after_steps, after_block}
 use Rattle.algorithm_meaning.specs.VertexApply.{after_vertex}
 use Rattle.std.proofs.lemmas.Bool.{and_parts}
-use Rattle.plans.specs.Fusing.{condition_is_local, step_is_local, steps_are_local}
+use Rattle.plans.specs.inside.Fusing.{condition_is_local, step_is_local, steps_are_local}
 use Rattle.algorithm_meaning.specs.declared.state.SetBinding.{SetBinding}
 use Rattle.plans.proofs.Columns.{column, column-elsewhere}
 use Rattle.plans.proofs.Local.{IsAlike, step_alike}

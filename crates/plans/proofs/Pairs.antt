@@ -14,7 +14,8 @@ use Rattle.apply_options.specs.ScheduleTree.{ScheduleTree, choice_at}
 use Rattle.std.proofs.lemmas.Bool.{and_parts}
 use Rattle.algorithm_meaning.specs.declared.state.Depth.{Depth}
 use Rattle.plans.specs.Instruction.{OperationTree, ApplyEdgesTogether, ApplyVerticesTogether}
-use Rattle.plans.specs.Fusing.{EdgeApplyTree, VertexApplyTree, edge_apply_of, vertex_apply_of, steps_are_local, steps_are_local_where, function_is_local, edges_fit, vertices_fit, edges_together, vertices_together, either, together, is_with, Alone, with_next, fusion_role_of}
+use Rattle.plans.specs.Fusing.{EdgeApplyTree, VertexApplyTree, edge_apply_of, vertex_apply_of, function_is_local, edges_fit, vertices_fit, edges_together, vertices_together, either, together, is_with, Alone, with_next, fusion_role_of}
+use Rattle.plans.specs.inside.Fusing.{steps_are_local, steps_are_local_where}
 use Rattle.plans.specs.Machine.{At, after_apply_both}
 use Rattle.plans.proofs.Proper.{IsProper}
 use Rattle.plans.proofs.Joined.{IsFaultless, DoesBoth, IsGoodCompany}

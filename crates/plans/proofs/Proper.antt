@@ -15,7 +15,8 @@ use Rattle.algorithm_meaning.specs.Entries.{with_vectors}
 use Rattle.algorithm_meaning.specs.Arithmetic.{reduced}
 use Rattle.algorithm_meaning.specs.Meaning.{after}
 use Rattle.algorithm_meaning.specs.declared.state.Depth.{Depth}
-use Rattle.plans.specs.Plan.{IsWithin, behind, with_set}
+use Rattle.plans.specs.inside.Plan.{IsWithin}
+use Rattle.plans.specs.Plan.{behind, with_set}
 use Rattle.algorithm_meaning.specs.Loop.{forget_beyond, depth_of}
 use Rattle.plans.proofs.Depths.{visible-forgotten}
 use Rattle.plans.proofs.Ascending.{AscendsFrom, AreAscending, ascends_range, ascends_filter, ascends_inserted}

@@ -13,7 +13,8 @@ use Rattle.apply_options.specs.declared.apply_schedule.ApplySchedule.{ApplySched
 use Rattle.algorithm_meaning.specs.declared.state.LoopCounter.{LoopCounter}
 use Rattle.algorithm_meaning.specs.declared.state.Depth.{Depth}
 use Rattle.plans.specs.Instruction.{Do, Jump, InstructionTree}
-use Rattle.plans.specs.Plan.{IsWithin, behind, loop_step}
+use Rattle.plans.specs.inside.Plan.{IsWithin}
+use Rattle.plans.specs.Plan.{behind, loop_step}
 use Rattle.plans.specs.Machine.{Configuration, At, Ended, go_on, act, act_at, step}
 use Rattle.plans.specs.RunLaws.{GoesOn}
 use Rattle.plans.proofs.Depths.{forgotten-all, forgotten-less}

@@ -11,7 +11,8 @@ use Rattle.algorithm_meaning.specs.Loop.{inside, while_test, while_body, after_w
 use Rattle.algorithm_meaning.specs.declared.state.LoopCounter.{LoopCounter}
 use Rattle.algorithm_meaning.specs.declared.state.Depth.{Depth}
 use Rattle.plans.specs.Instruction.{Unless, Turn, Jump, InstructionTree}
-use Rattle.plans.specs.Plan.{IsWithin, with_integer, in_loop, plain}
+use Rattle.plans.specs.inside.Plan.{IsWithin}
+use Rattle.plans.specs.Plan.{with_integer, in_loop, plain}
 use Rattle.plans.specs.Machine.{Configuration, At, Ended, after_unless, after_turn}
 use Rattle.plans.proofs.Depths.{forgotten-all}
 use Rattle.plans.proofs.Proper.{IsProper}

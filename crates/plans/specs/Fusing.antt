@@ -1,28 +1,26 @@
 -- Two applies that are done together.
-use Rattle.std.specs.Prelude.{ℕ, nat_eq, Bool, true, false, ◌&&◌, List, [], ◌∷◌, ◌++◌, if◌then◌else◌, Option, Some, None}
+use Rattle.std.specs.Prelude.{ℕ, nat_eq, Bool, true, false, ◌&&◌, List, ◌∷◌, ◌++◌, if◌then◌else◌, Option, Some, None}
+use Rattle.apply_options.specs.declared.apply_schedule.Fused.{Fused}
+use Rattle.apply_options.specs.declared.apply_schedule.Fused.TheVariants.{With, Into}
+use Rattle.apply_options.specs.ScheduleTree.{ScheduleTree, choice_at}
 use Rattle.typed_tree.specs.declared.accesses.Access.{Access}
 use Rattle.typed_tree.specs.declared.accesses.Access.TheVariants.{ReadAtVertex, ReadAtIndex, ReadSet, Write}
 use Rattle.typed_tree.specs.declared.expression.VarRef.{VarRef}
 use Rattle.typed_tree.specs.declared.statement.VertexFilter.{VertexFilter}
-use Rattle.typed_tree.specs.declared.statement.VertexFilter.TheVariants as end
 use Rattle.typed_tree.specs.declared.statement.ApplyEnds.{ApplyEnds}
 use Rattle.typed_tree.specs.declared.statement.SetValue.{SetValue}
-use Rattle.typed_tree.specs.declared.statement.SetValue.TheVariants as set
-use Rattle.typed_tree.specs.IntExpressionTree.{IntExpressionTree}
-use Rattle.typed_tree.specs.BoolExpressionTree.{BoolExpressionTree}
-use Rattle.typed_tree.specs.FunctionStatementTree.{FunctionTree, FunctionStatementTree, FunctionStatementsTree}
-use Rattle.typed_tree.specs.BlockTree as block
+use Rattle.typed_tree.specs.FunctionStatementTree.{FunctionTree}
 use Rattle.typed_tree.specs.BlockTree.{StatementKindTree, BlockTree, Empty, Then}
 use Rattle.typed_tree.specs.ProgramTree.{ProgramTree}
-use Rattle.algorithm_meaning.specs.declared.state.Depth.{Depth}
-use Rattle.apply_options.specs.declared.apply_schedule.Fused.{Fused}
-use Rattle.apply_options.specs.declared.apply_schedule.Fused.TheVariants.{With, Into}
 use Rattle.typed_tree.specs.declared.apply.StatementApply.{StatementApply}
 use Rattle.typed_tree.specs.declared.apply.StatementApply.TheVariants.{Edges}
 use Rattle.typed_tree.specs.Access.{are_apart, function_writes}
-use Rattle.typed_tree.specs.Fold.{all_pass, condition_fold, end_fold, function_fold, gathered, integer_fold, step_fold, steps_fold, steps_fold_where}
+use Rattle.typed_tree.specs.Fold.{all_pass, end_fold, function_fold, gathered}
 use Rattle.typed_tree.specs.Independence.{are_independent}
-use Rattle.apply_options.specs.ScheduleTree.{ScheduleTree, choice_at}
+use Rattle.typed_tree.specs.declared.statement.VertexFilter.TheVariants as end
+use Rattle.typed_tree.specs.declared.statement.SetValue.TheVariants as set
+use Rattle.typed_tree.specs.BlockTree as block
+use Rattle.algorithm_meaning.specs.declared.state.Depth.{Depth}
 use Rattle.plans.specs.Instruction.{ResultTree, Dropped, Declared, Assigned, EdgePartTree, OperationTree, ApplyEdgesTogether, ApplyVerticesTogether}
 
 -- an edge apply, and a vertex apply
@@ -76,24 +74,6 @@ set_of (ReadAtIndex vector) = []
 set_of (ReadSet index) = index ∷ []
 set_of (Write vector) = []
 
--- the vertex sets of which an expression reads the size
-abbrev pub integer_sizes : IntExpressionTree → List ℕ
-integer_sizes e = integer_fold (gathered set_of) e
-
-abbrev pub condition_sizes : BoolExpressionTree → List ℕ
-condition_sizes c = condition_fold (gathered set_of) c
-
--- the sets whose sizes statements of functions read
-abbrev pub step_sizes : FunctionStatementTree → List ℕ
-step_sizes step = step_fold (gathered set_of) step
-
-abbrev pub steps_sizes : FunctionStatementsTree → List ℕ
-steps_sizes steps = steps_fold (gathered set_of) steps
-
--- the sets whose sizes the function at an index reads
-abbrev pub steps_sizes_where : Option FunctionTree → List ℕ
-steps_sizes_where f = steps_fold_where (gathered set_of) f
-
 abbrev pub function_sizes : List FunctionTree → ℕ → List ℕ
 function_sizes functions index = function_fold (gathered set_of) functions index
 
@@ -135,23 +115,6 @@ is_local (ReadAtVertex vector) = true
 is_local (ReadAtIndex vector) = false
 is_local (ReadSet index) = true
 is_local (Write vector) = true
-
--- so are all those of an expression
-abbrev pub integer_is_local : IntExpressionTree → Bool
-integer_is_local e = integer_fold (all_pass is_local) e
-
-abbrev pub condition_is_local : BoolExpressionTree → Bool
-condition_is_local c = condition_fold (all_pass is_local) c
-
--- whether statements of vertex functions read and write their own vertex alone
-abbrev pub step_is_local : FunctionStatementTree → Bool
-step_is_local step = step_fold (all_pass is_local) step
-
-abbrev pub steps_are_local : FunctionStatementsTree → Bool
-steps_are_local steps = steps_fold (all_pass is_local) steps
-
-abbrev pub steps_are_local_where : Option FunctionTree → Bool
-steps_are_local_where f = steps_fold_where (all_pass is_local) f
 
 abbrev pub function_is_local : List FunctionTree → ℕ → Bool
 function_is_local functions index = function_fold (all_pass is_local) functions index

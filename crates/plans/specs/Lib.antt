@@ -14,7 +14,6 @@ pub mod Functions
 pub mod SetExpression
 pub mod Operation
 pub mod Lowered
-pub mod Outline
 pub mod PlanOf
 pub use Rattle.algorithm_meaning.specs.EdgeApply
 pub use Rattle.algorithm_meaning.specs.Function
@@ -23,3 +22,4 @@ pub use Rattle.algorithm_meaning.specs.State
 pub use Rattle.algorithm_meaning.specs.Value
 pub use Rattle.algorithm_meaning.specs.declared.contribution.Contribution
 pub use Rattle.algorithm_meaning.specs.declared.state.SetBinding
+pub mod inside

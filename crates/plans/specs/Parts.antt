@@ -1,13 +1,8 @@
 -- The trees of applies.
-use Rattle.plans.specs.Instruction.{ResultTree, Dropped, Declared, Assigned, EdgePartTree, OperationTree, ApplyEdgesTogether, ApplyVerticesTogether}
-use Rattle.plans.specs.Fusing.{EdgeApplyTree, VertexApplyTree}
+use Rattle.plans.specs.Instruction.{ResultTree, Dropped, Declared, Assigned, EdgePartTree}
 use Rattle.plans.specs.declared.part.PartResult.{PartResult}
-use Rattle.plans.specs.declared.part.PartResult.TheVariants as result
 use Rattle.plans.specs.declared.part.EdgePart.{EdgePart}
-use Rattle.plans.specs.declared.part.EdgeApply.{EdgeApply}
-use Rattle.plans.specs.declared.part.VertexApply.{VertexApply}
-use Rattle.plans.specs.declared.part.FusedPair.{FusedPair}
-use Rattle.plans.specs.declared.part.FusedPair.TheVariants as together
+use Rattle.plans.specs.declared.part.PartResult.TheVariants as result
 
 abbrev pub result_tree : PartResult → ResultTree
 result_tree result.Dropped = Dropped
@@ -16,13 +11,3 @@ result_tree (result.Assigned slot vector) = Assigned slot vector
 
 abbrev pub part_tree : EdgePart → EdgePartTree
 part_tree part = record { function = part.function; result = result_tree part.result }
-
-abbrev pub edge_apply_tree : EdgeApply → EdgeApplyTree
-edge_apply_tree x = record { ends = x.ends; part = part_tree x.part }
-
-abbrev pub vertex_apply_tree : VertexApply → VertexApplyTree
-vertex_apply_tree x = record { set = x.set; function = x.function }
-
-abbrev pub together_tree : FusedPair → OperationTree
-together_tree (together.Edges ends first second) = ApplyEdgesTogether ends (part_tree first) (part_tree second)
-together_tree (together.Vertices set first second) = ApplyVerticesTogether set first second

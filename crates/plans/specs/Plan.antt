@@ -1,9 +1,9 @@
 -- The plan of a program.
-use Rattle.std.specs.Prelude.{ℕ, ◌+◌, ◌≤◌, Bool, false, List, [], ◌∷◌, ◌++◌, length, Option}
+use Rattle.std.specs.Prelude.{ℕ, ◌+◌, Bool, false, List, ◌∷◌, ◌++◌, length, Option}
+use Rattle.apply_options.specs.ScheduleTree.{ScheduleTree, choice_at, no_choice}
 use Rattle.typed_tree.specs.BlockTree.{StatementKindTree, DeclareInteger, DeclareCondition, DeclareSet, If, IfElse, While, For, BlockTree, Empty, Then}
 use Rattle.typed_tree.specs.ProgramTree.{ProgramTree}
 use Rattle.algorithm_meaning.specs.declared.state.Depth.{Depth}
-use Rattle.apply_options.specs.ScheduleTree.{ScheduleTree, choice_at, no_choice}
 use Rattle.plans.specs.Instruction.{OperationTree, Do, Unless, Enter, UnlessBelow, Advance, Turn, Jump, End, InstructionTree}
 use Rattle.plans.specs.Fusing.{FusionRole, Alone, WithNext, WithPrevious, fusion_role_of, takes_next}
 
@@ -16,12 +16,6 @@ with_condition d = record d { conditions = d.conditions + 1 }
 
 abbrev pub with_set : Depth → Depth
 with_set d = record d { sets = d.sets + 1 }
-
--- no more is visible at the first than at the second
-pub record IsWithin (d e : Depth) : Type 0 where
-  pub integers : d.integers ≤ e.integers
-  pub conditions : d.conditions ≤ e.conditions
-  pub sets : d.sets ≤ e.sets
 
 -- in the body of `for`: the name, and the bound after it
 abbrev pub in_loop : Depth → Depth

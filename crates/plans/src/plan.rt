@@ -1,6 +1,6 @@
 //! The plan of a program: all that a run needs.
 ghost use Rattle.typed_tree.specs.ProgramTree.{program_tree};
-ghost use Rattle.plans.specs.Lowered.{AreLowered};
+ghost use Rattle.plans.specs.inside.Lowered.{AreLowered};
 
 use crate::functions::FunctionKernels;
 use crate::instruction::Instruction;

@@ -15,7 +15,7 @@ use Rattle.edge_fold.specs.Contributions.{column}
 use Rattle.edge_fold.specs.Gathered.{is_between}
 use Rattle.edge_fold.proofs.Walks.{FoldsMore, folded_along}
 use Rattle.pull_engine.specs.Columns.{columns, passing}
-use Rattle.pull_engine.specs.Words.{in_word}
+use Rattle.pull_engine.specs.inside.Words.{in_word}
 use Rattle.pull_engine.proofs.ColumnFolds.{columns-append}
 use Rattle.pull_engine.proofs.RangeCuts.{within}
 use Rattle.pull_engine.proofs.WordBits.{before_is, behind_is, between_is, bit_of_block, clear_in_one, clear_test, in_both, set_in_first, set_test}

@@ -16,8 +16,8 @@ use Rattle.edge_fold.specs.EntryNumbers.{reduced_over}
 use Rattle.edge_fold.proofs.ChangedRows.{equal_itself, nothing_changed}
 use Rattle.kernels.specs.Arithmetic.{int_equal}
 use Rattle.pull_engine.specs.Columns.{passing}
-use Rattle.pull_engine.specs.Ranges.{changes_at, pulled, pulled_to}
-use Rattle.pull_engine.specs.Words.{in_word}
+use Rattle.pull_engine.specs.inside.Ranges.{changes_at, pulled, pulled_to}
+use Rattle.pull_engine.specs.inside.Words.{in_word}
 use Rattle.pull_engine.proofs.WordBits.{bit_of_block, set_in_first, clear_in_one, set_test, clear_test}
 
 no_change : (old new : ℕ → ℤ) (v : ℕ) → new v ≡ old v → change_at old new v ≡ []

@@ -3,7 +3,8 @@ use Rattle.std.proofs.Common.{◌≡◌, ℕ, zero, suc, pos, ◌+◌, ◌-◌, 
 use Rattle.std.proofs.lemmas.List.{append-nil, drop-drop, get_or-drop, length-drop, map-append, take-set, take_more, take_more_set}
 use Rattle.std.proofs.lemmas.List.Elements.{All-append, filter-append}
 use Rattle.std.specs.List.{All}
-use Rattle.pull_engine.specs.Columns.{entry_at, passing}
+use Rattle.pull_engine.specs.inside.Columns.{entry_at}
+use Rattle.pull_engine.specs.Columns.{passing}
 
 one_passes : (p : ℕ → Bool) (e : ℕ × ℤ) (b : Bool) → p e.0 ≡ b → passing p (e ∷ []) ≡ (if b then e ∷ [] else [])
 one_passes p e b is = ap (λ (c : Bool). if c then e ∷ [] else []) is

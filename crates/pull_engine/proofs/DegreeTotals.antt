@@ -10,7 +10,7 @@ use Rattle.flat_snapshot.specs.Edge.{Ends, IsWithin, Rises, ends_eq, ends_of, we
 use Rattle.flat_snapshot.specs.Neighbours.{sources_of}
 use Rattle.edge_apply.proofs.Filtered.{has_first, has_later}
 use Rattle.crew.specs.Limits.{weight}
-use Rattle.pull_engine.specs.Degrees.{in_degrees}
+use Rattle.pull_engine.specs.inside.Degrees.{in_degrees}
 use Rattle.pull_engine.proofs.Merging.{destination_within}
 use Rattle.crew.proofs.DegreeRows.{range_none, range_one_more, weight-map}
 

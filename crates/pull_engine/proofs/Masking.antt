@@ -8,7 +8,7 @@ use Rattle.kernels.specs.declared.shape.Shape.{Shape}
 use Rattle.kernels.specs.declared.shape.Shape.TheVariants as shape
 use Rattle.algorithm_meaning.specs.Laws.{unit_of}
 use Rattle.algorithm_meaning.proofs.Reductions.{reductions}
-use Rattle.pull_engine.specs.Masked.{AreMasked, IsMaskOf, number_or_unit}
+use Rattle.pull_engine.specs.inside.Masked.{AreMasked, IsMaskOf, number_or_unit}
 
 -- the unit leaves a number as it is
 pub reduced_masked : (r : Reduction) (n x : ℤ) (b : Bool) → FitsSigned w64 n → reduced r n (cond b x (unit_of r)) ≡ cond b (reduced r n x) n

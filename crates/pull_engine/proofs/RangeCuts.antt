@@ -10,8 +10,8 @@ use Rattle.edge_fold.specs.EntryNumbers.{reduced_over}
 use Rattle.edge_fold.specs.Gathered.{is_between}
 use Rattle.edge_fold.proofs.ChangedRows.{changed_from-append, nothing_changed}
 use Rattle.pull_engine.specs.Columns.{passing}
-use Rattle.pull_engine.specs.Ranges.{pulled, pulled_to}
-use Rattle.pull_engine.specs.Words.{in_word}
+use Rattle.pull_engine.specs.inside.Ranges.{pulled, pulled_to}
+use Rattle.pull_engine.specs.inside.Words.{in_word}
 use Rattle.pull_engine.proofs.WordBits.{before_is, behind_is, between_is, in_both}
 
 -- those of a range that a test lets through

@@ -5,7 +5,7 @@ use Rattle.std.proofs.lemmas.Bool.{cases_lt, eq-eqb, ne_eqb}
 use Rattle.std.proofs.lemmas.Bool.Decides.{nat_tests}
 use Rattle.std.proofs.lemmas.Nat.Bits.{bit_at_and, bit_at-lt, bit_at_mask_inside, bit_at_mask_below, bit_at_mask_above}
 use Rattle.edge_fold.specs.Gathered.{is_between}
-use Rattle.pull_engine.specs.Words.{in_word}
+use Rattle.pull_engine.specs.inside.Words.{in_word}
 
 -- the bit of a vertex by its number in the block
 pub bit_of_block : (k word i : ℕ) → in_word (64 * k) word (64 * k + i) ≡ (bit_at word i == 1)

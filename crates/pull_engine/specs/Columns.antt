@@ -1,17 +1,13 @@
 -- The edges into some destinations.
-use Rattle.std.specs.Prelude.{ℕ, ℤ, pos, Bool, List, [], ◌∷◌, ◌++◌, get_or}
+use Rattle.std.specs.Prelude.{ℕ, ℤ, Bool, List, ◌∷◌, ◌++◌}
 use Rattle.std.specs.List.{filter}
 use Rattle.edge_lists.specs.Edge.{Edge}
-use Rattle.edge_fold.specs.Contributions.{column}
 use Rattle.flat_snapshot.specs.Neighbours.{sources_of}
+use Rattle.edge_fold.specs.Contributions.{column}
 
 -- those entries whose neighbour passes; an entry is a neighbour and a weight
 abbrev pub passing : (from : ℕ → Bool) → List (ℕ × ℤ) → List (ℕ × ℤ)
 passing from entries = filter (λ e. from e.0) entries
-
--- the entry at an index
-abbrev pub entry_at : List (ℕ × ℤ) → ℕ → ℕ × ℤ
-entry_at entries i = get_or entries i (0, pos 1)
 
 -- those of a graph with these edges, from the sources that pass
 abbrev pub columns : (from : ℕ → Bool) → List Edge → (destinations : List ℕ) → List Edge

@@ -1,14 +1,5 @@
 pub mod Columns
-pub mod Degrees
 pub mod EarlySources
-pub mod Masked
-pub mod Words
 pub mod Ranges
-pub mod Pulls
-pub mod Blocks
 pub mod Pieces
-pub mod PieceRanges
-pub mod EntryTests
-pub mod Lets
-pub mod Sources
 pub mod inside

@@ -1,7 +1,7 @@
 //! Ranges of vertices in blocks of 64.
 ghost use Rattle.std.specs.Prelude.{◌≡◌, ℕ, ◌+◌, ◌-◌, ◌*◌, ◌/◌, ◌^◌, ◌<◌, ◌≤◌};
 ghost use Rattle.edge_fold.specs.Gathered.{is_between};
-ghost use Rattle.pull_engine.specs.Words.{in_word};
+ghost use Rattle.pull_engine.specs.inside.Words.{in_word};
 
 /// How many blocks have a vertex below a number.
 #[inline(always)]

@@ -1,7 +1,7 @@
 //! Pulls to the vertices of a block of 64, those whose bits are set in a word.
 ghost use Rattle.std.specs.Prelude.{◌≡◌, ◌^◌, ◌<◌, ◌++◌, OnOk};
 ghost use Rattle.edge_apply.specs.Words.{passes_words};
-ghost use Rattle.pull_engine.specs.Blocks.{block_changes};
+ghost use Rattle.pull_engine.specs.inside.Blocks.{block_changes};
 
 use crate::block_lists::BlockLists;
 use crate::source_block::SourceBlock;

@@ -3,7 +3,8 @@ ghost use Rattle.std.specs.Prelude.{◌≡◌, ◌-◌, ◌<◌, ◌≤◌, leng
 ghost use Rattle.std.specs.List.{All};
 ghost use Rattle.edge_apply.specs.Words.{is_set};
 ghost use Rattle.edge_fold.specs.EntryNumbers.{entry_with, reduced_over};
-ghost use Rattle.pull_engine.specs.Columns.{entry_at, passing};
+ghost use Rattle.pull_engine.specs.inside.Columns.{entry_at};
+ghost use Rattle.pull_engine.specs.Columns.{passing};
 ghost use Rattle.kernels.specs.declared.columns.TheConstants.{PAIRS};
 
 use apply_options::Reduction;

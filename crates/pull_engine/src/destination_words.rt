@@ -3,8 +3,8 @@ ghost use Rattle.std.specs.Prelude.{◌≡◌, ℕ, ◌*◌, ◌/◌, ◌^◌, �
 ghost use Rattle.edge_apply.specs.Words.{is_set};
 ghost use Rattle.kernels.specs.EdgeApply.{is_member};
 ghost use Rattle.vertex_sets.specs.declared.form.Form.TheVariants as Form;
-ghost use Rattle.pull_engine.specs.Lets.{IsInBits, lets};
-ghost use Rattle.pull_engine.specs.Words.{in_word};
+ghost use Rattle.pull_engine.specs.inside.Lets.{IsInBits, lets};
+ghost use Rattle.pull_engine.specs.inside.Words.{in_word};
 
 use crate::entry_tests::EntryTest;
 use vertex_sets::VertexSet;

@@ -11,8 +11,8 @@ ghost use Rattle.edge_fold.specs.Contributions.{column};
 ghost use Rattle.flat_snapshot.specs.Neighbours.{sources_of};
 ghost use Rattle.vertex_blocks.specs.Forms.{listed};
 ghost use Rattle.pull_engine.specs.Columns.{columns, passing};
-ghost use Rattle.pull_engine.specs.Lets.{IsInBits, lets};
-ghost use Rattle.pull_engine.specs.Words.{in_word};
+ghost use Rattle.pull_engine.specs.inside.Lets.{IsInBits, lets};
+ghost use Rattle.pull_engine.specs.inside.Words.{in_word};
 ghost use Rattle.edge_apply.specs.Words.{passes_words};
 
 use crate::block_lists::BlockLists;

@@ -2,7 +2,7 @@
 ghost use Rattle.std.specs.Prelude.{◌≡◌, ◌*◌, ◌^◌, ◌<◌, length};
 ghost use Rattle.std.specs.List.{range_with_len, sum_by};
 ghost use Rattle.flat_snapshot.specs.Neighbours.{sources_of};
-ghost use Rattle.pull_engine.specs.Degrees.{in_degrees};
+ghost use Rattle.pull_engine.specs.inside.Degrees.{in_degrees};
 
 use crew::DegreeList;
 use flat_snapshot::Flat;

@@ -5,7 +5,7 @@ ghost use Rattle.algorithm_meaning.specs.Laws.{unit_of};
 ghost use Rattle.edge_apply.specs.Words.{passes_words};
 ghost use Rattle.edge_fold.specs.EntryNumbers.{reduced_over};
 ghost use Rattle.pull_engine.specs.Columns.{passing};
-ghost use Rattle.pull_engine.specs.Masked.{AreMasked, number_or_unit};
+ghost use Rattle.pull_engine.specs.inside.Masked.{AreMasked, number_or_unit};
 
 use crate::source_block::SourceBlock;
 use crate::source_folds::{SourceFold, fold_walk};

@@ -1,7 +1,7 @@
 //! Masks: lists of what all vertices give by a function of a shape, made once for an apply and read by each of its pieces.
 ghost use Rattle.std.specs.Prelude.{IfOk};
 ghost use Rattle.edge_apply.specs.Words.{passes_words};
-ghost use Rattle.pull_engine.specs.Masked.{IsMaskOf};
+ghost use Rattle.pull_engine.specs.inside.Masked.{IsMaskOf};
 
 use crate::masked_sources::masked_numbers;
 use apply_options::Reduction;

@@ -10,7 +10,7 @@ ghost use Rattle.edge_fold.specs.Changed.{AreApart};
 ghost use Rattle.edge_apply.specs.Applied.{AreChangesOf};
 ghost use Rattle.vectors.specs.declared.changes.EntryChange.{EntryChange as Change};
 ghost use Rattle.pull_engine.specs.Pieces.{Answers, AreFor, GathersPiece, IsPiecePulled};
-ghost use Rattle.pull_engine.specs.PieceRanges.{IsRangeOfPiece};
+ghost use Rattle.pull_engine.specs.inside.PieceRanges.{IsRangeOfPiece};
 ghost use Rattle.pull_engine.specs.Ranges.{all_listed, shape_vector as vector_of};
 
 use crate::changes::changes_in;

@@ -2,8 +2,8 @@
 ghost use Rattle.std.specs.Prelude.{◌≡◌, ℕ, ◌≤◌, IfOk, Some};
 ghost use Rattle.edge_apply.specs.Words.{passes_words};
 ghost use Rattle.kernels.specs.EdgeApply.{is_member};
-ghost use Rattle.pull_engine.specs.Lets.{IsInBits, lets};
-ghost use Rattle.pull_engine.specs.Pulls.{IsRangeEnd, IsRangePulled};
+ghost use Rattle.pull_engine.specs.inside.Lets.{IsInBits, lets};
+ghost use Rattle.pull_engine.specs.inside.Pulls.{IsRangeEnd, IsRangePulled};
 
 use crate::block_ranges::{blocks_below, range_word};
 use crate::blocks::{BlockPull, pull_block};

@@ -4,7 +4,7 @@ ghost use Rattle.kernels.specs.State.{StateValue};
 ghost use Rattle.kernels.specs.Registers.{HasSizes};
 ghost use Rattle.edge_fold.specs.Ends.{IsEndTest};
 ghost use Rattle.edge_apply.specs.Words.{passes_words};
-ghost use Rattle.pull_engine.specs.Sources.{AreInBits, is_source};
+ghost use Rattle.pull_engine.specs.inside.Sources.{AreInBits, is_source};
 
 use edge_apply::passing_set;
 use edge_fold::{ApplyContext, Scratch};

@@ -13,11 +13,11 @@ ghost use Rattle.crew.specs.Partition.{AreEnds};
 ghost use Rattle.edge_apply.specs.inside.Propositions.{AreEnds-prop};
 ghost use Rattle.flat_snapshot.specs.Neighbours.{sources_of};
 ghost use Rattle.vertex_sets.specs.declared.form.Form.TheVariants as Form;
-ghost use Rattle.pull_engine.specs.Sources.{AreInBits, is_source};
+ghost use Rattle.pull_engine.specs.inside.Sources.{AreInBits, is_source};
 ghost use Rattle.pull_engine.specs.inside.Propositions.{AreInBits-prop, IsMaskOf-prop};
-ghost use Rattle.pull_engine.specs.Masked.{IsMaskOf};
+ghost use Rattle.pull_engine.specs.inside.Masked.{IsMaskOf};
 ghost use Rattle.kernels.specs.inside.Propositions.{HasShape-prop};
-ghost use Rattle.pull_engine.specs.Ranges.{IsShapeOfApply};
+ghost use Rattle.pull_engine.specs.inside.Ranges.{IsShapeOfApply};
 
 use crate::listed::{cut_vertices, member_bits};
 use crate::masks::mask_of;

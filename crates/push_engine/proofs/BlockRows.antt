@@ -15,7 +15,8 @@ use Rattle.edge_fold.specs.declared.apply_context.ApplyContext.{ApplyContext}
 use Rattle.edge_fold.specs.declared.scratch.Scratch.{Scratch}
 use Rattle.edge_fold.specs.Contributions.{row}
 use Rattle.edge_fold.proofs.Walks.{FoldsMore, folded_along}
-use Rattle.push_engine.specs.Rows.{rows, rows_to}
+use Rattle.push_engine.specs.Rows.{rows}
+use Rattle.push_engine.specs.inside.Rows.{rows_to}
 use Rattle.edge_apply.proofs.Listed.{member_filtered, member_of_range}
 use Rattle.push_engine.proofs.RowFolds.{Agree, agree_on_rows, rows_to-append}
 use Rattle.push_engine.proofs.SourceLists.{source_within}

@@ -11,7 +11,7 @@ use Rattle.edge_fold.specs.Ends.{IsEndTest, IsTest}
 use Rattle.edge_apply.specs.Words.{passes_words}
 use Rattle.edge_apply.proofs.Bits.{words_have_members}
 use Rattle.edge_apply.proofs.Filtered.{and_true}
-use Rattle.push_engine.specs.PushEnds.{AreTests, passes_bits, untested_end}
+use Rattle.push_engine.specs.inside.PushEnds.{AreTests, passes_bits, untested_end}
 use Rattle.push_engine.specs.declared.push_end.PushEnd.{PushEnd}
 use Rattle.push_engine.specs.declared.push_end.PushEnd.TheVariants as tested
 

@@ -16,7 +16,8 @@ use Rattle.edge_fold.proofs.Orders.{folded_alike, groups_in_any_order}
 use Rattle.crew.specs.Partition.{AreEnds, piece_of}
 use Rattle.crew.proofs.PieceLists.{pieces_are_the_list}
 use Rattle.push_engine.specs.Rows.{rows}
-use Rattle.push_engine.specs.Sources.{AreSources, passing_in}
+use Rattle.push_engine.specs.inside.Sources.{AreSources}
+use Rattle.push_engine.specs.Sources.{passing_in}
 use Rattle.push_engine.proofs.RowFolds.{agree_on_rows, rows-append, rows_to_are_edges}
 use Rattle.edge_apply.proofs.Listed.{rising}
 use Rattle.edge_apply.proofs.Listed.{rises_filtered}

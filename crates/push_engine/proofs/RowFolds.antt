@@ -14,7 +14,8 @@ use Rattle.flat_snapshot.specs.Neighbours.{destinations_of}
 use Rattle.vertex_sets.proofs.Ascending.{Rises}
 use Rattle.edge_fold.specs.Between.{edges_between}
 use Rattle.edge_apply.proofs.Listed.{below_all}
-use Rattle.push_engine.specs.Rows.{rows, rows_to}
+use Rattle.push_engine.specs.Rows.{rows}
+use Rattle.push_engine.specs.inside.Rows.{rows_to}
 
 same : (m n : ℕ) → (m == n) ≡ true → m ≡ n
 same m n h = grind (arith, nat_tests)

@@ -14,7 +14,7 @@ use Rattle.flat_snapshot.specs.Digraph.{Digraph}
 use Rattle.flat_snapshot.specs.Neighbours.{destinations_of}
 use Rattle.crew.specs.Limits.{weight}
 use Rattle.crew.proofs.DegreeRows.{weight-map}
-use Rattle.push_engine.specs.Degrees.{out_degrees}
+use Rattle.push_engine.specs.inside.Degrees.{out_degrees}
 
 -- a block has few edges
 lists_few : (b : Block) → AreNeighbourLists b → edge_total b ≤ length b * 2 ^ 32

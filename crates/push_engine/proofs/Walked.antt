@@ -17,7 +17,7 @@ use Rattle.flat_snapshot.specs.FlatEdges.{AreDegreesOf}
 use Rattle.flat_snapshot.specs.Neighbours.{destinations_of}
 use Rattle.vertex_sets.proofs.Ascending.{Rises}
 use Rattle.edge_fold.specs.Between.{edges_between, firsts}
-use Rattle.push_engine.specs.Rows.{rows_to}
+use Rattle.push_engine.specs.inside.Rows.{rows_to}
 use Rattle.edge_apply.proofs.Listed.{degree_listed, degrees_rise, member_filtered, rises_filtered}
 use Rattle.push_engine.proofs.RowFolds.{Agree, agree_on_rows, filter_row, rows_to-append, rows_to_are_edges}
 

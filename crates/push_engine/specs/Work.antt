@@ -1,12 +1,12 @@
 -- The work of a push: vertices gone over, and the edges from them.
-use Rattle.std.specs.Prelude.{◌≡◌, ℕ, ◌+◌, ◌/◌, ◌≤◌, ◌&&◌, ◌||◌, Bool, not, true, false, nat_lt, List, [], ◌∷◌, length, Option, Some, None}
+use Rattle.std.specs.Prelude.{ℕ, ◌+◌, ◌/◌, ◌&&◌, ◌||◌, Bool, not, true, false, nat_lt, List, ◌∷◌, length, Option, Some, None}
 use Rattle.edge_lists.specs.Edge.{Edge}
-use Rattle.kernels.specs.declared.endpoint_filter.EndpointFilter.{EndpointFilter}
-use Rattle.kernels.specs.declared.endpoint_filter.EndpointFilter.TheVariants as end
 use Rattle.flat_snapshot.specs.Digraph.{Digraph}
 use Rattle.flat_snapshot.specs.Neighbours.{destinations_of}
 use Rattle.vertex_sets.specs.declared.form.Form.{Form}
 use Rattle.vertex_sets.specs.declared.form.Form.TheVariants as form
+use Rattle.kernels.specs.declared.endpoint_filter.EndpointFilter.{EndpointFilter}
+use Rattle.kernels.specs.declared.endpoint_filter.EndpointFilter.TheVariants as end
 
 -- one for each vertex, and one for each edge from it
 abbrev pub work_from : (edges : List Edge) → (sources : List ℕ) → ℕ
@@ -18,10 +18,6 @@ abbrev pub work_from_end : (edges : List Edge) → (from : Option EndpointFilter
 work_from_end edges None = length edges
 work_from_end edges (Some (end.Members set)) = work_from edges set.now.members
 work_from_end edges (Some (end.Filter filter)) = length edges
-
--- a count that may have stopped above a limit answers whether the whole is above each number up to the limit
-abbrev pub AnswersUpTo : (limit count whole : ℕ) → Type 0
-AnswersUpTo limit count whole = (k : ℕ) → k ≤ limit → nat_lt k count ≡ nat_lt k whole
 
 abbrev pub is_bits : Form → Bool
 is_bits form.List = false
@@ -41,8 +37,3 @@ tests_first d from to = is_kept_as_bits to || nat_lt (d.vertices / 8) (work_from
 abbrev pub makes_bits : Digraph → (from to : Option EndpointFilter) → Bool
 makes_bits d from None = false
 makes_bits d from (Some to) = not (is_kept_as_bits to) && tests_first d from to
-
--- whether destinations are tested once all edges have come: there is an end, and it is not tested first
-abbrev pub tests_last : Digraph → (from to : Option EndpointFilter) → Bool
-tests_last d from None = false
-tests_last d from (Some to) = not (tests_first d from to)

@@ -5,7 +5,8 @@ ghost use Rattle.kernels.specs.State.{StateValue};
 ghost use Rattle.edge_fold.specs.Changed.{AreApart};
 ghost use Rattle.edge_fold.specs.Folded.{IsContextOf, HasFolded};
 ghost use Rattle.edge_apply.specs.Applied.{AreChangesOf};
-ghost use Rattle.push_engine.specs.Work.{AnswersUpTo, tests_first, work_from, work_from_end};
+ghost use Rattle.push_engine.specs.inside.Work.{AnswersUpTo};
+ghost use Rattle.push_engine.specs.Work.{tests_first, work_from, work_from_end};
 
 use crate::push_end::{destinations_of, is_in_bits, sources_of};
 use crate::sources::{RowInput, fold_sources};

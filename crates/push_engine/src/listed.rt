@@ -11,9 +11,11 @@ ghost use Rattle.crew.specs.Partition.{AreEnds};
 ghost use Rattle.flat_snapshot.specs.Digraph.{IsDigraph};
 ghost use Rattle.flat_snapshot.specs.Neighbours.{destinations_of};
 ghost use Rattle.vertex_sets.specs.VertexSet.{IsVertexSet};
-ghost use Rattle.edge_apply.specs.Lists.{AscendsFrom, IsEndOf};
+ghost use Rattle.edge_apply.specs.inside.Lists.{AscendsFrom};
+ghost use Rattle.edge_apply.specs.Lists.{IsEndOf};
 ghost use Rattle.edge_apply.specs.Words.{is_set};
-ghost use Rattle.push_engine.specs.Sources.{AreSources, cut_list};
+ghost use Rattle.push_engine.specs.inside.Sources.{AreSources};
+ghost use Rattle.push_engine.specs.Sources.{cut_list};
 ghost use Rattle.push_engine.specs.Work.{is_kept_as_bits, makes_bits};
 
 use crate::changes::is_tested_first;

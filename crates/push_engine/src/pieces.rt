@@ -15,7 +15,7 @@ ghost use Rattle.edge_apply.specs.Applied.{AreChangesOf};
 ghost use Rattle.edge_apply.specs.Pieces.{EachGathered};
 ghost use Rattle.edge_apply.specs.Words.{is_set, passes_words};
 ghost use Rattle.push_engine.specs.Pieces.{Answers};
-ghost use Rattle.push_engine.specs.Rows.{rows_to};
+ghost use Rattle.push_engine.specs.inside.Rows.{rows_to};
 ghost use Rattle.push_engine.specs.Sources.{passing_in};
 
 use crate::listed::words_of_end;

@@ -5,8 +5,9 @@ ghost use Rattle.kernels.specs.Registers.{HasSizes};
 ghost use Rattle.kernels.specs.State.{StateValue};
 ghost use Rattle.edge_fold.specs.Ends.{IsEndTest, IsTest};
 ghost use Rattle.edge_apply.specs.Words.{passes_words};
-ghost use Rattle.push_engine.specs.PushEnds.{AreTests, IsInBits, is_untested, passes_bits, untested_end};
-ghost use Rattle.push_engine.specs.Work.{AnswersUpTo, is_kept_as_bits, tests_last, work_from_end};
+ghost use Rattle.push_engine.specs.inside.PushEnds.{AreTests, IsInBits, is_untested, passes_bits, untested_end};
+ghost use Rattle.push_engine.specs.inside.Work.{AnswersUpTo, tests_last};
+ghost use Rattle.push_engine.specs.Work.{is_kept_as_bits, work_from_end};
 
 use apply_options::Direction;
 use edge_apply::{Apply, passing_set};

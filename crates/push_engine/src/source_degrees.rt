@@ -4,7 +4,7 @@ ghost use Rattle.std.specs.List.{range_with_len, sum_by};
 ghost use Rattle.std.proofs.Props.{props};
 ghost use Rattle.crew.specs.Limits.{weight};
 ghost use Rattle.flat_snapshot.specs.Neighbours.{destinations_of};
-ghost use Rattle.push_engine.specs.Degrees.{out_degrees, AreRunTotals};
+ghost use Rattle.push_engine.specs.inside.Degrees.{out_degrees, AreRunTotals};
 
 use crew::DegreeList;
 use flat_snapshot::Flat;

@@ -16,8 +16,8 @@ ghost use Rattle.flat_snapshot.specs.Neighbours.{destinations_of};
 ghost use Rattle.edge_apply.specs.Words.{is_set, passes_words};
 ghost use Rattle.pages.specs.Vertices.{neighbours_of};
 ghost use Rattle.vertex_blocks.specs.Blocks.{vertices_at};
-ghost use Rattle.push_engine.specs.PushEnds.{AreTests, IsInBits};
-ghost use Rattle.push_engine.specs.Rows.{rows_to};
+ghost use Rattle.push_engine.specs.inside.PushEnds.{AreTests, IsInBits};
+ghost use Rattle.push_engine.specs.inside.Rows.{rows_to};
 
 use crate::list_entries::ListEntries;
 use crate::neighbour_block::NeighbourBlock;

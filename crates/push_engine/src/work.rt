@@ -13,7 +13,8 @@ ghost use Rattle.std.proofs.Props.{props};
 ghost use Rattle.edge_apply.specs.inside.Propositions.{AreEnds-prop, AscendsFrom-prop};
 ghost use Rattle.edge_apply.specs.Lists.{IsEndOf};
 ghost use Rattle.vertex_sets.specs.declared.form.Form.TheVariants as Form;
-ghost use Rattle.push_engine.specs.Sources.{AreSources, cut_list};
+ghost use Rattle.push_engine.specs.inside.Sources.{AreSources};
+ghost use Rattle.push_engine.specs.Sources.{cut_list};
 ghost use Rattle.push_engine.specs.Work.{makes_bits};
 
 use crate::listed::{cut_sources, destination_bits, list_sources};

@@ -5,7 +5,8 @@ use Rattle.std.specs.Result.{IsErrAnd}
 use Rattle.std.proofs.lemmas.Result.{err_from_is_err_and}
 use Rattle.replies.specs.declared.send_error.SendError.{SendError}
 use Rattle.replies.specs.declared.send_error.SendError.TheVariants.{NoMemory, WriteFailed}
-use Rattle.replies.specs.Sending.{Output, output, Emits, Fails, Sends, SendsPart}
+use Rattle.replies.specs.Sending.{Output, Emits, Fails, Sends, SendsPart}
+use Rattle.replies.specs.inside.Sending.{output}
 use Rattle.replies.proofs.SendingLaws.{all_written, fails_then, sends_then}
 use Rattle.scripts.specs.Script.{Written, bytes_written_by}
 use Rattle.races.specs.RaceText.{TakesBeginning, Writes}

@@ -1,7 +1,6 @@
 pub mod Registers
 pub mod Code
 pub mod FunctionCode
-pub mod VertexCode
 pub mod Meaning
 pub mod Rooms
 pub mod inside

@@ -10,10 +10,6 @@ pub record Output : Type 0 where
   pub kept : List ℕ
   pub failures : ℕ
 
--- an output of its parts
-abbrev pub output : ℕ → List ℕ → List ℕ → ℕ → Output
-output writer bytes_written kept failures = record { writer = writer; bytes_written = bytes_written; kept = kept; failures = failures }
-
 -- of the text, after what was kept, the same writer took a beginning, and the rest is left
 pub record TakesFirst (old new : Output) (text rest : List ℕ) : Type 0 where
   pub same : new.writer ≡ old.writer

@@ -28,7 +28,8 @@ pub struct ReplyWriter<'a, W: Drain> {
 }
 
 impl<'a, W: Drain> Model for ReplyWriter<'a, W> {
-    ghost use Rattle.replies.specs.Sending.{Output, output};
+    ghost use Rattle.replies.specs.Sending.{Output};
+    ghost use Rattle.replies.specs.inside.Sending.{output};
 
     ghost Value = { Output };
 

@@ -35,9 +35,9 @@ use Rattle.vectors.specs.declared.changes.VectorChanges.{VectorChanges}
 use Rattle.vectors.specs.Changes.{with_all_changes}
 use Rattle.runner.specs.declared.flow.Flow.TheVariants.{Next}
 use Rattle.runner.specs.declared.memory.Memory.{Memory}
-use Rattle.runner.specs.Done.{HasDone}
-use Rattle.runner.specs.Position.{loops_of}
-use Rattle.runner.specs.Results.{IsUpdateFor, result_of_second, with_both}
+use Rattle.runner.specs.inside.Done.{HasDone}
+use Rattle.runner.specs.inside.Position.{loops_of}
+use Rattle.runner.specs.inside.Results.{IsUpdateFor, result_of_second, with_both}
 
 -- vectors that have as many entries each
 have_length : (n : ℕ) (vectors : List (List ℤ)) → ((x : ℕ) → x < length vectors → length (get_or vectors x []) ≡ n) → HaveLength (length vectors) n vectors

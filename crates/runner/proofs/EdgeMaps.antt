@@ -19,7 +19,8 @@ use Rattle.edge_apply.specs.declared.apply.Apply.{Apply}
 use Rattle.vectors.specs.declared.changes.VectorChanges.{VectorChanges}
 use Rattle.plans.specs.Reducing.{AreReduced, indices_of, steps_at}
 use Rattle.run_state.specs.declared.run_view.RunView.{RunView}
-use Rattle.runner.specs.EdgeMap.{AreChangesTo, AreChangesOfApply, IsApplyOfRun}
+use Rattle.runner.specs.EdgeMap.{AreChangesTo, AreChangesOfApply}
+use Rattle.runner.specs.inside.EdgeMap.{IsApplyOfRun}
 use Rattle.runner.specs.declared.edge_maps.EdgeMap.{EdgeMap}
 use Rattle.run_state.specs.View.{HasEntryForEach}
 use Rattle.runner.proofs.Between.{count_after_edges, entry_past, matching_between, rows_after_edges}

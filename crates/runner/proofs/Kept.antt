@@ -7,7 +7,7 @@ use Rattle.plans.specs.Instruction.{InstructionTree}
 use Rattle.algorithm_meaning.specs.Loop.{forget_beyond}
 use Rattle.plans.specs.Machine.{Configuration, At, Ended}
 use Rattle.plans.proofs.Depths.{forgotten-less, within_itself}
-use Rattle.runner.specs.Done.{AreLevel}
+use Rattle.runner.specs.inside.Done.{AreLevel}
 
 -- what is forgotten stays forgotten
 pub forgotten_twice : (d : Depth) (s : StateValue) → forget_beyond d (forget_beyond d s) ≡ forget_beyond d s

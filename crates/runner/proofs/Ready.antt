@@ -18,7 +18,7 @@ use Rattle.plans.specs.declared.plan.Plan.{Plan}
 use Rattle.plans.specs.Kernels.{kernel_at}
 use Rattle.plans.specs.Operation.{IsFor, IsInstruction, IsOperation}
 use Rattle.run_state.specs.VertexKernels.{IsVertexKernel}
-use Rattle.runner.specs.Done.{HaveTrees, IsReady}
+use Rattle.runner.specs.inside.Done.{HaveTrees, IsReady}
 use Rattle.runner.proofs.Partners.{partner_at}
 
 -- an operation of a tree is ready

@@ -18,7 +18,8 @@ use Rattle.plans.specs.RunLaws.{GoesOn, Shows, RunsAs}
 use Rattle.plans.proofs.Whole.{runs_as}
 use Rattle.algorithm_meaning.specs.declared.state.LoopCounter.{LoopCounter}
 use Rattle.run_state.specs.State.{graph_value, opened}
-use Rattle.runner.specs.Position.{outcome_so_far, position}
+use Rattle.runner.specs.Position.{outcome_so_far}
+use Rattle.runner.specs.inside.Position.{position}
 
 module _ (p : ProgramTree) (g : GraphValue) (plan : List InstructionTree) where
   -- one step more

@@ -10,7 +10,8 @@ use Rattle.algorithm_meaning.specs.declared.state.LoopCounter.{LoopCounter}
 use Rattle.algorithm_meaning.specs.declared.state.Depth.{Depth}
 use Rattle.plans.specs.Instruction.{InstructionTree}
 use Rattle.algorithm_meaning.specs.Loop.{forget_beyond}
-use Rattle.runner.specs.Position.{IsShown, IsShownWhere, outcome_so_far, position, shown_where}
+use Rattle.runner.specs.inside.Position.{IsShown, IsShownWhere, position}
+use Rattle.runner.specs.Position.{outcome_so_far, shown_where}
 
 shown_here : (p : ProgramTree) (turns : ℕ) (o : Option InstructionTree) (s : StateValue) (d : Depth) → IsShownWhere o s d → shown p turns (forget_beyond d s) TurnsOver ≡ shown_where p turns o s
 shown_here p turns None s d is = ap (λ (t : StateValue). shown p turns t TurnsOver) is

@@ -20,7 +20,7 @@ use Rattle.plans.specs.Machine.{Configuration, At, act, act_at, after_advance, s
 use Rattle.plans.specs.Plan.{plan_of}
 use Rattle.plans.proofs.Reaching.{is_inside}
 use Rattle.plans.proofs.Whole.{steps_lower}
-use Rattle.plans.specs.Outline.{most_steps_of}
+use Rattle.plans.specs.inside.Outline.{most_steps_of}
 use Rattle.plans.specs.declared.instruction.Instruction.{Instruction}
 use Rattle.plans.specs.declared.operation.PlanOperation.TheVariants as op
 use Rattle.plans.specs.declared.plan.Plan.{Plan}
@@ -30,8 +30,8 @@ use Rattle.plans.proofs.Bounds.{same_bound}
 use Rattle.runner.specs.declared.flow.Flow.TheVariants.{Next}
 use Rattle.runner.specs.declared.memory.Memory.{Memory}
 use Rattle.run_state.specs.State.{RunState, with_state}
-use Rattle.runner.specs.Done.{AreLevel, HasDone}
-use Rattle.runner.specs.Position.{position}
+use Rattle.runner.specs.inside.Done.{AreLevel, HasDone}
+use Rattle.runner.specs.inside.Position.{position}
 use Rattle.runner.specs.Resting.{kept_at, resting}
 use Rattle.runner.proofs.Kept.{as_many_left, forgotten_twice}
 use Rattle.runner.proofs.Partners.{partner_at}

@@ -1,11 +1,7 @@
 pub mod EdgeMap
 pub mod Position
 pub mod Resting
-pub mod Done
-pub mod Results
 pub mod Job
 pub mod RunRefusal
 pub mod HybridSources
-pub mod Groups
-pub mod Employment
-pub mod ChangedSets
+pub mod inside

@@ -17,9 +17,9 @@ ghost use Rattle.run_state.specs.VertexKernels.{IsVertexKernel};
 ghost use Rattle.std.specs.Option.{ForSome, option_map};
 ghost use Rattle.algorithm_meaning.specs.Function.{steps_of};
 ghost use Rattle.kernels.specs.Meaning.{IsVertexCode};
-ghost use Rattle.runner.specs.Done.{HasDone, HaveTrees, IsAsBefore};
-ghost use Rattle.runner.specs.Position.{IsOn};
-ghost use Rattle.runner.specs.Results.{IsUpdateFor, result_of_second, with_both};
+ghost use Rattle.runner.specs.inside.Done.{HasDone, HaveTrees, IsAsBefore};
+ghost use Rattle.runner.specs.inside.Position.{IsOn};
+ghost use Rattle.runner.specs.inside.Results.{IsUpdateFor, result_of_second, with_both};
 ghost use Rattle.vectors.specs.Changes.{with_all_changes};
 
 use crate::changed_vertices::changed_vertices;

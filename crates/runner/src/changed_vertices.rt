@@ -2,7 +2,7 @@
 ghost use Rattle.std.specs.Prelude.{◌≡◌, ◌<◌, ℤ, List, length, IfOk};
 ghost use Rattle.algorithm_meaning.specs.EdgeApply.{modified};
 ghost use Rattle.edge_apply.specs.ChangedSets.{form_of};
-ghost use Rattle.runner.specs.ChangedSets.{dense_choice};
+ghost use Rattle.runner.specs.inside.ChangedSets.{dense_choice};
 ghost use Rattle.runner.specs.EdgeMap.{AreChangesTo};
 
 use apply_options::{ApplySchedule, DenseVertexSet};

@@ -9,7 +9,8 @@ ghost use Rattle.kernels.specs.Kernels.{IsEdgeKernel};
 ghost use Rattle.kernels.specs.declared.kernel.EdgeKernel.{EdgeKernel};
 ghost use Rattle.plans.specs.Functions.{AreFunctionKernels};
 ghost use Rattle.plans.specs.Reducing.{indices_of, steps_at};
-ghost use Rattle.runner.specs.EdgeMap.{AreChangesOfApply, IsApplyOfRun};
+ghost use Rattle.runner.specs.EdgeMap.{AreChangesOfApply};
+ghost use Rattle.runner.specs.inside.EdgeMap.{IsApplyOfRun};
 
 use crate::direction::Traversal;
 use crate::edge_applier::ApplyEngine;

@@ -1,7 +1,7 @@
 //! Employment: how many of a run's workers do an edge apply.
 ghost use Rattle.std.specs.Prelude.{◌≡◌, ◌<◌, ◌^◌, min};
 ghost use Rattle.push_engine.specs.Work.{work_from_end};
-ghost use Rattle.runner.specs.Employment.{employed_of, work_into_end, work_of};
+ghost use Rattle.runner.specs.inside.Employment.{employed_of, work_into_end, work_of};
 
 use crate::direction::Traversal;
 use apply_options::Parallelization;

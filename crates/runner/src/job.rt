@@ -52,8 +52,8 @@ impl Model for Job {
     ghost use Rattle.std.specs.Coded.{codes};
     ghost use Rattle.std.specs.Prelude.{◌≡◌};
     ghost use Rattle.plans.specs.contracts.plan.Plan as plan_contract;
-    ghost use Rattle.runner.specs.Groups.{AreGroupsOf};
-    ghost use Rattle.runner.specs.Position.{configuration_of};
+    ghost use Rattle.runner.specs.inside.Groups.{AreGroupsOf};
+    ghost use Rattle.runner.specs.inside.Position.{configuration_of};
     ghost use Rattle.runner.specs.Resting.{JobValue, job_value};
 
     ghost Value = { JobValue };

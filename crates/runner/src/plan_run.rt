@@ -9,9 +9,10 @@ ghost use Rattle.plans.specs.Machine.{Ended, first_configuration};
 ghost use Rattle.plans.specs.Plan.{plan_of};
 ghost use Rattle.plans.specs.PlanOf.{IsPlan};
 ghost use Rattle.run_state.specs.State.{graph_value};
-ghost use Rattle.runner.specs.Done.{after_flow};
-ghost use Rattle.runner.specs.Groups.{AreGroupsOf};
-ghost use Rattle.runner.specs.Position.{configuration_of, IsShown, loops_of, outcome_so_far};
+ghost use Rattle.runner.specs.inside.Done.{after_flow};
+ghost use Rattle.runner.specs.inside.Groups.{AreGroupsOf};
+ghost use Rattle.runner.specs.inside.Position.{configuration_of, IsShown, loops_of};
+ghost use Rattle.runner.specs.Position.{outcome_so_far};
 
 use crate::flow::Flow;
 use crate::memory::Memory;

@@ -6,8 +6,8 @@ ghost use Rattle.algorithm_meaning.specs.State.{GraphValue};
 ghost use Rattle.plans.specs.Instruction.{Do};
 ghost use Rattle.plans.specs.Functions.{AreFunctionKernels};
 ghost use Rattle.plans.specs.SetExpression.{set_value};
-ghost use Rattle.runner.specs.Done.{HasDone, IsAsBefore};
-ghost use Rattle.runner.specs.Position.{IsOn};
+ghost use Rattle.runner.specs.inside.Done.{HasDone, IsAsBefore};
+ghost use Rattle.runner.specs.inside.Position.{IsOn};
 
 use crate::flow::Flow;
 use crate::memory::Memory;

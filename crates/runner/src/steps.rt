@@ -12,9 +12,9 @@ ghost use Rattle.plans.specs.Functions.{AreFunctionKernels};
 ghost use Rattle.plans.specs.Operation.{IsInstruction, IsOperation};
 ghost use Rattle.plans.specs.PlanOf.{IsPlan};
 ghost use Rattle.run_state.specs.State.{graph_value};
-ghost use Rattle.runner.specs.Done.{HasDone, HaveTrees, IsAsBefore, IsControl, IsKept, IsLevel, IsReady, TakesValues, WritesEntry};
-ghost use Rattle.runner.specs.Groups.{AreGroupsOf};
-ghost use Rattle.runner.specs.Position.{configuration_of, IsOn, steps_left};
+ghost use Rattle.runner.specs.inside.Done.{HasDone, HaveTrees, IsAsBefore, IsControl, IsKept, IsLevel, IsReady, TakesValues, WritesEntry};
+ghost use Rattle.runner.specs.inside.Groups.{AreGroupsOf};
+ghost use Rattle.runner.specs.inside.Position.{configuration_of, IsOn, steps_left};
 ghost use Rattle.runner.specs.Resting.{resting};
 
 use crate::applies::EdgeApplies;

@@ -2,7 +2,7 @@
 ghost use Rattle.std.specs.Prelude.{◌≡◌, None, Some, IfOk};
 ghost use Rattle.edge_fold.specs.Changed.{AreApart};
 ghost use Rattle.edge_apply.specs.Applied.{AreChangesOf};
-ghost use Rattle.runner.specs.Employment.{AreEmployed, work_of};
+ghost use Rattle.runner.specs.inside.Employment.{AreEmployed, work_of};
 ghost use Rattle.runner.specs.HybridSources.{traversal_of};
 
 use crate::direction::Traversal;

@@ -5,8 +5,8 @@ ghost use Rattle.typed_tree.specs.ProgramTree.{ProgramTree};
 ghost use Rattle.algorithm_meaning.specs.State.{GraphValue};
 ghost use Rattle.plans.specs.Instruction.{Do, OperationTree};
 ghost use Rattle.plans.specs.Operation.{HasCondition, HasInteger, IsFor};
-ghost use Rattle.runner.specs.Done.{HasDone, IsAsBefore, IsKept};
-ghost use Rattle.runner.specs.Position.{IsOn};
+ghost use Rattle.runner.specs.inside.Done.{HasDone, IsAsBefore, IsKept};
+ghost use Rattle.runner.specs.inside.Position.{IsOn};
 
 use crate::flow::Flow;
 use crate::memory::Memory;

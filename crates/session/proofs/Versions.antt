@@ -13,7 +13,7 @@ use Rattle.version_list.proofs.Holding.{is_open_is}
 use Rattle.session.specs.declared.error.SessionError.{SessionError}
 use Rattle.session.specs.declared.error.SessionError.TheVariants.{VertexRange, BadChunkSize, NotKept, NotHeld, HistoryFull, NoProgram, NoJob, NoMemory}
 use Rattle.session.specs.declared.step.SessionReply.{SessionReply}
-use Rattle.session.specs.Refusal.{of_versions}
+use Rattle.session.specs.inside.Refusal.{of_versions}
 use Rattle.session.specs.Standing.{SessionValue}
 use Rattle.session.specs.inside.Attempts.{StepsVersions}
 

@@ -1,7 +1,5 @@
 -- The numbers by which refusals of sessions are known.
 use Rattle.std.specs.Prelude.{ℕ}
-use Rattle.version_list.specs.declared.error.VersionError.{VersionError}
-use Rattle.version_list.specs.declared.error.VersionError.TheVariants as versions
 use Rattle.session.specs.declared.error.SessionError.{SessionError}
 use Rattle.session.specs.declared.error.SessionError.TheVariants.{VertexRange, BadChunkSize, NotKept, NotHeld, HistoryFull, NoProgram, NoJob, NoMemory}
 
@@ -15,12 +13,3 @@ number_of HistoryFull = 123
 number_of NoProgram = 412
 number_of NoJob = 413
 number_of NoMemory = 900
-
--- a refusal of the versions, as one of the session
-abbrev pub of_versions : VersionError → SessionError
-of_versions versions.VertexRange = VertexRange
-of_versions versions.BadChunkSize = BadChunkSize
-of_versions versions.NotKept = NotKept
-of_versions versions.NotHeld = NotHeld
-of_versions versions.HistoryFull = HistoryFull
-of_versions versions.NoMemory = NoMemory

@@ -1,6 +1,7 @@
 //! Refusals of sessions.
 ghost use Rattle.std.specs.Prelude.{◌≡◌};
-ghost use Rattle.session.specs.Refusal.{number_of, of_versions};
+ghost use Rattle.session.specs.Refusal.{number_of};
+ghost use Rattle.session.specs.inside.Refusal.{of_versions};
 ghost use Rattle.session.specs.declared.error.SessionError.TheVariants.{NoMemory};
 
 use refusal_numbers::{

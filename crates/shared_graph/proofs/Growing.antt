@@ -9,7 +9,8 @@ use Rattle.version_list.specs.Timeline.{IsLegal, replay}
 use Rattle.version_list.proofs.Stepping.{replay-pushed, legal_pushed}
 use Rattle.version_list.proofs.Counting.{opened_counts}
 use Rattle.shared_graph.specs.declared.entry.Entry.{Entry}
-use Rattle.shared_graph.specs.Histories.{steps_of, own, state_at, MayFollow}
+use Rattle.shared_graph.specs.Histories.{steps_of, own, state_at}
+use Rattle.shared_graph.specs.inside.Histories.{MayFollow}
 
 pub steps_of-push : (log : List Entry) (e : Entry) → steps_of (log ++ e ∷ []) ≡ steps_of log ++ e.done ∷ []
 steps_of-push [] e = refl

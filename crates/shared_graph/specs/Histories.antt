@@ -6,8 +6,8 @@ use Rattle.tree_batch.specs.Digraph.{Digraph, empty_graph, graph_through}
 use Rattle.version_list.specs.declared.step.Step.{Step}
 use Rattle.version_list.specs.declared.step.Reply.{Reply}
 use Rattle.version_list.specs.declared.step.Done.{Done}
-use Rattle.version_list.specs.Machine.{State, reply_to, newest_number, version_graph}
-use Rattle.version_list.specs.Timeline.{IsAccepted, replay}
+use Rattle.version_list.specs.Machine.{State, newest_number, version_graph}
+use Rattle.version_list.specs.Timeline.{replay}
 use Rattle.version_list.specs.Commits.{commits_of}
 use Rattle.shared_graph.specs.declared.entry.Entry.{Entry}
 
@@ -43,10 +43,6 @@ own reader log = filter (λ e. e.by == reader) log
 -- the machine's state at the end of a history that began in base
 abbrev pub state_at : State → List Entry → State
 state_at base log = replay base (steps_of log)
-
--- the machine accepts the step at the end of the history, with this reply
-abbrev pub MayFollow : State → List Entry → Done → Type 0
-MayFollow base log done = (reply_to (state_at base log) done.step ≡ done.reply) × IsAccepted done.reply
 
 -- the number of the newest version, and its graph: all batches, folded
 pub record IsNewest (s : State) (number : ℕ) (graph : Digraph) : Type 0 where

@@ -1,7 +1,5 @@
 -- The numbers by which refusals are known.
 use Rattle.std.specs.Prelude.{ℕ}
-use Rattle.version_list.specs.declared.error.VersionError.{VersionError}
-use Rattle.version_list.specs.declared.error.VersionError.TheVariants as version
 use Rattle.shared_graph.specs.declared.error.SharedError.{SharedError}
 use Rattle.shared_graph.specs.declared.error.SharedError.TheVariants.{VertexRange, BadChunkSize, NotKept, NotHeld, HistoryFull, BadSeats, NoMemory}
 use Rattle.shared_graph.specs.declared.error.LatestError.{LatestError}
@@ -21,12 +19,3 @@ number_of NoMemory = 900
 abbrev pub latest_number_of : LatestError → ℕ
 latest_number_of latest.Closed = 125
 latest_number_of latest.NoMemory = 900
-
--- a refusal of the versions, as one of the shared graph
-abbrev pub from_version : VersionError → SharedError
-from_version version.VertexRange = VertexRange
-from_version version.BadChunkSize = BadChunkSize
-from_version version.NotKept = NotKept
-from_version version.NotHeld = NotHeld
-from_version version.HistoryFull = HistoryFull
-from_version version.NoMemory = NoMemory

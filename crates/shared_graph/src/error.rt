@@ -3,7 +3,8 @@
 ghost use Rattle.std.specs.Prelude.{◌≡◌};
 ghost use Rattle.shared_graph.specs.declared.error.SharedError.TheVariants.{NoMemory};
 ghost use Rattle.shared_graph.specs.declared.error.LatestError.TheVariants as latest;
-ghost use Rattle.shared_graph.specs.Refusal.{number_of, latest_number_of, from_version};
+ghost use Rattle.shared_graph.specs.Refusal.{number_of, latest_number_of};
+ghost use Rattle.shared_graph.specs.inside.Refusal.{from_version};
 
 use refusal_numbers::{
     BAD_CHUNK_SIZE, BAD_SEATS, CLOSED, HISTORY_FULL, NO_MEMORY, NOT_HELD, NOT_KEPT, VERTEX_RANGE,

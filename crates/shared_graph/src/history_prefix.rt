@@ -4,7 +4,8 @@ ghost use Rattle.std.specs.Prelude.{◌≡◌, ◌++◌, ◌∷◌, [], length, 
 ghost use mathlib.Core.List.{IsPrefix};
 ghost use Rattle.version_list.specs.Machine.{opened};
 ghost use Rattle.version_list.specs.Timeline.{IsLegal};
-ghost use Rattle.shared_graph.specs.Histories.{steps_of, MayFollow};
+ghost use Rattle.shared_graph.specs.Histories.{steps_of};
+ghost use Rattle.shared_graph.specs.inside.Histories.{MayFollow};
 
 use crate::book::{Add, Added, Book, Law, Nothing};
 use crate::entry::Entry;

@@ -5,10 +5,11 @@ ghost use Rattle.std.specs.Arc.{arc_value};
 ghost use mathlib.Core.List.{IsPrefix};
 ghost use Rattle.version_list.specs.Machine.{opened, state_after};
 ghost use Rattle.version_list.specs.Timeline.{IsLegal};
-ghost use Rattle.shared_graph.specs.Histories.{own, steps_of, state_at, MayFollow, IsNewest};
+ghost use Rattle.shared_graph.specs.Histories.{own, steps_of, state_at, IsNewest};
+ghost use Rattle.shared_graph.specs.inside.Histories.{MayFollow};
 ghost use Rattle.shared_graph.specs.Passes.{HasMade, fresh_passes};
 ghost use Rattle.shared_graph.specs.inside.Locked.{AreCounts, ShowsRefusal};
-ghost use Rattle.shared_graph.specs.Refusal.{from_version};
+ghost use Rattle.shared_graph.specs.inside.Refusal.{from_version};
 
 use crate::book::{Book, Opening};
 use crate::error::SharedError;

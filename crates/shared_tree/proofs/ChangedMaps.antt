@@ -3,7 +3,8 @@ use Rattle.std.proofs.Common.{◌≡◌, ℕ, ◌+◌, ◌%◌, ◌^◌, ◌≤�
 use Rattle.std.proofs.lemmas.Bool.{cases_order}
 use Rattle.ascending_lists.specs.Maps.{Rises, IsMap, lookup}
 use Rattle.shared_tree.specs.Changes.{entry_at, IsSplit}
-use Rattle.shared_tree.specs.ChangedMaps.{MadeAt, IsChangedMap, weight_at, total_weight, GrewBy}
+use Rattle.shared_tree.specs.ChangedMaps.{MadeAt, IsChangedMap, total_weight, GrewBy}
+use Rattle.shared_tree.specs.inside.ChangedMaps.{weight_at}
 use Rattle.ascending_lists.proofs.MapOrder.{rises_room, rises_to, rises_from, rises_left, rises_right, rises_joined, rises_front, rises_back, rises_between}
 use Rattle.shared_tree.proofs.Splits.{rises_split}
 use Rattle.shared_tree.proofs.Lookups.{value_of_split}

@@ -4,7 +4,7 @@ use Rattle.std.proofs.lemmas.Bool.{cases_lt}
 use Rattle.std.proofs.lemmas.Nat.{pow-add}
 use Rattle.std.proofs.Math.Nat.{pow-le-pow_right, pow-succ', max-eq_left, max-eq_right}
 use Rattle.shared_tree.specs.Balanced.{DifferByAtMostOne}
-use Rattle.shared_tree.specs.Outcome.{IsLeastDepth}
+use Rattle.shared_tree.specs.inside.Outcome.{IsLeastDepth}
 
 -- a count near another has no depth two above it
 near_depth : (a b d e : ℕ) → a ≤ b + 1 → IsLeastDepth a d → IsLeastDepth b e → d ≤ e + 1

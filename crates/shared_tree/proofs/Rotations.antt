@@ -4,7 +4,7 @@ use Rattle.shared_tree.specs.declared.nodes.Opened.{Opened}
 use Rattle.shared_tree.specs.declared.joins.Last.{Last}
 use Rattle.ascending_lists.specs.Maps.{IsMap}
 use Rattle.shared_tree.specs.Balanced.{Balanced, IsFork}
-use Rattle.shared_tree.specs.Joins.{IsFront}
+use Rattle.shared_tree.specs.inside.Joins.{IsFront}
 use Rattle.shared_tree.specs.inside.Opened.{IsOpened, IsPopped}
 use Rattle.ascending_lists.proofs.MapOrder.{rises_front, rises_back}
 

@@ -1,5 +1,5 @@
 -- Maps changed at many keys.
-use Rattle.std.specs.Prelude.{◌≡◌, ℕ, ◌+◌, ◌%◌, ◌^◌, Option, Some, None, List, [], ◌∷◌}
+use Rattle.std.specs.Prelude.{◌≡◌, ℕ, ◌+◌, ◌%◌, ◌^◌, Option, Some, None, List, ◌∷◌}
 use Rattle.ascending_lists.specs.Maps.{Rises, lookup}
 
 -- what becomes of the value at a key: as a change makes it, or as it was where there is no change
@@ -11,11 +11,6 @@ MadeAt makes (Some c) old new = makes c old new
 pub record IsChangedMap {V C : Type 0} (makes : C → Option V → Option V → Type 0) (changes : List (ℕ × C)) (es new : List (ℕ × V)) : Type 0 where
   pub values : (k : ℕ) → MadeAt makes (lookup k changes) (lookup k es) (lookup k new)
   pub within : (low high : ℕ) → Rises low high es → Rises low high changes → Rises low high new
-
--- how much a value weighs, if there is one
-abbrev pub weight_at : {V : Type 0} → (V → ℕ) → Option V → ℕ
-weight_at weight None = 0
-weight_at weight (Some v) = weight v
 
 -- how much all values weigh together
 abbrev pub total_weight : {V : Type 0} → (V → ℕ) → List (ℕ × V) → ℕ

@@ -1,5 +1,5 @@
 -- Trees made of smaller ones.
-use Rattle.std.specs.Prelude.{◌≡◌, ℕ, ◌+◌, ◌≤◌, max, [], ◌∷◌, ◌++◌}
+use Rattle.std.specs.Prelude.{◌≡◌, ℕ, ◌+◌, ◌≤◌, max, ◌∷◌, ◌++◌}
 use Rattle.shared_tree.specs.Balanced.{Balanced, DifferByAtMostOne}
 
 -- t has the entries of l, then (k, v), then those of r, and is at most one deeper than l and r
@@ -15,9 +15,3 @@ pub record IsConcatenation {V : Type 0} (l r t : Balanced V) : Type 0 where
   pub not_less : max l.depth r.depth ≤ t.depth + 1
   pub not_more : t.depth ≤ max l.depth r.depth + 1
   pub near : DifferByAtMostOne l.depth r.depth → max l.depth r.depth ≤ t.depth
-
--- front is t without its last entry (k, v), and is at most one less deep
-pub record IsFront {V : Type 0} (t front : Balanced V) (k : ℕ) (v : V) : Type 0 where
-  pub entries : t.entries ≡ front.entries ++ (k, v) ∷ []
-  pub not_less : t.depth ≤ front.depth + 1
-  pub not_more : front.depth ≤ t.depth

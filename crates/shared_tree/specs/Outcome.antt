@@ -1,8 +1,8 @@
 -- What the calls that make trees give, case by case.
-use Rattle.std.specs.Prelude.{◌≡◌, ℕ, ◌+◌, ◌*◌, ◌^◌, ◌<◌, ◌≤◌, Result, Ok, Err, List}
+use Rattle.std.specs.Prelude.{◌≡◌, ℕ, Result, Ok, Err, List}
+use Rattle.ascending_lists.specs.Maps.{IsMap}
 use Rattle.shared_tree.specs.declared.error.TreeError.{TreeError}
 use Rattle.shared_tree.specs.declared.error.TreeError.TheVariants.{NotAscending, NoMemory}
-use Rattle.ascending_lists.specs.Maps.{IsMap}
 use Rattle.shared_tree.specs.Balanced.{Balanced}
 
 -- a tree of these entries, unless they are no map in order
@@ -10,7 +10,3 @@ abbrev pub Builds : {V : Type 0} → List (ℕ × V) → Result (Balanced V) Tre
 Builds es (Ok t) = IsMap es × (t.entries ≡ es)
 Builds es (Err NotAscending) = ¬ (IsMap es)
 Builds es (Err NoMemory) = IsMap es
-
--- d is the least depth of a tree of n entries
-abbrev pub IsLeastDepth : ℕ → ℕ → Type 0
-IsLeastDepth count d = (count < 2 ^ d) × (2 ^ d ≤ 2 * count + 1)

@@ -2,7 +2,8 @@
 
 ghost use Rattle.std.specs.Prelude.{◌≡◌, ◌+◌, ◌≤◌, ◌↔◌, ◌++◌, vec_len, IsTrue, IfOk, OnOk};
 ghost use Rattle.ascending_lists.specs.Maps.{IsMap};
-ghost use Rattle.shared_tree.specs.Outcome.{Builds, IsLeastDepth};
+ghost use Rattle.shared_tree.specs.Outcome.{Builds};
+ghost use Rattle.shared_tree.specs.inside.Outcome.{IsLeastDepth};
 
 use crate::error::TreeError;
 use crate::nodes::fork_new;

@@ -2,7 +2,8 @@
 
 ghost use Rattle.std.specs.Prelude.{◌≡◌, ℕ, Option, IfOk};
 ghost use Rattle.std.specs.Option.{option_copied};
-ghost use Rattle.shared_tree.specs.ChangedMaps.{MadeAt, weight_at, GrewBy};
+ghost use Rattle.shared_tree.specs.ChangedMaps.{MadeAt, GrewBy};
+ghost use Rattle.shared_tree.specs.inside.ChangedMaps.{weight_at};
 
 use crate::share::Share;
 use std::alloc::{AllocError, Global};

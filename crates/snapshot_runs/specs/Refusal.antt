@@ -1,7 +1,5 @@
 -- The numbers by which refusals of runs on the newest version are known.
 use Rattle.std.specs.Prelude.{ℕ}
-use Rattle.shared_graph.specs.declared.error.LatestError.{LatestError}
-use Rattle.shared_graph.specs.declared.error.LatestError.TheVariants as latest
 use Rattle.snapshot_runs.specs.declared.error.LatestRunError.{LatestRunError}
 use Rattle.snapshot_runs.specs.declared.error.LatestRunError.TheVariants.{BadWorkers, Closed, NoMemory}
 
@@ -10,8 +8,3 @@ abbrev pub number_of : LatestRunError → ℕ
 number_of BadWorkers = 411
 number_of Closed = 125
 number_of NoMemory = 900
-
--- a refusal of the newest version, as one of a run on it
-abbrev pub of_latest : LatestError → LatestRunError
-of_latest latest.Closed = Closed
-of_latest latest.NoMemory = NoMemory

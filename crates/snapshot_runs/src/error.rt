@@ -1,7 +1,8 @@
 //! Refusals of runs on the newest version.
 ghost use Rattle.std.specs.Prelude.{◌≡◌};
 ghost use Rattle.snapshot_runs.specs.declared.error.LatestRunError.TheVariants.{NoMemory};
-ghost use Rattle.snapshot_runs.specs.Refusal.{number_of, of_latest};
+ghost use Rattle.snapshot_runs.specs.Refusal.{number_of};
+ghost use Rattle.snapshot_runs.specs.inside.Refusal.{of_latest};
 
 use refusal_numbers::{BAD_WORKERS, CLOSED, NO_MEMORY};
 use shared_graph::LatestError;

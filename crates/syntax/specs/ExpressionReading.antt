@@ -1,20 +1,20 @@
 -- Reading terminals from the left: a reader answers with a tree and the terminals after it. Depth is how many parentheses and brackets
 -- may stand in each other. The laws of `laws` say what reading gives in terms of the grammar.
-use Rattle.std.specs.Prelude.{ℕ, zero, suc, Bool, true, false, List, [], ◌∷◌, length, Option, Some, None}
+use Rattle.std.specs.Prelude.{ℕ, zero, suc, Bool, true, false, List, ◌∷◌, length, Option, Some, None}
 use Rattle.lexer.specs.declared.keyword.Keyword.{Keyword}
 use Rattle.lexer.specs.declared.keyword.Keyword.TheVariants as keyword
 use Rattle.lexer.specs.declared.symbol.Symbol.TheVariants as symbol
 use Rattle.syntax.specs.declared.operators.Addition.{Addition}
-use Rattle.syntax.specs.declared.operators.Addition.TheVariants as additions
 use Rattle.syntax.specs.declared.operators.Multiplication.{Multiplication}
-use Rattle.syntax.specs.declared.operators.Multiplication.TheVariants as multiplications
 use Rattle.syntax.specs.declared.operators.Prefix.{Prefix}
-use Rattle.syntax.specs.declared.operators.Prefix.TheVariants as prefixs
 use Rattle.syntax.specs.declared.operators.Relation.{Relation}
-use Rattle.syntax.specs.declared.operators.Relation.TheVariants as relations
 use Rattle.syntax.specs.Terminals.{Terminal, Name, Number, OfKeyword, OfSymbol, Identifier}
 use Rattle.syntax.specs.ExpressionTrees.{ExpressionTree, ConjunctionTree, ComparisonTree, SumTree, TermTree, UnaryTree, PrimaryTree, OneSum, TwoSums, Bare, Signed, Literal, Truth, Variable, Entry, Size, Parentheses}
 use Rattle.syntax.specs.ExpressionViews.{expression_from, conjunction_from, sum_from, term_from}
+use Rattle.syntax.specs.declared.operators.Addition.TheVariants as additions
+use Rattle.syntax.specs.declared.operators.Multiplication.TheVariants as multiplications
+use Rattle.syntax.specs.declared.operators.Prefix.TheVariants as prefixs
+use Rattle.syntax.specs.declared.operators.Relation.TheVariants as relations
 
 infixl 10 ◌>>=◌
 abbrev pub ◌>>=◌ : {A B : Type 0} → Option A → (A → Option B) → Option B
@@ -187,8 +187,3 @@ conjunction_at depth = conjunction_by (comparison_at depth)
 
 abbrev pub expression_at : ℕ → Reader ExpressionTree
 expression_at depth = expression_by (conjunction_at depth)
-
--- where one more is opened
-abbrev pub expression_in : ℕ → Reader ExpressionTree
-expression_in zero = no_expression
-expression_in (suc depth) = expression_at depth

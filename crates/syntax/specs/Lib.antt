@@ -1,8 +1,6 @@
 pub mod ExpressionBeginnings
-pub mod ExpressionCodes
 pub mod ExpressionDepth
 pub mod ExpressionEnds
-pub mod ExpressionFalls
 pub mod ExpressionReading
 pub mod ExpressionSpelling
 pub mod ExpressionTrees

@@ -1,11 +1,11 @@
 -- How deep terminals stand in what is opened and not closed yet.
-use Rattle.std.specs.Prelude.{◌≡◌, ℕ, zero, suc, ◌<◌, ◌≤◌, List, [], ◌∷◌, ◌⊎◌}
+use Rattle.std.specs.Prelude.{◌≡◌, ℕ, zero, suc, ◌<◌, ◌≤◌, List, ◌∷◌, ◌⊎◌}
 use Rattle.lexer.specs.declared.keyword.Keyword.{Keyword}
-use Rattle.lexer.specs.declared.keyword.Keyword.TheVariants as keyword
 use Rattle.lexer.specs.declared.symbol.Symbol.{Symbol}
-use Rattle.lexer.specs.declared.symbol.Symbol.TheVariants as symbol
 use Rattle.lexer.specs.declared.token.Token.{Token}
 use Rattle.lexer.specs.Tokens.{slice_of}
+use Rattle.lexer.specs.declared.keyword.Keyword.TheVariants as keyword
+use Rattle.lexer.specs.declared.symbol.Symbol.TheVariants as symbol
 use Rattle.syntax.specs.Terminals.{Terminal, Opening, OfKeyword, OfSymbol, terminal_of}
 use Rattle.syntax.specs.declared.nesting.Change.{Change}
 use Rattle.syntax.specs.declared.nesting.Change.TheVariants.{Opens, Closes, Keeps}
@@ -48,11 +48,6 @@ changed Keeps n = n
 -- how much is open after a terminal
 abbrev pub nesting_behind : Terminal → ℕ → ℕ
 nesting_behind terminal n = changed (terminal_change terminal) n
-
--- how much is open after terminals, where so much is open before them
-abbrev pub nesting : ℕ → List Terminal → ℕ
-nesting n [] = n
-nesting n (terminal ∷ terminals) = nesting (nesting_behind terminal n) terminals
 
 -- after no terminal is more open than this
 abbrev pub StaysWithin : ℕ → ℕ → List Terminal → Type 0

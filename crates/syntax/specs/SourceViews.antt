@@ -1,8 +1,6 @@
 -- The trees that the structs are.
-use Rattle.std.specs.Prelude.{ℕ, List, [], ◌∷◌, map, Option, option_map}
-use Rattle.syntax.specs.Terminals.{Identifier}
+use Rattle.std.specs.Prelude.{ℕ, List, ◌∷◌, map, option_map}
 use Rattle.syntax.specs.declared.declaration.Declaration.{Declaration}
-use Rattle.syntax.specs.declared.declaration.Declaration.TheVariants as declaration
 use Rattle.syntax.specs.declared.declaration.Parameter.{Parameter}
 use Rattle.syntax.specs.declared.declaration.Source.{Source}
 use Rattle.syntax.specs.declared.schedule.Call.{Call}
@@ -10,12 +8,13 @@ use Rattle.syntax.specs.declared.schedule.Chain.{Chain}
 use Rattle.syntax.specs.declared.schedule.QuotedText.{QuotedText}
 use Rattle.syntax.specs.declared.initial.Ends.{Ends}
 use Rattle.syntax.specs.declared.initial.Initial.{Initial}
-use Rattle.syntax.specs.declared.initial.Initial.TheVariants as initial
 use Rattle.syntax.specs.declared.statement.Action.{Action}
-use Rattle.syntax.specs.declared.statement.Action.TheVariants as action
-use Rattle.syntax.specs.declared.statement.Action as row
 use Rattle.syntax.specs.declared.statement.Statement.{Statement}
 use Rattle.syntax.specs.SourceTrees.{EndsTree, InitialTree, NewSet, Load, Vertices, OutDegrees, Filter, ApplyModified, Value, StatementKindTree, Declare, While, For, If, IfElse, Print, Assign, Reduce, SetEntry, ReduceEntry, AddVertex, Apply, BlockTree, Empty, Then, ParameterTree, DeclarationTree, Constant, Function, CallTree, ChainTree, SourceTree}
+use Rattle.syntax.specs.declared.declaration.Declaration.TheVariants as declaration
+use Rattle.syntax.specs.declared.initial.Initial.TheVariants as initial
+use Rattle.syntax.specs.declared.statement.Action.TheVariants as action
+use Rattle.syntax.specs.declared.statement.Action as row
 
 abbrev pub parameter_tree : Parameter → ParameterTree
 parameter_tree p = record { name = p.name; declared = p.declared }
@@ -50,9 +49,6 @@ abbrev mutual
   pub rows_tree : {m : _} → row.Row_of-Statement m → BlockTree
   rows_tree row.end_of-Statement = Empty
   rows_tree (row.more_of-Statement label action rest) = Then label (statement_kind_tree action) (rows_tree rest)
-
-abbrev pub statement_of : Statement → Option Identifier × StatementKindTree
-statement_of s = (s.label, statement_kind_tree s.action)
 
 abbrev pub block_tree : List Statement → BlockTree
 block_tree [] = Empty

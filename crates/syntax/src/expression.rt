@@ -21,20 +21,22 @@ impl Drop for Expression {
 impl Model for Expression {
     ghost use Rattle.std.specs.Prelude.{map};
     ghost use Rattle.syntax.specs.ExpressionTrees.{ExpressionTree};
-    ghost use Rattle.syntax.specs.ExpressionCodes.{coded_expression};
+    ghost use Rattle.syntax.specs.inside.ExpressionCodes.{coded_expression};
     ghost use Rattle.syntax.specs.ExpressionDepth.{expression_depth};
 
     ghost Value = { ExpressionTree };
 
     ghost coded = { coded_expression };
 
-    ghost use Rattle.syntax.specs.ExpressionViews.{expression_from, conjunction_of};
+    ghost use Rattle.syntax.specs.ExpressionViews.{expression_from};
+
+    ghost use Rattle.syntax.specs.inside.ExpressionViews.{conjunction_of};
 
     ghost view = { λ e. expression_from (conjunction_of e.first) (map conjunction_of e.more.items) };
 
     ghost size = { expression_depth };
 
-    ghost use Rattle.syntax.specs.ExpressionFalls.{expression_falls};
+    ghost use Rattle.syntax.specs.inside.ExpressionFalls.{expression_falls};
 
     ghost size_decreases = { λ a h. expression_falls a };
 }

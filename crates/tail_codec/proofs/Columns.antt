@@ -8,7 +8,8 @@ use Rattle.std.specs.Option.{option_map, option_copied}
 use Rattle.std.proofs.lemmas.List.{length-replicate, take_all}
 use Rattle.std.proofs.lemmas.Slice.Zip.{length-zip, get_or-zip}
 use Rattle.std.proofs.lemmas.Map.Made.{keys_of-zip}
-use Rattle.tail_codec.specs.Columns.{entries_in, AreColumns, AreAppended}
+use Rattle.tail_codec.specs.Columns.{entries_in}
+use Rattle.tail_codec.specs.inside.Columns.{AreColumns, AreAppended}
 
 pub length_in : (keys : List ℕ) (weights : Option (List ℤ)) → AreColumns keys weights → length (entries_in keys weights) ≡ length keys
 length_in [] None s = refl

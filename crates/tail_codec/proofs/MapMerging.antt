@@ -8,7 +8,8 @@ use Rattle.std.proofs.lemmas.List.{append-nil, drop_more, take_more_set, take-se
 use Rattle.std.proofs.lemmas.Slice.Zip.{length-zip}
 use Rattle.ascending_lists.specs.declared.set_operation.Operation.{Operation}
 use Rattle.ascending_lists.specs.declared.set_operation.Operation.TheVariants.{Union, Difference}
-use Rattle.ascending_lists.specs.Operations.{combined, most, takes_second}
+use Rattle.ascending_lists.specs.Operations.{combined, most}
+use Rattle.ascending_lists.specs.inside.Operations.{takes_second}
 use Rattle.ascending_lists.specs.Sets.{has}
 use Rattle.ascending_lists.specs.Ascending.{AscendsFrom}
 use Rattle.ascending_lists.specs.Maps.{lookup}

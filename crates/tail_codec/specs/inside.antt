@@ -1,3 +1,4 @@
+pub mod Columns
 -- What the code is made of: no public contract cites these definitions.
 pub mod Decoding
 pub mod Reading

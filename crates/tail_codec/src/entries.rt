@@ -3,7 +3,8 @@
 ghost use Rattle.std.specs.Prelude.{◌≡◌, ◌↔◌, ◌<◌, ◌≤◌, ℤ, pos, Some, None, [], length, take, drop, get_or, IsTrue, OnOk};
 ghost use Rattle.std.specs.Map.{keys_of};
 ghost use Rattle.ascending_lists.specs.Ascending.{Ascends};
-ghost use Rattle.tail_codec.specs.Columns.{entries_in, AreAppended};
+ghost use Rattle.tail_codec.specs.Columns.{entries_in};
+ghost use Rattle.tail_codec.specs.inside.Columns.{AreAppended};
 ghost use Rattle.tail_codec.specs.EntryCuts.{CutsEntries};
 
 use ascending_lists::cut_list;
@@ -21,7 +22,8 @@ pub struct Entries<'a> {
 impl<'a> Model for Entries<'a> {
     ghost use Rattle.std.specs.Prelude.{ℕ, ℤ, List};
     ghost use Rattle.std.specs.Option.{option_copied};
-    ghost use Rattle.tail_codec.specs.Columns.{AreColumns, entries_in};
+    ghost use Rattle.tail_codec.specs.inside.Columns.{AreColumns};
+    ghost use Rattle.tail_codec.specs.Columns.{entries_in};
 
     ghost Value = { List (ℕ × ℤ) };
 

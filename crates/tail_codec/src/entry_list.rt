@@ -28,7 +28,8 @@ impl Drop for EntryList {
 impl Model for EntryList {
     ghost use Rattle.std.specs.Prelude.{ℕ, ℤ, List};
     ghost use Rattle.std.specs.Option.{option_map};
-    ghost use Rattle.tail_codec.specs.Columns.{AreColumns, entries_in};
+    ghost use Rattle.tail_codec.specs.inside.Columns.{AreColumns};
+    ghost use Rattle.tail_codec.specs.Columns.{entries_in};
 
     ghost Value = { List (ℕ × ℤ) };
 

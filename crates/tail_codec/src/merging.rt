@@ -3,7 +3,8 @@
 ghost use Rattle.std.specs.Prelude.{◌≡◌, ◌≤◌, ◌<◌, nat_lt, if◌then◌else◌, length, None, IfOk, IsTrue};
 ghost use Rattle.std.specs.Map.{keys_of};
 ghost use Rattle.ascending_lists.specs.Ascending.{Ascends};
-ghost use Rattle.ascending_lists.specs.Operations.{most, takes_second};
+ghost use Rattle.ascending_lists.specs.Operations.{most};
+ghost use Rattle.ascending_lists.specs.inside.Operations.{takes_second};
 ghost use Rattle.tail_codec.specs.Columns.{entries_in};
 ghost use Rattle.tail_codec.specs.Operations.{combined};
 ghost use Rattle.tail_codec.specs.inside.Merging.{IsMerged, merged, merged_keys};

@@ -1,7 +1,7 @@
 //! Scripts over devices that are interrupted and go some bytes at a time, and runs that note by how many workers they go. What devices
 //! of the system show is in `tests/checks/failing_devices`.
 ghost use Rattle.std.specs.Prelude.{[], ◌∷◌};
-ghost use Rattle.test_library.specs.Programs.{empty_program};
+ghost use Rattle.test_library.specs.inside.Programs.{empty_program};
 
 use algorithm_meaning::Outcome;
 use devices::Device;

@@ -12,7 +12,8 @@ use Rattle.pages.specs.Vertices.{neighbours_of}
 use Rattle.pages.proofs.Ranks.{none_below}
 use Rattle.vertex_blocks.specs.Blocks.{Block, AreNeighbourLists, edge_total, numbered, lists_of}
 use Rattle.tree_batch.specs.Edge.{Ends, ends_of, index, weight_in, Rises, edges_from}
-use Rattle.tree_batch.specs.Neighbours.{destinations_of, edges_of, weight_between}
+use Rattle.tree_batch.specs.Neighbours.{destinations_of, edges_of}
+use Rattle.tree_batch.specs.inside.Neighbours.{weight_between}
 use Rattle.tree_batch.proofs.Rising.{weight_in-append, rises_from, rises_joined}
 use Rattle.tree_batch.proofs.Deciding.{option_or-none}
 

@@ -7,8 +7,10 @@ use Rattle.ascending_lists.specs.Maps.{Rises, lookup}
 use Rattle.pages.specs.Vertices.{neighbours_of}
 use Rattle.pages.proofs.Ranks.{none_below}
 use Rattle.vertex_blocks.specs.Blocks.{Block, AreNeighbourLists, lists_of}
-use Rattle.tree_batch.specs.Neighbours.{destinations_of, sources_of, edges_of, weight_between}
-use Rattle.tree_batch.specs.VertexBlocks.{HaveFew, AreBlocksOf, IsGraph}
+use Rattle.tree_batch.specs.Neighbours.{destinations_of, sources_of, edges_of}
+use Rattle.tree_batch.specs.inside.Neighbours.{weight_between}
+use Rattle.tree_batch.specs.VertexBlocks.{HaveFew, AreBlocksOf}
+use Rattle.tree_batch.specs.inside.VertexBlocks.{IsGraph}
 use Rattle.tree_batch.proofs.AllEdges.{few_vertices}
 use Rattle.tree_batch.proofs.Listed.{neighbour_lists}
 use Rattle.tree_batch.proofs.Adjacency.{edge_weights, destinations_are}

@@ -13,10 +13,13 @@ use Rattle.vertex_blocks.specs.Blocks.{Block, IsBlock, vertices_at, lists_of}
 use Rattle.vertex_blocks.specs.Changes.{BlockChange, IsBlockAfter}
 use Rattle.tree_batch.specs.declared.batch.Entry.{Entry}
 use Rattle.tree_batch.specs.Edge.{Ends, IsAscending}
-use Rattle.tree_batch.specs.Entry.{decision, vertices_after, misfits, AreEdgesAfter}
-use Rattle.tree_batch.specs.Digraph.{Digraph, digraph, IsDigraph, graph_after, is_chunk_size}
-use Rattle.tree_batch.specs.Neighbours.{edges_of, weight_between, sources_of}
-use Rattle.tree_batch.specs.VertexBlocks.{AreGraphBlocks, IsGraph}
+use Rattle.tree_batch.specs.Entry.{decision, vertices_after, misfits}
+use Rattle.tree_batch.specs.inside.Entry.{AreEdgesAfter}
+use Rattle.tree_batch.specs.Digraph.{Digraph, IsDigraph, graph_after, is_chunk_size}
+use Rattle.tree_batch.specs.inside.Digraph.{digraph}
+use Rattle.tree_batch.specs.Neighbours.{edges_of, sources_of}
+use Rattle.tree_batch.specs.inside.Neighbours.{weight_between}
+use Rattle.tree_batch.specs.inside.VertexBlocks.{AreGraphBlocks, IsGraph}
 use Rattle.tree_batch.specs.inside.BlockCuts.{block_decided}
 use Rattle.tree_batch.specs.inside.Forking.{IsChangedTree}
 use Rattle.tree_batch.proofs.Rising.{rises_wider}

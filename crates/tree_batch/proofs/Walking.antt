@@ -2,7 +2,7 @@
 use Rattle.std.proofs.Common.{◌≡◌, ℕ, ℤ, ◌+◌, ◌*◌, ◌^◌, ◌<◌, List, ◌∷◌, subst, arith}
 use Rattle.ascending_lists.proofs.MapOrder as entries
 use Rattle.vertex_blocks.specs.Blocks.{Block, IsBlock}
-use Rattle.tree_batch.specs.VertexBlocks.{AreGraphBlocks, AreBlocksLeft}
+use Rattle.tree_batch.specs.inside.VertexBlocks.{AreGraphBlocks, AreBlocksLeft}
 
 module _ (k : ℕ) (left : Block) (bs : List (ℕ × Block)) (u : ℕ) (xs : List (ℕ × ℤ)) (rest : Block) (ok : AreBlocksLeft k left bs) (is : left ≡ (u, xs) ∷ rest) where
   block : IsBlock ((u, xs) ∷ rest)

@@ -1,5 +1,5 @@
 -- Directed graphs as their vertices and edges, and the graph after a batch.
-use Rattle.std.specs.Prelude.{◌≡◌, ℕ, ℤ, nat_le, nat_eq, Bool, true, ◌&&◌, Some, List, [], ◌∷◌}
+use Rattle.std.specs.Prelude.{◌≡◌, ℕ, ℤ, nat_le, nat_eq, Bool, true, ◌&&◌, Some, List, ◌∷◌}
 use Rattle.std.specs.List.{flat_map, list_any}
 use Rattle.edge_lists.specs.Edge.{Edge}
 use Rattle.tree_batch.specs.declared.batch.Entry.{Entry}
@@ -10,9 +10,6 @@ use Rattle.tree_batch.specs.Entry.{vertices_after, weight_after}
 pub record Digraph : Type 0 where
   pub vertices : ℕ
   pub edges : List Edge
-
-abbrev pub digraph : ℕ → List Edge → Digraph
-digraph n es = record { vertices = n; edges = es }
 
 -- whether a graph may have n vertices
 abbrev pub is_vertex_count : ℕ → Bool

@@ -1,15 +1,12 @@
 -- What the entries of a batch say of vertices and of edges.
-use Rattle.std.specs.Prelude.{◌≡◌, ℕ, ℤ, nat_le, nat_lt, max, Bool, not, false, ◌||◌, Option, Some, None, MatchOption, unwrap_or, if◌then◌else◌, List, [], ◌∷◌}
+use Rattle.std.specs.Prelude.{◌≡◌, ℕ, ℤ, nat_le, nat_lt, max, Bool, not, false, ◌||◌, Option, Some, None, unwrap_or, if◌then◌else◌, List, ◌∷◌}
 use Rattle.std.specs.Option.{option_or}
 use Rattle.std.specs.List.{list_any}
 use Rattle.edge_lists.specs.Edge.{Edge}
-use Rattle.edge_updates.specs.declared.edge_update.EdgeUpdate.{EdgeUpdate}
-use Rattle.edge_updates.specs.EdgeUpdate.{vertex_of, neighbour_of}
 use Rattle.tail_codec.specs.Spelling.{is_one}
-use Rattle.weighted_updates.specs.WeightedUpdates.{weight_said}
 use Rattle.tree_batch.specs.declared.batch.Entry.{Entry}
 use Rattle.tree_batch.specs.declared.batch.Entry.TheVariants.{Add, Remove, Grow}
-use Rattle.tree_batch.specs.Edge.{Ends, ends_eq, weight_in, IsWithin, IsAscending}
+use Rattle.tree_batch.specs.Edge.{Ends, ends_eq, weight_in}
 
 -- the ends of the edge that an entry names, where it names one
 abbrev pub named_by : Entry → Option Ends
@@ -76,17 +73,3 @@ weight_after edges batch p = unwrap_or (decision batch p) (weight_in p edges)
 abbrev pub NoneNames : Ends → List Entry → Type 0
 NoneNames p [] = Unit {0}
 NoneNames p (x ∷ xs) = (is_between (named_by x) p ≡ false) × NoneNames p xs
-
--- the ends that an entry names, if it names some, are below n
-abbrev pub NamesWithin : ℕ → Entry → Type 0
-NamesWithin n x = MatchOption (named_by x) (Unit {0}) (IsWithin n)
-
--- an entry as an update of its edge with a weight, where it names one
-abbrev pub IsUpdateOf : Entry → Option (EdgeUpdate × ℤ) → Type 0
-IsUpdateOf x None = named_by x ≡ None
-IsUpdateOf x (Some u) = (named_by x ≡ Some (vertex_of u.0, neighbour_of u.0)) × (weight_said u ≡ made_by x)
-
--- new is the edges after the batch, in order
-pub record AreEdgesAfter (edges : List Edge) (batch : List Entry) (new : List Edge) : Type 0 where
-  pub ascending : IsAscending new
-  pub weights : (p : Ends) → weight_in p new ≡ weight_after edges batch p

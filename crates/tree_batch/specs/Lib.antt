@@ -1,6 +1,5 @@
 pub mod Edge
 pub mod Entry
-pub mod Sorted
 pub mod Digraph
 pub mod Neighbours
 pub mod VertexBlocks

@@ -1,9 +1,7 @@
 -- Neighbours of vertices with their weights, and the edges that they make.
-use Rattle.std.specs.Prelude.{◌≡◌, ◌≢◌, ℕ, ℤ, ◌==◌, if◌then◌else◌, Option, Some, None, List, [], ◌∷◌, ◌++◌, MatchOption}
-use Rattle.ascending_lists.specs.Maps.{lookup}
+use Rattle.std.specs.Prelude.{◌≡◌, ◌≢◌, ℕ, ℤ, ◌==◌, if◌then◌else◌, Option, List, ◌∷◌, ◌++◌, MatchOption}
 use Rattle.edge_lists.specs.Edge.{Edge}
-use Rattle.pages.specs.Vertices.{neighbours_of}
-use Rattle.tree_batch.specs.Edge.{Ends, edges_from}
+use Rattle.tree_batch.specs.Edge.{edges_from}
 
 -- the destinations of the edges from u with their weights, in order
 abbrev pub destinations_of : ℕ → List Edge → List (ℕ × ℤ)
@@ -23,12 +21,3 @@ HasNeighbours xs o = MatchOption o (xs ≡ []) (λ s. (s ≡ xs) × (xs ≢ []))
 abbrev pub edges_of : List (ℕ × List (ℕ × ℤ)) → List Edge
 edges_of [] = []
 edges_of (e ∷ es) = edges_from e.0 e.1 ++ edges_of es
-
--- the weight of the second end as a neighbour of the first, if it is one
-abbrev pub weight_between : List (ℕ × List (ℕ × ℤ)) → Ends → Option ℤ
-weight_between es p = lookup p.1 (neighbours_of p.0 es)
-
--- the edges from a vertex to what is left of its neighbours
-abbrev pub edges_left : ℕ → Option (List (ℕ × ℤ)) → List Edge
-edges_left u None = []
-edges_left u (Some xs) = edges_from u xs

@@ -4,7 +4,7 @@ ghost use Rattle.std.specs.Prelude.{◌≡◌};
 ghost use Rattle.std.specs.Iterator.{YieldsFirst, item_count};
 ghost use Rattle.vertex_blocks.specs.Blocks.{lists_of};
 ghost use Rattle.tree_batch.specs.Neighbours.{edges_of};
-ghost use Rattle.tree_batch.specs.VertexBlocks.{AreGraphBlocks};
+ghost use Rattle.tree_batch.specs.inside.VertexBlocks.{AreGraphBlocks};
 
 use crate::vertices::AdjacencyIter;
 use shared_tree::Tree;
@@ -24,7 +24,8 @@ impl<'a> Model for EdgeIter<'a> {
     ghost use Rattle.std.specs.Prelude.{List, ◌++◌};
     ghost use Rattle.vertex_blocks.specs.Blocks.{AreNeighbourLists};
     ghost use Rattle.edge_lists.specs.Edge.{Edge};
-    ghost use Rattle.tree_batch.specs.Neighbours.{edges_of, edges_left};
+    ghost use Rattle.tree_batch.specs.Neighbours.{edges_of};
+    ghost use Rattle.tree_batch.specs.inside.Neighbours.{edges_left};
 
     ghost Value = { List Edge };
 

@@ -4,7 +4,8 @@ ghost use Rattle.std.specs.Prelude.{ℕ, ℤ, ◌+◌, ◌<◌, ◌≤◌, ◌�
 ghost use Rattle.std.specs.Option.{option_copied};
 ghost use Rattle.std.specs.Map.{keys_of};
 ghost use denote.Param.Send.{IsSync};
-ghost use Rattle.shared_tree.specs.ChangedMaps.{weight_at, GrewBy};
+ghost use Rattle.shared_tree.specs.inside.ChangedMaps.{weight_at};
+ghost use Rattle.shared_tree.specs.ChangedMaps.{GrewBy};
 ghost use Rattle.edge_updates.specs.declared.edge_update.EdgeUpdate.{EdgeUpdate};
 ghost use Rattle.edge_updates.specs.Updates.{Ascend};
 ghost use Rattle.edge_updates.specs.Weighted.{weighted};

@@ -51,10 +51,11 @@ impl Drop for Graph {
 }
 
 impl Model for Graph {
-    ghost use Rattle.tree_batch.specs.Digraph.{Digraph, digraph};
+    ghost use Rattle.tree_batch.specs.Digraph.{Digraph};
+    ghost use Rattle.tree_batch.specs.inside.Digraph.{digraph};
     ghost use Rattle.vertex_blocks.specs.Blocks.{lists_of};
     ghost use Rattle.tree_batch.specs.Neighbours.{edges_of};
-    ghost use Rattle.tree_batch.specs.VertexBlocks.{IsGraph};
+    ghost use Rattle.tree_batch.specs.inside.VertexBlocks.{IsGraph};
 
     ghost Value = { Digraph };
 

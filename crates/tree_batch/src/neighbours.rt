@@ -3,7 +3,7 @@
 ghost use Rattle.pages.specs.Vertices.{neighbours_of};
 ghost use Rattle.vertex_blocks.specs.Blocks.{lists_of};
 ghost use Rattle.tree_batch.specs.Neighbours.{HasNeighbours};
-ghost use Rattle.tree_batch.specs.VertexBlocks.{AreGraphBlocks};
+ghost use Rattle.tree_batch.specs.inside.VertexBlocks.{AreGraphBlocks};
 
 use crate::cuts::BLOCK;
 use shared_tree::Tree;

@@ -6,7 +6,7 @@ ghost use Rattle.edge_updates.specs.Updates.{Ascend};
 ghost use Rattle.weighted_updates.specs.WeightedUpdates.{decided_weight};
 ghost use Rattle.tree_batch.specs.Edge.{Ends};
 ghost use Rattle.tree_batch.specs.inside.Forking.{IsChangedTree};
-ghost use Rattle.tree_batch.specs.Sorted.{sorted_pairs};
+ghost use Rattle.tree_batch.specs.inside.Sorted.{sorted_pairs};
 
 use crate::cuts::changed;
 use crate::forked::change_forked;

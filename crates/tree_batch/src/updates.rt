@@ -8,8 +8,9 @@ ghost use Rattle.edge_updates.specs.Updates.{Ascend};
 ghost use Rattle.edge_updates.specs.Weighted.{weighted};
 ghost use Rattle.weighted_updates.specs.WeightedUpdates.{decided_weight, pairs_in, updates_in};
 ghost use Rattle.tree_batch.specs.Edge.{Ends};
-ghost use Rattle.tree_batch.specs.Entry.{IsUpdateOf, NamesWithin, decision, has_weight};
-ghost use Rattle.tree_batch.specs.Sorted.{sorted_pairs};
+ghost use Rattle.tree_batch.specs.inside.Entry.{IsUpdateOf, NamesWithin};
+ghost use Rattle.tree_batch.specs.Entry.{decision, has_weight};
+ghost use Rattle.tree_batch.specs.inside.Sorted.{sorted_pairs};
 
 use crate::batch::{Batch, Entry};
 use edge_updates::{EdgeUpdate, keep_last, sort, sort_forked};

@@ -3,7 +3,7 @@
 ghost use Rattle.std.specs.Prelude.{◌≡◌};
 ghost use Rattle.std.specs.Iterator.{YieldsFirst, item_count};
 ghost use Rattle.vertex_blocks.specs.Blocks.{lists_of};
-ghost use Rattle.tree_batch.specs.VertexBlocks.{AreGraphBlocks};
+ghost use Rattle.tree_batch.specs.inside.VertexBlocks.{AreGraphBlocks};
 
 use crate::cuts::BLOCK;
 use shared_tree::Tree;
@@ -24,7 +24,7 @@ pub(crate) struct AdjacencyIter<'a> {
 impl<'a> Model for AdjacencyIter<'a> {
     ghost use Rattle.std.specs.Prelude.{ℕ, ℤ, List, ◌++◌};
     ghost use Rattle.vertex_blocks.specs.Blocks.{vertices_at, numbered, lists_of};
-    ghost use Rattle.tree_batch.specs.VertexBlocks.{AreBlocksLeft};
+    ghost use Rattle.tree_batch.specs.inside.VertexBlocks.{AreBlocksLeft};
 
     ghost Value = { List (ℕ × List (ℕ × ℤ)) };
 

@@ -12,7 +12,7 @@ use Rattle.syntax.specs.declared.declaration.DeclaredType.TheVariants as declare
 use Rattle.apply_options.specs.declared.reduction.Reduction.{Reduction}
 use Rattle.syntax.specs.SourceTrees as source
 use Rattle.typed_tree.specs.declared.expression.Endpoint.{Endpoint}
-use Rattle.typed_tree.specs.Access.{step_writes, steps_write}
+use Rattle.typed_tree.specs.inside.Access.{step_writes, steps_write}
 use Rattle.typed_tree.specs.IntExpressionTree.{IntExpressionTree}
 use Rattle.typed_tree.specs.FunctionStatementTree.{FunctionStatementTree, FunctionStatementsTree, NoStep, StepThen}
 use Rattle.expression_types.specs.declared.scope.Inside.TheVariants as inside

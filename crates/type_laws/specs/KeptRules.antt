@@ -1,15 +1,14 @@
 -- Kept rules: sources that break no rule of types, said over the source alone, one case for each form of the language.
-use Rattle.std.specs.Prelude.{◌≡◌, ◌≢◌, ◌⊎◌, ℕ, suc, pos, Bool, true, false, nat_eq, List, [], ◌∷◌, ◌++◌, length, if◌then◌else◌, slice_index_or, Option, Some, None, IsSome}
+use Rattle.std.specs.Prelude.{◌≡◌, ◌≢◌, ◌⊎◌, ℕ, suc, pos, Bool, true, false, nat_eq, List, ◌∷◌, ◌++◌, length, if◌then◌else◌, slice_index_or, Option, Some, None, IsSome}
 use Rattle.std.specs.Str.{bytes_eq}
 use Rattle.std.specs.Map.{lookup}
+use Rattle.apply_options.specs.declared.reduction.Reduction.{Reduction}
 use Rattle.syntax.specs.Terminals.{Identifier}
 use Rattle.syntax.specs.ExpressionTrees.{ExpressionTree}
-use Rattle.syntax.specs.SourceTrees as source
 use Rattle.syntax.specs.SourceTrees.{InitialTree, EndsTree, ParameterTree, StatementKindTree, BlockTree, DeclarationTree, SourceTree}
 use Rattle.syntax.specs.declared.declaration.DeclaredType.{DeclaredType}
+use Rattle.syntax.specs.SourceTrees as source
 use Rattle.syntax.specs.declared.declaration.DeclaredType.TheVariants as declared
-use Rattle.apply_options.specs.declared.reduction.Reduction.{Reduction}
-use Rattle.typed_tree.specs.declared.expression.Endpoint.{Endpoint}
 use Rattle.typed_tree.specs.declared.expression.Endpoint.TheVariants as endpoint
 use Rattle.expression_types.specs.declared.scope.Inside.{Inside}
 use Rattle.expression_types.specs.declared.scope.Inside.TheVariants as inside
@@ -17,8 +16,8 @@ use Rattle.types.specs.Declaration.{main_bytes}
 use Rattle.types.specs.Literal.{literal_condition, literal_integer}
 use Rattle.type_laws.specs.EntryAccess.{HasNoEntry}
 use Rattle.type_laws.specs.ExpressionTypes.{ExpressionHas, IsNumber, IsTruth, IsVectorName, NameHas, Set, Vertex}
+use Rattle.type_laws.specs.Meanings.{Known, IsNew, LabelIsNew, Meaning, Meanings, Means, MeansEdges, known_after, known_behind, labelled_known, with_name}
 use Rattle.type_laws.specs.Meanings as meaning
-use Rattle.type_laws.specs.Meanings.{Known, IsNew, LabelIsNew, Meaning, Meanings, Means, MeansEdges, known_after, known_behind, labelled_known, variable_meaning, with_name}
 
 -- initial and assigned values
 abbrev pub GivesNumber : Meanings → Inside → InitialTree → Type 0
@@ -101,13 +100,6 @@ pub data ApplyFits (k : Known) (target : Identifier) (ends : EndsTree) (function
   AppliesEdges : (weights : Bool) (index : ℕ) (weighted : Bool) → Means k.names target (meaning.Edges weights) → EndsFit k.names ends
       → Means k.names function (meaning.EdgeFunction index weighted) → SeesWeights weights weighted → ApplyFits k target ends function
   AppliesVertices : NameHas k.names target Set → ends.from ≡ None → ends.to ≡ None → Means k.names function meaning.VertexFunction → ApplyFits k target ends function
-
--- the vertex at which a function writes
-abbrev pub own_end : Inside → Endpoint
-own_end inside.Main = endpoint.Source
-own_end inside.EdgeFunction = endpoint.Destination
-own_end inside.VertexFunction = endpoint.Source
-own_end inside.Filter = endpoint.Source
 
 -- a vertex function alone sets entries; an edge function reduces a vector as it did before, if it did
 abbrev pub MaySet : Inside → Type 0

@@ -20,3 +20,4 @@ pub mod SourceParts
 pub mod UsedNames
 pub mod VisibleSets
 pub mod WellTyped
+pub mod inside

@@ -9,8 +9,10 @@ use Rattle.typed_tree.specs.declared.expression.IntExpression.TheViews.{the_lemm
 use Rattle.typed_tree.specs.declared.expression.BoolExpression.{BoolExpression, Row_of-BoolExpression, end_of-BoolExpression, more_of-BoolExpression, items-the_row-BoolExpression}
 use Rattle.typed_tree.specs.declared.expression.BoolExpression.TheViews as condition_views
 use Rattle.typed_tree.specs.declared.expression.BoolExpression.TheViews.{the_lemmas as the_condition_lemmas}
-use Rattle.typed_tree.specs.IntExpressionTree.{IntExpressionTree, Arithmetic, int_expression_tree, operands_row, operands_tree}
-use Rattle.typed_tree.specs.BoolExpressionTree.{BoolExpressionTree, Connect, bool_expression_tree, conditions_row, conditions_tree}
+use Rattle.typed_tree.specs.IntExpressionTree.{IntExpressionTree, Arithmetic, int_expression_tree, operands_row}
+use Rattle.typed_tree.specs.inside.IntExpressionTree.{operands_tree}
+use Rattle.typed_tree.specs.BoolExpressionTree.{BoolExpressionTree, Connect, bool_expression_tree, conditions_row}
+use Rattle.typed_tree.specs.inside.BoolExpressionTree.{conditions_tree}
 
 pub operands_row-items : {n : _} (left : IntExpressionTree) (row : Row_of-Operand n) → operands_row left row ≡ operands_tree left (items-the_row-Operand n row)
 operands_row-items left end_of-Operand = refl

@@ -4,8 +4,10 @@ use Rattle.typed_tree.specs.declared.accesses.Access.{Access}
 use Rattle.typed_tree.specs.declared.expression.Operand.{Operand}
 use Rattle.typed_tree.specs.declared.expression.Connective.{Connective}
 use Rattle.typed_tree.specs.declared.expression.BoolExpression.{BoolExpression}
-use Rattle.typed_tree.specs.IntExpressionTree.{IntExpressionTree, Arithmetic, int_expression_tree, negated, operands_tree}
-use Rattle.typed_tree.specs.BoolExpressionTree.{BoolExpressionTree, Connect, bool_expression_tree, turned, conditions_tree}
+use Rattle.typed_tree.specs.IntExpressionTree.{IntExpressionTree, Arithmetic, int_expression_tree, negated}
+use Rattle.typed_tree.specs.inside.IntExpressionTree.{operands_tree}
+use Rattle.typed_tree.specs.BoolExpressionTree.{BoolExpressionTree, Connect, bool_expression_tree, turned}
+use Rattle.typed_tree.specs.inside.BoolExpressionTree.{conditions_tree}
 use Rattle.typed_tree.specs.Fold.{all_pass, condition_fold, conditions_fold, integer_fold, operands_fold}
 
 and_true : (b : Bool) → b && true ≡ b

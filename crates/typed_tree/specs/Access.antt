@@ -1,13 +1,11 @@
 -- Which vectors functions read and write.
 use Rattle.std.specs.List.{list_all, list_any}
-use Rattle.std.specs.Prelude.{◌==◌, ℕ, Bool, not, List, [], ◌∷◌, Option}
+use Rattle.std.specs.Prelude.{◌==◌, ℕ, Bool, not, List, ◌∷◌, Option}
 use Rattle.typed_tree.specs.declared.accesses.Access.{Access}
 use Rattle.typed_tree.specs.declared.accesses.Access.TheVariants.{ReadAtVertex, ReadAtIndex, ReadSet, Write}
 use Rattle.typed_tree.specs.declared.statement.VertexFilter.{VertexFilter}
-use Rattle.typed_tree.specs.IntExpressionTree.{IntExpressionTree}
-use Rattle.typed_tree.specs.BoolExpressionTree.{BoolExpressionTree}
-use Rattle.typed_tree.specs.FunctionStatementTree.{FunctionTree, FunctionStatementTree, FunctionStatementsTree}
-use Rattle.typed_tree.specs.Fold.{Fold, condition_fold, end_fold, function_fold, integer_fold, gathered, step_fold, steps_fold, steps_fold_where}
+use Rattle.typed_tree.specs.FunctionStatementTree.{FunctionTree}
+use Rattle.typed_tree.specs.Fold.{Fold, end_fold, function_fold, gathered}
 
 -- the vector of which an entry is read or written
 abbrev pub vector_of : Access → List ℕ
@@ -24,36 +22,8 @@ used = gathered vector_of
 abbrev pub written : Fold (List ℕ)
 written = record used { expression = λ reads. [] }
 
--- the vectors of which the expression reads entries
-abbrev pub integer_reads : IntExpressionTree → List ℕ
-integer_reads e = integer_fold used e
-
-abbrev pub condition_reads : BoolExpressionTree → List ℕ
-condition_reads c = condition_fold used c
-
--- the vectors of which statements read or write entries
-abbrev pub step_uses : FunctionStatementTree → List ℕ
-step_uses step = step_fold used step
-
-abbrev pub steps_use : FunctionStatementsTree → List ℕ
-steps_use steps = steps_fold used steps
-
--- the vectors of which statements write entries
-abbrev pub step_writes : FunctionStatementTree → List ℕ
-step_writes step = step_fold written step
-
-abbrev pub steps_write : FunctionStatementsTree → List ℕ
-steps_write steps = steps_fold written steps
-
--- what the function at an index uses and writes; one that is not there uses nothing
-abbrev pub steps_use_where : Option FunctionTree → List ℕ
-steps_use_where f = steps_fold_where used f
-
 abbrev pub function_uses : List FunctionTree → ℕ → List ℕ
 function_uses functions index = function_fold used functions index
-
-abbrev pub steps_write_where : Option FunctionTree → List ℕ
-steps_write_where f = steps_fold_where written f
 
 abbrev pub function_writes : List FunctionTree → ℕ → List ℕ
 function_writes functions index = function_fold written functions index

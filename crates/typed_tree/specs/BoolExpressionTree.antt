@@ -1,11 +1,11 @@
 -- Expressions of type bool, without pointers.
-use Rattle.std.specs.Prelude.{ℕ, zero, suc, Bool, List, [], ◌∷◌}
+use Rattle.std.specs.Prelude.{ℕ, zero, suc, Bool}
 use Rattle.typed_tree.specs.declared.expression.VarRef.{VarRef}
 use Rattle.typed_tree.specs.declared.expression.ComparisonOperator.{ComparisonOperator}
 use Rattle.typed_tree.specs.declared.expression.Connective.{Connective}
 use Rattle.typed_tree.specs.declared.expression.BoolExpression.{BoolExpression, Row_of-BoolExpression, end_of-BoolExpression, more_of-BoolExpression}
-use Rattle.typed_tree.specs.declared.expression.BoolExpression.TheVariants as rust
 use Rattle.typed_tree.specs.IntExpressionTree.{IntExpressionTree, int_expression_tree}
+use Rattle.typed_tree.specs.declared.expression.BoolExpression.TheVariants as rust
 
 pub data BoolExpressionTree : Type 0 where
   Literal : (value : Bool) → BoolExpressionTree
@@ -34,8 +34,3 @@ abbrev mutual
   pub conditions_row : {n : _} → Connective → BoolExpressionTree → Row_of-BoolExpression n → BoolExpressionTree
   conditions_row connective left end_of-BoolExpression = left
   conditions_row connective left (more_of-BoolExpression c rest) = conditions_row connective (Connect connective left (bool_expression_tree c)) rest
-
--- a condition with those of a list that follows it, joined by `and` or `or`
-abbrev pub conditions_tree : Connective → BoolExpressionTree → List BoolExpression → BoolExpressionTree
-conditions_tree connective left [] = left
-conditions_tree connective left (c ∷ rest) = conditions_tree connective (Connect connective left (bool_expression_tree c)) rest

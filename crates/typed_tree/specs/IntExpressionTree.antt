@@ -1,9 +1,8 @@
 -- Expressions of type int, without pointers.
-use Rattle.std.specs.Prelude.{ℕ, zero, suc, ℤ, List, [], ◌∷◌}
+use Rattle.std.specs.Prelude.{ℕ, zero, suc, ℤ}
 use Rattle.typed_tree.specs.declared.expression.VarRef.{VarRef}
 use Rattle.typed_tree.specs.declared.expression.Endpoint.{Endpoint}
 use Rattle.typed_tree.specs.declared.expression.Operator.{Operator}
-use Rattle.typed_tree.specs.declared.expression.Operand.{Operand}
 use Rattle.typed_tree.specs.declared.expression.IntExpression.{IntExpression, Row_of-Operand, end_of-Operand, more_of-Operand}
 use Rattle.typed_tree.specs.declared.expression.IntExpression.TheVariants as rust
 
@@ -42,8 +41,3 @@ abbrev mutual
   pub operands_row : {n : _} → IntExpressionTree → Row_of-Operand n → IntExpressionTree
   operands_row left end_of-Operand = left
   operands_row left (more_of-Operand operator e rest) = operands_row (Arithmetic operator left (int_expression_tree e)) rest
-
--- an expression with the operators and operands of a list that follows it
-abbrev pub operands_tree : IntExpressionTree → List Operand → IntExpressionTree
-operands_tree left [] = left
-operands_tree left (o ∷ rest) = operands_tree (Arithmetic o.operator left (int_expression_tree o.integer)) rest

@@ -7,3 +7,4 @@ pub mod Resolved
 pub mod Fold
 pub mod Access
 pub mod Independence
+pub mod inside

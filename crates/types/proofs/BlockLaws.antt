@@ -14,7 +14,8 @@ use Rattle.typed_tree.specs.BoolExpressionTree.{BoolExpressionTree}
 use Rattle.expression_types.specs.declared.fault.Fault.{Fault}
 use Rattle.expression_types.specs.WithFaults.{WithFaults, sure, outcome, ◌>>=◌}
 use Rattle.expression_types.proofs.Steps.{bind-bind, outcome_then}
-use Rattle.types.specs.Block.{StatementTree, action_typed, behind, block_typed, closed, statement_tree, statement_typed, statements_typed}
+use Rattle.types.specs.inside.Block.{StatementTree, block_typed, statement_tree, statement_typed}
+use Rattle.types.specs.Block.{action_typed, behind, closed, statements_typed}
 use Rattle.types.specs.Checker.{CheckerTree, counted, labelled}
 use Rattle.types.specs.Wanted.{condition_in}
 use Rattle.types.proofs.Sources.{statement_kind_tree-While, statement_kind_tree-If, statement_kind_tree-IfElse}

@@ -17,7 +17,8 @@ use Rattle.expression_types.specs.Faults.{earlier}
 use Rattle.expression_types.specs.WithFaults.{WithFaults, sure, fault_at, outcome, ◌>>=◌}
 use Rattle.expression_types.proofs.Steps.{bind-bind, outcome_then}
 use Rattle.types.specs.Checker.{CheckerTree, labelled}
-use Rattle.types.specs.Step.{labelled_step, no_step, step_behind, step_typed, steps_behind, steps_inside, steps_typed}
+use Rattle.types.specs.inside.Step.{labelled_step, steps_inside}
+use Rattle.types.specs.Step.{no_step, step_behind, step_typed, steps_behind, steps_typed}
 use Rattle.types.specs.Wanted.{condition_in}
 use Rattle.types.proofs.Sources.{statement_kind_tree-While, statement_kind_tree-If, statement_kind_tree-IfElse}
 

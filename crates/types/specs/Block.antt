@@ -3,10 +3,9 @@ use Rattle.std.specs.Prelude.{ℕ, suc, length, Option}
 use Rattle.syntax.specs.Terminals.{Identifier}
 use Rattle.syntax.specs.ExpressionTrees.{ExpressionTree}
 use Rattle.syntax.specs.SourceTrees as source
-use Rattle.typed_tree.specs.declared.statement.MainStatement.{MainStatement}
-use Rattle.typed_tree.specs.BlockTree.{StatementKindTree, statement_kind_tree, BlockTree, If, IfElse, While, For, Empty, Then}
-use Rattle.expression_types.specs.declared.scope.Entity.TheVariants as entity
+use Rattle.typed_tree.specs.BlockTree.{StatementKindTree, BlockTree, If, IfElse, While, For, Empty, Then}
 use Rattle.expression_types.specs.WithFaults.{WithFaults, sure, ◌>>=◌}
+use Rattle.expression_types.specs.declared.scope.Entity.TheVariants as entity
 use Rattle.types.specs.Checker.{CheckerTree, integer_slot, with_scope, declared_in, labelled, counted}
 use Rattle.types.specs.Statement.{declare_variable, assign, reduce, set_entry, reduce_entry, add_vertex, print, apply}
 use Rattle.types.specs.Wanted.{integer_in, condition_in}
@@ -14,16 +13,6 @@ use Rattle.types.specs.Wanted.{integer_in, condition_in}
 -- a statement that declares nothing
 abbrev pub in_place : CheckerTree → WithFaults StatementKindTree → WithFaults (StatementKindTree × CheckerTree)
 in_place c action = action >>= λ a. sure (a, c)
-
--- a statement with its number and its label
-pub record StatementTree : Type 0 where
-  pub number : ℕ
-  pub label : Option ℕ
-  pub action : StatementKindTree
-
--- the tree that a Rust tree is
-abbrev pub statement_tree : MainStatement → StatementTree
-statement_tree s = record { number = s.number; label = s.label; action = statement_kind_tree s.action }
 
 -- the statements so far, with one more after them
 abbrev pub behind : BlockTree → (number : ℕ) → (label : Option ℕ) → StatementKindTree → BlockTree
@@ -68,13 +57,3 @@ abbrev mutual
   statements_typed c so_far (source.Then label action others) =
       labelled c label >>= λ l. action_typed (counted l.1) action >>= λ a.
       statements_typed a.1 (behind so_far (suc l.1.statements) l.0 a.0) others
-
--- one statement
-abbrev pub statement_typed : CheckerTree → Option Identifier → source.StatementKindTree → WithFaults (StatementTree × CheckerTree)
-statement_typed c label action =
-    labelled c label >>= λ l. action_typed (counted l.1) action >>= λ a.
-    sure (record { number = suc l.1.statements; label = l.0; action = a.0 }, a.1)
-
--- a block of its own
-abbrev pub block_typed : CheckerTree → source.BlockTree → WithFaults (BlockTree × CheckerTree)
-block_typed c block = statements_typed c Empty block >>= λ b. sure (b.0, closed c b.1)

@@ -1,14 +1,13 @@
 -- The state of the checker on its way through a source.
-use Rattle.std.specs.Prelude.{ℕ, suc, List, [], ◌∷◌, ◌++◌, ◌-◌, length, take, drop, Option, Some, None}
-use Rattle.syntax.specs.Terminals.{Identifier}
+use Rattle.std.specs.Prelude.{ℕ, suc, List, ◌∷◌, ◌++◌, ◌-◌, length, take, drop, Option, Some, None}
 use Rattle.apply_options.specs.declared.reduction.Reduction.{Reduction}
+use Rattle.syntax.specs.Terminals.{Identifier}
 use Rattle.typed_tree.specs.declared.expression.VarRef.{VarRef}
-use Rattle.expression_types.specs.declared.fault.TypeRule.TheVariants as rule
 use Rattle.expression_types.specs.declared.scope.Entity.{Entity}
 use Rattle.expression_types.specs.Names.{found}
 use Rattle.expression_types.specs.WithFaults.{WithFaults, sure, fault_at, ◌>>=◌}
 use Rattle.expression_types.specs.ScopeTree.{ScopeTree, declared}
-use Rattle.types.specs.declared.checker.Checker.{Checker}
+use Rattle.expression_types.specs.declared.fault.TypeRule.TheVariants as rule
 
 -- What is visible; and what came before in the text: all names that were declared, the labels with their indices, how many statements of
 -- main, which vectors the edge function around this point reduces and how, and which each edge function does.
@@ -20,18 +19,6 @@ pub record CheckerTree : Type 0 where
   pub statements : ℕ
   pub writes : List (ℕ × Reduction)
   pub written : List (List (ℕ × Reduction))
-
--- what contracts see
-abbrev pub checker_of : Checker → CheckerTree
-checker_of c = record {
-  scope = c.scope;
-  names = c.names.items;
-  labels = c.labels;
-  label_names = c.label_names.items;
-  statements = length c.statements.items;
-  writes = c.writes;
-  written = c.written.items;
-}
 
 -- the next index of a variable of each kind, for the next name
 abbrev pub integer_slot : CheckerTree → VarRef

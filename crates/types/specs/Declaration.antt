@@ -1,28 +1,27 @@
 -- Typing of declarations.
-use Rattle.std.specs.Prelude.{ℕ, pos, Bool, true, false, not, ◌&&◌, ◌||◌, if◌then◌else◌, List, [], ◌∷◌, ◌++◌, length, map, Option, Some, None, option_map}
+use Rattle.std.specs.Prelude.{ℕ, pos, Bool, true, false, not, ◌&&◌, ◌||◌, if◌then◌else◌, List, ◌∷◌, ◌++◌, length, Option, Some, None}
 use Rattle.std.specs.Str.{bytes_eq}
 use Rattle.syntax.specs.Terminals.{Identifier}
 use Rattle.syntax.specs.declared.declaration.DeclaredType.{DeclaredType}
+use Rattle.syntax.specs.SourceTrees.{ParameterTree, InitialTree, DeclarationTree, Constant, Function}
 use Rattle.syntax.specs.declared.declaration.DeclaredType.TheVariants as declared
 use Rattle.syntax.specs.SourceTrees as source
-use Rattle.syntax.specs.SourceTrees.{ParameterTree, InitialTree, DeclarationTree, Constant, Function}
 use Rattle.typed_tree.specs.declared.expression.Endpoint.{Endpoint}
-use Rattle.typed_tree.specs.declared.expression.Endpoint.TheVariants as endpoint
 use Rattle.typed_tree.specs.declared.program.InitialValue.{InitialValue}
-use Rattle.typed_tree.specs.declared.program.InitialValue.TheVariants as beginning
 use Rattle.typed_tree.specs.declared.program.Vector.{Vector}
-use Rattle.typed_tree.specs.BlockTree.{BlockTree, Empty, block_tree}
-use Rattle.typed_tree.specs.FunctionStatementTree.{FunctionTree, FunctionStatementsTree, NoStep, function_tree}
-use Rattle.expression_types.specs.declared.fault.TypeRule.TheVariants as rule
+use Rattle.typed_tree.specs.BlockTree.{BlockTree, Empty}
+use Rattle.typed_tree.specs.FunctionStatementTree.{FunctionTree, FunctionStatementsTree, NoStep}
+use Rattle.typed_tree.specs.declared.expression.Endpoint.TheVariants as endpoint
+use Rattle.typed_tree.specs.declared.program.InitialValue.TheVariants as beginning
 use Rattle.expression_types.specs.declared.scope.Entity.{Entity}
-use Rattle.expression_types.specs.declared.scope.Entity.TheVariants as entity
 use Rattle.expression_types.specs.declared.scope.Inside.{Inside}
-use Rattle.expression_types.specs.declared.scope.Inside.TheVariants as inside
 use Rattle.expression_types.specs.WithFaults.{WithFaults, sure, fault_at, ◌>>=◌}
 use Rattle.expression_types.specs.ScopeTree.{entered}
-use Rattle.types.specs.declared.declaration.Declared.{Declared}
+use Rattle.expression_types.specs.declared.fault.TypeRule.TheVariants as rule
+use Rattle.expression_types.specs.declared.scope.Entity.TheVariants as entity
+use Rattle.expression_types.specs.declared.scope.Inside.TheVariants as inside
 use Rattle.types.specs.Block.{statements_typed}
-use Rattle.types.specs.Checker.{CheckerTree, checker_of, condition_slot, with_scope, declared_in, restarted}
+use Rattle.types.specs.Checker.{CheckerTree, condition_slot, with_scope, declared_in, restarted}
 use Rattle.types.specs.Initial.{InitializerTree, ErrorInitializer, is_all, is_degrees, is_loaded, is_sound, initializer_of}
 use Rattle.types.specs.Literal.{literal_integer, literal_condition}
 use Rattle.types.specs.Step.{steps_typed, with_writes}
@@ -37,19 +36,6 @@ pub record DeclaredTree : Type 0 where
   pub vertex_functions : List FunctionTree
   pub filters : List FunctionTree
   pub main : Option BlockTree
-
--- what contracts see
-abbrev pub declared_of : Declared → DeclaredTree
-declared_of d = record {
-  checker = checker_of d.checker;
-  edges = d.edges;
-  vectors = d.vectors.items;
-  sets = d.sets.items;
-  edge_functions = map function_tree d.edge_functions.items;
-  vertex_functions = map function_tree d.vertex_functions.items;
-  filters = map function_tree d.filters.items;
-  main = option_map (λ b. block_tree b.items) d.main;
-}
 
 -- the next name is this
 abbrev pub next_name : DeclaredTree → ℕ

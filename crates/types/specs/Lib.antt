@@ -3,8 +3,6 @@ pub mod Checker
 pub mod Declaration
 pub mod EdgeWrites
 pub mod Initial
-pub mod Initializer
-pub mod FunctionKind
 pub mod Literal
 pub mod Program
 pub mod Refusal

@@ -1,28 +1,28 @@
 -- Typing of statements of functions, in the order of the text. Where one is faulty, or no function may hold it, a harmless one stands in its place.
-use Rattle.std.specs.Prelude.{ℕ, Bool, true, false, nat_eq, List, [], ◌∷◌, ◌++◌, length, Option, Some, None}
+use Rattle.std.specs.Prelude.{ℕ, Bool, true, false, nat_eq, List, ◌∷◌, ◌++◌, length, Option, Some, None}
 use Rattle.std.specs.Map.{lookup}
+use Rattle.apply_options.specs.declared.reduction.Reduction.{Reduction}
+use Rattle.apply_options.specs.declared.reduction.Reduction.TheVariants as reduction
 use Rattle.syntax.specs.Terminals.{Identifier}
 use Rattle.syntax.specs.ExpressionTrees.{ExpressionTree}
 use Rattle.syntax.specs.declared.declaration.DeclaredType.{DeclaredType}
-use Rattle.syntax.specs.declared.declaration.DeclaredType.TheVariants as declared
-use Rattle.apply_options.specs.declared.reduction.Reduction.{Reduction}
-use Rattle.apply_options.specs.declared.reduction.Reduction.TheVariants as reduction
-use Rattle.syntax.specs.SourceTrees as source
 use Rattle.syntax.specs.SourceTrees.{InitialTree}
+use Rattle.syntax.specs.declared.declaration.DeclaredType.TheVariants as declared
+use Rattle.syntax.specs.SourceTrees as source
 use Rattle.typed_tree.specs.declared.expression.Endpoint.{Endpoint}
-use Rattle.typed_tree.specs.declared.expression.Endpoint.TheVariants as endpoint
 use Rattle.typed_tree.specs.BoolExpressionTree.{Literal}
 use Rattle.typed_tree.specs.IntExpressionTree.{IntExpressionTree}
 use Rattle.typed_tree.specs.FunctionStatementTree.{FunctionStatementTree, FunctionStatementsTree, DeclareInteger, DeclareCondition, SetInteger, SetCondition, ReduceInteger, SetEntry, ReduceEntry, If, IfElse, NoStep, StepThen}
-use Rattle.expression_types.specs.declared.fault.TypeRule.TheVariants as rule
+use Rattle.typed_tree.specs.declared.expression.Endpoint.TheVariants as endpoint
 use Rattle.expression_types.specs.declared.scope.Entity.{Entity}
-use Rattle.expression_types.specs.declared.scope.Entity.TheVariants as entity
 use Rattle.expression_types.specs.declared.scope.Inside.{Inside}
-use Rattle.expression_types.specs.declared.scope.Inside.TheVariants as inside
 use Rattle.expression_types.specs.Expression.{index_value, used, value_of, vector_index}
 use Rattle.expression_types.specs.WithFaults.{WithFaults, sure, fault_at, ◌>>=◌}
 use Rattle.expression_types.specs.ScopeTree.{ScopeTree}
 use Rattle.expression_types.specs.ValueTree.{ValueTree, Integer, Condition, Vertex, Set, ErrorValue}
+use Rattle.expression_types.specs.declared.fault.TypeRule.TheVariants as rule
+use Rattle.expression_types.specs.declared.scope.Entity.TheVariants as entity
+use Rattle.expression_types.specs.declared.scope.Inside.TheVariants as inside
 use Rattle.types.specs.Checker.{CheckerTree, integer_slot, condition_slot, with_scope, declared_in, labelled}
 use Rattle.types.specs.Initial.{InitializerTree, end_of, initializer_of, initializer_integer, initializer_condition}
 use Rattle.types.specs.Wanted.{as_integer, integer_in, condition_in}
@@ -201,10 +201,6 @@ step_behind (StepThen s others) step = StepThen s (step_behind others step)
 abbrev pub steps_behind : CheckerTree → CheckerTree → CheckerTree
 steps_behind c d = with_scope d c.scope
 
--- one statement
-abbrev pub labelled_step : CheckerTree → Option Identifier → (CheckerTree → WithFaults (FunctionStatementTree × CheckerTree)) → WithFaults (FunctionStatementTree × CheckerTree)
-labelled_step c label step = labelled c label >>= λ l. step l.1
-
 -- The name of a `for` is visible in its body alone, and its bounds are looked at before.
 abbrev pub no_for : CheckerTree → ℕ → Identifier → (first limit : ExpressionTree) → (CheckerTree → WithFaults (FunctionStatementsTree × CheckerTree)) → WithFaults (FunctionStatementTree × CheckerTree)
 no_for c at name first limit body =
@@ -236,7 +232,3 @@ abbrev mutual
   steps_typed c so_far source.Empty = sure (so_far, c)
   steps_typed c so_far (source.Then label action others) =
       labelled c label >>= λ l. step_typed l.1 action >>= λ s. steps_typed s.1 (step_behind so_far s.0) others
-
--- a block of its own
-abbrev pub steps_inside : CheckerTree → source.BlockTree → WithFaults (FunctionStatementsTree × CheckerTree)
-steps_inside c block = steps_typed c NoStep block >>= λ b. sure (b.0, steps_behind c b.1)

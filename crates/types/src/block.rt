@@ -4,8 +4,9 @@ ghost use Rattle.syntax.specs.SourceViews.{statement_kind_tree as source_action,
 ghost use Rattle.typed_tree.specs.BlockTree.{Empty, statement_kind_tree, block_tree};
 ghost use Rattle.expression_types.specs.WithFaults.{ReportsFaults};
 ghost use Rattle.expression_types.specs.ScopeTree.{Keeps};
-ghost use Rattle.types.specs.Block.{action_typed, block_typed, statement_tree, statement_typed, statements_typed};
-ghost use Rattle.types.specs.Checker.{checker_of};
+ghost use Rattle.types.specs.Block.{action_typed, statements_typed};
+ghost use Rattle.types.specs.inside.Block.{block_typed, statement_tree, statement_typed};
+ghost use Rattle.types.specs.inside.Checker.{checker_of};
 ghost use Rattle.types.specs.inside.Plain.{DeclaresNothing, HasTest, IsFor, ReducesOrSetsEntry};
 
 use crate::checker::{Checker, count, declare_loop_variable, label};

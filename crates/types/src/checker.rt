@@ -3,7 +3,8 @@ ghost use Rattle.std.specs.Prelude.{◌≡◌, suc, IfOk, OnOk};
 ghost use Rattle.expression_types.specs.declared.scope.Entity.TheVariants.{LoopVariable};
 ghost use Rattle.expression_types.specs.WithFaults.{ReportsFaults};
 ghost use Rattle.expression_types.specs.ScopeTree.{Keeps};
-ghost use Rattle.types.specs.Checker.{checker_of, condition_slot as slot_of_condition, counted};
+ghost use Rattle.types.specs.inside.Checker.{checker_of};
+ghost use Rattle.types.specs.Checker.{condition_slot as slot_of_condition, counted};
 ghost use Rattle.types.specs.Checker.{declared_in, integer_slot as slot_of_integer, labelled, set_slot as slot_of_set};
 
 use crate::quoted_names::between_ends;

@@ -9,11 +9,12 @@ ghost use Rattle.expression_types.specs.ScopeTree.{Keeps};
 ghost use Rattle.expression_types.specs.Faults.{earlier};
 ghost use Rattle.expression_types.specs.WithFaults.{ReportsFaults, outcome};
 ghost use Rattle.types.specs.Initial.{ErrorInitializer, is_sound};
-ghost use Rattle.types.specs.Checker.{checker_of};
-ghost use Rattle.types.specs.Declaration.{declaration_typed, declarations_typed, declare_condition, declare_constant, declare_constant_as, declare_edges, declare_integer, declare_name, declare_set, declare_vector, declared_of, edge_function_declared, function_declared, has_all, begins, inside_of};
+ghost use Rattle.types.specs.inside.Checker.{checker_of};
+ghost use Rattle.types.specs.Declaration.{declaration_typed, declarations_typed, declare_condition, declare_constant, declare_constant_as, declare_edges, declare_integer, declare_name, declare_set, declare_vector, edge_function_declared, function_declared, has_all, begins, inside_of};
+ghost use Rattle.types.specs.inside.Declaration.{declared_of};
 ghost use Rattle.types.specs.Declaration.{literal_or_fault, kind_fits, loads, main_declared, opened, only_edges, parameter, parameters_declared, result_declared, result_entity, steps_declared, takes_weight as weight_taken, with_main};
-ghost use Rattle.types.specs.Initializer.{initializer_tree};
-ghost use Rattle.types.specs.FunctionKind.{function_kind_tree};
+ghost use Rattle.types.specs.inside.Initializer.{initializer_tree};
+ghost use Rattle.types.specs.inside.FunctionKind.{function_kind_tree};
 ghost use Rattle.types.specs.Literal.{literal_condition, literal_integer};
 
 use crate::block::statements;

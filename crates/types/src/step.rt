@@ -5,9 +5,10 @@ ghost use Rattle.syntax.specs.SourceViews.{statement_kind_tree as source_action,
 ghost use Rattle.typed_tree.specs.FunctionStatementTree.{NoStep, function_statement_tree, function_statements_tree};
 ghost use Rattle.expression_types.specs.WithFaults.{ReportsFaults};
 ghost use Rattle.expression_types.specs.ScopeTree.{Keeps};
-ghost use Rattle.types.specs.Checker.{checker_of};
+ghost use Rattle.types.specs.inside.Checker.{checker_of};
 ghost use Rattle.types.specs.inside.Plain.{DeclaresNothing, HasTest, IsFor, ReducesOrSetsEntry};
-ghost use Rattle.types.specs.Step.{labelled_step, step_typed, steps_inside, steps_typed};
+ghost use Rattle.types.specs.inside.Step.{labelled_step, steps_inside};
+ghost use Rattle.types.specs.Step.{step_typed, steps_typed};
 
 use crate::checker::{Checker, declare_loop_variable, label};
 use crate::entry::WrittenEntry;

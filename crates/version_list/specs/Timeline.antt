@@ -1,5 +1,5 @@
 -- Histories of accepted steps, and what versions are to a contract.
-use Rattle.std.specs.Prelude.{◌≡◌, ℕ, ◌<◌, true, false, Result, Ok, Err, List, [], ◌∷◌, ◌++◌, length, take}
+use Rattle.std.specs.Prelude.{◌≡◌, ℕ, ◌<◌, true, false, Result, Ok, Err, List, ◌∷◌, ◌++◌, length, take}
 use Rattle.tree_batch.specs.Digraph.{is_vertex_count, is_chunk_size}
 use Rattle.version_list.specs.declared.step.Step.{Step}
 use Rattle.version_list.specs.declared.step.Reply.{Reply}
@@ -82,16 +82,6 @@ advanced t step = with_reply t step (reply_to t.state step)
 abbrev pub advanced_through : Timeline → List Step → Timeline
 advanced_through t [] = t
 advanced_through t (step ∷ steps) = advanced_through (advanced t step) steps
-
--- the step is answered as the machine does, and taken; or memory runs out and nothing is changed
-abbrev pub Takes : Timeline → Step → Result Reply VersionError → Timeline → Type 0
-Takes old step (Ok reply) new = (reply ≡ reply_to old.state step) × (new ≡ advanced old step)
-Takes old step (Err NoMemory) new = new ≡ old
-Takes old step (Err VertexRange) new = ⊥
-Takes old step (Err BadChunkSize) new = ⊥
-Takes old step (Err NotKept) new = ⊥
-Takes old step (Err NotHeld) new = ⊥
-Takes old step (Err HistoryFull) new = ⊥
 
 -- each step is answered and taken in order, where replies is the list that the call gives; where memory runs out it may stop before a step, after those in front of it
 abbrev pub Runs : {A : Type 0} → Timeline → List Step → (A → List Reply) → Result A VersionError → Timeline → Type 0

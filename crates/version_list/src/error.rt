@@ -2,7 +2,8 @@
 
 ghost use Rattle.std.specs.Prelude.{◌≡◌};
 ghost use Rattle.version_list.specs.declared.error.VersionError.TheVariants.{NoMemory};
-ghost use Rattle.version_list.specs.Refusal.{number_of, from_graph};
+ghost use Rattle.version_list.specs.Refusal.{number_of};
+ghost use Rattle.version_list.specs.inside.Refusal.{from_graph};
 
 use refusal_numbers::{BAD_CHUNK_SIZE, HISTORY_FULL, NO_MEMORY, NOT_HELD, NOT_KEPT, VERTEX_RANGE};
 use std::alloc::{AllocError, AllocFailed};

@@ -12,7 +12,8 @@ ghost use Rattle.version_list.specs.declared.step.Step.TheVariants.{Commit, Acqu
 ghost use Rattle.version_list.specs.declared.step.Reply.TheVariants as reply;
 ghost use Rattle.version_list.specs.Machine.{lacks_room, lacks_steps, newest_number, number_asked, version_graph};
 ghost use Rattle.version_list.specs.Machine.{is_kept, kept_graph, ticket_graph, ticket_version, is_open, reply_to};
-ghost use Rattle.version_list.specs.Timeline.{IsLegal, replay, Opens, Accepts, Answers, Takes, Runs};
+ghost use Rattle.version_list.specs.Timeline.{IsLegal, replay, Opens, Accepts, Answers, Runs};
+ghost use Rattle.version_list.specs.inside.Timeline.{Takes};
 ghost use Rattle.version_list.specs.Prepared.{IsPrepared, IsPreparedAcquire, Prepares};
 ghost use Rattle.version_list.specs.Trims.{PreparesTrim, Trims};
 ghost use Rattle.version_list.specs.inside.Held.{HasRoom};

@@ -5,7 +5,8 @@ use Rattle.ascending_lists.specs.Maps.{Rises}
 use Rattle.pages.specs.Vertices.{neighbours_of}
 use Rattle.ascending_lists.proofs.MapOrder.{rises_room}
 use Rattle.pages.proofs.Ranks.{none_below}
-use Rattle.vertex_blocks.specs.Blocks.{Block, AreNeighbourLists, vertices_from}
+use Rattle.vertex_blocks.specs.Blocks.{Block, AreNeighbourLists}
+use Rattle.vertex_blocks.specs.inside.Blocks.{vertices_from}
 
 pub from_first : (es : Block) → vertices_from 0 es ≡ es
 from_first [] = refl

@@ -1,5 +1,5 @@
 -- Blocks of 64 vertices with the lists of their neighbours, each with a weight.
-use Rattle.std.specs.Prelude.{ℕ, ℤ, ◌+◌, ◌*◌, ◌<◌, nat_lt, if◌then◌else◌, Option, Some, None, List, [], ◌∷◌, ◌++◌, length}
+use Rattle.std.specs.Prelude.{ℕ, ℤ, ◌+◌, ◌*◌, ◌<◌, Option, Some, None, List, ◌∷◌, ◌++◌, length}
 use Rattle.std.specs.Map.{keys_of}
 use Rattle.ascending_lists.specs.Ascending.{AscendsFrom}
 use Rattle.ascending_lists.specs.Maps.{Rises}
@@ -32,11 +32,6 @@ edge_total (e ∷ es) = length e.1 + edge_total es
 abbrev pub vertices_at : Option Block → Block
 vertices_at None = []
 vertices_at (Some b) = b
-
--- the vertices from a number on
-abbrev pub vertices_from : ℕ → Block → Block
-vertices_from u [] = []
-vertices_from u (e ∷ es) = if nat_lt e.0 u then vertices_from u es else e ∷ es
 
 -- the vertices of the block k by their numbers in a graph
 abbrev pub numbered : ℕ → Block → List (ℕ × List (ℕ × ℤ))

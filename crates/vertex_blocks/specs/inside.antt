@@ -1,3 +1,4 @@
+pub mod Blocks
 -- What the code is made of: no public contract cites these definitions.
 pub mod LongLists
 pub mod Joined

@@ -16,7 +16,8 @@ pub struct BlockIter<'a> {
 }
 
 impl<'a> Model for BlockIter<'a> {
-    ghost use Rattle.vertex_blocks.specs.Blocks.{Block, IsBlock, vertices_from};
+    ghost use Rattle.vertex_blocks.specs.Blocks.{Block, IsBlock};
+    ghost use Rattle.vertex_blocks.specs.inside.Blocks.{vertices_from};
 
     ghost Value = { Block };
 

@@ -9,7 +9,7 @@ use Rattle.vertex_sets.specs.inside.Words.{bit_members, word_members}
 use Rattle.vertex_sets.proofs.Ascending.{Rises, rises_from_lower, contains_nothing, contains_first, contains_later, first_or_later, increasing_from_rises}
 use Rattle.vertex_sets.proofs.BitMembers.{rises_bits, bit_of, bit_in, bits_none, bits_lowest}
 use Rattle.vertex_sets.proofs.WordMembers.{rises_words, word_members_has, words_push}
-use Rattle.vertex_marks.specs.Bits.{HasBit}
+use Rattle.vertex_marks.specs.inside.Bits.{HasBit}
 use Rattle.vertex_marks.specs.inside.Named.{named_members}
 use lib.Count.{count_trailing_zeros}
 

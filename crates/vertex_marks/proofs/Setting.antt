@@ -8,7 +8,7 @@ use Rattle.vertex_sets.specs.inside.Words.{bit_members}
 use Rattle.vertex_sets.proofs.Ascending.{contains_nothing, first_or_later}
 use Rattle.vertex_sets.proofs.BitMembers.{bit_in, bits_none, bits_lowest}
 use Rattle.vertex_sets.proofs.WordMembers.{with_bit, words_set, word_members_has}
-use Rattle.vertex_marks.specs.Bits.{HasBit}
+use Rattle.vertex_marks.specs.inside.Bits.{HasBit}
 use Rattle.vertex_marks.proofs.Naming.{IsSummary, no_bit}
 use lib.Count.{count_trailing_zeros}
 

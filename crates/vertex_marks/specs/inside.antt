@@ -1,2 +1,3 @@
+pub mod Bits
 -- What the code is made of: no public contract cites these definitions.
 pub mod Named

@@ -1,6 +1,6 @@
 //! Marks: a bit for each vertex, and the summary of their words.
 ghost use Rattle.std.specs.Prelude.{◌≢◌, ℕ, ◌*◌, ◌^◌, ◌≤◌, length, slice_index};
-ghost use Rattle.vertex_marks.specs.Bits.{HasBit};
+ghost use Rattle.vertex_marks.specs.inside.Bits.{HasBit};
 
 /// Some of the vertices of a graph.
 pub struct VertexMarks {

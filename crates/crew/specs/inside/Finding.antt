@@ -1,7 +1,7 @@
 -- What workers found, before it is put in order.
 use Rattle.std.specs.Prelude.{◌≡◌, ℕ, ◌+◌, ◌-◌, ◌<◌, ◌≤◌, Option, Some, List, [], ◌∷◌, ◌++◌, slice_set}
 use Rattle.crew.specs.declared.piece_results.Found.{Found}
-use Rattle.crew.specs.ClaimWord.{times}
+use Rattle.crew.specs.inside.ClaimWord.{times}
 use Rattle.crew.specs.Pieces.{pieces_of}
 
 module _ {T : Type 0} where

@@ -6,7 +6,7 @@ use Rattle.atomic_table.specs.Seated.{TableId}
 use Rattle.crew.specs.declared.worker.StartingWorker.{StartingWorker}
 use Rattle.crew.specs.declared.worker.FinishedWorker.{FinishedWorker}
 use Rattle.crew.specs.declared.claim_word.ClaimView.{ClaimView}
-use Rattle.crew.specs.ClaimWord.{claim_view, times}
+use Rattle.crew.specs.inside.ClaimWord.{claim_view, times}
 use Rattle.crew.specs.inside.Claims.{IsClaimAt, view_of, worker_rights, pieces_at}
 use Rattle.crew.specs.inside.Finding.{IsAnswered}
 use Rattle.crew.specs.Pieces.{pieces_of}

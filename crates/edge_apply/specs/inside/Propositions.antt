@@ -2,7 +2,7 @@
 use Rattle.std.specs.Prelude.{ℕ, ◌+◌, List, [], ◌∷◌}
 use Rattle.std.specs.Coded.{×_prop, Coded-set, Unit-prop, coded_ℕ, le_prop}
 use Rattle.crew.specs.Partition.{AreEnds}
-use Rattle.edge_apply.specs.Lists.{AscendsFrom}
+use Rattle.edge_apply.specs.inside.Lists.{AscendsFrom}
 
 pub AscendsFrom-prop : (low : ℕ) (us : List ℕ) → IsProp (AscendsFrom low us)
 AscendsFrom-prop low [] = Unit-prop

@@ -1,7 +1,7 @@
 -- Arrays of blocks to which slots are added.
 use Rattle.std.specs.Prelude.{◌≡◌, ℕ, ◌+◌, Option, List, ◌++◌, length}
 use Rattle.vertex_blocks.specs.Blocks.{Block, IsBlock, numbered}
-use Rattle.flat_snapshot.specs.Lists.{lists_in, AreBlocks}
+use Rattle.flat_snapshot.specs.inside.Lists.{lists_in, AreBlocks}
 
 -- slots without a block came, up to n of them
 pub record IsPadded (old : List (Option Block)) (n : ℕ) (new : List (Option Block)) : Type 0 where

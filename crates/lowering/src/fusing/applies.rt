@@ -4,7 +4,7 @@ ghost use Rattle.std.specs.Option.{option_map};
 ghost use Rattle.typed_tree.specs.BlockTree.{statement_kind_tree};
 ghost use Rattle.plans.specs.Fusing.{edge_apply_of as edge_apply_in, modifying as modifying_in, vertex_apply_of as vertex_apply_in};
 ghost use Rattle.plans.specs.Instruction.{Assigned, Declared};
-ghost use Rattle.plans.specs.Parts.{edge_apply_tree, vertex_apply_tree};
+ghost use Rattle.plans.specs.inside.Parts.{edge_apply_tree, vertex_apply_tree};
 
 use plans::{EdgeApply, EdgePart, PartResult, VertexApply};
 use typed_tree::{ApplyEnds, SetValue, StatementKind};

@@ -5,7 +5,7 @@ ghost use Rattle.typed_tree.specs.BlockTree.{statement_kind_tree, block_tree};
 ghost use Rattle.typed_tree.specs.ProgramTree.{program_tree};
 ghost use Rattle.plans.specs.Fusing.{fusion_role_of, edges_together as edges_done, is_with as does_fuse};
 ghost use Rattle.plans.specs.Fusing.{together as done_together, vertices_together as vertices_done, with_next};
-ghost use Rattle.plans.specs.Parts.{edge_apply_tree, together_tree, vertex_apply_tree};
+ghost use Rattle.plans.specs.inside.Parts.{edge_apply_tree, together_tree, vertex_apply_tree};
 
 use crate::fusing::applies::{edge_apply_of, vertex_apply_of};
 use crate::fusing::fits::{edges_fit, vertices_fit};

@@ -3,7 +3,7 @@ use Rattle.std.specs.Prelude.{◌≡◌, Option, Some, None}
 use Rattle.shared_tree.specs.declared.nodes.Opened.{Opened}
 use Rattle.shared_tree.specs.declared.joins.Last.{Last}
 use Rattle.shared_tree.specs.Balanced.{Balanced, empty, IsFork}
-use Rattle.shared_tree.specs.Joins.{IsFront}
+use Rattle.shared_tree.specs.inside.Joins.{IsFront}
 
 -- what there is to open of the tree t
 abbrev pub IsOpened : {V : Type 0} → Balanced V → Option (Opened V) → Type 0

@@ -7,7 +7,7 @@ use Rattle.expression_types.specs.WithFaults.{WithFaults, sure, ◌>>=◌}
 use Rattle.expression_types.specs.ScopeTree.{ScopeTree}
 use Rattle.types.specs.declared.initial.NamedApply.{NamedApply}
 use Rattle.types.specs.Initial.{ApplyEndTree, end_of}
-use Rattle.types.specs.Initializer.{apply_end_tree}
+use Rattle.types.specs.inside.Initializer.{apply_end_tree}
 
 -- an apply with its target, its ends and its function
 pub record ApplyTree : Type 0 where

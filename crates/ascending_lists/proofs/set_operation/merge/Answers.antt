@@ -1,7 +1,8 @@
 -- Proofs of `merge`, src/set_operation.rt.
 use Rattle.std.proofs.Common.{◌≡◌, ◌++◌, true, false, take, drop, sym, ap, ◌∙◌}
 use Rattle.std.proofs.lemmas.List.{append-nil, take_rest}
-use Rattle.ascending_lists.specs.Operations.{combined, takes_second}
+use Rattle.ascending_lists.specs.Operations.{combined}
+use Rattle.ascending_lists.specs.inside.Operations.{takes_second}
 use Rattle.ascending_lists.proofs.Merging.{merged_whole, written_anew}
 use Rattle.ascending_lists.proofs.set_operation.merge.Goals as goal
 use Rattle.ascending_lists.proofs.set_operation.merge.Goals.{then-takes_second+in_ok-extend_from_slice-2, else-takes_second}

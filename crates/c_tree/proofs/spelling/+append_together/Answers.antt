@@ -4,7 +4,7 @@ use Rattle.std.specs.Map.{keys_of}
 use Rattle.tail_codec.specs.Appending.{least_after}
 use Rattle.ascending_lists.specs.Ascending.{least}
 use Rattle.tail_codec.specs.Spelling.{SpellsNumbers, entry_numbers, weight_number}
-use Rattle.c_tree.specs.Chunks.{together}
+use Rattle.c_tree.specs.inside.Chunks.{together}
 use Rattle.c_tree.specs.inside.Spelled.{SpellsUpTo}
 use Rattle.c_tree.proofs.Spelled.{left_ascends, left_over, right_ascends, right_over, root_fits, sides_smaller, spelled_whole, appended_behind}
 use Rattle.c_tree.proofs.spelling.+append_together.Goals as goal

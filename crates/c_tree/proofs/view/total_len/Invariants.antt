@@ -1,5 +1,5 @@
 use Rattle.std.proofs.Common.{◌≡◌, ◌+◌, length}
-use Rattle.c_tree.specs.Chunks.{entries_of, together}
+use Rattle.c_tree.specs.inside.Chunks.{entries_of, together}
 use Rattle.c_tree.proofs.view.total_len.Given as goal
 
 abbrev pub invariant-loop-tail : goal.invariant-loop-tail

@@ -1,6 +1,6 @@
 use Rattle.std.proofs.Common.{◌≡◌, ◌-◌, ◌*◌, [], length}
 use Rattle.std.specs.List.{All}
-use Rattle.crew.specs.ClaimWord.{claim_view, all_rights}
+use Rattle.crew.specs.inside.ClaimWord.{claim_view, all_rights}
 use Rattle.crew.specs.inside.Claims.{IsClaimAt, view_of, worker_rights}
 use Rattle.crew.specs.inside.Workers.{IsHired}
 use Rattle.crew.proofs.claimed.hire_all.Given as goal

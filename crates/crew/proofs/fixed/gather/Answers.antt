@@ -2,7 +2,7 @@
 use Rattle.std.proofs.Common.{◌≡◌, refl, ◌+◌, ◌-◌, ◌%◌, ◌<◌, ℕ, subst, length, arith}
 use Rattle.std.proofs.Math.Nat.{mod-lt}
 use Rattle.std.proofs.lemmas.Result.{IfOk-at_ok}
-use Rattle.crew.specs.ClaimWord.{times}
+use Rattle.crew.specs.inside.ClaimWord.{times}
 use Rattle.crew.specs.inside.Finding.{IsAnswered}
 use Rattle.crew.specs.Pieces.{pieces_of}
 use Rattle.crew.specs.inside.Workers.{HasEvery, GivesEvery}

@@ -1,6 +1,6 @@
 use Rattle.std.proofs.Common.{◌≡◌, ◌+◌, ◌%◌, ◌<◌, ◌≤◌, ℕ, length}
 use Rattle.std.specs.List.{All}
-use Rattle.crew.specs.ClaimWord.{times}
+use Rattle.crew.specs.inside.ClaimWord.{times}
 use Rattle.crew.specs.inside.Finding.{IsAnswered}
 use Rattle.crew.specs.Pieces.{pieces_of}
 use Rattle.crew.specs.inside.Workers.{HaveEvery}

@@ -3,7 +3,7 @@ use Rattle.std.proofs.Common.{rules, ◌≡◌, true, false, List, sym, ap, ◌�
 use Rattle.vectors.specs.declared.changes.VectorChanges.{VectorChanges}
 use Rattle.edge_fold.specs.Changed.{AreApart, changes_or, is_named}
 use Rattle.edge_fold.proofs.Findings.{apart_push}
-use Rattle.edge_apply.specs.Merged.{changes_in_parts}
+use Rattle.edge_apply.specs.inside.Merged.{changes_in_parts}
 use Rattle.edge_apply.proofs.PartChanges.{another, have_more, named_push}
 use Rattle.edge_apply.proofs.appended.add_vector.Goals as goal
 

@@ -1,6 +1,6 @@
 use Rattle.std.proofs.Common.{◌≡◌, ℕ, false, [], take}
 use Rattle.edge_fold.specs.Changed.{AreApart, changes_of, changes_or, is_named}
-use Rattle.edge_apply.specs.Merged.{changes_in_parts}
+use Rattle.edge_apply.specs.inside.Merged.{changes_in_parts}
 use Rattle.edge_apply.proofs.appended.add_vectors.Given as goal
 
 -- the first vectors of the part are there

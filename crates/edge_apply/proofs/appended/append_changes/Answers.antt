@@ -3,7 +3,7 @@ use Rattle.std.proofs.Common.{◌≤◌, List, length, refl, sym, ap, ◌∙◌,
 use Rattle.std.proofs.lemmas.List.{take_all}
 use Rattle.vectors.specs.declared.changes.VectorChanges.{VectorChanges}
 use Rattle.edge_fold.specs.Changed.{AreApart, changes_of, changes_or, is_named}
-use Rattle.edge_apply.specs.Merged.{changes_in_parts}
+use Rattle.edge_apply.specs.inside.Merged.{changes_in_parts}
 use Rattle.edge_apply.proofs.PartChanges.{found_or, no_changes_next}
 use Rattle.edge_apply.proofs.appended.append_changes.Goals as goal
 

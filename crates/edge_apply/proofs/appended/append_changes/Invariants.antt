@@ -1,6 +1,6 @@
 use Rattle.std.proofs.Common.{◌≡◌, ℕ, false, [], take}
 use Rattle.edge_fold.specs.Changed.{AreApart, changes_or, is_named}
-use Rattle.edge_apply.specs.Merged.{changes_in_parts}
+use Rattle.edge_apply.specs.inside.Merged.{changes_in_parts}
 use Rattle.edge_apply.proofs.appended.append_changes.Given as goal
 
 -- what is there is whole, and a vector that is not there has no change in the parts that have come

@@ -1,5 +1,5 @@
 use Rattle.std.proofs.Common.{◌≡◌, take}
-use Rattle.edge_apply.specs.Merged.{changes_in_parts}
+use Rattle.edge_apply.specs.inside.Merged.{changes_in_parts}
 use Rattle.edge_apply.proofs.appended.changes_of_all.Given as goal
 
 -- the changes of the first parts are there

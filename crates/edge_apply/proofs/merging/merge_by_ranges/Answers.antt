@@ -7,7 +7,7 @@ use Rattle.std.specs.List.{flat_map, range_with_len}
 use Rattle.kernels.specs.Value.{entry}
 use Rattle.crew.specs.Partition.{AreEnds}
 use Rattle.crew.specs.Pieces.{pieces_of}
-use Rattle.edge_apply.specs.Merged.{changes_in_parts}
+use Rattle.edge_apply.specs.inside.Merged.{changes_in_parts}
 use Rattle.edge_apply.proofs.PartChanges.{parts_in_order}
 use Rattle.edge_apply.proofs.Crossing.{merge_sync}
 use Rattle.edge_apply.proofs.Told.{told_in_piece, told_in_pieces}

@@ -3,7 +3,7 @@ use Rattle.std.proofs.Common.{ℕ, ℤ, Bool, List, Contains, pos, get_or, refl,
 use Rattle.std.specs.List.Sorted.{IsNonDecreasing}
 use Rattle.algorithm_meaning.specs.Value.{entry}
 use Rattle.vectors.specs.Lanes.{lane_entry}
-use Rattle.edge_fold.specs.Held.{AreMarked, held}
+use Rattle.edge_fold.specs.inside.Held.{AreMarked, held}
 use Rattle.edge_fold.proofs.Findings.{changed_agree}
 use Rattle.edge_fold.proofs.apply_changes.all_changes.Goals as goal
 

@@ -5,7 +5,7 @@ use Rattle.std.specs.List.{filter}
 use Rattle.std.specs.List.Sorted.{IsNonDecreasing}
 use Rattle.algorithm_meaning.specs.Value.{entry}
 use Rattle.vectors.specs.Lanes.{lane_entry}
-use Rattle.edge_fold.specs.Held.{held}
+use Rattle.edge_fold.specs.inside.Held.{held}
 use Rattle.edge_fold.proofs.Findings.{among_kept, changed_agree, kept_passes, not_kept}
 use Rattle.edge_fold.proofs.apply_changes.passing_changes.Goals as goal
 

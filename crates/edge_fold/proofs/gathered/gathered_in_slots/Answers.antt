@@ -7,7 +7,8 @@ use Rattle.edge_fold.specs.declared.vector_accumulator.VectorAccumulator.{Vector
 use Rattle.edge_fold.specs.Gathered.{AreAscending, IsGatheredBy, gathered_for}
 use Rattle.edge_fold.specs.Contributions.{reduced_at}
 use Rattle.edge_fold.specs.FoldStarts.{combined}
-use Rattle.edge_fold.specs.VectorAccumulators.{held_in_with, index_in, reduction_in}
+use Rattle.edge_fold.specs.VectorAccumulators.{held_in_with, reduction_in}
+use Rattle.edge_fold.specs.inside.VectorAccumulators.{index_in}
 use Rattle.edge_fold.proofs.Ascending.{ascending_push}
 use Rattle.edge_fold.proofs.Gathering.{gathered_by_more, gathered_more, hidden_slot, onto}
 use Rattle.edge_fold.proofs.gathered.gathered_in_slots.Goals as goal

@@ -1,5 +1,5 @@
 use Rattle.std.proofs.Common.{◌≡◌, ◌+◌, drop}
-use Rattle.edge_fold.specs.VectorAccumulators.{index_in}
+use Rattle.edge_fold.specs.inside.VectorAccumulators.{index_in}
 use Rattle.edge_fold.proofs.vector_accumulators.find.Given as goal
 
 -- no slot that has come is of the vector

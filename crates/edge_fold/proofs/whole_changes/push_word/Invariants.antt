@@ -1,6 +1,6 @@
 use Rattle.std.proofs.Common.{◌≡◌, ◌++◌, pos, get_or}
 use Rattle.vertex_sets.specs.inside.Words.{bit_members}
-use Rattle.edge_fold.specs.Changed.{entries_at}
+use Rattle.edge_fold.specs.inside.Changed.{entries_at}
 use Rattle.edge_fold.proofs.whole_changes.push_word.Given as goal
 
 -- what is added, with the new entries at the bits that are left, is the whole

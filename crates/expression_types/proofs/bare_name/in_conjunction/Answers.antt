@@ -1,6 +1,6 @@
 -- Proofs of `in_conjunction`, src/bare_name.rt.
 use Rattle.std.proofs.Common.{◌<◌, length, rules}
-use Rattle.syntax.specs.ExpressionViews.{comparison_of}
+use Rattle.syntax.specs.inside.ExpressionViews.{comparison_of}
 use Rattle.expression_types.proofs.LoneOperands.{several_comparisons}
 use Rattle.expression_types.proofs.bare_name.in_conjunction.Goals as goal
 

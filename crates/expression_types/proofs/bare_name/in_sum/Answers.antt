@@ -1,6 +1,6 @@
 -- Proofs of `in_sum`, src/bare_name.rt.
 use Rattle.std.proofs.Common.{◌<◌, length, rules}
-use Rattle.syntax.specs.ExpressionViews.{term_of}
+use Rattle.syntax.specs.inside.ExpressionViews.{term_of}
 use Rattle.expression_types.proofs.LoneOperands.{several_terms}
 use Rattle.expression_types.proofs.bare_name.in_sum.Goals as goal
 

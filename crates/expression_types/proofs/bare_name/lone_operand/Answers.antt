@@ -1,6 +1,6 @@
 -- Proofs of `lone_operand`, src/bare_name.rt.
 use Rattle.std.proofs.Common.{◌<◌, length, rules, ap, ◌∙◌}
-use Rattle.syntax.specs.ExpressionViews.{conjunction_of}
+use Rattle.syntax.specs.inside.ExpressionViews.{conjunction_of}
 use Rattle.expression_types.specs.BareNames.{only_operand}
 use Rattle.expression_types.proofs.LoneOperands.{several_conjunctions}
 use Rattle.expression_types.proofs.bare_name.lone_operand.Goals as goal

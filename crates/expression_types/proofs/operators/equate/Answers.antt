@@ -1,6 +1,7 @@
 -- Proofs of `equate`, src/operators.rt.
 use Rattle.std.proofs.Common.{ap, sym, ◌∙◌, [], ◌∷◌, ◌++◌, Some}
-use Rattle.typed_tree.specs.BoolExpressionTree.{bool_expression_tree, conditions_tree}
+use Rattle.typed_tree.specs.BoolExpressionTree.{bool_expression_tree}
+use Rattle.typed_tree.specs.inside.BoolExpressionTree.{conditions_tree}
 use Rattle.typed_tree.proofs.Chains.{bool_expression_tree-Connect}
 use Rattle.expression_types.specs.ValueTree.{Condition, value_tree}
 use Rattle.expression_types.proofs.OperandLaws.{conditions_equated}

@@ -2,7 +2,8 @@
 use Rattle.std.proofs.Common.{ap, sym, ◌∙◌, ◌||◌}
 use Rattle.typed_tree.specs.IntExpressionTree.{int_expression_tree}
 use Rattle.typed_tree.proofs.Chains.{int_expression_tree-Arithmetic}
-use Rattle.expression_types.specs.ValueTree.{operands_read_entry, reads_entry}
+use Rattle.expression_types.specs.inside.ValueTree.{operands_read_entry}
+use Rattle.expression_types.specs.ValueTree.{reads_entry}
 use Rattle.expression_types.proofs.Entries.{reads_entry-negated, reads_entry-operands}
 use Rattle.expression_types.proofs.value.+entries.Goals as goal
 

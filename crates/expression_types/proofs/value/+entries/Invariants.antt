@@ -1,5 +1,5 @@
 use Rattle.std.proofs.Common.{◌≡◌, drop}
-use Rattle.expression_types.specs.ValueTree.{operands_read_entry}
+use Rattle.expression_types.specs.inside.ValueTree.{operands_read_entry}
 use Rattle.expression_types.proofs.value.+entries.Given as goal
 
 -- in none of the operands before was an entry read

@@ -1,6 +1,6 @@
 -- Proofs of `pad`, src/adjacency.rt.
 use Rattle.std.proofs.Common.{None, [], ◌∷◌, ◌∙◌, arith, append-nil, length-append}
-use Rattle.flat_snapshot.specs.Lists.{lists_in}
+use Rattle.flat_snapshot.specs.inside.Lists.{lists_in}
 use Rattle.flat_snapshot.proofs.Numbered.{lists_more, blocks_more, none_is_a_block}
 use Rattle.flat_snapshot.proofs.adjacency.pad.Goals as goal
 

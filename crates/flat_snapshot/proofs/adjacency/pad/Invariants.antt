@@ -1,5 +1,5 @@
 use Rattle.std.proofs.Common.{◌≡◌, ℕ, ◌-◌, ◌≤◌, length}
-use Rattle.flat_snapshot.specs.Lists.{lists_in, AreBlocks}
+use Rattle.flat_snapshot.specs.inside.Lists.{lists_in, AreBlocks}
 use Rattle.flat_snapshot.proofs.adjacency.pad.Given as goal
 
 abbrev pub invariant-loop-slots : goal.invariant-loop-slots

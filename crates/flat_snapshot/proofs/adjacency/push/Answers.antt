@@ -1,7 +1,7 @@
 -- Proofs of `push`, src/adjacency.rt.
 use Rattle.std.proofs.Common.{◌+◌, Some, [], ◌∷◌, ◌++◌, ◌∙◌, ap, arith, length-append}
 use Rattle.vertex_blocks.specs.Blocks.{numbered}
-use Rattle.flat_snapshot.specs.Lists.{lists_in}
+use Rattle.flat_snapshot.specs.inside.Lists.{lists_in}
 use Rattle.flat_snapshot.proofs.Numbered.{lists_more, blocks_more}
 use Rattle.flat_snapshot.proofs.adjacency.push.Goals as goal
 

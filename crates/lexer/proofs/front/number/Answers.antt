@@ -5,7 +5,7 @@ use Rattle.std.proofs.lemmas.Int.{to_z-of_z, ints}
 use mir.Syntax.{w64}
 use mir.Val.{to_z, of_z}
 use Rattle.lexer.specs.declared.token.TokenKind.TheVariants as kind
-use Rattle.lexer.specs.Runs.{IsFirst}
+use Rattle.lexer.specs.inside.Runs.{IsFirst}
 use Rattle.lexer.specs.Tokens.{Lexeme}
 use Rattle.decimal.specs.Numbers.{value_of}
 use Rattle.lexer.proofs.FrontLaws.{number_first, large_prefix}

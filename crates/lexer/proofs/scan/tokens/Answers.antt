@@ -1,7 +1,7 @@
 -- Proofs of `tokens`, src/scan.rt.
 use Rattle.std.proofs.Common.{◌+◌, subst, sym}
 use Rattle.std.proofs.lemmas.List.{take_rest}
-use Rattle.lexer.specs.Runs.{IsFirst}
+use Rattle.lexer.specs.inside.Runs.{IsFirst}
 use Rattle.lexer.specs.Tokens.{Lexeme}
 use Rattle.lexer.proofs.ReadingLaws.{IsReadTo, read_gap, read_more}
 use Rattle.lexer.proofs.scan.tokens.Goals as goal

@@ -5,9 +5,9 @@ use Rattle.typed_tree.specs.BlockTree.{block_tree}
 use Rattle.typed_tree.specs.ProgramTree.{program_tree}
 use Rattle.plans.specs.Instruction.{End}
 use Rattle.plans.specs.Plan.{behind_all, main_depth, plain, plan_all}
-use Rattle.lowering.specs.Putting.{Puts}
+use Rattle.lowering.specs.inside.Putting.{Puts}
 use Rattle.lowering.specs.Text.{IsWritten}
-use Rattle.lowering.specs.Visible.{depth_of}
+use Rattle.lowering.specs.inside.Visible.{depth_of}
 use Rattle.lowering.proofs.Statements.{whole_plan}
 use Rattle.lowering.proofs.plan.instructions_of.Goals as goal
 

@@ -3,9 +3,10 @@ use Rattle.std.proofs.Common.{sym, ◌∙◌, ap, subst, Some, ◌≡◌, false,
 use Rattle.std.proofs.lemmas.Result.{err_from_is_err_and}
 use Rattle.lexer.specs.Tokens.{slice_of}
 use Rattle.syntax.specs.Terminals.{keyword_terminal, terminal_of}
-use Rattle.parser.specs.Readers.{terminals, Gives}
+use Rattle.parser.specs.inside.Readers.{terminals, Gives}
 use Rattle.parser.proofs.Faults.{passed_on}
-use Rattle.syntax.specs.SourceViews.{statement_of, statement_kind_tree}
+use Rattle.syntax.specs.inside.SourceViews.{statement_of}
+use Rattle.syntax.specs.SourceViews.{statement_kind_tree}
 use Rattle.syntax.specs.SourceReading.{begins_statement}
 use Rattle.parser.specs.inside.Blocks.{action_at, block_in, opening_of}
 use Rattle.parser.specs.inside.Views.{statements_tree}

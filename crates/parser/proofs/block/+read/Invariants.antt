@@ -1,8 +1,8 @@
 use Rattle.std.proofs.Common.{◌+◌, ◌*◌, length, map}
-use Rattle.parser.specs.Readers.{terminals}
+use Rattle.parser.specs.inside.Readers.{terminals}
 use Rattle.syntax.proofs.Loops.{Goes}
 use Rattle.syntax.specs.SourceReading.{next_statement}
-use Rattle.syntax.specs.SourceViews.{statement_of}
+use Rattle.syntax.specs.inside.SourceViews.{statement_of}
 use Rattle.parser.specs.inside.Blocks.{action_at}
 use Rattle.parser.proofs.block.+read.Given as goal
 

@@ -2,7 +2,7 @@
 use Rattle.std.proofs.Common.{sym, ◌∙◌, ap, subst, Some, ◌≡◌, ◌∷◌}
 use Rattle.lexer.specs.Tokens.{slice_of}
 use Rattle.syntax.specs.Terminals.{keyword_terminal, terminal_of}
-use Rattle.parser.specs.Readers.{terminals, Gives}
+use Rattle.parser.specs.inside.Readers.{terminals, Gives}
 use Rattle.syntax.specs.SourceViews.{declaration_tree}
 use Rattle.syntax.specs.SourceReading.{declaration_by}
 use Rattle.parser.specs.inside.Declarations.{beginning_of}

@@ -1,7 +1,7 @@
 -- Proofs of `declarations`, src/declaration.rt.
 use Rattle.std.proofs.Common.{sym, ◌∙◌}
 use Rattle.std.proofs.lemmas.Result.{err_from_is_err_and}
-use Rattle.parser.specs.Readers.{terminals}
+use Rattle.parser.specs.inside.Readers.{terminals}
 use Rattle.parser.proofs.Faults.{passed_on}
 use Rattle.syntax.proofs.Loops.{goes_end, goes_fails}
 use Rattle.syntax.specs.SourceViews.{declaration_tree}

@@ -3,7 +3,7 @@ use Rattle.std.proofs.Common.{ap}
 use Rattle.std.proofs.lemmas.Result.{err_from_is_err_and}
 use Rattle.lexer.specs.declared.symbol.Symbol.TheVariants as symbol
 use Rattle.syntax.specs.Terminals.{OfSymbol}
-use Rattle.parser.specs.Readers.{terminals}
+use Rattle.parser.specs.inside.Readers.{terminals}
 use Rattle.syntax.specs.ExpressionReading.{behind_by}
 use Rattle.parser.proofs.Faults.{passed_on}
 use Rattle.syntax.proofs.Loops.{behind_found, behind_fails, below}

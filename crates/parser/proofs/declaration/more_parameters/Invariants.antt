@@ -1,5 +1,5 @@
 use Rattle.std.proofs.Common.{length, map}
-use Rattle.parser.specs.Readers.{terminals}
+use Rattle.parser.specs.inside.Readers.{terminals}
 use Rattle.syntax.specs.SourceReading.{next_parameter}
 use Rattle.syntax.specs.SourceViews.{parameter_tree}
 use Rattle.parser.proofs.Lists.{Follow}

@@ -6,10 +6,12 @@ use Rattle.std.proofs.Common.{◌≡◌, true, false, not, Some, ap, sym, ◌∙
 use Rattle.std.proofs.lemmas.Result.{err_from_is_err_and}
 use Rattle.lexer.specs.Tokens.{slice_of}
 use Rattle.syntax.specs.Terminals.{Name, terminal_of}
-use Rattle.parser.specs.Readers.{terminals, Gives}
-use Rattle.syntax.specs.ExpressionViews.{primary_of, unary_of, term_of, sum_of, comparison_of, conjunction_of, term_from, sum_from, conjunction_from, expression_from}
+use Rattle.parser.specs.inside.Readers.{terminals, Gives}
+use Rattle.syntax.specs.ExpressionViews.{primary_of, unary_of, term_from, sum_from, conjunction_from, expression_from}
+use Rattle.syntax.specs.inside.ExpressionViews.{term_of, sum_of, comparison_of, conjunction_of}
 use Rattle.syntax.specs.ExpressionTrees.{Bare}
-use Rattle.syntax.specs.ExpressionReading.{◌>>=◌, operand_by, behind_by, multiplication, addition, after_and, after_or, unary_at, term_at, comparison_at, conjunction_at, expression_in}
+use Rattle.syntax.specs.ExpressionReading.{◌>>=◌, operand_by, behind_by, multiplication, addition, after_and, after_or, unary_at, term_at, comparison_at, conjunction_at}
+use Rattle.syntax.specs.inside.ExpressionReading.{expression_in}
 use Rattle.parser.proofs.Faults.{passed_on, refused}
 use Rattle.parser.proofs.Fronts.{none_or, none_and}
 use Rattle.syntax.proofs.Loops.{chain_start, chain_step, chain_end, chain_fails, operand_found, operand_fails, behind_found, behind_fails, signs_start, signs_step, signs_end, with_signs, behind_terminal, below}

@@ -1,6 +1,7 @@
 use Rattle.std.proofs.Common.{◌+◌, ◌*◌, length, map}
-use Rattle.parser.specs.Readers.{terminals}
-use Rattle.syntax.specs.ExpressionViews.{unary_of, term_of, comparison_of, conjunction_of}
+use Rattle.parser.specs.inside.Readers.{terminals}
+use Rattle.syntax.specs.ExpressionViews.{unary_of}
+use Rattle.syntax.specs.inside.ExpressionViews.{term_of, comparison_of, conjunction_of}
 use Rattle.syntax.specs.ExpressionReading.{operand_by, behind_by, multiplication, addition, after_and, after_or, primary_at, unary_at, term_at, comparison_at, conjunction_at}
 use Rattle.syntax.proofs.Loops.{Chain, Signs}
 use Rattle.parser.proofs.expression.+read.Given as goal

@@ -1,5 +1,5 @@
 -- Proofs of `read_expression`, src/expression.rt.
-use Rattle.parser.specs.Readers.{terminals}
+use Rattle.parser.specs.inside.Readers.{terminals}
 use Rattle.parser.proofs.ExpressionAnswers.{answers}
 use Rattle.parser.proofs.expression.read_expression.Goals as goal
 

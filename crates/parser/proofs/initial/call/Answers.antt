@@ -3,7 +3,7 @@ use Rattle.std.proofs.Common.{ap, ◌∙◌, subst, sym, [], ◌∷◌}
 use Rattle.lexer.specs.declared.keyword.Keyword.TheVariants as keyword
 use Rattle.lexer.specs.declared.symbol.Symbol.TheVariants as symbol
 use Rattle.syntax.specs.Terminals.{OfKeyword, OfSymbol}
-use Rattle.parser.specs.Readers.{terminals, Gives}
+use Rattle.parser.specs.inside.Readers.{terminals, Gives}
 use Rattle.syntax.specs.ExpressionReading.{◌>>=◌}
 use Rattle.syntax.specs.SourceReading.{in_parentheses}
 use Rattle.syntax.specs.SourceTrees.{Vertices, OutDegrees}

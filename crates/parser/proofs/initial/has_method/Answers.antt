@@ -2,7 +2,7 @@
 use Rattle.std.proofs.Common.{ap, sym, ◌∙◌, ◌∷◌}
 use Rattle.lexer.specs.Tokens.{slice_of}
 use Rattle.syntax.specs.Terminals.{terminal_of}
-use Rattle.parser.specs.Readers.{terminals}
+use Rattle.parser.specs.inside.Readers.{terminals}
 use Rattle.parser.specs.inside.Fronts.{called_terminal}
 use Rattle.parser.proofs.InitialLaws.{method_behind}
 use Rattle.parser.proofs.initial.has_method.Goals as goal

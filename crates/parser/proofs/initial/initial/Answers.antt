@@ -1,6 +1,6 @@
 -- Proofs of `initial`, src/initial.rt.
 use Rattle.std.proofs.Common.{sym, ◌∙◌, subst}
-use Rattle.parser.specs.Readers.{terminals, Gives}
+use Rattle.parser.specs.inside.Readers.{terminals, Gives}
 use Rattle.syntax.specs.SourceViews.{initial_tree}
 use Rattle.parser.proofs.InitialLaws.{call_is}
 use Rattle.parser.proofs.initial.initial.Goals as goal

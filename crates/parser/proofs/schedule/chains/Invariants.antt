@@ -1,5 +1,5 @@
 use Rattle.std.proofs.Common.{length, map}
-use Rattle.parser.specs.Readers.{terminals}
+use Rattle.parser.specs.inside.Readers.{terminals}
 use Rattle.syntax.proofs.Loops.{Goes}
 use Rattle.syntax.specs.SourceReading.{next_chain}
 use Rattle.syntax.specs.SourceViews.{chain_tree}

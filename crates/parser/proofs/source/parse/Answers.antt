@@ -3,11 +3,12 @@ use Rattle.std.proofs.Common.{◌≡◌, ap, ◌∙◌, subst, Some, None, Err, 
 use Rattle.lexer.specs.declared.token.Token.{Token}
 use Rattle.syntax.specs.Terminals.{terminals_of}
 use Rattle.parser.specs.declared.syntax_error.SyntaxError.{SyntaxError}
-use Rattle.parser.specs.Readers.{terminals}
+use Rattle.parser.specs.inside.Readers.{terminals}
 use Rattle.syntax.specs.Nesting.{limit, StaysWithin}
 use Rattle.syntax.specs.SourceReading.{source_at}
 use Rattle.syntax.specs.SourceViews.{source_tree}
-use Rattle.parser.specs.Outcome.{GivesSource, beginning_of}
+use Rattle.parser.specs.inside.Outcome.{GivesSource}
+use Rattle.parser.specs.Outcome.{beginning_of}
 use Rattle.parser.proofs.ParseLaws.{is_source, is_no_source}
 use Rattle.parser.proofs.source.parse.Goals as goal
 

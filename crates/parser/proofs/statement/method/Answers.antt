@@ -2,7 +2,7 @@
 use Rattle.std.proofs.Common.{sym, ◌∙◌, ap, subst}
 use Rattle.syntax.specs.SourceReading.{method_by}
 use Rattle.syntax.specs.SourceViews.{statement_kind_tree}
-use Rattle.parser.specs.Readers.{terminals, Gives}
+use Rattle.parser.specs.inside.Readers.{terminals, Gives}
 use Rattle.parser.proofs.ApplyLaws.{applied_is}
 use Rattle.parser.proofs.statement.method.Goals as goal
 

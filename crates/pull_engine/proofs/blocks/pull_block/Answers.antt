@@ -6,8 +6,8 @@ use lib.Count.{count_trailing_zeros}
 use Rattle.pages.specs.Vertices.{neighbours_of}
 use Rattle.vectors.specs.Lanes.{lane_entry}
 use Rattle.edge_apply.specs.Words.{passes_words}
-use Rattle.pull_engine.specs.Ranges.{pulled}
-use Rattle.pull_engine.specs.Words.{in_word}
+use Rattle.pull_engine.specs.inside.Ranges.{pulled}
+use Rattle.pull_engine.specs.inside.Words.{in_word}
 use Rattle.pull_engine.proofs.BlockWalks.{block_begun, lowest_changed, no_block, none_left, vertex_changed}
 use Rattle.pull_engine.proofs.blocks.pull_block.Goals as goal
 

@@ -2,8 +2,8 @@ use Rattle.std.proofs.Common.{◌≡◌, ◌*◌, ◌++◌}
 use Rattle.edge_apply.specs.Words.{passes_words}
 use Rattle.vectors.specs.Lanes.{lane_entry}
 use Rattle.vertex_sets.specs.inside.Words.{bit_members}
-use Rattle.pull_engine.specs.Blocks.{block_changes}
-use Rattle.pull_engine.specs.Ranges.{changes_at, pulled}
+use Rattle.pull_engine.specs.inside.Blocks.{block_changes}
+use Rattle.pull_engine.specs.inside.Ranges.{changes_at, pulled}
 use Rattle.pull_engine.proofs.blocks.pull_block.Given as goal
 
 -- the changes so far, with those at the vertices of the bits that are left, are the whole

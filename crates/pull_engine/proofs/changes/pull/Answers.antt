@@ -6,8 +6,8 @@ use Rattle.edge_apply.proofs.Filtered.{between_agree, changes_along}
 use Rattle.edge_fold.specs.Between.{edges_between}
 use Rattle.edge_fold.specs.Contributions.{all_given}
 use Rattle.edge_fold.specs.declared.apply_context.ApplyContext.{ApplyContext}
-use Rattle.pull_engine.specs.Masked.{IsMaskOf}
-use Rattle.pull_engine.specs.Pulls.{IsRangeChanged}
+use Rattle.pull_engine.specs.inside.Masked.{IsMaskOf}
+use Rattle.pull_engine.specs.inside.Pulls.{IsRangeChanged}
 use Rattle.pull_engine.specs.Ranges.{AreChangesFrom}
 use Rattle.pull_engine.specs.declared.ranges.PullRange.{PullRange}
 use Rattle.pull_engine.proofs.Shaped.{shape_gives_only, whole_changes}

@@ -3,7 +3,7 @@ use Rattle.std.proofs.Common.{◌≡◌, ◌+◌, ◌<◌, ◌≤◌, ℕ, ℤ, 
 use Rattle.std.proofs.lemmas.Bool.{cases_Bool}
 use Rattle.std.proofs.lemmas.List.{get_or-map, length-set}
 use Rattle.edge_apply.specs.Words.{is_set}
-use Rattle.pull_engine.specs.Columns.{entry_at}
+use Rattle.pull_engine.specs.inside.Columns.{entry_at}
 use Rattle.pull_engine.proofs.Chosen.{chosen_more, inside_more}
 use Rattle.pull_engine.proofs.chosen_sources.choose.Goals as goal
 

@@ -1,7 +1,8 @@
 use Rattle.std.proofs.Common.{◌≡◌, ◌+◌, ◌-◌, ◌<◌, ◌≤◌, length, map, take, drop}
 use Rattle.std.specs.List.{All}
 use Rattle.edge_apply.specs.Words.{is_set}
-use Rattle.pull_engine.specs.Columns.{entry_at, passing}
+use Rattle.pull_engine.specs.inside.Columns.{entry_at}
+use Rattle.pull_engine.specs.Columns.{passing}
 use Rattle.pull_engine.proofs.chosen_sources.choose.Given as goal
 
 -- the indices that have come and whose sources pass are at the front

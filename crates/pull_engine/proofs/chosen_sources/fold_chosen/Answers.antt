@@ -3,7 +3,7 @@ use Rattle.std.proofs.Common.{rules, ◌-◌, ◌≤◌, length, map, take, drop
 use Rattle.std.proofs.lemmas.Int.{to_z-of_z}
 use Rattle.edge_apply.specs.Words.{is_set}
 use Rattle.edge_fold.specs.EntryNumbers.{entry_with}
-use Rattle.pull_engine.specs.Columns.{entry_at}
+use Rattle.pull_engine.specs.inside.Columns.{entry_at}
 use Rattle.pull_engine.proofs.Chosen.{rest_behind}
 use Rattle.pull_engine.proofs.EntryFolds.{entries_of_round}
 use Rattle.pull_engine.proofs.chosen_sources.fold_chosen.Goals as goal

@@ -10,7 +10,7 @@ use Rattle.vertex_sets.proofs.BitMembers.{bits_lowest, bits_none}
 use Rattle.edge_fold.proofs.Walks.{FoldsMore, folded_along, walk_begun, walk_done, walk_more}
 use Rattle.edge_apply.specs.Words.{passes_words}
 use Rattle.pull_engine.specs.Columns.{columns}
-use Rattle.pull_engine.specs.Words.{in_word}
+use Rattle.pull_engine.specs.inside.Words.{in_word}
 use Rattle.pull_engine.proofs.BlockColumns.{columns_begun, no_columns, one_destination}
 use Rattle.pull_engine.proofs.ColumnFolds.{columns-append}
 use Rattle.pull_engine.proofs.destinations.fold_block.Goals as goal

@@ -4,7 +4,7 @@ use Rattle.vertex_sets.specs.inside.Words.{bit_members}
 use Rattle.edge_fold.proofs.Walks.{HasWalked}
 use Rattle.edge_apply.specs.Words.{passes_words}
 use Rattle.pull_engine.specs.Columns.{columns}
-use Rattle.pull_engine.specs.Words.{in_word}
+use Rattle.pull_engine.specs.inside.Words.{in_word}
 use Rattle.pull_engine.proofs.destinations.fold_block.Given as goal
 
 -- the edges into some vertices are folded, and those of the bits that are left come

@@ -5,7 +5,7 @@ use Rattle.std.proofs.lemmas.Result.{IfOk-weaker}
 use Rattle.edge_fold.proofs.Walks.{folded_along}
 use Rattle.edge_apply.specs.Words.{passes_words}
 use Rattle.pull_engine.specs.Columns.{columns}
-use Rattle.pull_engine.specs.Lets.{lets}
+use Rattle.pull_engine.specs.inside.Lets.{lets}
 use Rattle.pull_engine.proofs.BlockColumns.{rows_agree}
 use Rattle.pull_engine.proofs.destinations.fold_range.Goals as goal
 

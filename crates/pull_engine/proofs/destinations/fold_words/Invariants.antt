@@ -3,7 +3,7 @@ use Rattle.std.specs.List.{filter, range_with_len}
 use Rattle.edge_fold.proofs.Walks.{FoldsMore}
 use Rattle.edge_apply.specs.Words.{passes_words}
 use Rattle.pull_engine.specs.Columns.{columns}
-use Rattle.pull_engine.specs.Lets.{lets}
+use Rattle.pull_engine.specs.inside.Lets.{lets}
 use Rattle.pull_engine.proofs.RangeCuts.{within}
 use Rattle.pull_engine.proofs.destinations.fold_words.Given as goal
 

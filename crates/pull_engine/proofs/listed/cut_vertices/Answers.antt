@@ -3,7 +3,7 @@ use Rattle.std.proofs.Common.{ℕ, sym, ap, ◌∙◌}
 use Rattle.std.proofs.lemmas.List.FromFn.{length-map-range_with_len}
 use Rattle.std.proofs.lemmas.Result.{IfOk-weaker}
 use Rattle.crew.specs.Boundaries.{boundaries}
-use Rattle.pull_engine.specs.Degrees.{in_degrees}
+use Rattle.pull_engine.specs.inside.Degrees.{in_degrees}
 use Rattle.pull_engine.proofs.DegreeTotals.{degree}
 use Rattle.pull_engine.proofs.listed.cut_vertices.Goals as goal
 

@@ -1,6 +1,6 @@
 use Rattle.std.proofs.Common.{◌≡◌, length}
 use Rattle.edge_apply.specs.Words.{passes_words}
-use Rattle.pull_engine.specs.Masked.{AreMasked}
+use Rattle.pull_engine.specs.inside.Masked.{AreMasked}
 use Rattle.pull_engine.proofs.masked_sources.masked_numbers.Given as goal
 
 -- the list has the vertices so far

@@ -4,8 +4,8 @@ use Rattle.kernels.specs.Value.{entry}
 use Rattle.vectors.specs.Lanes.{lane_entry}
 use Rattle.edge_apply.specs.Words.{passes_words}
 use Rattle.edge_fold.specs.Changed.{changed_from}
-use Rattle.pull_engine.specs.Lets.{lets}
-use Rattle.pull_engine.specs.Ranges.{pulled_to}
+use Rattle.pull_engine.specs.inside.Lets.{lets}
+use Rattle.pull_engine.specs.inside.Ranges.{pulled_to}
 use Rattle.pull_engine.proofs.RangeCuts.{within, block_more, blocks_begun, range_whole}
 use Rattle.pull_engine.proofs.ranges.pull_words.Goals as goal
 

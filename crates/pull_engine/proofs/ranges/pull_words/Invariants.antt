@@ -2,8 +2,8 @@ use Rattle.std.proofs.Common.{◌≡◌, ◌*◌, ◌-◌}
 use Rattle.edge_apply.specs.Words.{passes_words}
 use Rattle.edge_fold.specs.Changed.{changed_from}
 use Rattle.vectors.specs.Lanes.{lane_entry}
-use Rattle.pull_engine.specs.Lets.{lets}
-use Rattle.pull_engine.specs.Ranges.{pulled_to}
+use Rattle.pull_engine.specs.inside.Lets.{lets}
+use Rattle.pull_engine.specs.inside.Ranges.{pulled_to}
 use Rattle.pull_engine.proofs.RangeCuts.{within}
 use Rattle.pull_engine.proofs.ranges.pull_words.Given as goal
 

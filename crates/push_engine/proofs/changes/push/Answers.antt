@@ -11,7 +11,7 @@ use Rattle.edge_fold.specs.Changed.{changed}
 use Rattle.edge_fold.specs.Ends.{IsEndTest}
 use Rattle.edge_apply.specs.Words.{passes_words}
 use Rattle.edge_apply.proofs.Filtered.{to_agree}
-use Rattle.push_engine.specs.PushEnds.{passes_untested}
+use Rattle.push_engine.specs.inside.PushEnds.{passes_untested}
 use Rattle.push_engine.proofs.RowFolds.{between_tested}
 use Rattle.push_engine.proofs.changes.push.Goals as goal
 

@@ -2,7 +2,7 @@
 use Rattle.std.proofs.Common.{ℕ, List, sym, ap, ◌∙◌, subst}
 use Rattle.std.specs.List.{filter, range_with_len}
 use Rattle.kernels.specs.EdgeApply.{is_member}
-use Rattle.edge_apply.specs.Lists.{AscendsFrom}
+use Rattle.edge_apply.specs.inside.Lists.{AscendsFrom}
 use Rattle.edge_apply.proofs.Listed.{ascends}
 use Rattle.push_engine.proofs.SourceLists.{filtered_sources}
 use Rattle.vertex_sets.proofs.Ascending.{rises_range}

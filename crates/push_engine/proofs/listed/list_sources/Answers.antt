@@ -4,7 +4,7 @@ use Rattle.std.specs.List.{range_with_len}
 use Rattle.kernels.specs.EdgeApply.{is_member}
 use Rattle.kernels.specs.declared.endpoint_filter.EndpointFilter.{EndpointFilter}
 use Rattle.edge_fold.specs.Ends.{IsEndTest}
-use Rattle.edge_apply.specs.Lists.{AscendsFrom}
+use Rattle.edge_apply.specs.inside.Lists.{AscendsFrom}
 use Rattle.edge_apply.proofs.Listed.{ascends, filter_all}
 use Rattle.push_engine.proofs.SourceLists.{filtered_sources, list_is_whole}
 use Rattle.vertex_sets.proofs.Ascending.{rises_range}

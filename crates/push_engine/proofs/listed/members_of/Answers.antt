@@ -1,7 +1,7 @@
 -- Proofs of `members_of`, src/listed.rt.
 use Rattle.std.proofs.Common.{◌++◌, ℕ, List, ap, ◌∙◌, sym, subst}
 use Rattle.vertex_sets.proofs.Ascending.{rises}
-use Rattle.edge_apply.specs.Lists.{AscendsFrom}
+use Rattle.edge_apply.specs.inside.Lists.{AscendsFrom}
 use Rattle.edge_apply.proofs.Listed.{all_found, ascends, one_more_found}
 use Rattle.push_engine.proofs.listed.members_of.Goals as goal
 

@@ -7,7 +7,8 @@ use Rattle.edge_fold.specs.declared.apply_context.ApplyContext.{ApplyContext}
 use Rattle.edge_fold.specs.Ends.{IsTest}
 use Rattle.kernels.specs.Registers.{HasSizes}
 use Rattle.vertex_sets.specs.VertexSet.{IsAscendingBelow}
-use Rattle.edge_apply.specs.Lists.{AscendsFrom, IsEndOf}
+use Rattle.edge_apply.specs.inside.Lists.{AscendsFrom}
+use Rattle.edge_apply.specs.Lists.{IsEndOf}
 use Rattle.edge_apply.proofs.Listed.{ascends, filter_ascends, members_listed}
 use Rattle.push_engine.proofs.SourceLists.{filtered_sources}
 use Rattle.vertex_sets.proofs.Ascending.{rises_range}

@@ -5,7 +5,7 @@ use Rattle.kernels.specs.declared.endpoint_filter.EndpointFilter.{EndpointFilter
 use Rattle.edge_fold.specs.Ends.{IsEndTest}
 use Rattle.edge_fold.proofs.Walks.{folded_along}
 use Rattle.edge_apply.specs.Words.{passes_words}
-use Rattle.push_engine.specs.Rows.{rows_to}
+use Rattle.push_engine.specs.inside.Rows.{rows_to}
 use Rattle.edge_apply.proofs.Listed.{filter_all}
 use Rattle.push_engine.proofs.pieces.fold_passing_part.Goals as goal
 

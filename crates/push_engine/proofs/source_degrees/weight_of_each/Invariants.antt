@@ -1,6 +1,6 @@
 use Rattle.std.proofs.Common.{◌≡◌, ◌+◌, ◌*◌, ◌^◌, ◌≤◌, take}
 use Rattle.crew.specs.Limits.{weight}
-use Rattle.push_engine.specs.Degrees.{out_degrees}
+use Rattle.push_engine.specs.inside.Degrees.{out_degrees}
 use Rattle.push_engine.proofs.source_degrees.weight_of_each.Given as goal
 
 -- the sources that have come, and the edges from them

@@ -9,7 +9,7 @@ use Rattle.vertex_sets.specs.inside.Words.{bit_members}
 use Rattle.vertex_sets.proofs.BitMembers.{bits_lowest, bits_none}
 use Rattle.edge_fold.proofs.Walks.{FoldsMore, folded_along, walk_begun, walk_done, walk_more}
 use Rattle.edge_apply.specs.Words.{passes_words}
-use Rattle.push_engine.specs.Rows.{rows_to}
+use Rattle.push_engine.specs.inside.Rows.{rows_to}
 use Rattle.push_engine.proofs.BlockRows.{block_begun, no_rows_from, row_of_block}
 use Rattle.push_engine.proofs.RowFolds.{rows_to-append}
 use Rattle.push_engine.proofs.Walked.{one_source}

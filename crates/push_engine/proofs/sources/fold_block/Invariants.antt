@@ -3,7 +3,7 @@ use Rattle.std.specs.List.{filter, range_with_len}
 use Rattle.vertex_sets.specs.inside.Words.{bit_members}
 use Rattle.edge_fold.proofs.Walks.{HasWalked}
 use Rattle.edge_apply.specs.Words.{passes_words}
-use Rattle.push_engine.specs.Rows.{rows_to}
+use Rattle.push_engine.specs.inside.Rows.{rows_to}
 use Rattle.push_engine.proofs.sources.fold_block.Given as goal
 
 -- the edges from some sources are folded, and those of the bits that are left come

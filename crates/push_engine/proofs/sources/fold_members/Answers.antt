@@ -2,7 +2,7 @@
 use Rattle.std.proofs.Common.{ℕ, List, [], ◌∷◌, refl, sym, ◌∙◌, subst}
 use Rattle.edge_fold.proofs.Walks.{HasWalked, walk_begun, walk_more}
 use Rattle.vertex_sets.proofs.Ascending.{rises}
-use Rattle.push_engine.specs.Rows.{rows_to}
+use Rattle.push_engine.specs.inside.Rows.{rows_to}
 use Rattle.edge_apply.specs.Words.{passes_words}
 use Rattle.std.specs.Option.{option_copied}
 use Rattle.vertex_blocks.specs.Blocks.{vertices_at}

@@ -1,5 +1,5 @@
 use Rattle.edge_fold.proofs.Walks.{HasWalked}
-use Rattle.push_engine.specs.Rows.{rows_to}
+use Rattle.push_engine.specs.inside.Rows.{rows_to}
 use Rattle.edge_apply.specs.Words.{passes_words}
 use Rattle.push_engine.proofs.sources.fold_members.Given as goal
 

@@ -4,7 +4,7 @@ use Rattle.std.proofs.lemmas.List.{take_all}
 use Rattle.std.specs.Option.{option_copied}
 use Rattle.vertex_blocks.specs.Blocks.{vertices_at}
 use Rattle.push_engine.proofs.BlockRows.{row_of_block}
-use Rattle.push_engine.specs.Rows.{rows_to}
+use Rattle.push_engine.specs.inside.Rows.{rows_to}
 use Rattle.edge_apply.specs.Words.{passes_words}
 use Rattle.edge_fold.proofs.Walks.{folded_along}
 use Rattle.push_engine.proofs.Walked.{rows_next}

@@ -3,7 +3,7 @@ use Rattle.edge_lists.specs.Edge.{Edge}
 use Rattle.kernels.specs.FunctionStatementTree.{FunctionStatementsTree}
 use Rattle.kernels.specs.State.{StateValue}
 use Rattle.edge_fold.specs.Folded.{IsContextOf, HasFolded}
-use Rattle.push_engine.specs.Rows.{rows_to}
+use Rattle.push_engine.specs.inside.Rows.{rows_to}
 use Rattle.edge_apply.specs.Words.{passes_words}
 use Rattle.push_engine.proofs.sources.fold_rows.Given as goal
 

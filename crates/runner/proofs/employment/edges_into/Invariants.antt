@@ -1,5 +1,5 @@
 use Rattle.std.proofs.Common.{◌≡◌, ◌+◌}
-use Rattle.runner.specs.Employment.{work_into, work_into_end}
+use Rattle.runner.specs.inside.Employment.{work_into, work_into_end}
 use Rattle.runner.proofs.employment.edges_into.Given as goal
 
 -- what is counted, with what is left, is the whole

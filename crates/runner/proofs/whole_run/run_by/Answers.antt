@@ -2,8 +2,8 @@
 use Rattle.std.proofs.Common.{◌∙◌, subst, sym}
 use Rattle.plans.specs.Plan.{plan_of}
 use Rattle.run_state.specs.State.{graph_value}
-use Rattle.runner.specs.Groups.{AreGroupsOf}
-use Rattle.runner.specs.Position.{configuration_of, loops_of}
+use Rattle.runner.specs.inside.Groups.{AreGroupsOf}
+use Rattle.runner.specs.inside.Position.{configuration_of, loops_of}
 use Rattle.runner.proofs.Running.{has_ended, means, reached_first, reached_next}
 use Rattle.runner.proofs.Showing.{if_ok}
 use Rattle.runner.proofs.whole_run.run_by.Goals as goal

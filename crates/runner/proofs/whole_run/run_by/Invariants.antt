@@ -5,8 +5,8 @@ use Rattle.plans.specs.Plan.{plan_of}
 use Rattle.plans.specs.Reducing.{AppliesReduce}
 use Rattle.plans.specs.PlanOf.{IsPlan}
 use Rattle.run_state.specs.State.{graph_value}
-use Rattle.runner.specs.Groups.{AreGroupsOf}
-use Rattle.runner.specs.Position.{configuration_of, steps_left}
+use Rattle.runner.specs.inside.Groups.{AreGroupsOf}
+use Rattle.runner.specs.inside.Position.{configuration_of, steps_left}
 use Rattle.runner.proofs.Running.{IsReached}
 use Rattle.runner.proofs.whole_run.run_by.Given as goal
 

@@ -1,7 +1,8 @@
 -- Proofs of the mutually recursive functions of src/expression.rt.
 use Rattle.std.proofs.Common.{[], ◌∷◌, ◌++◌, ◌≡◌, ◌<◌, ◌≤◌, sym, ◌∙◌, ap, length, get_or}
 use Rattle.std.proofs.lemmas.Result.{on_ok_weaker}
-use Rattle.syntax.specs.ExpressionViews.{comparison_of, conjunction_of, primary_of, term_of, unary_of}
+use Rattle.syntax.specs.inside.ExpressionViews.{comparison_of, conjunction_of, term_of}
+use Rattle.syntax.specs.ExpressionViews.{primary_of, unary_of}
 use Rattle.syntax.specs.ExpressionSpelling.{comparison_terminals, conjunction_terminals, expression_terminals, primary_terminals, term_terminals, unary_terminals}
 use Rattle.syntax.specs.SourceSpelling.{each_before}
 use Rattle.source_text.specs.inside.Written.{signs_before}

@@ -1,5 +1,5 @@
 use Rattle.std.proofs.Common.{◌++◌}
-use Rattle.syntax.specs.ExpressionViews.{conjunction_of, sum_of, term_of}
+use Rattle.syntax.specs.inside.ExpressionViews.{conjunction_of, sum_of, term_of}
 use Rattle.syntax.specs.ExpressionSpelling.{conjunction_terminals, expression_terminals, sum_terminals, term_terminals}
 use Rattle.source_text.specs.inside.Written.{PutsUpTo}
 use Rattle.source_text.proofs.Levels.{or_before, and_before, added_before, multiplied_before}

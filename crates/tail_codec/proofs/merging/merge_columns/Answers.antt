@@ -3,7 +3,7 @@ use Rattle.std.proofs.Common.{◌≡◌, ◌++◌, true, false, take, drop, sym,
 use Rattle.std.specs.List.{zip}
 use Rattle.std.specs.Prelude.{Some}
 use Rattle.std.proofs.lemmas.List.{append-nil}
-use Rattle.ascending_lists.specs.Operations.{takes_second}
+use Rattle.ascending_lists.specs.inside.Operations.{takes_second}
 use Rattle.tail_codec.specs.inside.Merging.{merged}
 use Rattle.tail_codec.proofs.Columns.{take_in}
 use Rattle.tail_codec.proofs.Writing.{few_entries, written_anew}

@@ -3,7 +3,7 @@ use Rattle.std.proofs.Common.{ap, ◌∙◌}
 use Rattle.std.proofs.lemmas.List.{append_assoc}
 use Rattle.std.proofs.lemmas.Result.{on_ok_weaker}
 use Rattle.typed_tree.specs.FunctionStatementTree.{function_statement_tree, function_statements_tree}
-use Rattle.typed_tree.specs.Access.{steps_write}
+use Rattle.typed_tree.specs.inside.Access.{steps_write}
 use Rattle.typed_tree.proofs.Steps.{function_statement_tree-If, function_statement_tree-IfElse}
 use Rattle.typed_tree.proofs.accesses.+writes.Goals as goal
 

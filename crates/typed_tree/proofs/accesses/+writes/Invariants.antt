@@ -1,6 +1,6 @@
 use Rattle.std.proofs.Common.{◌≡◌, ◌++◌, drop}
 use Rattle.typed_tree.specs.FunctionStatementTree.{function_statements_tree}
-use Rattle.typed_tree.specs.Access.{steps_write}
+use Rattle.typed_tree.specs.inside.Access.{steps_write}
 use Rattle.typed_tree.proofs.accesses.+writes.Given as goal
 
 -- what the statements so far write was put after, and what the others write is to come

@@ -1,6 +1,6 @@
 -- Proofs of `declare_all`, src/declaration.rt.
 use Rattle.std.proofs.Common.{◌∙◌}
-use Rattle.types.specs.Declaration.{declared_of}
+use Rattle.types.specs.inside.Declaration.{declared_of}
 use Rattle.types.proofs.DeclarationLaws.{declaration_on}
 use Rattle.types.proofs.declaration.declare_all.Goals as goal
 

@@ -1,7 +1,8 @@
 use Rattle.std.proofs.Common.{◌≡◌, drop, map}
 use Rattle.syntax.specs.SourceViews.{declaration_tree}
 use Rattle.expression_types.specs.WithFaults.{outcome}
-use Rattle.types.specs.Declaration.{declarations_typed, declared_of}
+use Rattle.types.specs.Declaration.{declarations_typed}
+use Rattle.types.specs.inside.Declaration.{declared_of}
 use Rattle.types.proofs.declaration.declare_all.Given as goal
 
 abbrev pub invariant-declarations : goal.invariant-declarations

@@ -5,9 +5,11 @@ use Rattle.typed_tree.specs.FunctionStatementTree.{NoStep, function_statements_t
 use Rattle.expression_types.specs.WithFaults.{ReportsFaults, ◌>>=◌}
 use Rattle.expression_types.specs.ScopeTree.{left}
 use Rattle.expression_types.proofs.Steps.{reports_then}
-use Rattle.types.specs.Checker.{checker_of, with_scope}
-use Rattle.types.specs.Declaration.{declared_of, function_declared, kind_fits, opened}
-use Rattle.types.specs.FunctionKind.{function_kind_tree}
+use Rattle.types.specs.inside.Checker.{checker_of}
+use Rattle.types.specs.Checker.{with_scope}
+use Rattle.types.specs.inside.Declaration.{declared_of}
+use Rattle.types.specs.Declaration.{function_declared, kind_fits, opened}
+use Rattle.types.specs.inside.FunctionKind.{function_kind_tree}
 use Rattle.types.specs.Step.{steps_typed}
 use Rattle.types.proofs.Kept.{left_again, keeps_on}
 use Rattle.types.proofs.declaration.function.Goals as goal

@@ -5,9 +5,10 @@ use Rattle.typed_tree.specs.declared.expression.Endpoint.TheVariants.{Source}
 use Rattle.expression_types.specs.WithFaults.{outcome}
 use Rattle.expression_types.specs.ScopeTree.{entered}
 use Rattle.expression_types.proofs.Steps.{reports_then}
-use Rattle.types.specs.Checker.{checker_of, with_scope}
+use Rattle.types.specs.inside.Checker.{checker_of}
+use Rattle.types.specs.Checker.{with_scope}
 use Rattle.types.specs.Declaration.{inside_of, takes_weight, parameters_declared, result_declared}
-use Rattle.types.specs.FunctionKind.{function_kind_tree}
+use Rattle.types.specs.inside.FunctionKind.{function_kind_tree}
 use Rattle.types.specs.Step.{with_writes}
 use Rattle.types.proofs.declaration.open.Goals as goal
 

@@ -1,7 +1,7 @@
 -- Proofs of `declare_initialized`, src/function.rt.
 use Rattle.typed_tree.specs.FunctionStatementTree.{function_statement_tree}
-use Rattle.types.specs.Checker.{checker_of}
-use Rattle.types.specs.Initializer.{initializer_tree}
+use Rattle.types.specs.inside.Checker.{checker_of}
+use Rattle.types.specs.inside.Initializer.{initializer_tree}
 use Rattle.types.proofs.Variables.{declared_step_as}
 use Rattle.types.proofs.function.declare_initialized.Goals as goal
 

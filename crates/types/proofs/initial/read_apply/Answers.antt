@@ -3,7 +3,7 @@ use Rattle.std.proofs.Common.{◌∙◌}
 use Rattle.expression_types.specs.Expression.{used}
 use Rattle.expression_types.specs.WithFaults.{sure, ◌>>=◌}
 use Rattle.expression_types.proofs.Steps.{outcome_then}
-use Rattle.types.specs.Initializer.{apply_end_tree}
+use Rattle.types.specs.inside.Initializer.{apply_end_tree}
 use Rattle.types.specs.Initial.{end_of}
 use Rattle.types.specs.inside.Applies.{ApplyTree}
 use Rattle.types.proofs.initial.read_apply.Goals as goal

@@ -4,7 +4,7 @@ use Rattle.syntax.specs.SourceViews.{ends_tree, initial_tree}
 use Rattle.expression_types.specs.Expression.{used}
 use Rattle.expression_types.specs.WithFaults.{outcome, ◌>>=◌}
 use Rattle.expression_types.proofs.Steps.{outcome_then}
-use Rattle.types.specs.Checker.{checker_of}
+use Rattle.types.specs.inside.Checker.{checker_of}
 use Rattle.types.specs.Initial.{filtered, initializer_of, modified}
 use Rattle.types.specs.inside.Applies.{apply_tree}
 use Rattle.types.proofs.Applies.{apply_then}

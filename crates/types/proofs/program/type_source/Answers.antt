@@ -5,7 +5,8 @@ use Rattle.typed_tree.specs.BlockTree.{block_tree}
 use Rattle.typed_tree.specs.ProgramTree.{call_tree}
 use Rattle.expression_types.specs.WithFaults.{outcome, sure, ◌>>=◌}
 use Rattle.expression_types.proofs.Steps.{outcome_then}
-use Rattle.types.specs.Declaration.{declarations_typed, declared_of}
+use Rattle.types.specs.Declaration.{declarations_typed}
+use Rattle.types.specs.inside.Declaration.{declared_of}
 use Rattle.types.specs.Program.{main_of, opening, program_tree_of, schedule_calls, set_count}
 use Rattle.types.proofs.program.type_source.Goals as goal
 

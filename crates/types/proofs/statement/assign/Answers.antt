@@ -4,8 +4,8 @@ use Rattle.syntax.specs.SourceViews.{initial_tree}
 use Rattle.expression_types.specs.Expression.{used}
 use Rattle.expression_types.specs.WithFaults.{◌>>=◌, outcome}
 use Rattle.expression_types.proofs.Steps.{outcome_then}
-use Rattle.types.specs.Checker.{checker_of}
-use Rattle.types.specs.Initializer.{initializer_tree}
+use Rattle.types.specs.inside.Checker.{checker_of}
+use Rattle.types.specs.inside.Initializer.{initializer_tree}
 use Rattle.types.specs.Initial.{initializer_of}
 use Rattle.types.specs.Statement.{assigned, assign}
 use Rattle.typed_tree.specs.BlockTree.{statement_kind_tree}

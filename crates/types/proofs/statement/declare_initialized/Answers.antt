@@ -1,7 +1,7 @@
 -- Proofs of `declare_initialized`, src/statement.rt.
 use Rattle.typed_tree.specs.BlockTree.{statement_kind_tree}
-use Rattle.types.specs.Checker.{checker_of}
-use Rattle.types.specs.Initializer.{initializer_tree}
+use Rattle.types.specs.inside.Checker.{checker_of}
+use Rattle.types.specs.inside.Initializer.{initializer_tree}
 use Rattle.types.proofs.Variables.{declared_as}
 use Rattle.types.proofs.statement.declare_initialized.Goals as goal
 

@@ -2,8 +2,8 @@
 use Rattle.syntax.specs.SourceViews.{initial_tree}
 use Rattle.typed_tree.specs.BlockTree.{statement_kind_tree}
 use Rattle.expression_types.proofs.Steps.{reports_then}
-use Rattle.types.specs.Checker.{checker_of}
-use Rattle.types.specs.Initializer.{initializer_tree}
+use Rattle.types.specs.inside.Checker.{checker_of}
+use Rattle.types.specs.inside.Initializer.{initializer_tree}
 use Rattle.types.specs.Initial.{initializer_of}
 use Rattle.types.specs.Statement.{declare_as}
 use Rattle.types.proofs.statement.declare_variable.Goals as goal

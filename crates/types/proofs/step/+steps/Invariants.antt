@@ -4,7 +4,7 @@ use Rattle.typed_tree.specs.FunctionStatementTree.{NoStep, function_statements_t
 use Rattle.expression_types.specs.WithFaults.{outcome}
 use Rattle.expression_types.specs.ScopeTree.{Keeps}
 use Rattle.types.specs.Step.{steps_typed}
-use Rattle.types.specs.Checker.{checker_of}
+use Rattle.types.specs.inside.Checker.{checker_of}
 use Rattle.types.proofs.step.+steps.Given as goal
 
 -- what the statements that are left give after those so far is what all give

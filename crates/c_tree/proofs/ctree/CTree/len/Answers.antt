@@ -1,6 +1,6 @@
 -- Proofs of `len`, src/ctree.rt.
 use Rattle.tail_codec.proofs.Writing.{few_entries}
-use Rattle.c_tree.specs.Chunks.{together}
+use Rattle.c_tree.specs.inside.Chunks.{together}
 use Rattle.c_tree.proofs.ctree.CTree.len.Goals as goal
 
 pub returns-clause-bounded : goal.returns-clause-bounded

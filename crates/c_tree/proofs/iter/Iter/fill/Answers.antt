@@ -1,6 +1,6 @@
 -- Proofs of `fill`, src/iter.rt.
 use Rattle.std.proofs.Common.{◌≡◌, ℕ, ◌+◌, ◌≤◌, ℤ, [], ◌∷◌, ◌++◌, length, slice_set, refl, sym, ◌∙◌, ap, length-set, arith, rules}
-use Rattle.c_tree.specs.Chunks.{entries_of}
+use Rattle.c_tree.specs.inside.Chunks.{entries_of}
 use Rattle.c_tree.specs.inside.Blocks.{IsRead}
 use Rattle.c_tree.proofs.Filling.{IsFilled, same_length, filled_count, filled_one, filled_read, read_whole}
 use Rattle.c_tree.proofs.iter.Iter.fill.Goals as goal

@@ -1,5 +1,5 @@
 use Rattle.std.proofs.Common.{◌≡◌, ◌<◌, ◌-◌, [], ◌++◌, length}
-use Rattle.c_tree.specs.Chunks.{entries_of}
+use Rattle.c_tree.specs.inside.Chunks.{entries_of}
 use Rattle.c_tree.proofs.Filling.{IsFilled}
 use Rattle.c_tree.proofs.iter.Iter.fill.Given as goal
 

@@ -1,5 +1,5 @@
 -- Proofs of `into_set`, src/part.rt.
-use Rattle.c_tree.specs.Chunks.{entries_of}
+use Rattle.c_tree.specs.inside.Chunks.{entries_of}
 use Rattle.c_tree.proofs.Making.{keys_front}
 use Rattle.c_tree.proofs.part.Part.into_set.Goals as goal
 

@@ -1,6 +1,7 @@
 -- Proofs of `get`, src/lookup.rt.
 use Rattle.std.proofs.Common.{◌≡◌, Some, to_z, of_z, w64, ◌∙◌, ap, arith, rules}
-use Rattle.c_tree.specs.Chunks.{ChunkedSet, together}
+use Rattle.c_tree.specs.Chunks.{ChunkedSet}
+use Rattle.c_tree.specs.inside.Chunks.{together}
 use Rattle.c_tree.proofs.Turns.{starts, turn_left, turn_right, at_head, stands_in_tail}
 use Rattle.c_tree.proofs.view.View.get.Goals as goal
 

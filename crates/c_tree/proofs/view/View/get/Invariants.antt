@@ -1,4 +1,4 @@
-use Rattle.c_tree.specs.Chunks.{together}
+use Rattle.c_tree.specs.inside.Chunks.{together}
 use Rattle.c_tree.proofs.Turns.{IsWhere}
 use Rattle.c_tree.proofs.view.View.get.Given as goal
 

@@ -1,6 +1,7 @@
 -- Proofs of `is_empty`, src/view.rt.
 use Rattle.std.proofs.Common.{◌≡◌, sym, ap, ◌∙◌}
-use Rattle.c_tree.specs.Chunks.{ChunkedSet, together}
+use Rattle.c_tree.specs.Chunks.{ChunkedSet}
+use Rattle.c_tree.specs.inside.Chunks.{together}
 use Rattle.c_tree.proofs.Rooted.{nothing_together, together_nothing}
 use Rattle.c_tree.proofs.view.View.is_empty.Goals as goal
 

@@ -1,7 +1,8 @@
 -- Proofs of `len`, src/view.rt.
 use Rattle.std.proofs.Common.{length, ap, ◌∙◌}
 use Rattle.tail_codec.proofs.Writing.{few_entries}
-use Rattle.c_tree.specs.Chunks.{ChunkedSet, together}
+use Rattle.c_tree.specs.Chunks.{ChunkedSet}
+use Rattle.c_tree.specs.inside.Chunks.{together}
 use Rattle.c_tree.proofs.view.View.len.Goals as goal
 
 pub total_len-requires : goal.total_len-requires

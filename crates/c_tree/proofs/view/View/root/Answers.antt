@@ -1,7 +1,7 @@
 -- Proofs of `root`, src/view.rt.
 use Rattle.std.proofs.Common.{◌≡◌, to_z, of_z, w64, sym, ap, ◌∙◌, rules}
 use Rattle.tail_codec.specs.Spelling.{BasedList}
-use Rattle.c_tree.specs.Parts.{in_chunks}
+use Rattle.c_tree.specs.inside.Parts.{in_chunks}
 use Rattle.c_tree.proofs.Rooted.{left_part, right_part, is_root}
 use Rattle.c_tree.proofs.view.View.root.Goals as goal
 

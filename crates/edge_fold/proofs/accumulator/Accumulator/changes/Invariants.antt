@@ -2,7 +2,7 @@ use Rattle.std.proofs.Common.{◌≡◌, ℕ, ◌<◌, ◌≤◌, ◌⊎◌, ℤ
 use Rattle.std.specs.List.Sorted.{IsNonDecreasing}
 use Rattle.vectors.specs.Lanes.{lane_entry}
 use Rattle.edge_fold.specs.Changed.{changed_from}
-use Rattle.edge_fold.specs.Held.{AreMarked, held}
+use Rattle.edge_fold.specs.inside.Held.{AreMarked, held}
 use Rattle.edge_fold.proofs.accumulator.Accumulator.changes.Given as goal
 
 -- the changes below the next vertex are found, and no vertex that has come is left

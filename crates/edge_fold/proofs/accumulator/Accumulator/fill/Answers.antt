@@ -1,6 +1,6 @@
 -- Proofs of `fill`, src/old_entries.rt.
 use Rattle.std.proofs.Common.{[], sym, subst}
-use Rattle.edge_fold.specs.Held.{AreJoined}
+use Rattle.edge_fold.specs.inside.Held.{AreJoined}
 use Rattle.edge_fold.specs.declared.initial_entries.InitialEntries.{InitialEntries}
 use Rattle.edge_fold.proofs.accumulator.Accumulator.fill.Goals as goal
 

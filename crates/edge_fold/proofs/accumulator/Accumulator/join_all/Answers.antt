@@ -1,9 +1,11 @@
 -- Proofs of `join_all`, src/joins.rt.
 use Rattle.std.proofs.Common.{◌<◌, ◌+◌, ℤ, length, drop, ap, ◌∙◌}
 use Rattle.kernels.specs.ContributionColumns.{contribution_at}
-use Rattle.edge_fold.specs.Contributions.{given_from, reduced_at}
+use Rattle.edge_fold.specs.inside.Contributions.{given_from}
+use Rattle.edge_fold.specs.Contributions.{reduced_at}
 use Rattle.edge_fold.specs.Held.{held_with}
-use Rattle.edge_fold.specs.FoldStarts.{combined, opening_seed, start_of}
+use Rattle.edge_fold.specs.FoldStarts.{combined}
+use Rattle.edge_fold.specs.inside.FoldStarts.{opening_seed, start_of}
 use Rattle.edge_fold.proofs.Folds.{one_pair_more}
 use Rattle.edge_fold.proofs.accumulator.Accumulator.join_all.Goals as goal
 

@@ -1,8 +1,10 @@
 use Rattle.std.proofs.Common.{◌≡◌, ℕ, ℤ, drop}
 use Rattle.kernels.specs.ContributionColumns.{contribution_at}
-use Rattle.edge_fold.specs.Contributions.{given_from, reduced_at}
+use Rattle.edge_fold.specs.inside.Contributions.{given_from}
+use Rattle.edge_fold.specs.Contributions.{reduced_at}
 use Rattle.edge_fold.specs.Held.{held_with}
-use Rattle.edge_fold.specs.FoldStarts.{combined, opening_seed, start_of}
+use Rattle.edge_fold.specs.FoldStarts.{combined}
+use Rattle.edge_fold.specs.inside.FoldStarts.{opening_seed, start_of}
 use Rattle.edge_fold.proofs.accumulator.Accumulator.join_all.Given as goal
 
 -- the entries that are held, reduced with what is left to join, are the whole

@@ -7,7 +7,8 @@ use Rattle.vectors.specs.declared.changes.EntryChange.{EntryChange}
 use Rattle.edge_fold.specs.Gathered.{numbers_of}
 use Rattle.edge_fold.specs.Contributions.{reduced_at}
 use Rattle.edge_fold.specs.Held.{held_with}
-use Rattle.edge_fold.specs.FoldStarts.{combined, opening_seed, start_of}
+use Rattle.edge_fold.specs.FoldStarts.{combined}
+use Rattle.edge_fold.specs.inside.FoldStarts.{opening_seed, start_of}
 use Rattle.edge_fold.proofs.accumulator.Accumulator.join_changes.Goals as goal
 
 pub numbers-preserved : goal.numbers-preserved

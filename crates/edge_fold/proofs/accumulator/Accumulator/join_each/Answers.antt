@@ -3,9 +3,11 @@ use Rattle.std.proofs.Common.{rules, ◌≡◌, ◌≤◌, ◌<◌, ℕ, ℤ, po
 use Rattle.std.proofs.lemmas.Int.{to_z-of_z}
 use Rattle.std.proofs.lemmas.List.{drop_all}
 use Rattle.edge_fold.specs.Between.{firsts}
-use Rattle.edge_fold.specs.Contributions.{each_given, reduced_at}
+use Rattle.edge_fold.specs.inside.Contributions.{each_given}
+use Rattle.edge_fold.specs.Contributions.{reduced_at}
 use Rattle.edge_fold.specs.Held.{held_with}
-use Rattle.edge_fold.specs.FoldStarts.{combined, opening_seed, start_of}
+use Rattle.edge_fold.specs.FoldStarts.{combined}
+use Rattle.edge_fold.specs.inside.FoldStarts.{opening_seed, start_of}
 use Rattle.edge_fold.proofs.Filled.{given_first}
 use Rattle.edge_fold.proofs.WeightColumns.{first_at, firsts-length}
 use Rattle.edge_fold.proofs.accumulator.Accumulator.join_each.Goals as goal

@@ -1,8 +1,9 @@
 -- Proofs of `join_each_weight`, src/joins.rt.
 use Rattle.std.proofs.Common.{rules, ◌≡◌, ◌<◌, pos, length, get_or, to_z, of_z, w64, ◌∙◌, arith}
-use Rattle.edge_fold.specs.EntryNumbers.{number_with}
+use Rattle.edge_fold.specs.inside.EntryNumbers.{number_with}
 use Rattle.edge_fold.specs.Held.{held_with}
-use Rattle.edge_fold.specs.FoldStarts.{combined, opening_seed, start_of}
+use Rattle.edge_fold.specs.FoldStarts.{combined}
+use Rattle.edge_fold.specs.inside.FoldStarts.{opening_seed, start_of}
 use Rattle.edge_fold.proofs.EntryRows.{one_weight_more}
 use Rattle.edge_fold.proofs.accumulator.Accumulator.join_each_weight.Goals as goal
 

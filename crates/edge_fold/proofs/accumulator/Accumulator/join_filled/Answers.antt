@@ -4,8 +4,9 @@ use Rattle.std.proofs.lemmas.Bool.{cases_lt, false≢true}
 use Rattle.std.proofs.lemmas.Int.{to_z-of_z}
 use Rattle.vertex_marks.specs.Marks.{is_marked}
 use Rattle.edge_fold.specs.Between.{firsts}
-use Rattle.edge_fold.specs.Contributions.{each_given, reduced_at}
-use Rattle.edge_fold.specs.FoldStarts.{opening_seed, start_of}
+use Rattle.edge_fold.specs.inside.Contributions.{each_given}
+use Rattle.edge_fold.specs.Contributions.{reduced_at}
+use Rattle.edge_fold.specs.inside.FoldStarts.{opening_seed, start_of}
 use Rattle.edge_fold.proofs.Filled.{joined_either, written_back}
 use Rattle.edge_fold.proofs.accumulator.Accumulator.join_filled.Goals as goal
 

@@ -4,7 +4,8 @@ use Rattle.std.proofs.lemmas.Int.{to_z-of_z}
 use Rattle.std.proofs.lemmas.List.{get_or_default}
 use Rattle.algorithm_meaning.specs.Arithmetic.{reduced}
 use Rattle.vertex_marks.specs.Marks.{is_marked}
-use Rattle.edge_fold.specs.FoldStarts.{combined, opening_seed, start_of}
+use Rattle.edge_fold.specs.FoldStarts.{combined}
+use Rattle.edge_fold.specs.inside.FoldStarts.{opening_seed, start_of}
 use Rattle.edge_fold.proofs.Entries.{joined_again, joined_new}
 use Rattle.edge_fold.proofs.JoinedSlots.{combined_more}
 use Rattle.edge_fold.proofs.accumulator.Accumulator.join_inside.Goals as goal

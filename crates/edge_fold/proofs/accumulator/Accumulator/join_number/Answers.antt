@@ -4,8 +4,8 @@ use Rattle.std.proofs.lemmas.Int.{to_z-of_z}
 use Rattle.apply_options.specs.declared.reduction.Reduction.{Reduction}
 use Rattle.apply_options.specs.declared.reduction.Reduction.TheVariants as reduction
 use Rattle.edge_fold.specs.Between.{firsts}
-use Rattle.edge_fold.specs.Contributions.{each_given}
-use Rattle.edge_fold.specs.Held.{AreJoined}
+use Rattle.edge_fold.specs.inside.Contributions.{each_given}
+use Rattle.edge_fold.specs.inside.Held.{AreJoined}
 use Rattle.edge_fold.proofs.accumulator.Accumulator.join_number.Goals as goal
 
 pub returns-in-Min : goal.returns-in-Min

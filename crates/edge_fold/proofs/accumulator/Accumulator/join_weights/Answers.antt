@@ -1,8 +1,8 @@
 -- Proofs of `join_weights`, src/joins.rt.
 use Rattle.std.proofs.Common.{OnOk, sym, subst}
 use Rattle.apply_options.specs.declared.reduction.Reduction.{Reduction}
-use Rattle.edge_fold.specs.EntryNumbers.{each_weighed, number_with}
-use Rattle.edge_fold.specs.Held.{AreJoined}
+use Rattle.edge_fold.specs.inside.EntryNumbers.{each_weighed, number_with}
+use Rattle.edge_fold.specs.inside.Held.{AreJoined}
 use Rattle.edge_fold.proofs.accumulator.Accumulator.join_weights.Goals as goal
 
 pub returns-in-Min : goal.returns-in-Min

@@ -4,8 +4,8 @@ use Rattle.std.proofs.lemmas.Int.{to_z-of_z}
 use Rattle.typed_tree.specs.declared.expression.Operator.{Operator}
 use Rattle.typed_tree.specs.declared.expression.Operator.TheVariants as operator
 use Rattle.algorithm_meaning.specs.Arithmetic.{arithmetic}
-use Rattle.edge_fold.specs.EntryNumbers.{each_weighed}
-use Rattle.edge_fold.specs.Held.{AreJoined}
+use Rattle.edge_fold.specs.inside.EntryNumbers.{each_weighed}
+use Rattle.edge_fold.specs.inside.Held.{AreJoined}
 use Rattle.edge_fold.proofs.accumulator.Accumulator.join_weights_by.Goals as goal
 
 pub returns-in-Add : goal.returns-in-Add

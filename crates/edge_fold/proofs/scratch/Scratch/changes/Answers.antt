@@ -6,7 +6,8 @@ use Rattle.algorithm_meaning.specs.EdgeApply.{after_edges}
 use Rattle.algorithm_meaning.specs.Value.{entry}
 use Rattle.edge_fold.specs.Folded.{waiting}
 use Rattle.edge_fold.specs.Contributions.{all_given, given_on, pairs, reduced_at}
-use Rattle.edge_fold.specs.VectorAccumulators.{active, held_in}
+use Rattle.edge_fold.specs.VectorAccumulators.{active}
+use Rattle.edge_fold.specs.inside.VectorAccumulators.{held_in}
 use Rattle.edge_fold.proofs.Findings.{changed_agree}
 use Rattle.edge_fold.proofs.JoinedSlots.{old_entries}
 use Rattle.edge_fold.proofs.Meaning.{entries_after, given_by_one}

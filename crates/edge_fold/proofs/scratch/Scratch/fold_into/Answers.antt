@@ -4,7 +4,8 @@ use Rattle.std.proofs.lemmas.Result.{on_ok_weaker}
 use Rattle.apply_options.specs.declared.reduction.Reduction.{Reduction}
 use Rattle.edge_fold.specs.declared.scratch.Scratch.{Scratch}
 use Rattle.edge_fold.specs.Folded.{HasFolded}
-use Rattle.edge_fold.specs.Contributions.{IsBy, all_given, column, each_given, entries_of, given_on}
+use Rattle.edge_fold.specs.Contributions.{IsBy, all_given, column, entries_of, given_on}
+use Rattle.edge_fold.specs.inside.Contributions.{each_given}
 use Rattle.edge_fold.proofs.Columns.{together_given}
 use Rattle.edge_fold.proofs.JoinedSlots.{folded_before, joined_alike}
 use Rattle.edge_fold.proofs.Orders.{folded_more_alike}

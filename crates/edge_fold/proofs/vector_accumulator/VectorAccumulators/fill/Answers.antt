@@ -1,7 +1,7 @@
 -- Proofs of `fill`, src/old_entries.rt.
 use Rattle.std.proofs.Common.{rules, ℕ, ◌≤◌, [], length, take, refl, sym, ap, ◌∙◌}
 use Rattle.edge_fold.specs.declared.vector_accumulator.VectorAccumulator.{VectorAccumulator}
-use Rattle.edge_fold.specs.FoldStarts.{start_of}
+use Rattle.edge_fold.specs.inside.FoldStarts.{start_of}
 use Rattle.edge_fold.specs.Held.{held_with}
 use Rattle.edge_fold.specs.VectorAccumulators.{held_in_with}
 use Rattle.edge_fold.proofs.JoinedSlots.{along, equal, joined_slot}

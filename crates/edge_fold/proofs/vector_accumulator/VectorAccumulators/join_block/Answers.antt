@@ -3,7 +3,8 @@ use Rattle.std.proofs.Common.{rules, ℕ, ◌<◌, ◌++◌, [], length, take, a
 use Rattle.kernels.specs.Columns.{registers_at}
 use Rattle.kernels.specs.FunctionCode.{given_by}
 use Rattle.kernels.specs.ContributionColumns.{contribution_at}
-use Rattle.edge_fold.specs.Contributions.{IsBy, given_from, reduced_at}
+use Rattle.edge_fold.specs.Contributions.{IsBy, reduced_at}
+use Rattle.edge_fold.specs.inside.Contributions.{given_from}
 use Rattle.edge_fold.proofs.Folds.{given_in_rounds, given_same, nothing_given, reduced_at-append}
 use Rattle.edge_fold.proofs.JoinedSlots.{joined_alike, joined_more, joined_nothing}
 use Rattle.edge_fold.proofs.Rows.{one_contribution_more, all_contributions, one_of_contributions}

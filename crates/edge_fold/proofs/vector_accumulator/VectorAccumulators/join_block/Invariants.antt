@@ -2,8 +2,9 @@ use Rattle.std.proofs.Common.{ℕ, ◌<◌, length, take}
 use Rattle.apply_options.specs.declared.reduction.Reduction.{Reduction}
 use Rattle.kernels.specs.Columns.{registers_at}
 use Rattle.kernels.specs.FunctionCode.{given_by}
-use Rattle.edge_fold.specs.Contributions.{IsBy, given_from}
-use Rattle.edge_fold.specs.VectorAccumulators.{HaveJoined}
+use Rattle.edge_fold.specs.Contributions.{IsBy}
+use Rattle.edge_fold.specs.inside.Contributions.{given_from}
+use Rattle.edge_fold.specs.inside.VectorAccumulators.{HaveJoined}
 use Rattle.edge_fold.proofs.vector_accumulator.VectorAccumulators.join_block.Given as goal
 
 -- what the first contributions came to

@@ -1,8 +1,9 @@
 -- Proofs of `join_contribution`, src/vector_accumulators.rt.
 use Rattle.std.proofs.Common.{rules, ◌≡◌, ◌≤◌, ℕ, ℤ, false, List, [], length, refl, sym, ap, arith}
 use Rattle.edge_fold.specs.declared.vector_accumulator.VectorAccumulator.{VectorAccumulator}
-use Rattle.edge_fold.specs.Contributions.{given_from, reduced_at}
-use Rattle.edge_fold.specs.FoldStarts.{start_of}
+use Rattle.edge_fold.specs.inside.Contributions.{given_from}
+use Rattle.edge_fold.specs.Contributions.{reduced_at}
+use Rattle.edge_fold.specs.inside.FoldStarts.{start_of}
 use Rattle.kernels.specs.ContributionColumns.{contribution_at}
 use Rattle.edge_fold.proofs.JoinedSlots.{along, equal, joined_alike, joined_nothing, joined_slot}
 use Rattle.edge_fold.proofs.Rows.{none_given, others_get_nothing, own_reduction}

@@ -5,7 +5,8 @@ use Rattle.edge_fold.specs.declared.vector_accumulator.VectorAccumulator.{Vector
 use Rattle.edge_fold.specs.Gathered.{numbers_of}
 use Rattle.edge_fold.specs.Contributions.{reduced_at}
 use Rattle.edge_fold.specs.Held.{held_with}
-use Rattle.edge_fold.specs.FoldStarts.{combined, first_entry, opening_seed, start_of}
+use Rattle.edge_fold.specs.FoldStarts.{combined, first_entry}
+use Rattle.edge_fold.specs.inside.FoldStarts.{opening_seed, start_of}
 use Rattle.edge_fold.proofs.JoinedSlots.{along, equal, joined_slot}
 use Rattle.edge_fold.proofs.vector_accumulator.VectorAccumulators.join_numbers.Goals as goal
 

@@ -1,6 +1,6 @@
 -- Proofs of `truncate`, src/names.rt.
 use Rattle.std.proofs.Common.{ap, ◌∙◌, take}
-use Rattle.expression_types.specs.Names.{shown}
+use Rattle.expression_types.specs.inside.Names.{shown}
 use Rattle.expression_types.proofs.NamesLaws.{take-shown}
 use Rattle.expression_types.proofs.names.Names.truncate.Goals as goal
 

@@ -1,8 +1,9 @@
 -- Proofs of `beside`, src/operands.rt.
 use Rattle.std.proofs.Common.{ap, sym, ◌∙◌}
-use Rattle.typed_tree.specs.BoolExpressionTree.{bool_expression_tree, conditions_tree}
+use Rattle.typed_tree.specs.BoolExpressionTree.{bool_expression_tree}
+use Rattle.typed_tree.specs.inside.BoolExpressionTree.{conditions_tree}
 use Rattle.typed_tree.proofs.Chains.{conditions_tree_push}
-use Rattle.expression_types.specs.Operands.{conditions_of}
+use Rattle.expression_types.specs.inside.Operands.{conditions_of}
 use Rattle.expression_types.specs.Operators.{Conditions, beside_condition, first_condition}
 use Rattle.expression_types.specs.ValueTree.{value_tree}
 use Rattle.expression_types.proofs.OperandLaws.{first_is_condition}

@@ -1,6 +1,6 @@
 -- Proofs of `group`, src/operands.rt.
 use Rattle.std.proofs.Common.{ap}
-use Rattle.expression_types.specs.Operands.{conditions_of}
+use Rattle.expression_types.specs.inside.Operands.{conditions_of}
 use Rattle.expression_types.proofs.OperandLaws.{conditions_grouped}
 use Rattle.expression_types.proofs.operands.Conditions.group.Goals as goal
 

@@ -1,6 +1,6 @@
 -- Proofs of `group`, src/operands.rt.
 use Rattle.std.proofs.Common.{ap}
-use Rattle.expression_types.specs.Operands.{integers_of}
+use Rattle.expression_types.specs.inside.Operands.{integers_of}
 use Rattle.expression_types.proofs.OperandLaws.{integers_grouped}
 use Rattle.expression_types.proofs.operands.Integers.group.Goals as goal
 

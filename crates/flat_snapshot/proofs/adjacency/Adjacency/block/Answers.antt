@@ -1,5 +1,5 @@
 -- Proofs of `block`, src/adjacency.rt.
-use Rattle.flat_snapshot.specs.Lists.{lists_in}
+use Rattle.flat_snapshot.specs.inside.Lists.{lists_in}
 use Rattle.flat_snapshot.proofs.Numbered.{few_at}
 use Rattle.flat_snapshot.proofs.adjacency.Adjacency.block.Goals as goal
 

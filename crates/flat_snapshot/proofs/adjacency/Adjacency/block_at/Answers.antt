@@ -1,6 +1,6 @@
 -- Proofs of `block_at`, src/adjacency.rt.
 use Rattle.std.proofs.Common.{◌+◌, ◌*◌, ◌<◌, ◌≤◌, length, sym, arith}
-use Rattle.flat_snapshot.specs.Lists.{lists_in}
+use Rattle.flat_snapshot.specs.inside.Lists.{lists_in}
 use Rattle.flat_snapshot.proofs.Numbered.{rises_in, list_in, none_above}
 use Rattle.flat_snapshot.proofs.adjacency.Adjacency.block_at.Goals as goal
 

@@ -1,7 +1,7 @@
 -- Proofs of `first_from`, src/adjacency.rt.
 use Rattle.std.proofs.Common.{◌≡◌, ℕ, ◌+◌, ◌*◌, ◌%◌, ◌<◌, ◌≤◌, [], length, refl, sym, ◌∙◌, ap, arith}
 use Rattle.pages.specs.Vertices.{neighbours_of}
-use Rattle.flat_snapshot.specs.Lists.{lists_in, degrees_of}
+use Rattle.flat_snapshot.specs.inside.Lists.{lists_in, degrees_of}
 use Rattle.flat_snapshot.proofs.Numbered.{rises_in, lists_in_are}
 use Rattle.flat_snapshot.proofs.Walks.{passed, next_at, none_from}
 use Rattle.flat_snapshot.proofs.adjacency.Adjacency.first_from.Goals as goal

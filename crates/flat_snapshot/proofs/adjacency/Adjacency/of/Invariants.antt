@@ -1,7 +1,7 @@
 use Rattle.std.proofs.Common.{◌≡◌, ◌++◌, ◌^◌, length}
 use Rattle.ascending_lists.specs.Maps.{Rises}
 use Rattle.vertex_blocks.specs.Blocks.{lists_of, AreBlocks}
-use Rattle.flat_snapshot.specs.Lists.{lists_in, AreBlocks as AreInPlace}
+use Rattle.flat_snapshot.specs.inside.Lists.{lists_in, AreBlocks as AreInPlace}
 use Rattle.flat_snapshot.proofs.adjacency.Adjacency.of.Given as goal
 
 abbrev pub invariant-loop-number : goal.invariant-loop-number

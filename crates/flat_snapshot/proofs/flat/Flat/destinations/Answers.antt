@@ -1,7 +1,7 @@
 -- Proofs of `destinations`, src/flat.rt.
 use Rattle.std.proofs.Common.{◌^◌, arith}
 use Rattle.ascending_lists.proofs.MapOrder.{rises_room}
-use Rattle.flat_snapshot.specs.Lists.{degrees_of}
+use Rattle.flat_snapshot.specs.inside.Lists.{degrees_of}
 use Rattle.flat_snapshot.proofs.flat.Flat.destinations.Goals as goal
 
 pub returns-clause-bounded : goal.returns-clause-bounded

@@ -1,6 +1,6 @@
 -- Proofs of `of`, src/flat.rt.
 use Rattle.std.proofs.Common.{◌≡◌, ◌∙◌, ap}
-use Rattle.tree_batch.specs.Digraph.{digraph}
+use Rattle.tree_batch.specs.inside.Digraph.{digraph}
 use Rattle.tree_batch.specs.Neighbours.{edges_of}
 use Rattle.flat_snapshot.proofs.Snapshots.{flat_made, digraph_is}
 use Rattle.flat_snapshot.proofs.flat.Flat.of.Goals as goal

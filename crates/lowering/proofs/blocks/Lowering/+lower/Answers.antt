@@ -9,10 +9,11 @@ use Rattle.typed_tree.specs.ProgramTree.{program_tree}
 use Rattle.typed_tree.proofs.Blocks.{statement_kind_tree-If, statement_kind_tree-IfElse, statement_kind_tree-While, statement_kind_tree-For}
 use Rattle.plans.specs.Fusing.{fusion_role_of}
 use Rattle.plans.specs.Instruction.{UnlessBelow, Jump, Turn, Advance}
-use Rattle.plans.specs.Plan.{IsWithin, behind, behind_all, in_loop, loop_step, plain, plan, plan_all}
+use Rattle.plans.specs.inside.Plan.{IsWithin}
+use Rattle.plans.specs.Plan.{behind, behind_all, in_loop, loop_step, plain, plan, plan_all}
 use Rattle.plans.proofs.Depths.{within_behind_all}
-use Rattle.lowering.specs.Putting.{BeginsLoop, Fills, Puts}
-use Rattle.lowering.specs.Visible.{depth_of}
+use Rattle.lowering.specs.inside.Putting.{BeginsLoop, Fills, Puts}
+use Rattle.lowering.specs.inside.Visible.{depth_of}
 use Rattle.lowering.proofs.Measures.{action_size, block_size, inner_falls}
 use Rattle.lowering.proofs.Putting.{puts_nothing}
 use Rattle.lowering.proofs.Statements.{HasPut, behind_none, has_put_all, has_put_next, has_put_none, puts_if, puts_choice, puts_while, puts_for}

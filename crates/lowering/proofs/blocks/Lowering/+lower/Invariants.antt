@@ -2,7 +2,7 @@ use Rattle.std.proofs.Common.{◌≡◌, ◌≤◌, ◌+◌, ◌*◌, false, len
 use Rattle.typed_tree.specs.BlockTree.{statement_kind_tree, block_tree}
 use Rattle.typed_tree.specs.ProgramTree.{program_tree}
 use Rattle.plans.specs.Plan.{behind_all, plan_all}
-use Rattle.lowering.specs.Visible.{depth_of}
+use Rattle.lowering.specs.inside.Visible.{depth_of}
 use Rattle.lowering.proofs.Measures.{action_size, block_size}
 use Rattle.lowering.proofs.Statements.{HasPut}
 use Rattle.lowering.proofs.blocks.Lowering.+lower.Given as goal

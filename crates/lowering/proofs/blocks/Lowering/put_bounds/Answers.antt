@@ -6,8 +6,8 @@ use Rattle.typed_tree.specs.IntExpressionTree.{int_expression_tree}
 use Rattle.typed_tree.specs.ProgramTree.{program_tree}
 use Rattle.plans.specs.Instruction.{Do, Enter}
 use Rattle.plans.specs.Plan.{loop_step, plain, with_integer}
-use Rattle.lowering.specs.Putting.{Puts}
-use Rattle.lowering.specs.Visible.{depth_of}
+use Rattle.lowering.specs.inside.Putting.{Puts}
+use Rattle.lowering.specs.inside.Visible.{depth_of}
 use Rattle.lowering.proofs.Putting.{puts_both}
 use Rattle.lowering.proofs.blocks.Lowering.put_bounds.Goals as goal
 

@@ -1,7 +1,7 @@
 -- Proofs of `is_apart`, src/fusing/fits.rt.
 use Rattle.std.proofs.Common.{◌∙◌}
 use Rattle.typed_tree.specs.ProgramTree.{program_tree}
-use Rattle.plans.specs.Parts.{edge_apply_tree}
+use Rattle.plans.specs.inside.Parts.{edge_apply_tree}
 use Rattle.lowering.proofs.SetsRead.{edges_are_apart}
 use Rattle.lowering.proofs.fusing.fits.is_apart.Goals as goal
 

@@ -1,7 +1,7 @@
 -- Proofs of `word`, src/destination_words.rt.
 use Rattle.std.proofs.Common.{◌-◌, ◌*◌, sym, ap, ◌∙◌, arith}
 use Rattle.std.proofs.lemmas.Nat.Bits.{bit_at_ones}
-use Rattle.pull_engine.specs.Lets.{lets}
+use Rattle.pull_engine.specs.inside.Lets.{lets}
 use Rattle.pull_engine.proofs.WordBits.{set_test}
 use Rattle.pull_engine.proofs.destination_words.DestinationWords.word.Goals as goal
 

@@ -2,7 +2,7 @@
 use Rattle.std.proofs.Common.{◌≡◌, ◌+◌, ◌-◌, ◌*◌, min, ap₂, ◌∙◌, arith}
 use Rattle.std.proofs.lemmas.List.FromFn.{length-map-range_with_len}
 use Rattle.crew.proofs.DegreeRows.{run_below, run_weight}
-use Rattle.pull_engine.specs.Degrees.{in_degrees}
+use Rattle.pull_engine.specs.inside.Degrees.{in_degrees}
 use Rattle.pull_engine.proofs.DegreeTotals.{degree, few_edges, none_past, whole_total}
 use Rattle.pull_engine.proofs.in_degrees.InDegreesDegreeList.run_total.Goals as goal
 

@@ -1,6 +1,6 @@
 -- Proofs of `words`, src/source_words.rt.
 use Rattle.std.proofs.Common.{ap, sym, ◌∙◌, subst}
-use Rattle.pull_engine.specs.Sources.{AreInBits, is_source}
+use Rattle.pull_engine.specs.inside.Sources.{AreInBits, is_source}
 use Rattle.pull_engine.specs.declared.source_words.SourceWords.{SourceWords}
 use Rattle.pull_engine.proofs.SourceWords.{words_pass}
 use Rattle.pull_engine.proofs.source_words.SourceWords.words.Goals as goal

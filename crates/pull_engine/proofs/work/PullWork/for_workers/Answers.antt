@@ -1,7 +1,7 @@
 -- Proofs of `for_workers`, src/work.rt.
 use Rattle.std.proofs.Common.{rules}
 use Rattle.edge_apply.specs.Words.{passes_words}
-use Rattle.pull_engine.specs.Sources.{is_source}
+use Rattle.pull_engine.specs.inside.Sources.{is_source}
 use Rattle.pull_engine.proofs.Masking.{mask_alike}
 use Rattle.pull_engine.proofs.work.PullWork.for_workers.Goals as goal
 

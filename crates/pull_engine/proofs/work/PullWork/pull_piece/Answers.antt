@@ -7,10 +7,11 @@ use Rattle.crew.specs.Partition.{end_of}
 use Rattle.edge_apply.proofs.Filtered.{between_agree}
 use Rattle.edge_fold.specs.Between.{edges_between}
 use Rattle.edge_apply.specs.Words.{passes_words}
-use Rattle.pull_engine.specs.Ranges.{AreChangesFrom, IsShapeOfApply, shape_vector}
+use Rattle.pull_engine.specs.Ranges.{AreChangesFrom, shape_vector}
+use Rattle.pull_engine.specs.inside.Ranges.{IsShapeOfApply}
 use Rattle.edge_fold.specs.declared.apply_context.ApplyContext.{ApplyContext}
-use Rattle.pull_engine.specs.Masked.{IsMaskOf}
-use Rattle.pull_engine.specs.Sources.{is_source}
+use Rattle.pull_engine.specs.inside.Masked.{IsMaskOf}
+use Rattle.pull_engine.specs.inside.Sources.{is_source}
 use Rattle.pull_engine.proofs.Masking.{mask_alike}
 use Rattle.pull_engine.proofs.Shaped.{some_weaker}
 use Rattle.pull_engine.proofs.work.PullWork.pull_piece.Goals as goal

@@ -1,7 +1,7 @@
 -- Proofs of `words`, src/push_end.rt.
 use Rattle.std.proofs.Common.{sym, ap, ◌∙◌, subst}
 use Rattle.push_engine.specs.declared.push_end.PushEnd.{PushEnd}
-use Rattle.push_engine.specs.PushEnds.{IsInBits, passes_bits}
+use Rattle.push_engine.specs.inside.PushEnds.{IsInBits, passes_bits}
 use Rattle.push_engine.proofs.EndTests.{words_of_members}
 use Rattle.push_engine.proofs.push_end.PushEnd.words.Goals as goal
 

@@ -3,7 +3,7 @@ use Rattle.std.proofs.Common.{◌≡◌, ℕ, ◌+◌, ◌*◌, ◌<◌, ◌≤�
 use Rattle.std.proofs.lemmas.List.{length-map, take_all}
 use Rattle.crew.specs.Limits.{weight}
 use Rattle.flat_snapshot.specs.Neighbours.{destinations_of}
-use Rattle.push_engine.specs.Degrees.{out_degrees}
+use Rattle.push_engine.specs.inside.Degrees.{out_degrees}
 use Rattle.push_engine.proofs.SourceTotals.{run_degrees, run_stop, totals_more, weight_more}
 use Rattle.push_engine.proofs.source_degrees.SourceDegrees.new.Goals as goal
 

@@ -1,6 +1,6 @@
 use Rattle.std.proofs.Common.{◌≡◌, ℕ, ◌+◌, ◌*◌, ◌^◌, ◌<◌, ◌≤◌, get_or, length, slice_range, take}
 use Rattle.crew.specs.Limits.{weight}
-use Rattle.push_engine.specs.Degrees.{out_degrees}
+use Rattle.push_engine.specs.inside.Degrees.{out_degrees}
 use Rattle.push_engine.proofs.source_degrees.SourceDegrees.new.Given as goal
 
 -- the runs that have come

@@ -3,7 +3,7 @@ use Rattle.std.proofs.Common.{[], sym, ap}
 use Rattle.std.specs.List.{filter}
 use Rattle.edge_fold.proofs.Walks.{folded_along}
 use Rattle.edge_apply.specs.Words.{passes_words}
-use Rattle.push_engine.specs.Rows.{rows_to}
+use Rattle.push_engine.specs.inside.Rows.{rows_to}
 use Rattle.push_engine.specs.Sources.{passing_in}
 use Rattle.push_engine.proofs.work.PushWork.fold_part.Goals as goal
 

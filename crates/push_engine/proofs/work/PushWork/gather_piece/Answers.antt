@@ -6,7 +6,7 @@ use Rattle.edge_apply.proofs.Listed.{piece_inside}
 use Rattle.edge_apply.specs.Words.{passes_words}
 use Rattle.edge_fold.specs.Gathered.{AreGatheredFor}
 use Rattle.edge_fold.specs.declared.apply_context.ApplyContext.{ApplyContext}
-use Rattle.push_engine.specs.Rows.{rows_to}
+use Rattle.push_engine.specs.inside.Rows.{rows_to}
 use Rattle.push_engine.specs.Sources.{passing_in}
 use Rattle.push_engine.proofs.work.PushWork.gather_piece.Goals as goal
 

@@ -4,7 +4,8 @@ use Rattle.std.specs.Arc.{arc_value}
 use Rattle.plans.specs.declared.plan.Plan.{Plan}
 use Rattle.plans.specs.Plan.{plan_of}
 use Rattle.plans.specs.PlanOf.{IsPlan}
-use Rattle.runner.specs.Position.{configuration_of, outcome_so_far}
+use Rattle.runner.specs.inside.Position.{configuration_of}
+use Rattle.runner.specs.Position.{outcome_so_far}
 use Rattle.runner.specs.Resting.{JobValue}
 use Rattle.runner.proofs.Resting.{outcome_resting}
 use Rattle.runner.proofs.Showing.{if_ok}

@@ -7,7 +7,7 @@ use Rattle.plans.specs.Plan.{plan_of}
 use Rattle.plans.specs.PlanOf.{IsPlan}
 use Rattle.run_state.specs.State.{graph_value}
 use Rattle.flat_snapshot.specs.Digraph.{Digraph}
-use Rattle.runner.specs.Position.{configuration_of}
+use Rattle.runner.specs.inside.Position.{configuration_of}
 use Rattle.runner.specs.Resting.{JobValue, job_value}
 use Rattle.runner.proofs.Resting.{step_resting}
 use Rattle.runner.proofs.job.Job.step.Goals as goal

@@ -5,7 +5,7 @@ use Rattle.plans.specs.declared.operation.PlanOperation.{PlanOperation}
 use Rattle.plans.specs.Operation.{IsOperation}
 use Rattle.run_state.specs.State.{graph_value}
 use Rattle.runner.specs.declared.flow.Flow.TheVariants.{Next}
-use Rattle.runner.specs.Done.{HasDone}
+use Rattle.runner.specs.inside.Done.{HasDone}
 use Rattle.runner.proofs.memory.Memory.act.Goals as goal
 
 pub returns-in_ok-declare_set-in-DeclareSet-clause-done : goal.returns-in_ok-declare_set-in-DeclareSet-clause-done

@@ -7,8 +7,8 @@ use Rattle.plans.specs.Machine.{At}
 use Rattle.plans.specs.Reducing.{AreReduced, indices_of, steps_at}
 use Rattle.runner.specs.EdgeMap.{AreChangesTo}
 use Rattle.runner.specs.declared.memory.Memory.{Memory}
-use Rattle.runner.specs.Position.{loops_of}
-use Rattle.runner.specs.Results.{with_both}
+use Rattle.runner.specs.inside.Position.{loops_of}
+use Rattle.runner.specs.inside.Results.{with_both}
 use Rattle.runner.proofs.Applying.{are_reduced, edges_done, function_indices}
 use Rattle.runner.proofs.Stepping.{stands}
 use Rattle.runner.proofs.memory.Memory.apply_edges.Goals as goal

@@ -7,7 +7,7 @@ use Rattle.kernels.specs.declared.vertex_kernel.VertexKernel.{VertexKernel}
 use Rattle.kernels.specs.Meaning.{IsVertexCode}
 use Rattle.plans.specs.Machine.{At}
 use Rattle.runner.specs.declared.memory.Memory.{Memory}
-use Rattle.runner.specs.Position.{loops_of}
+use Rattle.runner.specs.inside.Position.{loops_of}
 use Rattle.runner.proofs.Ready.{vertex_kernel}
 use Rattle.runner.proofs.Stepping.{stands, vertices_done}
 use Rattle.runner.proofs.memory.Memory.apply_vertices.Goals as goal

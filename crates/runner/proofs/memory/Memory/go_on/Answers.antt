@@ -4,7 +4,7 @@ use Rattle.plans.specs.Instruction.{OperationTree}
 use Rattle.plans.specs.declared.operation.PlanOperation.{PlanOperation}
 use Rattle.plans.specs.Operation.{IsOperation}
 use Rattle.runner.specs.declared.flow.Flow.TheVariants.{Next}
-use Rattle.runner.specs.Done.{HasDone}
+use Rattle.runner.specs.inside.Done.{HasDone}
 use Rattle.runner.proofs.memory.Memory.go_on.Goals as goal
 
 pub returns-in-UnlessBelow-clause-done : goal.returns-in-UnlessBelow-clause-done

@@ -5,7 +5,7 @@ use Rattle.algorithm_meaning.specs.Shown.{shown}
 use Rattle.algorithm_meaning.specs.Loop.{forget_beyond}
 use Rattle.plans.specs.Plan.{plan_of}
 use Rattle.run_state.specs.State.{RunState}
-use Rattle.runner.specs.Position.{loops_of}
+use Rattle.runner.specs.inside.Position.{loops_of}
 use Rattle.runner.proofs.Showing.{if_ok, shows_so_far}
 use Rattle.runner.proofs.plan_run.PlanRun.into_outcome.Goals as goal
 

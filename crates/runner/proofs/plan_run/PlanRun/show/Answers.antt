@@ -4,7 +4,7 @@ use Rattle.algorithm_meaning.specs.declared.outcome.End.{End as Ending}
 use Rattle.algorithm_meaning.specs.Shown.{shown}
 use Rattle.algorithm_meaning.specs.Loop.{forget_beyond}
 use Rattle.plans.specs.Plan.{plan_of}
-use Rattle.runner.specs.Position.{loops_of}
+use Rattle.runner.specs.inside.Position.{loops_of}
 use Rattle.runner.proofs.Showing.{if_ok, shows_so_far}
 use Rattle.runner.proofs.plan_run.PlanRun.show.Goals as goal
 

@@ -5,7 +5,7 @@ use Rattle.plans.specs.Instruction.{InstructionTree}
 use Rattle.plans.specs.Plan.{plan_of}
 use Rattle.plans.specs.Operation.{IsInstruction}
 use Rattle.plans.proofs.Depths.{forgotten-all}
-use Rattle.runner.specs.Position.{IsShown, IsShownWhere, loops_of, position}
+use Rattle.runner.specs.inside.Position.{IsShown, IsShownWhere, loops_of, position}
 use Rattle.runner.proofs.Partners.{found_none, found_some, none_at, partner_at}
 use Rattle.runner.proofs.plan_run.PlanRun.shown.Goals as goal
 

@@ -5,11 +5,11 @@ use Rattle.plans.specs.Instruction.{InstructionTree}
 use Rattle.plans.specs.Machine.{Configuration, act, act_at, step}
 use Rattle.plans.specs.Plan.{plan_of}
 use Rattle.plans.proofs.FusedApplies.{fused_fit}
-use Rattle.plans.specs.Outline.{most_steps_of}
+use Rattle.plans.specs.inside.Outline.{most_steps_of}
 use Rattle.plans.specs.Operation.{IsInstruction}
 use Rattle.run_state.specs.State.{RunState, graph_value}
-use Rattle.runner.specs.Done.{AreLevel}
-use Rattle.runner.specs.Position.{configuration_of, loops_of, position}
+use Rattle.runner.specs.inside.Done.{AreLevel}
+use Rattle.runner.specs.inside.Position.{configuration_of, loops_of, position}
 use Rattle.runner.proofs.Partners.{found_none, found_some, none_at, partner_at}
 use Rattle.runner.proofs.Ready.{functions_known, instruction_ready}
 use Rattle.runner.proofs.Stepping.{act_steps, level_falls}

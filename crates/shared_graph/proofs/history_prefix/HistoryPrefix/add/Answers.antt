@@ -4,7 +4,8 @@ use Rattle.std.proofs.lemmas.Bool.{eq-eqb}
 use Rattle.version_list.specs.Machine.{opened}
 use Rattle.version_list.specs.Timeline.{IsLegal}
 use Rattle.shared_graph.specs.declared.entry.Entry.{Entry}
-use Rattle.shared_graph.specs.Histories.{steps_of, MayFollow}
+use Rattle.shared_graph.specs.Histories.{steps_of}
+use Rattle.shared_graph.specs.inside.Histories.{MayFollow}
 use Rattle.shared_graph.proofs.Adding.{adds_moves}
 use Rattle.shared_graph.proofs.Growing.{legal-push, next_few}
 use Rattle.shared_graph.proofs.history_prefix.HistoryPrefix.add.Goals as goal

@@ -1,7 +1,7 @@
 -- Proofs of `append_to`, src/entries.rt.
 use Rattle.std.proofs.Common.{◌≡◌, true, refl, ◌∙◌}
 use Rattle.std.specs.Prelude.{Result, Ok, Err, OnOk, is_ok}
-use Rattle.tail_codec.specs.Columns.{AreAppended}
+use Rattle.tail_codec.specs.inside.Columns.{AreAppended}
 use Rattle.tail_codec.proofs.Columns.{appended_column, appended_ones, some_long, seen_zip, seen_ones}
 use Rattle.tail_codec.proofs.entries.Entries.append_to.Goals as goal
 

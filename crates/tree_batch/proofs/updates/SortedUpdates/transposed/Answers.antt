@@ -3,7 +3,7 @@ use Rattle.std.proofs.Common.{sym, ap, ◌∙◌, subst}
 use Rattle.std.specs.Map.{keys_of}
 use Rattle.edge_updates.specs.Updates.{Ascend}
 use Rattle.weighted_updates.specs.WeightedUpdates.{decided_weight}
-use Rattle.tree_batch.specs.Sorted.{sorted_pairs}
+use Rattle.tree_batch.specs.inside.Sorted.{sorted_pairs}
 use Rattle.tree_batch.proofs.UnitWeights.{same_units, units_ascend, units_alone, pairs_ascend, pairs_alone}
 use Rattle.tree_batch.proofs.updates.SortedUpdates.transposed.Goals as goal
 

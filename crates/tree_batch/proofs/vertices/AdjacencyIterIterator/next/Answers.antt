@@ -1,7 +1,7 @@
 -- Proofs of `next`, src/vertices.rt.
 use Rattle.std.proofs.Common.{sym, ◌∙◌, subst, arith}
 use Rattle.vertex_blocks.specs.Blocks.{vertices_at}
-use Rattle.tree_batch.specs.VertexBlocks.{AreGraphBlocks, AreBlocksLeft}
+use Rattle.tree_batch.specs.inside.VertexBlocks.{AreGraphBlocks, AreBlocksLeft}
 use Rattle.tree_batch.proofs.Walking.{first_small, rest_left, block_begun}
 use Rattle.tree_batch.proofs.vertices.AdjacencyIterIterator.next.Goals as goal
 use Rattle.tree_batch.proofs.vertices.AdjacencyIterIterator.next.Goals.{in-Some+in_default-next, in_default}

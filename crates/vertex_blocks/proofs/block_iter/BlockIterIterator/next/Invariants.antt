@@ -1,5 +1,6 @@
 use Rattle.std.proofs.Common.{◌-◌, ◌≡◌}
-use Rattle.vertex_blocks.specs.Blocks.{IsBlock, vertices_from}
+use Rattle.vertex_blocks.specs.Blocks.{IsBlock}
+use Rattle.vertex_blocks.specs.inside.Blocks.{vertices_from}
 use Rattle.vertex_blocks.proofs.block_iter.BlockIterIterator.next.Given as goal
 
 abbrev pub invariant-loop-self : goal.invariant-loop-self

@@ -1,0 +1,10 @@
+pub mod VectorAccumulators
+pub mod Statements
+pub mod ReducedContributions
+pub mod Held
+pub mod Gathered
+pub mod Folded
+pub mod FoldStarts
+pub mod EntryNumbers
+pub mod Contributions
+pub mod Changed

@@ -1,0 +1,5 @@
+pub mod Plan
+pub mod Parts
+pub mod Outline
+pub mod Lowered
+pub mod Fusing

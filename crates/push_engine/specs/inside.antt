@@ -1,0 +1,5 @@
+pub mod Work
+pub mod Sources
+pub mod Rows
+pub mod PushEnds
+pub mod Degrees

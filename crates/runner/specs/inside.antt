@@ -1,0 +1,7 @@
+pub mod Results
+pub mod Position
+pub mod Groups
+pub mod Employment
+pub mod EdgeMap
+pub mod Done
+pub mod ChangedSets

@@ -1,0 +1,110 @@
+-- Instructions of a run, each as a change of its state.
+use Rattle.std.specs.Prelude.{◌≡◌, ℕ, ◌+◌, List}
+use Rattle.typed_tree.specs.ProgramTree.{ProgramTree}
+use Rattle.algorithm_meaning.specs.State.{StateValue, GraphValue}
+use Rattle.algorithm_meaning.specs.declared.state.Depth.{Depth}
+use Rattle.algorithm_meaning.specs.Loop.{forget_beyond}
+use Rattle.algorithm_meaning.specs.declared.state.LoopCounter.{LoopCounter}
+use Rattle.plans.specs.Machine.{Configuration, At, Ended, faulty, act}
+use Rattle.plans.specs.declared.operation.PlanOperation.{PlanOperation}
+use Rattle.plans.specs.Operation.{IsFor}
+use Rattle.plans.specs.declared.functions.FunctionKernels.{FunctionKernels}
+use Rattle.plans.specs.Functions.{AreFunctionKernels}
+use Rattle.plans.specs.Instruction.{OperationTree}
+use Rattle.plans.specs.declared.instruction.Instruction.{Instruction}
+use Rattle.plans.specs.declared.operation.PlanOperation.TheVariants as op
+use Rattle.runner.specs.declared.flow.Flow.{Flow}
+use Rattle.runner.specs.declared.memory.Memory.{Memory}
+use Rattle.runner.specs.inside.Position.{loops_of}
+use Rattle.runner.specs.declared.flow.Flow.TheVariants as flow
+
+-- nothing is there beyond this
+abbrev pub IsKept : Depth → StateValue → Type 0
+IsKept d s = forget_beyond d s ≡ s
+
+-- where a run stands after an instruction at an index
+abbrev pub after_flow : Flow → (number : ℕ) → (shown : Depth) → (index : ℕ) → List LoopCounter → StateValue → Configuration
+after_flow flow.Next number shown index loops s = At (index + 1) loops s
+after_flow (flow.Goto to) number shown index loops s = At to loops s
+after_flow flow.Fault number shown index loops s = faulty number shown s
+after_flow (flow.Ended end) number shown index loops s = Ended (forget_beyond shown s) end
+
+-- its kernels are made for what is visible
+abbrev pub IsReady : (keep shown : Depth) → PlanOperation → Type 0
+IsReady keep shown (op.DeclareInteger name k) = IsFor keep k
+IsReady keep shown (op.DeclareCondition name k) = IsFor keep k
+IsReady keep shown (op.SetInteger slot k) = IsFor keep k
+IsReady keep shown (op.SetCondition slot k) = IsFor keep k
+IsReady keep shown (op.ReduceInteger slot reduction k) = IsFor keep k
+IsReady keep shown (op.SetEntry vector index k) = IsFor keep index × IsFor keep k
+IsReady keep shown (op.ReduceEntry vector index reduction k) = IsFor keep index × IsFor keep k
+IsReady keep shown (op.DeclareSet name members) = Unit {0}
+IsReady keep shown (op.AssignSet slot members) = Unit {0}
+IsReady keep shown (op.AddVertex slot k) = IsFor keep k
+IsReady keep shown (op.PrintInteger k) = IsFor keep k
+IsReady keep shown (op.PrintCondition k) = IsFor keep k
+IsReady keep shown (op.ApplyVertices set first second) = Unit {0}
+IsReady keep shown (op.ApplyEdges ends first second) = Unit {0}
+IsReady keep shown (op.Unless k to) = IsFor keep k
+IsReady keep shown (op.Enter name k) = IsFor shown k
+IsReady keep shown (op.UnlessBelow name to) = Unit {0}
+IsReady keep shown (op.Advance name) = Unit {0}
+IsReady keep shown op.Turn = Unit {0}
+IsReady keep shown (op.Jump to) = Unit {0}
+IsReady keep shown op.End = Unit {0}
+
+-- it says where the run goes on, or that it ends
+abbrev pub IsControl : PlanOperation → Type 0
+IsControl (op.Unless k to) = Unit {0}
+IsControl (op.Enter name k) = Unit {0}
+IsControl (op.UnlessBelow name to) = Unit {0}
+IsControl (op.Advance name) = Unit {0}
+IsControl op.Turn = Unit {0}
+IsControl (op.Jump to) = Unit {0}
+IsControl op.End = Unit {0}
+IsControl other = ⊥
+
+-- it writes to an entry of a vector
+abbrev pub WritesEntry : PlanOperation → Type 0
+WritesEntry (op.SetEntry vector index k) = Unit {0}
+WritesEntry (op.ReduceEntry vector index reduction k) = Unit {0}
+WritesEntry other = ⊥
+
+-- it takes values of expressions and writes to no vector, and the run goes on at the next index
+abbrev pub TakesValues : PlanOperation → Type 0
+TakesValues (op.DeclareInteger name k) = Unit {0}
+TakesValues (op.DeclareCondition name k) = Unit {0}
+TakesValues (op.SetInteger slot k) = Unit {0}
+TakesValues (op.SetCondition slot k) = Unit {0}
+TakesValues (op.ReduceInteger slot reduction k) = Unit {0}
+TakesValues (op.AddVertex slot k) = Unit {0}
+TakesValues (op.PrintInteger k) = Unit {0}
+TakesValues (op.PrintCondition k) = Unit {0}
+TakesValues other = ⊥
+
+-- they are the kernels of some program's functions
+pub record HaveTrees (f : FunctionKernels) : Type 0 where
+  pub program : ProgramTree
+  pub are : AreFunctionKernels f program
+
+-- an operation is done, and the run goes on so, wherever the instruction stands
+abbrev pub HasDone : Instruction → Flow → (old new : Memory) → ProgramTree → GraphValue → OperationTree → Type 0
+HasDone i f old new p g t = (index : ℕ)
+    → after_flow f i.number i.shown index (loops_of new) new.state.state ≡ act p g t i.number i.shown index (loops_of old) old.state.state
+
+-- the state and the loops are as they were
+pub record IsAsBefore (old new : Memory) : Type 0 where
+  pub state : new.state ≡ old.state
+  pub loops : new.loops.items ≡ old.loops.items
+
+-- two runs stand before the same index with as many turns left, or have both ended
+abbrev pub AreLevel : Configuration → Configuration → Type 0
+AreLevel (At index loops s) (At index' loops' s') = (index ≡ index') × (s.turns ≡ s'.turns)
+AreLevel (At index loops s) (Ended s' end) = ⊥
+AreLevel (Ended s end) (At index loops s') = ⊥
+AreLevel (Ended s end) (Ended s' end') = Unit {0}
+
+-- the run goes on where the operation leads, with as many turns left
+abbrev pub IsLevel : Instruction → Flow → (old new : Memory) → ProgramTree → GraphValue → OperationTree → Type 0
+IsLevel i f old new p g t = (index : ℕ)
+    → AreLevel (after_flow f i.number i.shown index (loops_of new) new.state.state) (act p g t i.number i.shown index (loops_of old) old.state.state)

@@ -1,0 +1,3 @@
+pub mod IntExpressionTree
+pub mod BoolExpressionTree
+pub mod Access

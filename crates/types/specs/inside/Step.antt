@@ -1,0 +1,16 @@
+-- Beside `Step`: definitions that no public contract cites.
+use Rattle.std.specs.Prelude.{Option}
+use Rattle.syntax.specs.Terminals.{Identifier}
+use Rattle.syntax.specs.SourceTrees as source
+use Rattle.typed_tree.specs.FunctionStatementTree.{FunctionStatementTree, FunctionStatementsTree, NoStep}
+use Rattle.expression_types.specs.WithFaults.{WithFaults, ◌>>=◌, sure}
+use Rattle.types.specs.Checker.{CheckerTree, labelled}
+use Rattle.types.specs.Step.{steps_behind, steps_typed}
+
+-- one statement
+abbrev pub labelled_step : CheckerTree → Option Identifier → (CheckerTree → WithFaults (FunctionStatementTree × CheckerTree)) → WithFaults (FunctionStatementTree × CheckerTree)
+labelled_step c label step = labelled c label >>= λ l. step l.1
+
+-- a block of its own
+abbrev pub steps_inside : CheckerTree → source.BlockTree → WithFaults (FunctionStatementsTree × CheckerTree)
+steps_inside c block = steps_typed c NoStep block >>= λ b. sure (b.0, steps_behind c b.1)
