@@ -4,7 +4,7 @@ use Rattle.std.proofs.lemmas.List.Sorted.{IsPermutation-keeps}
 use Rattle.std.specs.List.{filter, fold, range_with_len, swap}
 use Rattle.std.specs.List.Sorted.{IsPermutation}
 use Rattle.typed_tree.specs.declared.program.Vector.{Vector}
-use Rattle.algorithm_meaning.specs.Shown.{named_vectors}
+use Rattle.algorithm_meaning.specs.Meaning.{named_vectors}
 
 -- a range begins with its first number
 pub first_of_range : (v n : ℕ) → v < n → range_with_len v (n - v) ≡ v ∷ range_with_len (v + 1) (n - (v + 1))

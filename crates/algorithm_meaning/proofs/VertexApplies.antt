@@ -9,7 +9,7 @@ use Rattle.algorithm_meaning.specs.State.{vertex_scope}
 use Rattle.algorithm_meaning.specs.Value.{entry, value, truth}
 use Rattle.algorithm_meaning.specs.Function.{WorkValue, first_work, after_step, after_steps, after_block}
 use Rattle.algorithm_meaning.specs.EdgeApply.{is_member}
-use Rattle.algorithm_meaning.specs.VertexApply.{after_vertex, after_vertices}
+use Rattle.algorithm_meaning.specs.VertexSets.{after_vertex, after_vertices}
 use Rattle.algorithm_meaning.proofs.WrittenEntries.{entry_elsewhere}
 
 either_source : (b : Bool) (x y : WorkValue) (u : ℕ) → x.scope.source ≡ u → y.scope.source ≡ u → (cond b x y).scope.source ≡ u

@@ -1,11 +1,13 @@
 -- `apply` of edge functions, and `applyModified`.
-use Rattle.std.specs.Prelude.{ℕ, ℤ, Bool, true, not, ◌&&◌, nat_lt, ◌==◌, List, [], ◌∷◌, ◌++◌, map, Option, Some, None, slice_get}
-use Rattle.std.specs.List.{filter, list_any, range_with_len}
+use Rattle.std.specs.Prelude.{ℕ, ℤ, Bool, true, not, ◌&&◌, nat_lt, ◌==◌, List, [], ◌∷◌, ◌++◌, map, Option, Some, None, slice_get, if◌then◌else◌, ◌≡◌}
+use Rattle.std.specs.List.{filter, list_any, range_with_len, All}
+use Rattle.apply_options.specs.declared.reduction.Reduction.{Reduction}
+use Rattle.apply_options.specs.declared.reduction.Reduction.TheVariants as reduction
 use Rattle.edge_lists.specs.Edge.{Edge}
 use Rattle.typed_tree.specs.declared.statement.ApplyEnds.{ApplyEnds}
 use Rattle.typed_tree.specs.declared.statement.VertexFilter.{VertexFilter}
-use Rattle.typed_tree.specs.declared.statement.VertexFilter.TheVariants as end
 use Rattle.typed_tree.specs.FunctionStatementTree.{FunctionStatementsTree, FunctionTree}
+use Rattle.typed_tree.specs.declared.statement.VertexFilter.TheVariants as end
 use Rattle.algorithm_meaning.specs.declared.contribution.Contribution.{Contribution}
 use Rattle.algorithm_meaning.specs.declared.contribution.Writing.TheVariants.{Collected}
 use Rattle.algorithm_meaning.specs.declared.state.SetBinding.{SetBinding}
@@ -13,7 +15,7 @@ use Rattle.algorithm_meaning.specs.Arithmetic.{int_equal}
 use Rattle.algorithm_meaning.specs.State.{GraphValue, StateValue, edge_scope}
 use Rattle.algorithm_meaning.specs.Value.{entry, members_of, reduce_at}
 use Rattle.algorithm_meaning.specs.Function.{first_work, after_steps, steps_of}
-use Rattle.algorithm_meaning.specs.Filter.{lets_through}
+use Rattle.algorithm_meaning.specs.Function.{lets_through}
 
 -- the vertex is a member
 abbrev pub is_member : ℕ → List ℕ → Bool
@@ -65,3 +67,13 @@ is_modified vector before after v = not (int_equal (entry before vector v) (entr
 -- the vertices where it does, ascending
 abbrev pub modified : ℕ → (vector : ℕ) → (before after : List (List ℤ)) → List ℕ
 modified vertices vector before after = filter (is_modified vector before after) (range_with_len 0 vertices)
+
+-- of what a vertex is given, that for one vector
+abbrev pub for_vector : ℕ → List Contribution → List Contribution
+for_vector vector [] = []
+for_vector vector (c ∷ cs) = if c.vector == vector then c ∷ for_vector vector cs else for_vector vector cs
+
+-- for this vector the functions give numbers by one reduction alone, on any edge
+abbrev pub IsGivenBy : Reduction → (vector : ℕ) → List FunctionStatementsTree → List SetBinding → (before : List (List ℤ)) → Type 0
+IsGivenBy r vector functions sets before =
+    (edge : Edge) → All (λ c. c.reduction ≡ r) (for_vector vector (all_give functions sets before edge))

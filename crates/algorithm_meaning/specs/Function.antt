@@ -1,14 +1,16 @@
 -- Statements of functions. One definition does for all functions: what a statement writes changes the vectors at once in a vertex function, and is collected in an edge function, which reads the vectors as they were.
-use Rattle.std.specs.Prelude.{ℕ, ℤ, List, [], ◌∷◌, ◌++◌, if◌then◌else◌, Option, Some, None}
+use Rattle.std.specs.Prelude.{ℕ, ℤ, List, [], ◌∷◌, ◌++◌, if◌then◌else◌, Option, Some, None, Bool, false, slice_index_or, slice_get}
+use Rattle.std.specs.List.{filter}
 use Rattle.apply_options.specs.declared.reduction.Reduction.{Reduction}
 use Rattle.typed_tree.specs.FunctionStatementTree.{FunctionStatementTree, DeclareInteger, DeclareCondition, SetInteger, SetCondition, ReduceInteger, SetEntry, ReduceEntry, If, IfElse, FunctionStatementsTree, NoStep, StepThen, FunctionTree}
 use Rattle.algorithm_meaning.specs.declared.contribution.Contribution.{Contribution}
 use Rattle.algorithm_meaning.specs.declared.contribution.Writing.{Writing}
-use Rattle.algorithm_meaning.specs.declared.contribution.Writing.TheVariants as writing
 use Rattle.algorithm_meaning.specs.declared.state.SetBinding.{SetBinding}
-use Rattle.algorithm_meaning.specs.State.{ScopeValue}
+use Rattle.algorithm_meaning.specs.State.{ScopeValue, filter_scope}
 use Rattle.algorithm_meaning.specs.Value.{value, truth, with_entry, reduce_at}
-use Rattle.algorithm_meaning.specs.Variables.{new_integer, new_condition, set_integer, set_condition, reduce_integer, forget_new}
+use Rattle.algorithm_meaning.specs.Statements.{new_integer, new_condition, set_integer, set_condition, reduce_integer, forget_new}
+use Rattle.algorithm_meaning.specs.declared.contribution.Writing.TheVariants.{Collected}
+use Rattle.algorithm_meaning.specs.declared.contribution.Writing.TheVariants as writing
 
 -- what a function works on: the vectors, its variables, and what it has given so far
 pub record WorkValue : Type 0 where
@@ -60,3 +62,15 @@ abbrev mutual
 abbrev pub steps_of : Option FunctionTree → FunctionStatementsTree
 steps_of None = NoStep
 steps_of (Some f) = f.steps
+
+-- the result of a filter at a vertex, which begins as false
+abbrev pub result_of : FunctionStatementsTree → List SetBinding → List (List ℤ) → ℕ → Bool
+result_of steps sets vectors v = slice_index_or (after_steps Collected sets steps (first_work vectors (filter_scope v))).scope.conditions 0 false
+
+-- whether the filter at an index lets a vertex through
+abbrev pub lets_through : List FunctionTree → (function : ℕ) → List SetBinding → List (List ℤ) → ℕ → Bool
+lets_through filters function sets vectors v = result_of (steps_of (slice_get filters function)) sets vectors v
+
+-- of these vertices those that it lets through
+abbrev pub filtered : List FunctionTree → (function : ℕ) → List SetBinding → List (List ℤ) → List ℕ → List ℕ
+filtered filters function sets vectors vertices = filter (lets_through filters function sets vectors) vertices

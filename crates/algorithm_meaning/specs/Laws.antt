@@ -1,15 +1,14 @@
 -- Laws of the definitions, in the subject's words.
-use Rattle.std.specs.Prelude.{◌≡◌, ℕ, ℤ, pos, negsuc, FitsSigned, if◌then◌else◌, ◌==◌, List, [], ◌∷◌, ◌++◌}
+use Rattle.std.specs.Prelude.{◌≡◌, ℕ, ℤ, pos, negsuc, FitsSigned, if◌then◌else◌, ◌==◌, List, ◌∷◌, ◌++◌}
 use Rattle.std.specs.Int.{w64}
-use Rattle.std.specs.List.{All}
-use Rattle.edge_lists.specs.Edge.{Edge}
 use Rattle.apply_options.specs.declared.reduction.Reduction.{Reduction}
 use Rattle.apply_options.specs.declared.reduction.Reduction.TheVariants as reduction
+use Rattle.edge_lists.specs.Edge.{Edge}
 use Rattle.typed_tree.specs.FunctionStatementTree.{FunctionStatementsTree}
 use Rattle.algorithm_meaning.specs.declared.contribution.Contribution.{Contribution}
 use Rattle.algorithm_meaning.specs.declared.state.SetBinding.{SetBinding}
 use Rattle.algorithm_meaning.specs.Arithmetic.{reduced}
-use Rattle.algorithm_meaning.specs.EdgeApply.{all_give}
+use Rattle.algorithm_meaning.specs.EdgeApply.{all_give, for_vector}
 
 -- a number is 0 or has the sign of another
 abbrev pub HasSignOf : ℤ → ℤ → Type 0
@@ -29,16 +28,6 @@ pub record IsReduction (r : Reduction) : Type 0 where
   pub commutative : (a b : ℤ) → reduced r a b ≡ reduced r b a
   pub associative : (a b c : ℤ) → reduced r (reduced r a b) c ≡ reduced r a (reduced r b c)
   pub unit : (a : ℤ) → FitsSigned w64 a → reduced r a (unit_of r) ≡ a
-
--- of what a vertex is given, that for one vector
-abbrev pub for_vector : ℕ → List Contribution → List Contribution
-for_vector vector [] = []
-for_vector vector (c ∷ cs) = if c.vector == vector then c ∷ for_vector vector cs else for_vector vector cs
-
--- for this vector the functions give numbers by one reduction alone, on any edge
-abbrev pub IsGivenBy : Reduction → (vector : ℕ) → List FunctionStatementsTree → List SetBinding → (before : List (List ℤ)) → Type 0
-IsGivenBy r vector functions sets before =
-    (edge : Edge) → All (λ c. c.reduction ≡ r) (for_vector vector (all_give functions sets before edge))
 
 -- what these edges give a vertex for one vector
 abbrev pub given_to : (vector v : ℕ) → List FunctionStatementsTree → List SetBinding → (before : List (List ℤ)) → List Edge → List Contribution

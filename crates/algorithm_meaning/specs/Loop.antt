@@ -7,8 +7,8 @@ use Rattle.algorithm_meaning.specs.declared.state.LoopCounter.{LoopCounter}
 use Rattle.algorithm_meaning.specs.declared.state.Depth.{Depth}
 use Rattle.algorithm_meaning.specs.Arithmetic.{wrapped}
 use Rattle.algorithm_meaning.specs.State.{StateValue}
-use Rattle.algorithm_meaning.specs.Stand.{Stand, Live, Over, then_do, number_in, choice_in, with_value, choose}
-use Rattle.algorithm_meaning.specs.Variables.{with_new_integer}
+use Rattle.algorithm_meaning.specs.Stand.{Stand, Live, Over, then_do, int_value_in, bool_value_in, with_value, choose}
+use Rattle.algorithm_meaning.specs.Statements.{with_new_integer}
 
 -- how many variables and sets are visible
 abbrev pub depth_of : StateValue → Depth
@@ -48,7 +48,7 @@ loop test body next number (suc k) a s =
 
 -- `while`: its test is evaluated anew before each turn
 abbrev pub while_test : ℕ → BoolExpressionTree → ℕ → StateValue → Option Bool
-while_test vertices c n s = choice_in vertices c s
+while_test vertices c n s = bool_value_in vertices c s
 
 abbrev pub while_body : (StateValue → Stand) → ℕ → StateValue → Stand
 while_body block n s = inside block s
@@ -63,7 +63,7 @@ both_bounds (Some a) None = None
 both_bounds (Some a) (Some b) = Some (record { next = a; end = b })
 
 abbrev pub bounds_in : ℕ → (first end : IntExpressionTree) → StateValue → Option LoopCounter
-bounds_in vertices first end s = both_bounds (number_in vertices first s) (number_in vertices end s)
+bounds_in vertices first end s = both_bounds (int_value_in vertices first s) (int_value_in vertices end s)
 
 abbrev pub for_test : LoopCounter → StateValue → Option Bool
 for_test r s = Some (int_lt r.next r.end)

@@ -1,21 +1,27 @@
 -- What statements of main do, and the state before the first one.
-use Rattle.std.specs.Prelude.{ℕ, suc, ℤ, pos, if◌then◌else◌, ◌==◌, List, [], ◌∷◌, map, replicate}
+use Rattle.std.specs.Prelude.{ℕ, suc, ℤ, pos, if◌then◌else◌, ◌==◌, List, [], ◌∷◌, map, replicate, slice_index_or, ◌-◌}
 use Rattle.edge_lists.specs.Edge.{Edge}
 use Rattle.typed_tree.specs.declared.program.InitialValue.{InitialValue}
-use Rattle.typed_tree.specs.declared.program.InitialValue.TheVariants as beginning
 use Rattle.typed_tree.specs.BlockTree.{StatementKindTree, DeclareInteger, DeclareCondition, SetInteger, SetCondition, ReduceInteger, SetEntry, ReduceEntry, DeclareSet, AssignSet, AddVertex, PrintInteger, PrintCondition, ApplyVertex, ApplyEdges, If, IfElse, While, For, BlockTree, Empty, Then}
 use Rattle.typed_tree.specs.ProgramTree.{ProgramTree}
+use Rattle.typed_tree.specs.declared.program.Vector.{Vector}
+use Rattle.typed_tree.specs.declared.program.InitialValue.TheVariants as beginning
 use Rattle.algorithm_meaning.specs.declared.state.SetBinding.{SetBinding}
 use Rattle.algorithm_meaning.specs.Arithmetic.{wrapped}
 use Rattle.algorithm_meaning.specs.State.{GraphValue, StateValue, main_scope}
-use Rattle.algorithm_meaning.specs.Stand.{Stand, Live, then_do, choice_in, with_value, choose}
-use Rattle.algorithm_meaning.specs.Variables.{after_declare_integer, after_declare_condition, after_set_integer, after_set_condition, after_reduce_integer}
-use Rattle.algorithm_meaning.specs.Entries.{with_vectors, after_set_entry, after_reduce_entry}
-use Rattle.algorithm_meaning.specs.Print.{after_print_integer, after_print_condition}
+use Rattle.algorithm_meaning.specs.Stand.{Stand, Live, then_do, bool_value_in, with_value, choose, Over}
+use Rattle.algorithm_meaning.specs.Statements.{after_declare_integer, after_declare_condition, after_set_integer, after_set_condition, after_reduce_integer}
+use Rattle.algorithm_meaning.specs.Statements.{with_vectors, after_set_entry, after_reduce_entry}
+use Rattle.algorithm_meaning.specs.Statements.{after_print_integer, after_print_condition}
 use Rattle.algorithm_meaning.specs.VertexSets.{all_below, after_declare_set, after_assign_set, after_add_vertex}
-use Rattle.algorithm_meaning.specs.VertexApply.{after_apply_vertex}
+use Rattle.algorithm_meaning.specs.VertexSets.{after_apply_vertex}
 use Rattle.algorithm_meaning.specs.EdgeApply.{after_edge_apply}
 use Rattle.algorithm_meaning.specs.Loop.{inside, after_while, after_for, bounds_in}
+use Rattle.algorithm_meaning.specs.declared.outcome.NamedVector.{NamedVector}
+use Rattle.algorithm_meaning.specs.declared.outcome.NamedSet.{NamedSet}
+use Rattle.algorithm_meaning.specs.declared.outcome.End.{End}
+use Rattle.algorithm_meaning.specs.declared.outcome.Outcome.{Outcome}
+use Rattle.algorithm_meaning.specs.declared.outcome.End.TheVariants.{Finished}
 
 abbrev mutual
   -- what the statement of this number does
@@ -36,9 +42,9 @@ abbrev mutual
   after p g number (ApplyEdges ends function) s =
       Live (with_vectors s (after_edge_apply p.filters p.edge_functions g ends (function ∷ []) s))
   after p g number (If c body) s =
-      with_value (choice_in g.vertices c s) number s (λ b. choose b (inside (after_all p g body) s) (Live s))
+      with_value (bool_value_in g.vertices c s) number s (λ b. choose b (inside (after_all p g body) s) (Live s))
   after p g number (IfElse c body other) s =
-      with_value (choice_in g.vertices c s) number s (λ b. choose b (inside (after_all p g body) s) (inside (after_all p g other) s))
+      with_value (bool_value_in g.vertices c s) number s (λ b. choose b (inside (after_all p g body) s) (inside (after_all p g other) s))
   after p g number (While c body) s = after_while g.vertices number c (after_all p g body) s
   after p g number (For name first end body) s =
       with_value (bounds_in g.vertices first end s) number s (λ r. after_for number (after_all p g body) r s)
@@ -71,3 +77,37 @@ opening p g turns = record {
   text = [];
   turns = turns;
 }
+
+-- the name at an index
+abbrev pub name_at : List (List ℕ) → ℕ → List ℕ
+name_at names index = slice_index_or names index []
+
+-- each vector's name and entries, in declared order
+abbrev pub named_vectors : List (List ℕ) → List Vector → List (List ℤ) → List NamedVector
+named_vectors names [] entries = []
+named_vectors names (v ∷ vs) [] = []
+named_vectors names (v ∷ vs) (entries ∷ more) =
+    record { name = name_at names v.name; entries = entries } ∷ named_vectors names vs more
+
+-- a set's name and members
+abbrev pub named_set : List (List ℕ) → SetBinding → NamedSet
+named_set names set = record { name = name_at names set.name; members = set.members }
+
+-- what is shown of a state, when the bound of turns was this and the run ended so
+abbrev pub shown : ProgramTree → ℕ → StateValue → End → Outcome
+shown p turns s end = record {
+  end = end;
+  turns = turns - s.turns;
+  vectors = named_vectors p.names p.vectors s.vectors;
+  sets = map (named_set p.names) s.sets;
+  text = s.text;
+}
+
+-- a run that has not ended has come to the end of main
+abbrev pub outcome_of : ProgramTree → ℕ → Stand → Outcome
+outcome_of p turns (Live s) = shown p turns s Finished
+outcome_of p turns (Over s end) = shown p turns s end
+
+-- what a program means on a graph, within a bound of turns
+abbrev pub meaning : ProgramTree → GraphValue → ℕ → Outcome
+meaning p g turns = outcome_of p turns (after_all p g p.main (opening p g turns))

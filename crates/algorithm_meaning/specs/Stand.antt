@@ -23,16 +23,16 @@ vertex_number vertices (pos n) = if nat_lt n vertices then Some n else None
 vertex_number vertices (negsuc n) = None
 
 -- the value of a number in main, none where an index in it is no vertex
-abbrev pub number_in : ℕ → IntExpressionTree → StateValue → Option ℤ
-number_in vertices e s = if stays_inside vertices s.vectors s.sets s.scope e then Some (value s.vectors s.sets s.scope e) else None
+abbrev pub int_value_in : ℕ → IntExpressionTree → StateValue → Option ℤ
+int_value_in vertices e s = if stays_inside vertices s.vectors s.sets s.scope e then Some (value s.vectors s.sets s.scope e) else None
 
 -- the vertex that an index in main is, none where it or an index in it is no vertex
 abbrev pub vertex_in : ℕ → IntExpressionTree → StateValue → Option ℕ
-vertex_in vertices index s = option_and_then (vertex_number vertices) (number_in vertices index s)
+vertex_in vertices index s = option_and_then (vertex_number vertices) (int_value_in vertices index s)
 
 -- a truth value, in the same way
-abbrev pub choice_in : ℕ → BoolExpressionTree → StateValue → Option Bool
-choice_in vertices c s = if condition_stays_inside vertices s.vectors s.sets s.scope c then Some (truth s.vectors s.sets s.scope c) else None
+abbrev pub bool_value_in : ℕ → BoolExpressionTree → StateValue → Option Bool
+bool_value_in vertices c s = if condition_stays_inside vertices s.vectors s.sets s.scope c then Some (truth s.vectors s.sets s.scope c) else None
 
 -- goes on with a value; where there is none the run ends by a fault of this statement, and nothing is changed
 abbrev pub with_value : {A : Type 0} → Option A → ℕ → StateValue → (A → Stand) → Stand

@@ -2,16 +2,19 @@
 use Rattle.std.specs.Prelude.{ℕ, zero, suc, ℤ, if◌then◌else◌, nat_lt, ◌==◌, List, [], ◌∷◌, ◌++◌, slice_get}
 use Rattle.std.specs.List.{range_with_len}
 use Rattle.typed_tree.specs.declared.statement.SetValue.{SetValue}
-use Rattle.typed_tree.specs.declared.statement.SetValue.TheVariants as set
 use Rattle.typed_tree.specs.IntExpressionTree.{IntExpressionTree}
 use Rattle.typed_tree.specs.ProgramTree.{ProgramTree}
+use Rattle.typed_tree.specs.FunctionStatementTree.{FunctionStatementsTree, FunctionTree}
+use Rattle.typed_tree.specs.declared.statement.SetValue.TheVariants as set
 use Rattle.algorithm_meaning.specs.declared.state.SetBinding.{SetBinding}
-use Rattle.algorithm_meaning.specs.State.{GraphValue, StateValue}
+use Rattle.algorithm_meaning.specs.State.{GraphValue, StateValue, vertex_scope}
 use Rattle.algorithm_meaning.specs.Value.{members_of}
 use Rattle.algorithm_meaning.specs.Stand.{Stand, Live, vertex_in, with_value}
-use Rattle.algorithm_meaning.specs.Entries.{with_vectors}
-use Rattle.algorithm_meaning.specs.Filter.{filtered}
+use Rattle.algorithm_meaning.specs.Statements.{with_vectors}
+use Rattle.algorithm_meaning.specs.Function.{filtered}
 use Rattle.algorithm_meaning.specs.EdgeApply.{after_edge_apply, modified}
+use Rattle.algorithm_meaning.specs.declared.contribution.Writing.TheVariants.{AtOnce}
+use Rattle.algorithm_meaning.specs.Function.{first_work, after_steps, steps_of}
 
 -- the vertices of a graph
 abbrev pub all_below : ℕ → List ℕ
@@ -62,3 +65,17 @@ inserted v (x ∷ xs) = if nat_lt v x then v ∷ x ∷ xs else (if v == x then x
 abbrev pub after_add_vertex : (vertices number index : ℕ) → IntExpressionTree → StateValue → Stand
 after_add_vertex vertices number index e s =
     with_value (vertex_in vertices e s) number s (λ v. Live (with_members s index (inserted v (members_of (slice_get s.sets index)))))
+
+-- the vectors after a function ran at a vertex
+abbrev pub after_vertex : FunctionStatementsTree → List SetBinding → ℕ → List (List ℤ) → List (List ℤ)
+after_vertex steps sets v vectors = (after_steps AtOnce sets steps (first_work vectors (vertex_scope v))).vectors
+
+-- after it ran at each of these vertices, in order
+abbrev pub after_vertices : FunctionStatementsTree → List SetBinding → List ℕ → List (List ℤ) → List (List ℤ)
+after_vertices steps sets [] vectors = vectors
+after_vertices steps sets (v ∷ vs) vectors = after_vertices steps sets vs (after_vertex steps sets v vectors)
+
+-- a vertex function runs for each member of a set alone
+abbrev pub after_apply_vertex : List FunctionTree → (set function : ℕ) → StateValue → StateValue
+after_apply_vertex functions set function s =
+    with_vectors s (after_vertices (steps_of (slice_get functions function)) s.sets (members_of (slice_get s.sets set)) s.vectors)

@@ -8,9 +8,10 @@ ghost use Rattle.algorithm_meaning.specs.declared.contribution.Contribution.{Con
 ghost use Rattle.algorithm_meaning.specs.declared.state.SetBinding.{SetBinding};
 ghost use Rattle.algorithm_meaning.specs.Arithmetic.{remainder};
 ghost use Rattle.algorithm_meaning.specs.EdgeApply.{after_edges, is_member};
-ghost use Rattle.algorithm_meaning.specs.Laws.{HasSignOf, IsGivenBy, IsReduction, given_to, reduced_all};
+ghost use Rattle.algorithm_meaning.specs.Laws.{HasSignOf, IsReduction, given_to, reduced_all};
+ghost use Rattle.algorithm_meaning.specs.EdgeApply.{IsGivenBy};
 ghost use Rattle.algorithm_meaning.specs.Value.{entry};
-ghost use Rattle.algorithm_meaning.specs.VertexApply.{after_vertices};
+ghost use Rattle.algorithm_meaning.specs.VertexSets.{after_vertices};
 
 /// A remainder is 0 or has the sign of the dividend.
 pub fn remainders_have_the_sign_of_the_dividend()

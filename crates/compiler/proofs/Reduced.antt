@@ -16,8 +16,8 @@ use Rattle.plans.specs.State.{StateValue, edge_scope}
 use Rattle.plans.specs.Value.{value, truth}
 use Rattle.plans.specs.Function.{WorkValue, first_work, after_set, after_reduce, after_step, after_steps, after_block, steps_of}
 use Rattle.plans.specs.EdgeApply.{gives}
-use Rattle.plans.specs.Laws.{for_vector}
-use Rattle.schedule.specs.Access.{is_none_of, are_apart}
+use Rattle.algorithm_meaning.specs.EdgeApply.{for_vector}
+use Rattle.schedule.specs.Independence.{is_none_of, are_apart}
 use Rattle.typed_tree.specs.inside.Access.{step_writes, steps_write}
 use Rattle.schedule.specs.ScheduleTree.{ScheduleTree}
 use Rattle.std.proofs.lemmas.Bool.{and_parts}

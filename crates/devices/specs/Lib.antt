@@ -1,3 +1,2 @@
+pub mod Devices
 pub mod Device
-pub mod Drain
-pub mod Feed

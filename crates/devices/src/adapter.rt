@@ -3,7 +3,7 @@ ghost use Rattle.std.specs.Prelude.{◌≡◌, ◌≢◌, ◌⊎◌, ℕ, Bool, 
 ghost use Rattle.std.specs.IoError.{error_kind};
 ghost use Rattle.std.specs.Io.KnownBytes.{ReadConsumes, WriteAppends};
 ghost use Rattle.devices.specs.Device.{bytes_read_by, bytes_written_by, is_ended, read_failures, write_failures, reads_left, inner_of};
-ghost use Rattle.devices.specs.Feed.{says_end};
+ghost use Rattle.devices.specs.Devices.{says_end};
 
 use super::account::Account;
 use super::traits::{Drain, Feed};

@@ -8,14 +8,14 @@ use Rattle.plans.specs.declared.plan.Plan.{Plan}
 use Rattle.races.specs.Race.{IsRace, MayRun}
 use Rattle.races.specs.RaceScript.{order_by}
 use Rattle.races.specs.RaceText.{TakesBeginning, Writes}
-use Rattle.races.specs.Refused.{MayOpen, RefusesRace}
+use Rattle.races.specs.RaceScript.{MayOpen, RefusesRace}
 use Rattle.races.specs.declared.error.RaceError.{RaceError}
 use Rattle.races.specs.declared.outcomes.Race.{Race}
 use Rattle.races.specs.declared.reading.RaceScript.{RaceScript}
 use Rattle.driver.specs.declared.compiled_plan.CompiledPlan.{CompiledPlan}
 use Rattle.driver.specs.declared.error.ServeError.{ServeError}
 use Rattle.driver.specs.Endings.{of_race, of_send}
-use Rattle.driver.specs.Programs.{tree_of}
+use Rattle.driver.specs.Reading.{tree_of}
 use Rattle.driver.specs.Racing.{EndsWriting, HoldsScript, IsRaceOf, RefusesRaceOf}
 use Rattle.driver.specs.Reading.{HoldPrograms}
 

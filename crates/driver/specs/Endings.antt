@@ -18,7 +18,7 @@ use Rattle.races.specs.declared.error.RaceScriptError.{RaceScriptError}
 use Rattle.races.specs.declared.error.RaceScriptError.TheVariants as race_script
 use Rattle.races.specs.declared.error.RaceError.{RaceError}
 use Rattle.races.specs.declared.error.RaceError.TheVariants.{NotOpened, NotRun}
-use Rattle.shared_graph.specs.Refusal.{number_of as shared_number_of}
+use Rattle.shared_graph.specs.Outcome.{number_of as shared_number_of}
 use Rattle.shared_graph.specs.declared.error.SharedError.TheVariants as shared
 use Rattle.snapshot_runs.specs.declared.error.LatestRunError.TheVariants as run
 

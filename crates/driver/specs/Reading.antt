@@ -5,12 +5,14 @@ use Rattle.std.specs.Global.{Vec}
 use Rattle.std.specs.declared.io.Error.{Error}
 use Rattle.algorithm_meaning.specs.ProgramTree.{ProgramTree}
 use Rattle.plans.specs.declared.plan.Plan.{Plan}
+use Rattle.plans.specs.Plan.{program_of}
 use Rattle.compiler.specs.declared.error.CompileError.{CompileError}
 use Rattle.compiler.specs.Outcome.{Compiles, IsPlanOfText, IsProgram}
 use Rattle.compiler.specs.declared.error.CompileError.TheVariants as compiler
 use Rattle.driver.specs.Endings.{of_file_read}
 use Rattle.driver.specs.declared.error.ServeError.{ServeError}
 use Rattle.driver.specs.declared.error.ServeError.TheVariants.{NoMemory, ReadFailed, FileFailed, WriteFailed, Refused, RaceRefused, Closed}
+use Rattle.driver.specs.declared.compiled_plan.CompiledPlan.{CompiledPlan}
 
 -- a read answered with bytes that the file may hold, or failed as it may fail
 abbrev pub AnswersRead : (List ℕ → Type 0) → (Error → Type 0) → Result (Vec ℕ) Error → Type 0
@@ -72,3 +74,6 @@ pub record LacksScript (holds : List ℕ → List ℕ → Type 0) (fails : List 
   pub programs : List ProgramTree
   pub compiled : HoldPrograms holds names programs
   pub failed : FailsRead (fails script) script e
+
+abbrev pub tree_of : CompiledPlan → ProgramTree
+tree_of compiled = program_of compiled.plan

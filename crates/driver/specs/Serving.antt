@@ -2,21 +2,25 @@
 use Rattle.std.specs.Prelude.{◌≡◌, ℕ, ◌<◌, Bool, true, false, List, [], ◌∷◌, ◌++◌, ◌⊎◌, Result, Ok, Err, map, codes}
 use Rattle.std.specs.Str.{bytes_eq}
 use Rattle.std.specs.declared.io.Error.{Error}
-use Rattle.devices.specs.Drain.{TakesPart}
-use Rattle.plans.specs.declared.plan.Plan.{Plan}
-use Rattle.plans.specs.PlanOf.{program_of}
-use Rattle.lowering.specs.Text.{text_of}
+use Rattle.clap.specs.Words.{fault_of}
+use Rattle.devices.specs.Devices.{TakesPart}
 use Rattle.algorithm_meaning.specs.ProgramTree.{ProgramTree}
+use Rattle.plans.specs.declared.plan.Plan.{Plan}
+use Rattle.plans.specs.Plan.{program_of}
+use Rattle.lowering.specs.Text.{text_of}
 use Rattle.scripts.specs.declared.error.ScriptError.{ScriptError}
 use Rattle.scripts.specs.Script.{Input, Written, RunsScript}
-use Rattle.scripts.specs.Text.{RunsText}
-use Rattle.driver.specs.Endings.{of_script, status_of_end}
+use Rattle.scripts.specs.Script.{RunsText}
+use Rattle.requests.specs.declared.asked.Request.{Request}
+use Rattle.requests.specs.Asked.{command_line}
+use Rattle.requests.specs.Asked.{asked_by, request_of, IsFaultAmong}
+use Rattle.requests.specs.declared.asked.RequestError.{RequestError}
+use Rattle.requests.specs.declared.asked.Request.TheVariants as request
+use Rattle.driver.specs.Endings.{of_script, status_of_end, refusal_status_of}
 use Rattle.driver.specs.Racing.{ServesRace}
 use Rattle.driver.specs.Reading.{HoldPrograms, HoldsPlan, HoldsProgram, IsNoProgram, LacksProgram, LacksScript}
 use Rattle.driver.specs.declared.error.ServeError.{ServeError}
 use Rattle.driver.specs.declared.error.ServeError.TheVariants.{WriteFailed}
-use Rattle.requests.specs.declared.asked.Request.{Request}
-use Rattle.requests.specs.declared.asked.Request.TheVariants as request
 
 -- the end of a script, with the errors of this crate
 abbrev pub end_of : Result Bool ScriptError → Result Bool ServeError
@@ -172,3 +176,23 @@ Serves holds fails (request.Script script names) old new before after status =
     ServesScript (bytes_eq script.now (codes "-")) holds fails script.now (map (λ n. n.now) names.items) old new before after status
 Serves holds fails (request.Race script names workers turns) old new before after status =
     ServesRace holds fails script.now (map (λ n. n.now) names.items) workers turns old new before after status
+
+-- the words are without a fault, and what they ask for was done
+pub record RunsRequest (holds : List ℕ → List ℕ → Type 0) (fails : List ℕ → Error → Type 0) (words : List (List ℕ)) (old new : Input) (before after : Written) (status : ℕ) : Type 0 where
+  pub request : Request
+  pub quiet : fault_of command_line words ≡ []
+  pub read : asked_by request ≡ request_of words
+  pub done : Serves holds fails request old new before after status
+
+-- the words were refused, for a fault of theirs or since memory ran out, and nothing else was done
+pub record RefusesWords (words : List (List ℕ)) (old new : Input) (before after : Written) (status : ℕ) : Type 0 where
+  pub error : RequestError
+  pub cause : IsFaultAmong (fault_of command_line words) error
+  pub ending : status ≡ refusal_status_of error
+  pub unread : new ≡ old
+  pub untouched : after ≡ before
+
+-- what doing a command line comes to
+abbrev pub Runs : (List ℕ → List ℕ → Type 0) → (List ℕ → Error → Type 0) → List (List ℕ) → Input → Input → Written → Written → ℕ → Type 0
+Runs holds fails words old new before after status =
+    RunsRequest holds fails words old new before after status ⊎ RefusesWords words old new before after status

@@ -1,7 +1,7 @@
 //! Programs that were compiled, as scripts run them.
 ghost use Rattle.std.specs.Prelude.{◌≡◌, map, IfOk};
 ghost use Rattle.crew.specs.Outcome.{AreWorkers};
-ghost use Rattle.driver.specs.Programs.{tree_of};
+ghost use Rattle.driver.specs.Reading.{tree_of};
 ghost use Rattle.driver.specs.inside.Programs.{ShowsMeaning};
 
 use crate::compiled_plan::CompiledPlan;

@@ -3,7 +3,7 @@
 ghost use Rattle.std.specs.Prelude.{◌≡◌, map};
 ghost use Rattle.scripts.specs.Script.{input as input_of, bytes_written_by};
 ghost use Rattle.driver.specs.Endings.{refusal_status_of};
-ghost use Rattle.driver.specs.Running.{Runs};
+ghost use Rattle.driver.specs.Serving.{Runs};
 
 use crate::files::Files;
 use crate::serving::serve;

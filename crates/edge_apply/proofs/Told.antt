@@ -6,7 +6,7 @@ use Rattle.std.specs.List.{filter, flat_map, range_with_len}
 use Rattle.edge_lists.specs.Edge.{Edge}
 use Rattle.apply_options.specs.declared.reduction.Reduction.{Reduction}
 use Rattle.kernels.specs.FunctionStatementTree.{FunctionStatementsTree}
-use Rattle.kernels.specs.Laws.{IsGivenBy}
+use Rattle.algorithm_meaning.specs.EdgeApply.{IsGivenBy}
 use Rattle.kernels.specs.State.{StateValue}
 use Rattle.kernels.specs.Value.{entry}
 use Rattle.vectors.specs.declared.changes.EntryChange.{EntryChange}

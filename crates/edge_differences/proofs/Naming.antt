@@ -3,7 +3,7 @@ use Rattle.std.proofs.Common.{◌≡◌, ℕ, ◌+◌, ◌<◌, Option, option_t
 use Rattle.std.proofs.lemmas.List.{append-nil, take_more}
 use Rattle.tree_batch.specs.declared.batch.Entry.{Entry}
 use Rattle.tree_batch.specs.Edge.{Ends}
-use Rattle.tree_batch.specs.Entry.{named_by}
+use Rattle.tree_batch.specs.Edge.{named_by}
 use Rattle.edge_differences.specs.Named.{named_in, named_in_all}
 
 named_pushed : (xs : List Entry) (x : Entry) → named_in (xs ++ x ∷ []) ≡ named_in xs ++ option_to_list (named_by x)

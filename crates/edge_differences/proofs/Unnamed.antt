@@ -6,7 +6,7 @@ use Rattle.std.specs.List.{filter}
 use Rattle.edge_lists.specs.Edge.{Edge}
 use Rattle.tree_batch.specs.declared.batch.Entry.{Entry}
 use Rattle.tree_batch.specs.Edge.{Ends, IsAscending, Rises, all_ends, ends_eq, ends_of, index, weight_in}
-use Rattle.tree_batch.specs.Entry.{NoneNames, is_between, misfits, named_by, vertices_after, weight_after}
+use Rattle.tree_batch.specs.Edge.{NoneNames, is_between, misfits, named_by, vertices_after, weight_after}
 use Rattle.tree_batch.specs.Digraph.{Digraph, IsDigraph, graph_after, graph_through}
 use Rattle.tree_batch.proofs.AllEdges.{after_within, are_among, digraph_after, few_vertices, in_all, rises_all, weight_in-weighed}
 use Rattle.tree_batch.proofs.Deciding.{count_after, none_decides}

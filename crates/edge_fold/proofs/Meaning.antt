@@ -10,12 +10,13 @@ use Rattle.typed_tree.specs.FunctionStatementTree.{FunctionStatementsTree}
 use Rattle.algorithm_meaning.specs.declared.contribution.Contribution.{Contribution}
 use Rattle.algorithm_meaning.specs.Arithmetic.{reduced}
 use Rattle.algorithm_meaning.specs.EdgeApply.{after_edges, all_give, gives}
-use Rattle.algorithm_meaning.specs.Laws.{IsGivenBy, given_to, reduced_all, for_vector as for_one}
+use Rattle.algorithm_meaning.specs.EdgeApply.{IsGivenBy, for_vector as for_one}
+use Rattle.algorithm_meaning.specs.Laws.{given_to, reduced_all}
 use Rattle.algorithm_meaning.specs.State.{StateValue}
 use Rattle.algorithm_meaning.specs.Value.{entry}
 use Rattle.algorithm_meaning.proofs.EdgeApplies.{entry_after_edges}
 use Rattle.algorithm_meaning.proofs.Reductions.{reduced_all-append}
-use Rattle.kernels.specs.FunctionCode.{each}
+use Rattle.kernels.specs.Meaning.{each}
 use Rattle.edge_fold.specs.Contributions.{IsBy, IsReducedBy, all_given, for_vector, given_on, reduced_at}
 use Rattle.edge_fold.proofs.Folds.{reduced_at-append}
 

@@ -4,7 +4,7 @@ ghost use Rattle.std.specs.List.{filter};
 ghost use Rattle.edge_lists.specs.Edge.{Edge};
 ghost use Rattle.apply_options.specs.declared.reduction.Reduction.{Reduction};
 ghost use Rattle.typed_tree.specs.FunctionStatementTree.{FunctionStatementsTree};
-ghost use Rattle.algorithm_meaning.specs.Laws.{IsGivenBy};
+ghost use Rattle.algorithm_meaning.specs.EdgeApply.{IsGivenBy};
 ghost use Rattle.algorithm_meaning.specs.State.{StateValue};
 ghost use Rattle.algorithm_meaning.specs.Value.{entry};
 ghost use Rattle.kernels.specs.Registers.{HasSizes};

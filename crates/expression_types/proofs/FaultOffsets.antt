@@ -5,8 +5,8 @@ use Rattle.syntax.specs.declared.operators.Addition.{Addition}
 use Rattle.syntax.specs.declared.operators.Multiplication.{Multiplication}
 use Rattle.syntax.specs.Terminals.{Terminal, Identifier}
 use Rattle.syntax.specs.Offsets.{StandWhere, StandsWhere}
-use Rattle.syntax.specs.ExpressionTrees as tree
-use Rattle.syntax.specs.ExpressionTrees.{ExpressionTree, ConjunctionTree, ComparisonTree, SumTree, TermTree, UnaryTree, PrimaryTree}
+use Rattle.syntax.specs.SourceTrees as tree
+use Rattle.syntax.specs.SourceTrees.{ExpressionTree, ConjunctionTree, ComparisonTree, SumTree, TermTree, UnaryTree, PrimaryTree}
 use Rattle.syntax.specs.ExpressionSpelling.{comparison_terminals, conjunction_terminals, expression_terminals, primary_terminals, sum_terminals, term_terminals, unary_terminals}
 use Rattle.syntax.proofs.Behind.{all_both, all_left, all_right}
 use Rattle.typed_tree.specs.declared.expression.VarRef.{VarRef}
@@ -20,8 +20,8 @@ use Rattle.expression_types.specs.declared.scope.Entity.TheVariants as entity
 use Rattle.expression_types.specs.declared.scope.Inside.{Inside}
 use Rattle.expression_types.specs.declared.scope.Inside.TheVariants as inside
 use Rattle.expression_types.specs.Expression.{as_size, as_vector, comparison_value, conjunction_value, conjuncts, disjuncts, entry_of, factors, index_as, index_lacks_value, index_value, name_value, no_vertex, primary_value, size_of, size_value, sum_value, summands, term_value, unary_value, used, used_as, value_of, vector_at, vector_index}
-use Rattle.expression_types.specs.Names.{found}
-use Rattle.expression_types.specs.WithFaults.{WithFaults, fault_at, sure}
+use Rattle.expression_types.specs.ScopeTree.{found}
+use Rattle.expression_types.specs.Faults.{WithFaults, fault_at, sure}
 use Rattle.expression_types.specs.Operators.{IntegersTree, Integers, MixedIntegers, ErrorIntegers, ConditionsTree, Conditions, MixedConditions, ErrorConditions, condition_index, entry_value, first_condition, first_integer, function_entry, given, grouped_conditions, grouped_integers, integer_index, main_entry, related_value, signed_value, unless_faulty}
 use Rattle.expression_types.specs.ScopeTree.{ScopeTree, declared, declared_over}
 use Rattle.expression_types.specs.ValueTree.{ValueTree, Integer, Condition, Vertex, Set, ErrorValue, condition_reads_entry, is_error, named_set, named_value, named_vector, reads_entry}

@@ -9,11 +9,11 @@ use Rattle.syntax.specs.declared.expression.Comparison.{Comparison}
 use Rattle.syntax.specs.declared.expression.Conjunction.{Conjunction}
 use Rattle.syntax.specs.ExpressionViews.{unary_of, term_from, sum_from, conjunction_from, expression_from}
 use Rattle.syntax.specs.inside.ExpressionViews.{term_of, comparison_of, conjunction_of}
-use Rattle.syntax.specs.ExpressionTrees.{ConjunctionTree, ComparisonTree, TermTree, UnaryTree}
+use Rattle.syntax.specs.SourceTrees.{ConjunctionTree, ComparisonTree, TermTree, UnaryTree}
 use Rattle.typed_tree.specs.declared.expression.Connective.TheVariants as connective
 use Rattle.expression_types.specs.declared.fault.Fault.{Fault}
 use Rattle.expression_types.specs.Expression.{value_of, disjuncts, conjunction_value, conjuncts, comparison_value, sum_value, summands, term_value, factors, unary_value}
-use Rattle.expression_types.specs.WithFaults.{WithFaults, sure, outcome, ◌>>=◌}
+use Rattle.expression_types.specs.Faults.{WithFaults, sure, outcome, ◌>>=◌}
 use Rattle.expression_types.specs.Operators.{added, multiplied, IntegersTree, ConditionsTree, first_integer, first_condition, beside_integer, beside_condition, grouped_integers, grouped_conditions}
 use Rattle.expression_types.specs.ScopeTree.{ScopeTree}
 use Rattle.expression_types.specs.ValueTree.{ValueTree}

@@ -3,7 +3,7 @@ use Rattle.std.proofs.Common.{◌≡◌, refl, ap, ℕ, zero, suc, List, [], ◌
 use Rattle.std.specs.Global.{Vec}
 use Rattle.std.specs.Str.{bytes_eq}
 use Rattle.std.specs.Map.{lookup}
-use Rattle.expression_types.specs.Names.{found}
+use Rattle.expression_types.specs.ScopeTree.{found}
 use Rattle.expression_types.specs.inside.Names.{shown}
 
 pub length-shown : {T : Type 0} (es : List (Vec ℕ × T)) → length (shown es) ≡ length es

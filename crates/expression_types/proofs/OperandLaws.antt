@@ -14,7 +14,7 @@ use Rattle.typed_tree.specs.IntExpressionTree.{int_expression_tree}
 use Rattle.typed_tree.specs.inside.IntExpressionTree.{operands_tree}
 use Rattle.typed_tree.proofs.Chains.{int_expression_tree-Arithmetic, bool_expression_tree-Connect}
 use Rattle.expression_types.specs.declared.fault.Fault.{Fault}
-use Rattle.expression_types.specs.WithFaults.{outcome}
+use Rattle.expression_types.specs.Faults.{outcome}
 use Rattle.expression_types.specs.Operators.{IntegersTree, Integers, ConditionsTree, Conditions, first_condition, grouped_integers, grouped_conditions, equated, equated_value}
 use Rattle.expression_types.specs.ValueTree as value
 use Rattle.expression_types.specs.ValueTree.{ValueTree, as_condition}

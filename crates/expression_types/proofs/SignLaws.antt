@@ -3,7 +3,7 @@ use Rattle.std.proofs.Common.{◌≡◌, ◌≢◌, refl, ap, sym, ◌∙◌, �
 use Rattle.std.proofs.lemmas.Bool.{false≢true}
 use Rattle.syntax.specs.declared.operators.Prefix.{Prefix}
 use Rattle.syntax.specs.declared.operators.Prefix.TheVariants as prefix
-use Rattle.syntax.specs.ExpressionTrees.{PrimaryTree, Bare}
+use Rattle.syntax.specs.SourceTrees.{PrimaryTree, Bare}
 use Rattle.syntax.specs.ExpressionViews.{behind}
 use Rattle.typed_tree.specs.declared.expression.Endpoint.{Endpoint}
 use Rattle.typed_tree.specs.declared.expression.VarRef.{VarRef}
@@ -12,7 +12,7 @@ use Rattle.typed_tree.specs.IntExpressionTree.{IntExpressionTree, Parameter, neg
 use Rattle.expression_types.specs.declared.fault.Fault.{Fault}
 use Rattle.expression_types.specs.declared.fault.TypeRule.TheVariants as rule
 use Rattle.expression_types.specs.Faults.{earlier}
-use Rattle.expression_types.specs.WithFaults.{WithFaults, sure, fault_at, outcome, ◌>>=◌}
+use Rattle.expression_types.specs.Faults.{WithFaults, sure, fault_at, outcome, ◌>>=◌}
 use Rattle.expression_types.specs.Operators.{given, signed_value}
 use Rattle.expression_types.specs.Expression.{unary_value, primary_value}
 use Rattle.expression_types.specs.ScopeTree.{ScopeTree}

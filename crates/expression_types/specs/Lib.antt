@@ -2,8 +2,6 @@ pub mod BareNames
 pub mod Expression
 pub mod Faults
 pub mod Least
-pub mod Names
-pub mod WithFaults
 pub mod Operators
 pub mod ScopeTree
 pub mod ValueTree

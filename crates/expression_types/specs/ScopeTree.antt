@@ -1,14 +1,15 @@
 -- Scopes: the names that are visible at a point of a source, with what they are.
-use Rattle.std.specs.Prelude.{◌≡◌, ℕ, ◌+◌, List, [], ◌∷◌, ◌++◌, take, length, Option, Some, None}
+use Rattle.std.specs.Prelude.{◌≡◌, ℕ, ◌+◌, List, [], ◌∷◌, ◌++◌, take, length, Option, Some, None, if◌then◌else◌}
+use Rattle.std.specs.Str.{bytes_eq}
 use Rattle.syntax.specs.Terminals.{Identifier}
-use Rattle.expression_types.specs.declared.fault.TypeRule.TheVariants as rule
 use Rattle.expression_types.specs.declared.scope.Entity.{Entity}
-use Rattle.expression_types.specs.declared.scope.Entity.TheVariants as entity
 use Rattle.expression_types.specs.declared.scope.Inside.{Inside}
-use Rattle.expression_types.specs.declared.scope.Inside.TheVariants as inside
 use Rattle.expression_types.specs.declared.scope.Mark.{Mark}
-use Rattle.expression_types.specs.Names.{found}
-use Rattle.expression_types.specs.WithFaults.{WithFaults, sure, fault_at}
+
+use Rattle.expression_types.specs.Faults.{WithFaults, sure, fault_at}
+use Rattle.expression_types.specs.declared.fault.TypeRule.TheVariants as rule
+use Rattle.expression_types.specs.declared.scope.Entity.TheVariants as entity
+use Rattle.expression_types.specs.declared.scope.Inside.TheVariants as inside
 
 -- Names with what they are, in the order in which they became visible; where expressions stand; and how many indices of visible
 -- integers, conditions and vertex sets are taken. The constant sets of the whole program have the first indices of sets.
@@ -119,3 +120,8 @@ left mark scope = record {
 -- all names that were visible still are, before those that became so
 abbrev pub Keeps : ScopeTree → ScopeTree → Type 0
 Keeps old new = take (length old.visible) new.visible ≡ old.visible
+
+-- what a name stands for, none where it is not there
+abbrev pub found : {T : Type 0} → List ℕ → List (List ℕ × T) → Option T
+found name [] = None
+found name (e ∷ others) = if bytes_eq name e.0 then Some e.1 else found name others

@@ -1,6 +1,6 @@
 //! Name tables: names in the order in which they came, found by a hash.
 ghost use Rattle.std.specs.Prelude.{◌≡◌, ◌<◌, ◌^◌, ◌++◌, ◌∷◌, [], None, length, take, OnErr, OnOk};
-ghost use Rattle.expression_types.specs.Names.{found};
+ghost use Rattle.expression_types.specs.ScopeTree.{found};
 
 use indexmap::IndexMap;
 use std::alloc::{AllocError, Global};

@@ -7,7 +7,7 @@ ghost use Rattle.typed_tree.specs.inside.IntExpressionTree.{operands_tree};
 ghost use Rattle.std.specs.Prelude.{IfOk};
 ghost use Rattle.expression_types.specs.inside.Operands.{conditions_of, integers_of};
 ghost use Rattle.expression_types.specs.Operators.{beside_condition, beside_integer, first_condition, first_integer, grouped_conditions, grouped_integers};
-ghost use Rattle.expression_types.specs.WithFaults.{ReportsFaults};
+ghost use Rattle.expression_types.specs.Faults.{ReportsFaults};
 ghost use Rattle.expression_types.specs.ValueTree.{value_tree};
 
 use crate::fault::{Fault, TypeRule, note};

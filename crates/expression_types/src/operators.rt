@@ -1,7 +1,7 @@
 //! Typing of operators: what signs, relations, rows and indexes make of typed operands.
 ghost use Rattle.std.specs.Prelude.{◌≡◌, Some, false, IfOk, IsTrue};
 ghost use Rattle.std.specs.Option.{option_map};
-ghost use Rattle.expression_types.specs.WithFaults.{ReportsFaults, outcome};
+ghost use Rattle.expression_types.specs.Faults.{ReportsFaults, outcome};
 ghost use Rattle.expression_types.specs.Expression.{as_vector, entry_of};
 ghost use Rattle.expression_types.specs.Operators.{added, compared_value, entry_value, equated_value};
 ghost use Rattle.expression_types.specs.Operators.{function_entry, given, main_entry, multiplied, related_value};

@@ -6,7 +6,8 @@ use Rattle.edge_lists.specs.Edge.{Edge}
 use Rattle.algorithm_meaning.specs.declared.contribution.Contribution.{Contribution}
 use Rattle.kernels.specs.FunctionStatementTree.{FunctionStatementsTree}
 use Rattle.kernels.specs.EdgeApply.{all_give}
-use Rattle.kernels.specs.Laws.{for_vector, given_to}
+use Rattle.algorithm_meaning.specs.EdgeApply.{for_vector}
+use Rattle.kernels.specs.Laws.{given_to}
 use Rattle.kernels.specs.State.{StateValue}
 use Rattle.follow_engine.specs.Reached.{leads}
 

@@ -1,6 +1,6 @@
 -- The tests of a former apply's ends, and where they agree with those of an apply.
 use Rattle.std.proofs.Common.{◌≡◌, ℕ, ℤ, Bool, true, false, Option, Some, None, List, refl, sym, ◌∙◌, subst}
-use Rattle.algorithm_meaning.specs.Filter.{result_of}
+use Rattle.algorithm_meaning.specs.Function.{result_of}
 use Rattle.kernels.specs.EdgeApply.{is_member}
 use Rattle.kernels.specs.Registers.{HasSizes}
 use Rattle.kernels.specs.State.{StateValue}

@@ -6,12 +6,12 @@ use Rattle.edge_lists.specs.Edge.{Edge, unit_edge}
 use Rattle.apply_options.specs.declared.reduction.Reduction.{Reduction}
 use Rattle.typed_tree.specs.declared.expression.Endpoint.TheVariants as endpoint
 use Rattle.algorithm_meaning.specs.declared.contribution.Contribution.{Contribution}
-use Rattle.algorithm_meaning.specs.Filter.{result_of}
+use Rattle.algorithm_meaning.specs.Function.{result_of}
 use Rattle.kernels.specs.FunctionStatementTree.{FunctionStatementsTree}
 use Rattle.kernels.specs.EdgeApply.{all_give, gives}
 use Rattle.kernels.specs.State.{StateValue}
 use Rattle.kernels.specs.Registers.{CodeInput, HasSizes, Registers, is_nonzero, run, step, with_number}
-use Rattle.kernels.specs.FunctionCode.{each, given_by}
+use Rattle.kernels.specs.Meaning.{each, given_by}
 use Rattle.kernels.specs.Meaning.{IsEdgeCode, edge_input, given_in}
 use Rattle.kernels.specs.ContributionCode.{ContributionCode}
 use Rattle.kernels.specs.RegisterInstruction.{RegisterInstruction}

@@ -1,6 +1,5 @@
 pub mod Kernels
 pub mod ContributionColumns
-pub mod Expressions
 pub mod Columns
 pub mod Shapes
 pub mod ShapePairs
@@ -10,7 +9,6 @@ pub use Rattle.algorithm_meaning.specs.Laws
 pub use Rattle.algorithm_meaning.specs.State
 pub use Rattle.algorithm_meaning.specs.Value
 pub use Rattle.register_code.specs.Registers
-pub use Rattle.register_code.specs.FunctionCode
 pub use Rattle.register_code.specs.Meaning
 pub use Rattle.register_code.specs.declared.instruction.ContributionCode
 pub use Rattle.register_code.specs.declared.instruction.RegisterInstruction

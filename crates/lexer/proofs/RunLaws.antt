@@ -1,6 +1,6 @@
 -- Laws of runs of bytes.
 use Rattle.std.proofs.Common.{◌≡◌, ℕ, ◌<◌, ◌≤◌, Bool, true, false, List, [], ◌∷◌, length, take, drop, get_or, zero, suc, arith}
-use Rattle.lexer.specs.Bytes.{Every}
+use Rattle.lexer.specs.Spelling.{Every}
 use Rattle.lexer.specs.inside.Runs.{EndsRun, IsRun}
 
 -- the bytes before a place pass a test that each of them passes

@@ -1,4 +1,3 @@
-pub mod Bytes
 pub mod Outcome
 pub mod Refusal
 pub mod Spelling

@@ -1,6 +1,6 @@
 //! The bytes that texts of the language are made of, and runs of them.
 ghost use Rattle.std.specs.Prelude.{◌≡◌, ◌≢◌, List, ℕ, ◌∷◌, MatchBool};
-ghost use Rattle.lexer.specs.Bytes.{is_white, is_letter, is_word_byte, is_quotable, is_in_line};
+ghost use Rattle.lexer.specs.Spelling.{is_white, is_letter, is_word_byte, is_quotable, is_in_line};
 ghost use Rattle.lexer.specs.inside.Runs.{IsRun};
 
 /// Whether the byte is a space, a tab, a carriage return or a line feed.

@@ -1,7 +1,7 @@
 //! What stands at the front of bytes: the longest piece, or a fault.
 ghost use Rattle.std.specs.Prelude.{◌≡◌, ◌≢◌, ◌+◌, ◌^◌, ◌<◌, ℕ, true, List, ◌∷◌, length, slice_index, MatchBool};
 ghost use Rattle.std.specs.Char.{is_ascii_digit};
-ghost use Rattle.lexer.specs.Bytes.{Every, is_letter, is_word_byte};
+ghost use Rattle.lexer.specs.Spelling.{Every, is_letter, is_word_byte};
 ghost use Rattle.lexer.specs.inside.Runs.{Punctuation, class_of, IsFront, IsReduction, IsPair};
 ghost use Rattle.lexer.specs.Tokens.{IsWord, IsName};
 

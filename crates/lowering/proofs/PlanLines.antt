@@ -4,7 +4,7 @@ use Rattle.std.proofs.lemmas.List.{drop_all, drop_more}
 use Rattle.typed_tree.specs.ProgramTree.{ProgramTree}
 use Rattle.algorithm_meaning.specs.declared.state.Depth.{Depth}
 use Rattle.plans.specs.Instruction.{OperationTree, InstructionTree}
-use Rattle.plan_text.specs.Words.{joined, spaced}
+use Rattle.plan_text.specs.Expressions.{joined, spaced}
 use Rattle.plan_text.proofs.Spaces.{absurd_cons, spaced_append}
 use Rattle.plans.specs.declared.instruction.Instruction.{Instruction}
 use Rattle.plans.specs.declared.operation.PlanOperation.{PlanOperation}

@@ -4,7 +4,7 @@ use Rattle.std.specs.Prelude.{Option}
 use Rattle.std.proofs.lemmas.List.Folds.{list_all-append}
 use Rattle.typed_tree.specs.declared.statement.VertexFilter.{VertexFilter}
 use Rattle.typed_tree.specs.FunctionStatementTree.{FunctionTree}
-use Rattle.typed_tree.specs.Access.{are_apart, is_none_of}
+use Rattle.typed_tree.specs.Independence.{are_apart, is_none_of}
 use Rattle.typed_tree.specs.Fold.{all_pass, end_fold, function_fold}
 use Rattle.typed_tree.specs.ProgramTree.{ProgramTree}
 use Rattle.typed_tree.proofs.Gathered.{end_gathered, function_gathered}

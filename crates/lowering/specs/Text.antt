@@ -8,10 +8,10 @@ use Rattle.plans.specs.Plan.{plan_of}
 use Rattle.plan_text.specs.declared.applied_function.ChangedSet.{ChangedSet}
 use Rattle.plan_text.specs.declared.applied_function.AppliedFunction.{AppliedFunction}
 use Rattle.plan_text.specs.Lines.{advance_words, below_words, bound_words, edges_words, group_words, statement_words, unless_words, vertices_words}
-use Rattle.plan_text.specs.Words.{joined, spaced}
+use Rattle.plan_text.specs.Expressions.{joined, spaced}
 use Rattle.plans.specs.declared.instruction.Instruction.{Instruction}
 use Rattle.plans.specs.declared.plan.Plan.{Plan}
-use Rattle.plans.specs.Kernels.{ArePairwise}
+use Rattle.plans.specs.Operation.{ArePairwise}
 use Rattle.plans.specs.Operation.{IsInstruction}
 
 -- an edge function as the text names it

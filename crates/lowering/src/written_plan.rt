@@ -3,7 +3,7 @@ ghost use Rattle.std.specs.Prelude.{◌≡◌, ◌++◌, IfOk, OnOk};
 ghost use Rattle.typed_tree.specs.ProgramTree.{ProgramTree};
 ghost use Rattle.apply_options.specs.ScheduleTree.{ScheduleTree};
 ghost use Rattle.plans.specs.Instruction.{InstructionTree};
-ghost use Rattle.plan_text.specs.Words.{spaced};
+ghost use Rattle.plan_text.specs.Expressions.{spaced};
 ghost use Rattle.lowering.specs.inside.Targets.{indices_of};
 ghost use Rattle.lowering.specs.Text.{HasText, IsWritten, instruction_line, text_of};
 

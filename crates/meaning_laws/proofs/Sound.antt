@@ -13,13 +13,13 @@ use Rattle.algorithm_meaning.specs.declared.state.Depth.{Depth}
 use Rattle.algorithm_meaning.specs.declared.state.SetBinding.{SetBinding}
 use Rattle.algorithm_meaning.specs.State.{GraphValue, StateValue}
 use Rattle.algorithm_meaning.specs.Value.{members_of}
-use Rattle.algorithm_meaning.specs.Stand.{Stand, Live, Over, then_do, number_in, vertex_in, vertex_number, choice_in, with_value, choose}
-use Rattle.algorithm_meaning.specs.Filter.{lets_through}
-use Rattle.algorithm_meaning.specs.Print.{condition_line, integer_line}
+use Rattle.algorithm_meaning.specs.Stand.{Stand, Live, Over, then_do, int_value_in, vertex_in, vertex_number, bool_value_in, with_value, choose}
+use Rattle.algorithm_meaning.specs.Function.{lets_through}
+use Rattle.algorithm_meaning.specs.Statements.{condition_line, integer_line}
 use Rattle.algorithm_meaning.specs.VertexSets.{inserted, members_for, set_members}
 use Rattle.algorithm_meaning.specs.Loop.{bounds_in, depth_of, for_body, for_test, leave, loop, next_of, take_turn, while_body, while_test}
 use Rattle.algorithm_meaning.specs.Meaning.{after, after_all, all_vertices, opening}
-use Rattle.algorithm_meaning.specs.Shown.{meaning, named_set, outcome_of}
+use Rattle.algorithm_meaning.specs.Meaning.{meaning, named_set, outcome_of}
 use Rattle.meaning_laws.specs.Members.{AreVertices}
 use Rattle.meaning_laws.specs.Printing.{IsPrinted, IsPrintedLine}
 use Rattle.meaning_laws.proofs.Ascending.{inserted_vertices, no_vertices}
@@ -127,17 +127,17 @@ module _ (n : ℕ) where
 module _ (p : ProgramTree) (g : GraphValue) where
   mutual
     action_sound : (a : StatementKindTree) (number : ℕ) (s : StateValue) → IsSound g.vertices s → Sound g.vertices (after p g number a s)
-    action_sound (DeclareInteger name e) number s is = value_sound g.vertices (number_in g.vertices e s) number s _ is (λ x. record { printed = is.printed; sets = is.sets })
-    action_sound (DeclareCondition name c) number s is = value_sound g.vertices (choice_in g.vertices c s) number s _ is (λ b. record { printed = is.printed; sets = is.sets })
-    action_sound (SetInteger slot e) number s is = value_sound g.vertices (number_in g.vertices e s) number s _ is (λ x. record { printed = is.printed; sets = is.sets })
-    action_sound (SetCondition slot c) number s is = value_sound g.vertices (choice_in g.vertices c s) number s _ is (λ b. record { printed = is.printed; sets = is.sets })
-    action_sound (ReduceInteger slot reduction e) number s is = value_sound g.vertices (number_in g.vertices e s) number s _ is (λ x. record { printed = is.printed; sets = is.sets })
+    action_sound (DeclareInteger name e) number s is = value_sound g.vertices (int_value_in g.vertices e s) number s _ is (λ x. record { printed = is.printed; sets = is.sets })
+    action_sound (DeclareCondition name c) number s is = value_sound g.vertices (bool_value_in g.vertices c s) number s _ is (λ b. record { printed = is.printed; sets = is.sets })
+    action_sound (SetInteger slot e) number s is = value_sound g.vertices (int_value_in g.vertices e s) number s _ is (λ x. record { printed = is.printed; sets = is.sets })
+    action_sound (SetCondition slot c) number s is = value_sound g.vertices (bool_value_in g.vertices c s) number s _ is (λ b. record { printed = is.printed; sets = is.sets })
+    action_sound (ReduceInteger slot reduction e) number s is = value_sound g.vertices (int_value_in g.vertices e s) number s _ is (λ x. record { printed = is.printed; sets = is.sets })
     action_sound (SetEntry vector subscript e) number s is =
         value_sound g.vertices (vertex_in g.vertices subscript s) number s _ is
-        (λ v. value_sound g.vertices (number_in g.vertices e s) number s _ is (λ x. record { printed = is.printed; sets = is.sets }))
+        (λ v. value_sound g.vertices (int_value_in g.vertices e s) number s _ is (λ x. record { printed = is.printed; sets = is.sets }))
     action_sound (ReduceEntry vector subscript reduction e) number s is =
         value_sound g.vertices (vertex_in g.vertices subscript s) number s _ is
-        (λ v. value_sound g.vertices (number_in g.vertices e s) number s _ is (λ x. record { printed = is.printed; sets = is.sets }))
+        (λ v. value_sound g.vertices (int_value_in g.vertices e s) number s _ is (λ x. record { printed = is.printed; sets = is.sets }))
     action_sound (DeclareSet name value) number s is =
         record { printed = is.printed; sets = pushed_sets g.vertices s.sets name (members_for p g value s) is.sets (value_members p g value s is.sets) }
     action_sound (AssignSet slot value) number s is =
@@ -147,19 +147,19 @@ module _ (p : ProgramTree) (g : GraphValue) where
         (λ v found. record {
           printed = is.printed;
           sets = changed_sets g.vertices s.sets slot.index (inserted v (members_of (slice_get s.sets slot.index))) is.sets
-              (inserted_vertices g.vertices v (members_of (slice_get s.sets slot.index)) (found_below g.vertices v (number_in g.vertices e s) found) (members_are g.vertices s.sets slot.index is.sets));
+              (inserted_vertices g.vertices v (members_of (slice_get s.sets slot.index)) (found_below g.vertices v (int_value_in g.vertices e s) found) (members_are g.vertices s.sets slot.index is.sets));
         })
     action_sound (PrintInteger e) number s is =
-        value_sound g.vertices (number_in g.vertices e s) number s _ is (λ x. record { printed = printed_line s.text (integer_line x) is.printed (inl (x, refl)); sets = is.sets })
+        value_sound g.vertices (int_value_in g.vertices e s) number s _ is (λ x. record { printed = printed_line s.text (integer_line x) is.printed (inl (x, refl)); sets = is.sets })
     action_sound (PrintCondition c) number s is =
-        value_sound g.vertices (choice_in g.vertices c s) number s _ is (λ b. record { printed = printed_line s.text (condition_line b) is.printed (inr (b, refl)); sets = is.sets })
+        value_sound g.vertices (bool_value_in g.vertices c s) number s _ is (λ b. record { printed = printed_line s.text (condition_line b) is.printed (inr (b, refl)); sets = is.sets })
     action_sound (ApplyVertex set function) number s is = record { printed = is.printed; sets = is.sets }
     action_sound (ApplyEdges ends function) number s is = record { printed = is.printed; sets = is.sets }
     action_sound (If c body) number s is =
-        value_sound g.vertices (choice_in g.vertices c s) number s _ is
+        value_sound g.vertices (bool_value_in g.vertices c s) number s _ is
         (λ b. choice_sound g.vertices b _ _ (leave_sound g.vertices (depth_of s) _ (block_sound body s is)) is)
     action_sound (IfElse c body other) number s is =
-        value_sound g.vertices (choice_in g.vertices c s) number s _ is
+        value_sound g.vertices (bool_value_in g.vertices c s) number s _ is
         (λ b. choice_sound g.vertices b _ _ (leave_sound g.vertices (depth_of s) _ (block_sound body s is)) (leave_sound g.vertices (depth_of s) _ (block_sound other s is)))
     action_sound (While c body) number s is =
         loop_sound g.vertices (while_test g.vertices c) (while_body (after_all p g body)) (λ (m : ℕ). m) number

@@ -14,14 +14,14 @@ use Rattle.algorithm_meaning.specs.declared.outcome.End.{End}
 use Rattle.algorithm_meaning.specs.declared.outcome.End.TheVariants.{Finished, TurnsOver, Fault}
 use Rattle.algorithm_meaning.specs.declared.state.Depth.{Depth}
 use Rattle.algorithm_meaning.specs.State.{GraphValue, StateValue}
-use Rattle.algorithm_meaning.specs.Stand.{Stand, Live, Over, then_do, number_in, vertex_in, choice_in, with_value, choose}
+use Rattle.algorithm_meaning.specs.Stand.{Stand, Live, Over, then_do, int_value_in, vertex_in, bool_value_in, with_value, choose}
 use Rattle.algorithm_meaning.specs.Function.{steps_of}
 use Rattle.algorithm_meaning.specs.EdgeApply.{after_edge_apply, after_edges, is_end, matching, modified, passes}
-use Rattle.algorithm_meaning.specs.Entries.{with_vectors}
+use Rattle.algorithm_meaning.specs.Statements.{with_vectors}
 use Rattle.algorithm_meaning.specs.VertexSets.{after_assign_set, after_declare_set, with_members, with_new_set}
 use Rattle.algorithm_meaning.specs.Loop.{bounds_in, depth_of, for_body, for_test, leave, loop, next_of, take_turn, while_body, while_test}
 use Rattle.algorithm_meaning.specs.Meaning.{after, after_all, opening}
-use Rattle.algorithm_meaning.specs.Shown.{meaning, outcome_of, shown}
+use Rattle.algorithm_meaning.specs.Meaning.{meaning, outcome_of, shown}
 
 -- the state with so many more turns left
 abbrev pub plus : ℕ → StateValue → StateValue
@@ -127,26 +127,26 @@ module _ (d : ℕ) where
   module _ (p : ProgramTree) (g : GraphValue) where
     mutual
       action_follows : (a : StatementKindTree) (number : ℕ) (s : StateValue) → Follows d (after p g number a s) (after p g number a (plus d s))
-      action_follows (DeclareInteger name e) number s = value_follows (number_in g.vertices e s) number s _ _ (λ n. refl)
-      action_follows (DeclareCondition name c) number s = value_follows (choice_in g.vertices c s) number s _ _ (λ b. refl)
-      action_follows (SetInteger slot e) number s = value_follows (number_in g.vertices e s) number s _ _ (λ n. refl)
-      action_follows (SetCondition slot c) number s = value_follows (choice_in g.vertices c s) number s _ _ (λ b. refl)
-      action_follows (ReduceInteger slot reduction e) number s = value_follows (number_in g.vertices e s) number s _ _ (λ n. refl)
+      action_follows (DeclareInteger name e) number s = value_follows (int_value_in g.vertices e s) number s _ _ (λ n. refl)
+      action_follows (DeclareCondition name c) number s = value_follows (bool_value_in g.vertices c s) number s _ _ (λ b. refl)
+      action_follows (SetInteger slot e) number s = value_follows (int_value_in g.vertices e s) number s _ _ (λ n. refl)
+      action_follows (SetCondition slot c) number s = value_follows (bool_value_in g.vertices c s) number s _ _ (λ b. refl)
+      action_follows (ReduceInteger slot reduction e) number s = value_follows (int_value_in g.vertices e s) number s _ _ (λ n. refl)
       action_follows (SetEntry vector subscript e) number s =
-          value_follows (vertex_in g.vertices subscript s) number s _ _ (λ v. value_follows (number_in g.vertices e s) number s _ _ (λ n. refl))
+          value_follows (vertex_in g.vertices subscript s) number s _ _ (λ v. value_follows (int_value_in g.vertices e s) number s _ _ (λ n. refl))
       action_follows (ReduceEntry vector subscript reduction e) number s =
-          value_follows (vertex_in g.vertices subscript s) number s _ _ (λ v. value_follows (number_in g.vertices e s) number s _ _ (λ n. refl))
+          value_follows (vertex_in g.vertices subscript s) number s _ _ (λ v. value_follows (int_value_in g.vertices e s) number s _ _ (λ n. refl))
       action_follows (DeclareSet name value) number s = ap Live (declared_same p g name value s)
       action_follows (AssignSet slot value) number s = ap Live (assigned_same p g slot.index value s)
       action_follows (AddVertex slot e) number s = value_follows (vertex_in g.vertices e s) number s _ _ (λ v. refl)
-      action_follows (PrintInteger e) number s = value_follows (number_in g.vertices e s) number s _ _ (λ n. refl)
-      action_follows (PrintCondition c) number s = value_follows (choice_in g.vertices c s) number s _ _ (λ b. refl)
+      action_follows (PrintInteger e) number s = value_follows (int_value_in g.vertices e s) number s _ _ (λ n. refl)
+      action_follows (PrintCondition c) number s = value_follows (bool_value_in g.vertices c s) number s _ _ (λ b. refl)
       action_follows (ApplyVertex set function) number s = refl
       action_follows (ApplyEdges ends function) number s = ap (λ (after : List (List ℤ)). Live (with_vectors (plus d s) after)) (apply_same p.filters p.edge_functions g ends (function ∷ []) s)
       action_follows (If c body) number s =
-          value_follows (choice_in g.vertices c s) number s _ _ (λ b. choice_follows b _ _ _ _ (leave_follows (depth_of s) _ _ (block_follows body s)) refl)
+          value_follows (bool_value_in g.vertices c s) number s _ _ (λ b. choice_follows b _ _ _ _ (leave_follows (depth_of s) _ _ (block_follows body s)) refl)
       action_follows (IfElse c body other) number s =
-          value_follows (choice_in g.vertices c s) number s _ _
+          value_follows (bool_value_in g.vertices c s) number s _ _
           (λ b. choice_follows b _ _ _ _ (leave_follows (depth_of s) _ _ (block_follows body s)) (leave_follows (depth_of s) _ _ (block_follows other s)))
       action_follows (While c body) number s =
           loop_follows (while_test g.vertices c) (while_body (after_all p g body)) (λ (n : ℕ). n) number (λ a t. refl)

@@ -7,10 +7,10 @@ use Rattle.algorithm_meaning.specs.declared.outcome.End.TheVariants.{Finished, T
 use Rattle.algorithm_meaning.specs.declared.state.Depth.{Depth}
 use Rattle.algorithm_meaning.specs.declared.state.LoopCounter.{LoopCounter}
 use Rattle.algorithm_meaning.specs.State.{GraphValue, StateValue}
-use Rattle.algorithm_meaning.specs.Stand.{Stand, Live, Over, then_do, number_in, vertex_in, choice_in, with_value, choose}
+use Rattle.algorithm_meaning.specs.Stand.{Stand, Live, Over, then_do, int_value_in, vertex_in, bool_value_in, with_value, choose}
 use Rattle.algorithm_meaning.specs.Loop.{after_for, after_while, bounds_in, depth_of, for_body, for_test, inside, leave, loop, next_of, take_turn, while_body, while_test}
 use Rattle.algorithm_meaning.specs.Meaning.{after, after_all, opening}
-use Rattle.algorithm_meaning.specs.Shown.{meaning, outcome_of}
+use Rattle.algorithm_meaning.specs.Meaning.{meaning, outcome_of}
 
 -- no more than n turns are left, and none where they ran out
 abbrev Falls : ℕ → Stand → Type 0
@@ -92,25 +92,25 @@ module _ {A : Type 0} (test : A → StateValue → Option Bool) (body : A → St
 module _ (p : ProgramTree) (g : GraphValue) where
   mutual
     action_falls : (a : StatementKindTree) (n number : ℕ) (s : StateValue) → s.turns ≤ n → Falls n (after p g number a s)
-    action_falls (DeclareInteger name e) n number s le = value_falls n (number_in g.vertices e s) number s _ (λ x. le)
-    action_falls (DeclareCondition name c) n number s le = value_falls n (choice_in g.vertices c s) number s _ (λ b. le)
-    action_falls (SetInteger slot e) n number s le = value_falls n (number_in g.vertices e s) number s _ (λ x. le)
-    action_falls (SetCondition slot c) n number s le = value_falls n (choice_in g.vertices c s) number s _ (λ b. le)
-    action_falls (ReduceInteger slot reduction e) n number s le = value_falls n (number_in g.vertices e s) number s _ (λ x. le)
-    action_falls (SetEntry vector index e) n number s le = value_falls n (vertex_in g.vertices index s) number s _ (λ v. value_falls n (number_in g.vertices e s) number s _ (λ x. le))
+    action_falls (DeclareInteger name e) n number s le = value_falls n (int_value_in g.vertices e s) number s _ (λ x. le)
+    action_falls (DeclareCondition name c) n number s le = value_falls n (bool_value_in g.vertices c s) number s _ (λ b. le)
+    action_falls (SetInteger slot e) n number s le = value_falls n (int_value_in g.vertices e s) number s _ (λ x. le)
+    action_falls (SetCondition slot c) n number s le = value_falls n (bool_value_in g.vertices c s) number s _ (λ b. le)
+    action_falls (ReduceInteger slot reduction e) n number s le = value_falls n (int_value_in g.vertices e s) number s _ (λ x. le)
+    action_falls (SetEntry vector index e) n number s le = value_falls n (vertex_in g.vertices index s) number s _ (λ v. value_falls n (int_value_in g.vertices e s) number s _ (λ x. le))
     action_falls (ReduceEntry vector index reduction e) n number s le =
-        value_falls n (vertex_in g.vertices index s) number s _ (λ v. value_falls n (number_in g.vertices e s) number s _ (λ x. le))
+        value_falls n (vertex_in g.vertices index s) number s _ (λ v. value_falls n (int_value_in g.vertices e s) number s _ (λ x. le))
     action_falls (DeclareSet name value) n number s le = le
     action_falls (AssignSet slot value) n number s le = le
     action_falls (AddVertex slot e) n number s le = value_falls n (vertex_in g.vertices e s) number s _ (λ v. le)
-    action_falls (PrintInteger e) n number s le = value_falls n (number_in g.vertices e s) number s _ (λ x. le)
-    action_falls (PrintCondition c) n number s le = value_falls n (choice_in g.vertices c s) number s _ (λ b. le)
+    action_falls (PrintInteger e) n number s le = value_falls n (int_value_in g.vertices e s) number s _ (λ x. le)
+    action_falls (PrintCondition c) n number s le = value_falls n (bool_value_in g.vertices c s) number s _ (λ b. le)
     action_falls (ApplyVertex set function) n number s le = le
     action_falls (ApplyEdges ends function) n number s le = le
     action_falls (If c body) n number s le =
-        value_falls n (choice_in g.vertices c s) number s _ (λ b. choice_falls n b _ _ (leave_falls n (depth_of s) _ (block_falls body n s le)) le)
+        value_falls n (bool_value_in g.vertices c s) number s _ (λ b. choice_falls n b _ _ (leave_falls n (depth_of s) _ (block_falls body n s le)) le)
     action_falls (IfElse c body other) n number s le =
-        value_falls n (choice_in g.vertices c s) number s _
+        value_falls n (bool_value_in g.vertices c s) number s _
         (λ b. choice_falls n b _ _ (leave_falls n (depth_of s) _ (block_falls body n s le)) (leave_falls n (depth_of s) _ (block_falls other n s le)))
     action_falls (While c body) n number s le =
         loop_falls (while_test g.vertices c) (while_body (after_all p g body)) (λ (m : ℕ). m) number
@@ -131,7 +131,7 @@ module _ (p : ProgramTree) (g : GraphValue) where
   for_falls body m r t below = leave_falls m (depth_of t) _ (block_falls body m _ below)
 
   pub while_again : (number : ℕ) (c : BoolExpressionTree) (body : BlockTree) (s : StateValue) → after p g number (While c body) s
-      ≡ with_value (choice_in g.vertices c s) number s (λ b. choose b (take_turn s.turns s (λ t. then_do (inside (after_all p g body) t) (after p g number (While c body)))) (Live s))
+      ≡ with_value (bool_value_in g.vertices c s) number s (λ b. choose b (take_turn s.turns s (λ t. then_do (inside (after_all p g body) t) (after p g number (While c body)))) (Live s))
   while_again number c body s = loop_again (while_test g.vertices c) (while_body (after_all p g body)) (λ (n : ℕ). n) number (while_falls body) 0 s
 
   pub for_again : (number : ℕ) (body : BlockTree) (r : LoopCounter) (s : StateValue) → after_for number (after_all p g body) r s

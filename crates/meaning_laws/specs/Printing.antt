@@ -1,7 +1,7 @@
 -- What `print` writes.
 use Rattle.std.specs.Prelude.{◌≡◌, ◌⊎◌, ℤ, ℕ, Bool, List}
 use Rattle.std.specs.List.{AllByRecursion, concat}
-use Rattle.algorithm_meaning.specs.Print.{integer_line, condition_line}
+use Rattle.algorithm_meaning.specs.Statements.{integer_line, condition_line}
 
 -- the line of an integer or of a truth value
 abbrev pub IsPrintedLine : List ℕ → Type 0

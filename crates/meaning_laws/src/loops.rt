@@ -6,17 +6,17 @@ ghost use Rattle.typed_tree.specs.ProgramTree.{ProgramTree};
 ghost use Rattle.algorithm_meaning.specs.declared.outcome.End.TheVariants.{TurnsOver};
 ghost use Rattle.algorithm_meaning.specs.declared.state.LoopCounter as counter;
 ghost use Rattle.algorithm_meaning.specs.State.{GraphValue, StateValue};
-ghost use Rattle.algorithm_meaning.specs.Stand.{Live, choice_in, choose, then_do, with_value};
+ghost use Rattle.algorithm_meaning.specs.Stand.{Live, bool_value_in, choose, then_do, with_value};
 ghost use Rattle.algorithm_meaning.specs.Loop.{after_for, after_while, for_body, for_test, inside, loop, next_of, take_turn, while_body, while_test};
 ghost use Rattle.algorithm_meaning.specs.Meaning.{after, after_all};
-ghost use Rattle.algorithm_meaning.specs.Shown.{meaning};
+ghost use Rattle.algorithm_meaning.specs.Meaning.{meaning};
 
 /// The law that a `while` is its test, and where that holds a turn, the body and the `while` again; and that a `for` is the
 /// same with its name at the next number. The call does nothing.
 pub fn loops_are_unrolled()
     ensures while_loops { (p : ProgramTree) (g : GraphValue) (number : ℕ) (c : BoolExpressionTree) (body : BlockTree) (s : StateValue)
         → after p g number (While c body) s
-        ≡ with_value (choice_in g.vertices c s) number s (λ b. choose b
+        ≡ with_value (bool_value_in g.vertices c s) number s (λ b. choose b
         (take_turn s.turns s (λ t. then_do (inside (after_all p g body) t) (after p g number (While c body)))) (Live s)) }
     ensures for_loops { (p : ProgramTree) (g : GraphValue) (number : ℕ) (body : BlockTree) (r : counter.LoopCounter) (s : StateValue)
         → after_for number (after_all p g body) r s

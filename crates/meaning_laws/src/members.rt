@@ -9,7 +9,7 @@ ghost use Rattle.typed_tree.specs.ProgramTree.{ProgramTree};
 ghost use Rattle.algorithm_meaning.specs.State.{GraphValue, StateValue};
 ghost use Rattle.algorithm_meaning.specs.Value.{entry, members_of};
 ghost use Rattle.algorithm_meaning.specs.Function.{steps_of};
-ghost use Rattle.algorithm_meaning.specs.Filter.{result_of};
+ghost use Rattle.algorithm_meaning.specs.Function.{result_of};
 ghost use Rattle.algorithm_meaning.specs.EdgeApply.{matching};
 ghost use Rattle.algorithm_meaning.specs.VertexSets.{all_below, members_for, vectors_after};
 ghost use Rattle.meaning_laws.specs.Members.{AreVertices, IsEndOf};

@@ -3,7 +3,7 @@ ghost use Rattle.std.specs.Prelude.{ℕ};
 ghost use Rattle.std.specs.List.{AllByRecursion};
 ghost use Rattle.typed_tree.specs.ProgramTree.{ProgramTree};
 ghost use Rattle.algorithm_meaning.specs.State.{GraphValue};
-ghost use Rattle.algorithm_meaning.specs.Shown.{meaning};
+ghost use Rattle.algorithm_meaning.specs.Meaning.{meaning};
 ghost use Rattle.meaning_laws.specs.Members.{AreVertices};
 ghost use Rattle.meaning_laws.specs.Printing.{IsPrinted};
 

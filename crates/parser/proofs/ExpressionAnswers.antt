@@ -1,7 +1,7 @@
 -- What reading gives is what the grammar says.
 use Rattle.std.proofs.Common.{◌≡◌, sym, ◌∙◌, subst, ℕ, List, Option, Some, None, Ok, Err, Result}
 use Rattle.syntax.specs.Terminals.{Terminal}
-use Rattle.syntax.specs.ExpressionTrees.{ExpressionTree}
+use Rattle.syntax.specs.SourceTrees.{ExpressionTree}
 use Rattle.syntax.specs.ExpressionBeginnings.{Begins}
 use Rattle.syntax.specs.ExpressionReading.{expression_at}
 use Rattle.syntax.proofs.ExpressionsExact.{At}

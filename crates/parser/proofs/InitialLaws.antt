@@ -5,7 +5,8 @@ use Rattle.lexer.specs.declared.keyword.Keyword.{Keyword}
 use Rattle.lexer.specs.declared.keyword.Keyword.TheVariants as keyword
 use Rattle.lexer.specs.declared.symbol.Symbol.TheVariants as symbol
 use Rattle.syntax.specs.Terminals.{Terminal, Identifier, Name, OfKeyword, OfSymbol}
-use Rattle.syntax.specs.ExpressionReading.{Reader, ◌>>=◌}
+use Rattle.syntax.specs.ExpressionReading.{Reader}
+use Rattle.syntax.specs.Nesting.{◌>>=◌}
 use Rattle.syntax.specs.SourceTrees.{EndsTree, InitialTree, ApplyModified}
 use Rattle.syntax.specs.SourceReading.{after_terminal, after_terminals, closed, name_at, ends_at, method_at, modified_at, initial_at, named_initial}
 use Rattle.syntax.proofs.TerminalLaws.{after_terminal-sound, after_terminals-sound}

@@ -7,7 +7,7 @@ use Rattle.lexer.specs.declared.symbol.Symbol.TheVariants as symbol
 use Rattle.lexer.specs.declared.token.TokenKind.{TokenKind}
 use Rattle.lexer.specs.declared.token.TokenKind.TheVariants as kind
 use Rattle.syntax.specs.Terminals.{Terminal, Name, OfSymbol, Identifier, keyword_terminal, terminal_of}
-use Rattle.syntax.specs.ExpressionTrees.{ExpressionTree}
+use Rattle.syntax.specs.SourceTrees.{ExpressionTree}
 use Rattle.parser.specs.inside.Literals.{literal_at}
 use Rattle.parser.proofs.Fronts.{none_open_bracket}
 use Rattle.syntax.specs.ExpressionReading.{Reader, no_expression, primary_at, primary_by, expression_at, named_by, after_open_bracket, after_dot}

@@ -1,7 +1,7 @@
 -- Steps of a reader that are taken together, and one by one.
 use Rattle.std.proofs.Common.{◌≡◌, refl, sym, ap, ◌∙◌, List, [], ◌∷◌, ◌++◌, Option, Some, None}
 use Rattle.syntax.specs.Terminals.{Terminal}
-use Rattle.syntax.specs.ExpressionReading.{◌>>=◌}
+use Rattle.syntax.specs.Nesting.{◌>>=◌}
 use Rattle.syntax.specs.SourceReading.{after_terminal, after_terminals, closed}
 use Rattle.syntax.proofs.TerminalLaws.{bind_some}
 

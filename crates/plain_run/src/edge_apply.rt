@@ -4,7 +4,7 @@ ghost use Rattle.std.specs.List.{filter, range_with_len};
 ghost use Rattle.typed_tree.specs.ProgramTree.{program_tree};
 ghost use Rattle.typed_tree.specs.FunctionStatementTree.{function_tree, function_statements_tree};
 ghost use Rattle.algorithm_meaning.specs.EdgeApply.{after_edge_apply, after_edges, gives, is_end, is_modified, modified, with_given};
-ghost use Rattle.algorithm_meaning.specs.Filter.{result_of};
+ghost use Rattle.algorithm_meaning.specs.Function.{result_of};
 ghost use Rattle.plain_run.specs.inside.Flags.{HasFlags, flagged, marked};
 ghost use Rattle.plain_run.specs.inside.Seen.{graph_of, state_of};
 

@@ -4,7 +4,7 @@
 //! did, and then it has changed nothing.
 ghost use Rattle.std.specs.Prelude.{◌≡◌, IfOk};
 ghost use Rattle.typed_tree.specs.IntExpressionTree.{int_expression_tree};
-ghost use Rattle.algorithm_meaning.specs.Entries.{after_reduce_entry, after_set_entry};
+ghost use Rattle.algorithm_meaning.specs.Statements.{after_reduce_entry, after_set_entry};
 ghost use Rattle.plain_run.specs.inside.Seen.{stand, state_of};
 ghost use Rattle.algorithm_meaning.specs.Value.{reduce_at, with_entry};
 

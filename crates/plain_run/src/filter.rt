@@ -2,7 +2,7 @@
 ghost use Rattle.std.specs.Prelude.{◌≡◌, false, IfOk, OnOk, map, slice_index_or};
 ghost use Rattle.std.specs.List.{filter};
 ghost use Rattle.typed_tree.specs.FunctionStatementTree.{function_tree, function_statements_tree};
-ghost use Rattle.algorithm_meaning.specs.Filter.{filtered, lets_through, result_of};
+ghost use Rattle.algorithm_meaning.specs.Function.{filtered, lets_through, result_of};
 
 use crate::evaluate::condition_at;
 use crate::function::{FunctionFrame, begin_filter, new_frame, run_steps, steps_at};

@@ -3,7 +3,7 @@ ghost use Rattle.std.specs.Prelude.{◌≡◌, IfOk, map, unwrap_or};
 ghost use Rattle.typed_tree.specs.ProgramTree.{program_tree};
 ghost use Rattle.algorithm_meaning.specs.declared.outcome.End.TheVariants.{Finished};
 ghost use Rattle.plain_run.specs.inside.Seen.{stand, state_of};
-ghost use Rattle.algorithm_meaning.specs.Shown.{name_at, named_set, named_vectors, outcome_of};
+ghost use Rattle.algorithm_meaning.specs.Meaning.{name_at, named_set, named_vectors, outcome_of};
 
 use crate::state::InterpreterState;
 use algorithm_meaning::{End, NamedSet, NamedVector, Outcome, SetBinding};

@@ -2,7 +2,7 @@
 ghost use Rattle.std.specs.Prelude.{◌≡◌, ◌++◌, IfOk, OnOk};
 ghost use Rattle.typed_tree.specs.IntExpressionTree.{int_expression_tree};
 ghost use Rattle.typed_tree.specs.BoolExpressionTree.{bool_expression_tree};
-ghost use Rattle.algorithm_meaning.specs.Print.{after_print_condition, after_print_integer, condition_line, integer_line};
+ghost use Rattle.algorithm_meaning.specs.Statements.{after_print_condition, after_print_integer, condition_line, integer_line};
 ghost use Rattle.plain_run.specs.inside.Seen.{stand, state_of};
 
 use crate::state::{InterpreterState, StatementContext};

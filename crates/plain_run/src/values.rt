@@ -3,10 +3,10 @@ ghost use Rattle.std.specs.Prelude.{◌≡◌, ◌≤◌, OnOk, Some, int_lt};
 ghost use Rattle.typed_tree.specs.IntExpressionTree.{int_expression_tree};
 ghost use Rattle.typed_tree.specs.BoolExpressionTree.{bool_expression_tree};
 ghost use Rattle.algorithm_meaning.specs.declared.outcome.End.TheVariants.{Fault};
-ghost use Rattle.algorithm_meaning.specs.Variables.{with_new_integer};
+ghost use Rattle.algorithm_meaning.specs.Statements.{with_new_integer};
 ghost use Rattle.algorithm_meaning.specs.Loop.{bounds_in, depth_of, forget_beyond, next_of};
 ghost use Rattle.plain_run.specs.inside.Seen.{state_of};
-ghost use Rattle.algorithm_meaning.specs.Stand.{choice_in, number_in, vertex_in};
+ghost use Rattle.algorithm_meaning.specs.Stand.{bool_value_in, int_value_in, vertex_in};
 
 use crate::evaluate::{condition_is_inside, evaluate, holds, is_inside};
 use crate::state::InterpreterState;
@@ -24,7 +24,7 @@ pub(crate) fn fault(number: u64) -> Option<End>
 
 /// The value of a number, or `None` where an index in it is no vertex.
 pub(crate) fn number_of(e: &IntExpression, vertices: u32, state: &InterpreterState) -> Option<i64>
-    ensures { result ≡ number_in vertices (int_expression_tree e.now) (state_of state.now) }
+    ensures { result ≡ int_value_in vertices (int_expression_tree e.now) (state_of state.now) }
 {
     if !is_inside(e, vertices, &state.vectors, &state.sets, &state.scope) {
         return None;
@@ -51,7 +51,7 @@ pub(crate) fn vertex_of(
 
 /// A truth value, or `None` where an index in it is no vertex.
 pub(crate) fn decide(c: &BoolExpression, vertices: u32, state: &InterpreterState) -> Option<bool>
-    ensures { result ≡ choice_in vertices (bool_expression_tree c.now) (state_of state.now) }
+    ensures { result ≡ bool_value_in vertices (bool_expression_tree c.now) (state_of state.now) }
 {
     if !condition_is_inside(c, vertices, &state.vectors, &state.sets, &state.scope) {
         return None;

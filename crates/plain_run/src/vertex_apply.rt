@@ -2,7 +2,7 @@
 ghost use Rattle.std.specs.Prelude.{◌≡◌, OnOk, map};
 ghost use Rattle.typed_tree.specs.FunctionStatementTree.{function_tree, function_statements_tree};
 ghost use Rattle.plain_run.specs.inside.Seen.{state_of};
-ghost use Rattle.algorithm_meaning.specs.VertexApply.{after_apply_vertex, after_vertex, after_vertices};
+ghost use Rattle.algorithm_meaning.specs.VertexSets.{after_apply_vertex, after_vertex, after_vertices};
 
 use crate::evaluate::members_at;
 use crate::function::{FunctionFrame, begin, new_frame, run_steps, steps_at};

@@ -10,11 +10,11 @@ use Rattle.typed_tree.specs.declared.statement.VertexFilter.{VertexFilter}
 use Rattle.typed_tree.specs.declared.statement.VertexFilter.TheVariants as filter
 use Rattle.typed_tree.specs.declared.apply.StatementApply.{StatementApply}
 use Rattle.typed_tree.specs.declared.apply.StatementApply.TheVariants.{Vertices, Edges}
-use Rattle.typed_tree.specs.Access.{function_writes}
+use Rattle.typed_tree.specs.Independence.{function_writes}
 use Rattle.typed_tree.specs.BlockTree.{StatementKindTree, DeclareSet, AssignSet, ApplyVertex, ApplyEdges}
 use Rattle.typed_tree.specs.ProgramTree.{ProgramTree}
 use Rattle.typed_tree.specs.Resolved.{VisibleTree, ActionIsResolved, EndsAreResolved, behind_action}
-use Rattle.schedule.specs.Sites.{apply_of, modifying_as}
+use Rattle.schedule.specs.Schedule.{apply_of, modifying_as}
 use Rattle.algorithm_meaning.specs.declared.state.Depth.{Depth}
 use Rattle.plans.specs.Instruction.{ResultTree, Dropped, Declared, Assigned, EdgePartTree}
 use Rattle.plans.specs.Fusing.{EdgeApplyTree, VertexApplyTree, apply_tree, edge_apply_of, vertex_apply_of}

@@ -5,7 +5,7 @@ use Rattle.typed_tree.specs.BlockTree.{StatementKindTree, DeclareInteger, Declar
 use Rattle.typed_tree.specs.ProgramTree.{ProgramTree}
 use Rattle.algorithm_meaning.specs.State.{GraphValue, StateValue}
 use Rattle.algorithm_meaning.specs.Arithmetic.{reduced}
-use Rattle.algorithm_meaning.specs.Stand.{Stand, Live, Over, with_value, number_in, choice_in, vertex_in}
+use Rattle.algorithm_meaning.specs.Stand.{Stand, Live, Over, with_value, int_value_in, bool_value_in, vertex_in}
 use Rattle.algorithm_meaning.specs.Meaning.{after}
 use Rattle.algorithm_meaning.specs.Loop.{forget_beyond, next_of}
 use Rattle.algorithm_meaning.specs.declared.state.LoopCounter.{LoopCounter}
@@ -86,26 +86,26 @@ module _ (p : ProgramTree) (g : GraphValue) where
   counters_after : (a : StatementKindTree) → HasNoBlock a → (d : Depth) (is : List ℕ) (rs : List LoopCounter) (number : ℕ) (s : StateValue) → KeepsInside d.integers is a → AreCounters is rs s.scope.integers
       → d.integers ≤ length s.scope.integers → HasCounters is rs (behind a d).integers (after p g number a s)
   counters_after (DeclareInteger name e) alone d is rs number s keeps are long =
-      by_value (number_in g.vertices e s) number is rs (d.integers + 1) s _
+      by_value (int_value_in g.vertices e s) number is rs (d.integers + 1) s _
       (λ n. (counters_joined is rs s.scope.integers (n ∷ []) are, omega (arith, long, length-append s.scope.integers (n ∷ []))))
-  counters_after (DeclareCondition name c) alone d is rs number s keeps are long = by_value (choice_in g.vertices c s) number is rs d.integers s _ (λ b. (are, long))
+  counters_after (DeclareCondition name c) alone d is rs number s keeps are long = by_value (bool_value_in g.vertices c s) number is rs d.integers s _ (λ b. (are, long))
   counters_after (SetInteger slot e) alone d is rs number s keeps are long =
-      by_value (number_in g.vertices e s) number is rs d.integers s _
+      by_value (int_value_in g.vertices e s) number is rs d.integers s _
       (λ n. (counters_set is rs s.scope.integers slot.index n keeps are, omega (arith, long, length-set s.scope.integers slot.index n)))
-  counters_after (SetCondition slot c) alone d is rs number s keeps are long = by_value (choice_in g.vertices c s) number is rs d.integers s _ (λ b. (are, long))
+  counters_after (SetCondition slot c) alone d is rs number s keeps are long = by_value (bool_value_in g.vertices c s) number is rs d.integers s _ (λ b. (are, long))
   counters_after (ReduceInteger slot reduction e) alone d is rs number s keeps are long =
-      by_value (number_in g.vertices e s) number is rs d.integers s _
+      by_value (int_value_in g.vertices e s) number is rs d.integers s _
       (λ n. (let x : ℤ = reduced reduction (slice_index_or s.scope.integers slot.index (pos 0)) n in
       (counters_set is rs s.scope.integers slot.index x keeps are, omega (arith, long, length-set s.scope.integers slot.index x))))
   counters_after (SetEntry vector index e) alone d is rs number s keeps are long =
-      by_value (vertex_in g.vertices index s) number is rs d.integers s _ (λ v. by_value (number_in g.vertices e s) number is rs d.integers s _ (λ n. (are, long)))
+      by_value (vertex_in g.vertices index s) number is rs d.integers s _ (λ v. by_value (int_value_in g.vertices e s) number is rs d.integers s _ (λ n. (are, long)))
   counters_after (ReduceEntry vector index reduction e) alone d is rs number s keeps are long =
-      by_value (vertex_in g.vertices index s) number is rs d.integers s _ (λ v. by_value (number_in g.vertices e s) number is rs d.integers s _ (λ n. (are, long)))
+      by_value (vertex_in g.vertices index s) number is rs d.integers s _ (λ v. by_value (int_value_in g.vertices e s) number is rs d.integers s _ (λ n. (are, long)))
   counters_after (DeclareSet name set) alone d is rs number s keeps are long = (are, long)
   counters_after (AssignSet slot set) alone d is rs number s keeps are long = (are, long)
   counters_after (AddVertex slot e) alone d is rs number s keeps are long = by_value (vertex_in g.vertices e s) number is rs d.integers s _ (λ v. (are, long))
-  counters_after (PrintInteger e) alone d is rs number s keeps are long = by_value (number_in g.vertices e s) number is rs d.integers s _ (λ n. (are, long))
-  counters_after (PrintCondition c) alone d is rs number s keeps are long = by_value (choice_in g.vertices c s) number is rs d.integers s _ (λ b. (are, long))
+  counters_after (PrintInteger e) alone d is rs number s keeps are long = by_value (int_value_in g.vertices e s) number is rs d.integers s _ (λ n. (are, long))
+  counters_after (PrintCondition c) alone d is rs number s keeps are long = by_value (bool_value_in g.vertices c s) number is rs d.integers s _ (λ b. (are, long))
   counters_after (ApplyVertex set function) alone d is rs number s keeps are long = (are, long)
   counters_after (ApplyEdges ends function) alone d is rs number s keeps are long = (are, long)
   counters_after (If c body) alone d is rs number s keeps are long = absurd alone
@@ -223,12 +223,12 @@ module _ (p : ProgramTree) (g : GraphValue) (code : List InstructionTree) (table
       record { is = is; n = keep.integers; entry = here.0; long = omega (arith, count); are = counters_taken is loops keep.integers s.scope.integers here.1 are }
   act_stays (Unless c to) number index keep shown is loops s here long are =
       let count = length-take-le keep.integers s.scope.integers long in
-      after_test (choice_in g.vertices c (forget_beyond keep s)) (index + 1) to is keep.integers loops number shown (forget_beyond keep s) here.0 here.1 (omega (arith, count))
+      after_test (bool_value_in g.vertices c (forget_beyond keep s)) (index + 1) to is keep.integers loops number shown (forget_beyond keep s) here.0 here.1 (omega (arith, count))
       (counters_taken is loops keep.integers s.scope.integers here.2 are)
   act_stays (Enter name e) number index keep shown is loops s here long are =
       let count = length-take-le keep.integers s.scope.integers long in
       let one : keep.integers ≡ shown.integers + 1 = here.0 in
-      after_entry (number_in g.vertices e (forget_beyond shown (forget_beyond keep s))) (index + 1) is loops number shown (forget_beyond keep s) here.1 (count ∙ one)
+      after_entry (int_value_in g.vertices e (forget_beyond shown (forget_beyond keep s))) (index + 1) is loops number shown (forget_beyond keep s) here.1 (count ∙ one)
       (counters_taken is loops keep.integers s.scope.integers (below_more is shown.integers keep.integers (omega (arith, one)) here.2) are)
   act_stays (UnlessBelow name to) number index keep shown is loops s here long are =
       let count = length-take-le keep.integers s.scope.integers long in

@@ -10,7 +10,7 @@ use Rattle.typed_tree.specs.ProgramTree.{ProgramTree}
 use Rattle.schedule.specs.declared.site.Site.{Site}
 use Rattle.schedule.specs.Calls.{apply_in, is_label, is_next}
 use Rattle.schedule.specs.Laws.{IsFusedWell}
-use Rattle.schedule.specs.Sites.{apply_of, label_of, site_at, site_of, sites_in, sites_of}
+use Rattle.schedule.specs.Schedule.{apply_of, label_of, site_at, site_of, sites_in, sites_of}
 use Rattle.type_laws.specs.LabelIndices.{inner_indices, label_indices, own_index}
 use Rattle.type_laws.specs.Numbers.{InOrder}
 use Rattle.plan_laws.specs.Neighbours.{AreNeighbours, AreNeighboursInside, StatementTree}

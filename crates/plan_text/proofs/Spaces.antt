@@ -3,7 +3,7 @@ use Rattle.std.proofs.lemmas.List.{length-append}
 use Rattle.std.proofs.Math.Seq.{take-append_seam}
 use Rattle.std.proofs.Common.{Bool, true, false, arith, add-one, true≢false, ◌-◌, ◌≡◌, ◌≢◌, ℕ, zero, suc, ◌+◌, List, [], ◌∷◌, ◌++◌, length, take, refl, sym, ◌∙◌, ap, append_assoc}
 use Rattle.plan_text.specs.inside.Rows.{times}
-use Rattle.plan_text.specs.Words.{bracketed, joined, spaced}
+use Rattle.plan_text.specs.Expressions.{bracketed, joined, spaced}
 
 pub spaced_append : (vs ws : List (List ℕ)) → spaced (vs ++ ws) ≡ spaced vs ++ spaced ws
 spaced_append [] ws = refl

@@ -2,17 +2,17 @@
 use Rattle.std.specs.Prelude.{ℕ, Bool, true, false, List, [], ◌∷◌, ◌++◌, Option, Some, None, codes, slice_get, slice_index_or}
 use Rattle.std.specs.Fmt.{signed_decimal}
 use Rattle.typed_tree.specs.declared.expression.ComparisonOperator.{ComparisonOperator}
-use Rattle.typed_tree.specs.declared.expression.ComparisonOperator.TheVariants as comparison
 use Rattle.typed_tree.specs.declared.expression.Connective.{Connective}
-use Rattle.typed_tree.specs.declared.expression.Connective.TheVariants as connective
 use Rattle.typed_tree.specs.declared.expression.Operator.{Operator}
-use Rattle.typed_tree.specs.declared.expression.Operator.TheVariants as operator
 use Rattle.typed_tree.specs.declared.program.Vector.{Vector}
-use Rattle.typed_tree.specs.IntExpressionTree as integer
 use Rattle.typed_tree.specs.IntExpressionTree.{IntExpressionTree}
-use Rattle.typed_tree.specs.BoolExpressionTree as condition
 use Rattle.typed_tree.specs.BoolExpressionTree.{BoolExpressionTree}
 use Rattle.typed_tree.specs.ProgramTree.{ProgramTree}
+use Rattle.typed_tree.specs.declared.expression.ComparisonOperator.TheVariants as comparison
+use Rattle.typed_tree.specs.declared.expression.Connective.TheVariants as connective
+use Rattle.typed_tree.specs.declared.expression.Operator.TheVariants as operator
+use Rattle.typed_tree.specs.IntExpressionTree as integer
+use Rattle.typed_tree.specs.BoolExpressionTree as condition
 
 -- the name at an index, without a byte where there is none
 abbrev pub name_at : ProgramTree → ℕ → List ℕ
@@ -78,3 +78,18 @@ condition_words p (condition.Variable slot) = name_at p slot.name ∷ []
 condition_words p (condition.Not c) = condition_words p c ++ codes "not" ∷ []
 condition_words p (condition.Compare comparison a b) = integer_words p a ++ integer_words p b ++ comparison_word comparison ∷ []
 condition_words p (condition.Connect connective a b) = condition_words p a ++ condition_words p b ++ connective_word connective ∷ []
+
+-- words with a space between
+abbrev pub joined : List (List ℕ) → List ℕ
+joined [] = []
+joined (w ∷ []) = w
+joined (w ∷ v ∷ ws) = w ++ 32 ∷ joined (v ∷ ws)
+
+-- words with a space after each
+abbrev pub spaced : List (List ℕ) → List ℕ
+spaced [] = []
+spaced (w ∷ ws) = w ++ 32 ∷ spaced ws
+
+-- the words of an expression as one word
+abbrev pub bracketed : List (List ℕ) → List ℕ
+bracketed ws = 91 ∷ joined ws ++ 93 ∷ []

@@ -1,4 +1,3 @@
-pub mod Words
 pub mod Expressions
 pub mod Lines
 pub mod inside

@@ -4,7 +4,7 @@ ghost use Rattle.typed_tree.specs.ProgramTree.{program_tree};
 ghost use Rattle.plan_text.specs.Expressions.{vector_at};
 ghost use Rattle.plan_text.specs.Lines.{changed_words, dense_word, direction_word, edges_words};
 ghost use Rattle.plan_text.specs.Lines.{end_word, group_words, parallelization_word, part_words, second_words};
-ghost use Rattle.plan_text.specs.Words.{spaced};
+ghost use Rattle.plan_text.specs.Expressions.{spaced};
 
 use crate::applied_function::{AppliedFunction, ChangedSet};
 use crate::names::Lines;

@@ -1,6 +1,6 @@
 //! Lines of words.
 ghost use Rattle.std.specs.Prelude.{◌≡◌, ◌≢◌, ◌++◌, ◌∷◌, [], List, ℕ, OnOk};
-ghost use Rattle.plan_text.specs.Words.{joined, spaced};
+ghost use Rattle.plan_text.specs.Expressions.{joined, spaced};
 
 use std::alloc::AllocError;
 

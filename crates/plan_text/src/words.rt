@@ -1,7 +1,7 @@
 //! Words at the end of a text.
 ghost use Rattle.std.specs.Prelude.{◌≡◌, ◌≢◌, ◌++◌, ◌∷◌, [], List, ℕ, OnOk};
 ghost use Rattle.plan_text.specs.inside.Rows.{times};
-ghost use Rattle.plan_text.specs.Words.{joined, spaced};
+ghost use Rattle.plan_text.specs.Expressions.{joined, spaced};
 
 use std::alloc::AllocError;
 

@@ -21,9 +21,9 @@ use Rattle.typed_tree.specs.BoolExpressionTree as condition
 use Rattle.typed_tree.specs.BoolExpressionTree.{BoolExpressionTree}
 use Rattle.typed_tree.specs.ProgramTree.{ProgramTree}
 use Rattle.algorithm_meaning.specs.State.{StateValue}
-use Rattle.algorithm_meaning.specs.Stand.{choice_in, number_in}
+use Rattle.algorithm_meaning.specs.Stand.{bool_value_in, int_value_in}
 use Rattle.plan_text.specs.Expressions.{comparison_word, condition_words, connective_word, entry_word, integer_words, name_at, name_of, operator_word, truth_word, vector_at}
-use Rattle.plan_text.specs.Words.{bracketed, joined}
+use Rattle.plan_text.specs.Expressions.{bracketed, joined}
 use Rattle.decimal.proofs.NumberLaws.{digits_model}
 use Rattle.plan_text_laws.specs.Machine.{Number, Truth, Names, last_byte, read_words}
 use Rattle.plan_text_laws.specs.Given.{ConditionIsGiven, IntegerIsGiven}
@@ -181,11 +181,11 @@ some_condition_words p (condition.Compare o a b) = some_last (integer_words p a 
 some_condition_words p (condition.Connect o a b) = some_last (condition_words p a ++ condition_words p b) (connective_word o)
 
 pub integer_in_brackets : (p : ProgramTree) (names : Names) (s : StateValue) (e : IntExpressionTree) → HasNamesOfOneWord p → IntegerIsGiven p names s e
-    → read_brackets names (bracketed (integer_words p e)) ≡ option_map (λ n. Number n ∷ []) (number_in names.vertices e s)
+    → read_brackets names (bracketed (integer_words p e)) ≡ option_map (λ n. Number n ∷ []) (int_value_in names.vertices e s)
 integer_in_brackets p names s e one given =
     text_back (λ words. read_words names words []) (integer_words p e) (some_integer_words p e) (integer_words_are p names s e one given) ∙ integer_is_read p names s e [] given
 
 pub condition_in_brackets : (p : ProgramTree) (names : Names) (s : StateValue) (c : BoolExpressionTree) → HasNamesOfOneWord p → ConditionIsGiven p names s c
-    → read_brackets names (bracketed (condition_words p c)) ≡ option_map (λ b. Truth b ∷ []) (choice_in names.vertices c s)
+    → read_brackets names (bracketed (condition_words p c)) ≡ option_map (λ b. Truth b ∷ []) (bool_value_in names.vertices c s)
 condition_in_brackets p names s c one given =
     text_back (λ words. read_words names words []) (condition_words p c) (some_condition_words p c) (condition_words_are p names s c one given) ∙ condition_is_read p names s c [] given

@@ -23,7 +23,7 @@ use Rattle.typed_tree.specs.BoolExpressionTree.{BoolExpressionTree}
 use Rattle.typed_tree.specs.ProgramTree.{ProgramTree}
 use Rattle.algorithm_meaning.specs.Arithmetic.{arithmetic, compared, connected}
 use Rattle.algorithm_meaning.specs.State.{StateValue}
-use Rattle.algorithm_meaning.specs.Stand.{choice_in, number_in}
+use Rattle.algorithm_meaning.specs.Stand.{bool_value_in, int_value_in}
 use Rattle.algorithm_meaning.specs.Value.{condition_stays_inside, entry, entry_at, is_vertex, stays_inside, truth, value}
 use Rattle.plan_text.specs.Expressions.{comparison_word, condition_words, connective_word, entry_word, integer_words, name_at, operator_word, size_word, truth_word, vector_at}
 use Rattle.decimal.specs.Numbers.{integer_of}
@@ -229,7 +229,7 @@ integer_read p names s (integer.Arithmetic o a b) stack given =
     ∙ ap (λ (x : Stack). if has_number names s a && has_number names s b then x else None) (operator_read names o (number_of_tree s a) (number_of_tree s b) stack)
 
 pub integer_is_read : (p : ProgramTree) (names : Names) (s : StateValue) (e : IntExpressionTree) (stack : List StackValue) → IntegerIsGiven p names s e
-    → read_words names (integer_words p e) stack ≡ option_map (λ n. Number n ∷ stack) (number_in names.vertices e s)
+    → read_words names (integer_words p e) stack ≡ option_map (λ n. Number n ∷ stack) (int_value_in names.vertices e s)
 integer_is_read p names s e stack given =
     integer_read p names s e stack given ∙ map_guard (λ (n : ℤ). Number n ∷ stack) (has_number names s e) (number_of_tree s e)
 
@@ -263,6 +263,6 @@ condition_read p names s (condition.Connect o a b) stack given =
     ∙ ap (λ (x : Stack). if has_truth names s a && has_truth names s b then x else None) (connective_read names o (truth_of_tree s a) (truth_of_tree s b) stack)
 
 pub condition_is_read : (p : ProgramTree) (names : Names) (s : StateValue) (c : BoolExpressionTree) (stack : List StackValue) → ConditionIsGiven p names s c
-    → read_words names (condition_words p c) stack ≡ option_map (λ b. Truth b ∷ stack) (choice_in names.vertices c s)
+    → read_words names (condition_words p c) stack ≡ option_map (λ b. Truth b ∷ stack) (bool_value_in names.vertices c s)
 condition_is_read p names s c stack given =
     condition_read p names s c stack given ∙ map_guard (λ (b : Bool). Truth b ∷ stack) (has_truth names s c) (truth_of_tree s c)

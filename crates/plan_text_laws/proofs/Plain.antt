@@ -4,7 +4,7 @@ use Rattle.std.specs.Option.{option_map}
 use Rattle.std.specs.Char.{is_ascii_digit}
 use Rattle.std.proofs.lemmas.Bool.{eq-eqb, ne_eqb, false≢true}
 use Rattle.lexer.specs.declared.keyword.Keyword.TheVariants as keyword
-use Rattle.lexer.specs.Bytes.{Every, is_letter, is_word_byte}
+use Rattle.lexer.specs.Spelling.{Every, is_letter, is_word_byte}
 use Rattle.lexer.specs.Tokens.{IsName, IsWord}
 use Rattle.decimal.specs.Numbers.{integer_of}
 use Rattle.decimal.proofs.NumberLaws.{number_of-other}

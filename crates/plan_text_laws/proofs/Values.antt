@@ -16,12 +16,12 @@ use Rattle.algorithm_meaning.specs.declared.state.LoopCounter.{LoopCounter}
 use Rattle.algorithm_meaning.specs.Arithmetic.{reduced}
 use Rattle.algorithm_meaning.specs.Loop.{next_of}
 use Rattle.algorithm_meaning.specs.State.{StateValue}
-use Rattle.algorithm_meaning.specs.Stand.{number_in}
+use Rattle.algorithm_meaning.specs.Stand.{int_value_in}
 use Rattle.plans.specs.Instruction as operation
 use Rattle.plans.specs.Instruction.{InstructionTree, OperationTree}
 use Rattle.plan_text.specs.Expressions.{integer_words, name_at}
 use Rattle.plan_text.specs.Lines.{end_name, reducing_word, set_line, statement_words}
-use Rattle.plan_text.specs.Words.{bracketed}
+use Rattle.plan_text.specs.Expressions.{bracketed}
 use Rattle.lowering.specs.Text.{operation_words, target_words}
 use Rattle.plan_text_laws.specs.Machine.{StackValue, Number, Truth, Stack, Names, read_word, read_words}
 use Rattle.plan_text_laws.specs.Given.{IntegerIsGiven, IsNamed}
@@ -138,15 +138,15 @@ reduce_value names r a (Some n) = reduce_is names r a n
 pub reduction_is_read : (p : ProgramTree) (names : Names) (s : StateValue) (x : VarRef) (r : Reduction) (e : IntExpressionTree) (choice : ApplySchedule) → HasNamesOfOneWord p
     → IsNamed names (name_at p x.name) (Number (slice_index_or s.scope.integers x.index (pos 0))) → IntegerIsGiven p names s e
     → read_reduction names (slice_index_or (statement_words p (action.ReduceInteger x r e) choice) 2 [])
-    ≡ option_map (λ n. reduced r (slice_index_or s.scope.integers x.index (pos 0)) n) (number_in names.vertices e s)
+    ≡ option_map (λ n. reduced r (slice_index_or s.scope.integers x.index (pos 0)) n) (int_value_in names.vertices e s)
 reduction_is_read p names s x r e choice one named given =
     let a = slice_index_or s.scope.integers x.index (pos 0) in
     let words = name_at p x.name ∷ integer_words p e in
     let all : AllByRecursion IsOneWord (name_at p x.name ∷ integer_words p e ++ reducing_word r ∷ []) =
     (name_is_one p x.name one, all_both IsOneWord (integer_words p e) (reducing_word r ∷ []) (integer_words_are p names s e one given) (reducing_is_one r, tt)) in
-    let read : read_words names words [] ≡ option_map (λ n. Number n ∷ Number a ∷ []) (number_in names.vertices e s) =
+    let read : read_words names words [] ≡ option_map (λ n. Number n ∷ Number a ∷ []) (int_value_in names.vertices e s) =
     ap (option_and_then (read_words names (integer_words p e))) (read_name names (name_at p x.name) (Number a) [] named) ∙ integer_is_read p names s e (Number a ∷ []) given in
     text_back (λ ws. reduce_words names ws []) (words ++ reducing_word r ∷ []) (omega arith) all
     ∙ reduce_last names words (reducing_word r) []
     ∙ ap (option_and_then (reduce_words names (reducing_word r ∷ []))) read
-    ∙ reduce_value names r a (number_in names.vertices e s)
+    ∙ reduce_value names r a (int_value_in names.vertices e s)

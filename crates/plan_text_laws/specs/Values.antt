@@ -9,7 +9,7 @@ use Rattle.typed_tree.specs.ProgramTree.{ProgramTree}
 use Rattle.algorithm_meaning.specs.declared.state.LoopCounter.{LoopCounter}
 use Rattle.algorithm_meaning.specs.Loop.{next_of}
 use Rattle.algorithm_meaning.specs.State.{StateValue}
-use Rattle.algorithm_meaning.specs.Stand.{choice_in, number_in}
+use Rattle.algorithm_meaning.specs.Stand.{bool_value_in, int_value_in}
 use Rattle.plans.specs.Instruction as operation
 use Rattle.plans.specs.Instruction.{OperationTree}
 use Rattle.plan_text.specs.Expressions.{name_at}
@@ -36,10 +36,10 @@ abbrev pub values_in : Names → List (List ℕ) → List Stack
 values_in names words = read_indices names words (bracket_indices (kind_in words))
 
 abbrev pub number_on : ℕ → StateValue → IntExpressionTree → Stack
-number_on vertices s e = option_map (λ n. Number n ∷ []) (number_in vertices e s)
+number_on vertices s e = option_map (λ n. Number n ∷ []) (int_value_in vertices e s)
 
 abbrev pub truth_on : ℕ → StateValue → BoolExpressionTree → Stack
-truth_on vertices s c = option_map (λ b. Truth b ∷ []) (choice_in vertices c s)
+truth_on vertices s c = option_map (λ b. Truth b ∷ []) (bool_value_in vertices c s)
 
 -- the values that an instruction takes in a state
 abbrev pub values_of_action : ℕ → StateValue → StatementKindTree → List Stack

@@ -11,11 +11,11 @@ ghost use Rattle.typed_tree.specs.ProgramTree.{ProgramTree};
 ghost use Rattle.algorithm_meaning.specs.declared.state.LoopCounter as counter;
 ghost use Rattle.algorithm_meaning.specs.Arithmetic.{reduced};
 ghost use Rattle.algorithm_meaning.specs.State.{StateValue};
-ghost use Rattle.algorithm_meaning.specs.Stand.{choice_in, number_in};
+ghost use Rattle.algorithm_meaning.specs.Stand.{bool_value_in, int_value_in};
 ghost use Rattle.plans.specs.Instruction.{InstructionTree};
 ghost use Rattle.plan_text.specs.Expressions.{condition_words, integer_words, name_at};
 ghost use Rattle.plan_text.specs.Lines.{statement_words};
-ghost use Rattle.plan_text.specs.Words.{bracketed};
+ghost use Rattle.plan_text.specs.Expressions.{bracketed};
 ghost use Rattle.plan_text_laws.specs.Machine.{Number, Truth, Names};
 ghost use Rattle.plan_text_laws.specs.Given.{ConditionIsGiven, IntegerIsGiven, IsNamed};
 ghost use Rattle.plan_text_laws.specs.Brackets.{HasNamesOfOneWord, read_brackets, read_reduction};
@@ -26,9 +26,9 @@ ghost use Rattle.plan_text_laws.specs.Values.{OperationIsGiven, values_in, value
 /// that the expression has in the state, and none where it has none. The call does nothing.
 pub fn brackets_are_read_by_hand()
     ensures integers { (p : ProgramTree) (names : Names) (s : StateValue) (e : IntExpressionTree) → HasNamesOfOneWord p → IntegerIsGiven p names s e
-        → read_brackets names (bracketed (integer_words p e)) ≡ option_map (λ n. Number n ∷ []) (number_in names.vertices e s) }
+        → read_brackets names (bracketed (integer_words p e)) ≡ option_map (λ n. Number n ∷ []) (int_value_in names.vertices e s) }
     ensures conditions { (p : ProgramTree) (names : Names) (s : StateValue) (c : BoolExpressionTree) → HasNamesOfOneWord p → ConditionIsGiven p names s c
-        → read_brackets names (bracketed (condition_words p c)) ≡ option_map (λ b. Truth b ∷ []) (choice_in names.vertices c s) }
+        → read_brackets names (bracketed (condition_words p c)) ≡ option_map (λ b. Truth b ∷ []) (bool_value_in names.vertices c s) }
 {}
 
 /// The law that the brackets of an instruction, read so, have the values that the instruction takes: a number or a truth
@@ -46,5 +46,5 @@ pub fn reductions_are_read_by_hand()
         → HasNamesOfOneWord p → IsNamed names (name_at p x.name) (Number (slice_index_or s.scope.integers x.index (pos 0)))
         → IntegerIsGiven p names s e
         → read_reduction names (slice_index_or (statement_words p (ReduceInteger x r e) choice) 2 [])
-        ≡ option_map (λ n. reduced r (slice_index_or s.scope.integers x.index (pos 0)) n) (number_in names.vertices e s) }
+        ≡ option_map (λ n. reduced r (slice_index_or s.scope.integers x.index (pos 0)) n) (int_value_in names.vertices e s) }
 {}

@@ -6,7 +6,7 @@ ghost use Rattle.typed_tree.specs.IntExpressionTree.{IntExpressionTree};
 ghost use Rattle.typed_tree.specs.BoolExpressionTree.{BoolExpressionTree};
 ghost use Rattle.typed_tree.specs.ProgramTree.{ProgramTree};
 ghost use Rattle.algorithm_meaning.specs.State.{StateValue};
-ghost use Rattle.algorithm_meaning.specs.Stand.{choice_in, number_in};
+ghost use Rattle.algorithm_meaning.specs.Stand.{bool_value_in, int_value_in};
 ghost use Rattle.plan_text.specs.Expressions.{condition_words, integer_words};
 ghost use Rattle.plan_text_laws.specs.Machine.{Number, Truth, StackValue, Names, read_words};
 ghost use Rattle.plan_text_laws.specs.Given.{ConditionIsGiven, IntegerIsGiven, IsPlain};
@@ -19,9 +19,9 @@ ghost use Rattle.plan_text_laws.specs.Names.{IsNoMark};
 /// has none, at an index that is no vertex. The call does nothing.
 pub fn expressions_are_read_by_hand()
     ensures integers { (p : ProgramTree) (names : Names) (s : StateValue) (e : IntExpressionTree) (stack : List StackValue) → IntegerIsGiven p names s e
-        → read_words names (integer_words p e) stack ≡ option_map (λ n. Number n ∷ stack) (number_in names.vertices e s) }
+        → read_words names (integer_words p e) stack ≡ option_map (λ n. Number n ∷ stack) (int_value_in names.vertices e s) }
     ensures conditions { (p : ProgramTree) (names : Names) (s : StateValue) (c : BoolExpressionTree) (stack : List StackValue) → ConditionIsGiven p names s c
-        → read_words names (condition_words p c) stack ≡ option_map (λ b. Truth b ∷ stack) (choice_in names.vertices c s) }
+        → read_words names (condition_words p c) stack ≡ option_map (λ b. Truth b ∷ stack) (bool_value_in names.vertices c s) }
 {}
 
 /// The law that the premises of these laws hold for names of the language: each but `neg` is taken for a name, and so is what

@@ -3,7 +3,7 @@ ghost use Rattle.std.specs.Prelude.{◌≡◌, ℕ, ◌∷◌, decimal, false};
 ghost use Rattle.apply_options.specs.ScheduleTree.{ScheduleTree};
 ghost use Rattle.typed_tree.specs.ProgramTree.{ProgramTree};
 ghost use Rattle.plans.specs.Instruction.{InstructionTree};
-ghost use Rattle.plan_text.specs.Words.{joined};
+ghost use Rattle.plan_text.specs.Expressions.{joined};
 ghost use Rattle.lowering.specs.Text.{text_of};
 ghost use Rattle.plan_text_laws.specs.Kinds.{instruction_words};
 ghost use Rattle.plan_text_laws.specs.Lines.{HasBareNames, words_of_line, words_of_lines, words_of_plan};

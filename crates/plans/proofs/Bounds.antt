@@ -15,16 +15,16 @@ use Rattle.algorithm_meaning.specs.State.{GraphValue, StateValue}
 use Rattle.apply_options.specs.ScheduleTree.{ScheduleTree}
 use Rattle.typed_tree.specs.ProgramTree.{ProgramTree}
 use Rattle.plans.specs.declared.plan.Plan.{Plan}
-use Rattle.plans.specs.PlanOf.{IsPlan, program_of}
+use Rattle.plans.specs.Plan.{IsPlan, program_of}
 use Rattle.std.proofs.Math.Bridge.{le_prop}
 use Rattle.std.proofs.Math.Logic.{∥∥₁_elim}
 use Rattle.std.proofs.lemmas.List.{length-map}
 use Rattle.plans.specs.Bound.{uses_turn, is_turn, rank_by, rank_where, most_steps}
-use Rattle.plans.specs.Parts.{part_tree}
+use Rattle.plans.specs.Operation.{part_tree}
 use Rattle.plans.specs.declared.instruction.Instruction.{Instruction}
 use Rattle.plans.specs.declared.operation.PlanOperation.{PlanOperation}
 use Rattle.plans.specs.declared.operation.PlanOperation.TheVariants as op
-use Rattle.plans.specs.SetExpression.{set_value}
+use Rattle.plans.specs.Operation.{set_value}
 use Rattle.plans.specs.Operation.{IsOperation, AreInstructions}
 use Rattle.plans.specs.inside.Outline.{outline, outline_of, most_steps_of}
 

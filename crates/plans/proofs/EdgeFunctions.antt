@@ -4,7 +4,7 @@ use Rattle.std.proofs.lemmas.List.{append-nil}
 use Rattle.edge_lists.specs.Edge.{Edge}
 use Rattle.typed_tree.specs.FunctionStatementTree.{FunctionStatementsTree}
 use Rattle.algorithm_meaning.specs.EdgeApply.{gives, after_edges}
-use Rattle.typed_tree.specs.Access.{is_none_of, are_apart}
+use Rattle.typed_tree.specs.Independence.{is_none_of, are_apart}
 use Rattle.typed_tree.specs.inside.Access.{steps_write}
 use Rattle.algorithm_meaning.specs.declared.state.SetBinding.{SetBinding}
 use Rattle.algorithm_meaning.specs.declared.contribution.Contribution.{Contribution}

@@ -3,10 +3,10 @@ use Rattle.std.proofs.Common.{◌≡◌, ℕ, ℤ, true, List, [], ◌∷◌, �
 use Rattle.typed_tree.specs.FunctionStatementTree.{FunctionTree, FunctionStatementsTree}
 use Rattle.typed_tree.specs.ProgramTree.{ProgramTree}
 use Rattle.algorithm_meaning.specs.State.{GraphValue, StateValue}
-use Rattle.algorithm_meaning.specs.Entries.{with_vectors}
+use Rattle.algorithm_meaning.specs.Statements.{with_vectors}
 use Rattle.algorithm_meaning.specs.Function.{steps_of}
 use Rattle.algorithm_meaning.specs.EdgeApply.{after_edge_apply, after_edges, matching, gives}
-use Rattle.typed_tree.specs.Access.{is_none_of, are_apart, end_reads, function_uses, function_writes}
+use Rattle.typed_tree.specs.Independence.{is_none_of, are_apart, end_reads, function_uses, function_writes}
 use Rattle.typed_tree.specs.inside.Access.{steps_use, steps_use_where, steps_write, steps_write_where}
 use Rattle.std.proofs.lemmas.Bool.{and_parts}
 use Rattle.edge_lists.specs.Edge.{Edge}

@@ -3,7 +3,7 @@ use Rattle.std.proofs.Common.{◌≡◌, ℕ, zero, suc, ◌+◌, ◌*◌, ◌<�
 use Rattle.typed_tree.specs.BlockTree.{StatementKindTree, DeclareInteger, DeclareCondition, SetInteger, SetCondition, ReduceInteger, SetEntry, ReduceEntry, DeclareSet, AssignSet, AddVertex, PrintInteger, PrintCondition, ApplyVertex, ApplyEdges, If, IfElse, While, For}
 use Rattle.typed_tree.specs.ProgramTree.{ProgramTree}
 use Rattle.algorithm_meaning.specs.State.{GraphValue, StateValue}
-use Rattle.algorithm_meaning.specs.Stand.{Stand, Live, Over, with_value, number_in, choice_in, vertex_in}
+use Rattle.algorithm_meaning.specs.Stand.{Stand, Live, Over, with_value, int_value_in, bool_value_in, vertex_in}
 use Rattle.algorithm_meaning.specs.Meaning.{after}
 use Rattle.algorithm_meaning.specs.declared.state.LoopCounter.{LoopCounter}
 use Rattle.algorithm_meaning.specs.declared.state.Depth.{Depth}
@@ -28,20 +28,20 @@ by_value (Some x) number n s go h = h x
 module _ (p : ProgramTree) (g : GraphValue) where
   -- a statement without a block uses no turn
   turns_stay : (a : StatementKindTree) → HasNoBlock a → (number : ℕ) (s : StateValue) → HasTurns s.turns (after p g number a s)
-  turns_stay (DeclareInteger name e) alone number s = by_value (number_in g.vertices e s) number s.turns s _ (λ n. refl)
-  turns_stay (DeclareCondition name c) alone number s = by_value (choice_in g.vertices c s) number s.turns s _ (λ b. refl)
-  turns_stay (SetInteger slot e) alone number s = by_value (number_in g.vertices e s) number s.turns s _ (λ n. refl)
-  turns_stay (SetCondition slot c) alone number s = by_value (choice_in g.vertices c s) number s.turns s _ (λ b. refl)
-  turns_stay (ReduceInteger slot reduction e) alone number s = by_value (number_in g.vertices e s) number s.turns s _ (λ n. refl)
+  turns_stay (DeclareInteger name e) alone number s = by_value (int_value_in g.vertices e s) number s.turns s _ (λ n. refl)
+  turns_stay (DeclareCondition name c) alone number s = by_value (bool_value_in g.vertices c s) number s.turns s _ (λ b. refl)
+  turns_stay (SetInteger slot e) alone number s = by_value (int_value_in g.vertices e s) number s.turns s _ (λ n. refl)
+  turns_stay (SetCondition slot c) alone number s = by_value (bool_value_in g.vertices c s) number s.turns s _ (λ b. refl)
+  turns_stay (ReduceInteger slot reduction e) alone number s = by_value (int_value_in g.vertices e s) number s.turns s _ (λ n. refl)
   turns_stay (SetEntry vector index e) alone number s =
-      by_value (vertex_in g.vertices index s) number s.turns s _ (λ v. by_value (number_in g.vertices e s) number s.turns s _ (λ n. refl))
+      by_value (vertex_in g.vertices index s) number s.turns s _ (λ v. by_value (int_value_in g.vertices e s) number s.turns s _ (λ n. refl))
   turns_stay (ReduceEntry vector index reduction e) alone number s =
-      by_value (vertex_in g.vertices index s) number s.turns s _ (λ v. by_value (number_in g.vertices e s) number s.turns s _ (λ n. refl))
+      by_value (vertex_in g.vertices index s) number s.turns s _ (λ v. by_value (int_value_in g.vertices e s) number s.turns s _ (λ n. refl))
   turns_stay (DeclareSet name set) alone number s = refl
   turns_stay (AssignSet slot set) alone number s = refl
   turns_stay (AddVertex slot e) alone number s = by_value (vertex_in g.vertices e s) number s.turns s _ (λ v. refl)
-  turns_stay (PrintInteger e) alone number s = by_value (number_in g.vertices e s) number s.turns s _ (λ n. refl)
-  turns_stay (PrintCondition c) alone number s = by_value (choice_in g.vertices c s) number s.turns s _ (λ b. refl)
+  turns_stay (PrintInteger e) alone number s = by_value (int_value_in g.vertices e s) number s.turns s _ (λ n. refl)
+  turns_stay (PrintCondition c) alone number s = by_value (bool_value_in g.vertices c s) number s.turns s _ (λ b. refl)
   turns_stay (ApplyVertex set function) alone number s = refl
   turns_stay (ApplyEdges ends function) alone number s = refl
   turns_stay (If c body) alone number s = absurd alone
@@ -110,8 +110,8 @@ module _ (p : ProgramTree) (g : GraphValue) (code : List InstructionTree) (well 
   act_falls (ApplyEdgesTogether ends a b) number index shown loops s h =
       lower (rank code (index + 1)) (rank code index) (after_parts p g ends (a ∷ b ∷ []) s).turns s.turns (turns_of_results g.vertices _ _ (a ∷ b ∷ []) _) h
   act_falls (ApplyVerticesTogether set a b) number index shown loops s h = lower (rank code (index + 1)) (rank code index) s.turns s.turns refl h
-  act_falls (Unless c to) number index shown loops s h = after_test (choice_in g.vertices c s) (index + 1) to loops number shown s (rank code index) h.0 h.1
-  act_falls (Enter name e) number index shown loops s h = after_entry (number_in g.vertices e (forget_beyond shown s)) (index + 1) loops number shown s (rank code index) h
+  act_falls (Unless c to) number index shown loops s h = after_test (bool_value_in g.vertices c s) (index + 1) to loops number shown s (rank code index) h.0 h.1
+  act_falls (Enter name e) number index shown loops s h = after_entry (int_value_in g.vertices e (forget_beyond shown s)) (index + 1) loops number shown s (rank code index) h
   act_falls (UnlessBelow name to) number index shown loops s h = after_loop_test loops (index + 1) to s (rank code index) h.0 h.1
   act_falls (Advance name) number index shown loops s h = after_next loops (index + 1) s (rank code index) h
   act_falls Turn number index shown loops s h = use_turn s.turns (index + 1) loops shown s (rank code index)

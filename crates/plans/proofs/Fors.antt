@@ -6,8 +6,8 @@ use Rattle.typed_tree.specs.BlockTree.{DeclareInteger}
 use Rattle.typed_tree.specs.ProgramTree.{ProgramTree}
 use Rattle.algorithm_meaning.specs.declared.outcome.End.TheVariants.{TurnsOver, Fault}
 use Rattle.algorithm_meaning.specs.State.{GraphValue, StateValue}
-use Rattle.algorithm_meaning.specs.Stand.{Stand, Live, Over, number_in, with_value}
-use Rattle.algorithm_meaning.specs.Variables.{with_new_integer}
+use Rattle.algorithm_meaning.specs.Stand.{Stand, Live, Over, int_value_in, with_value}
+use Rattle.algorithm_meaning.specs.Statements.{with_new_integer}
 use Rattle.algorithm_meaning.specs.Loop.{for_test, for_body, after_for, both_bounds, bounds_in, next_of, forget_beyond}
 use Rattle.algorithm_meaning.specs.declared.state.LoopCounter.{LoopCounter}
 use Rattle.algorithm_meaning.specs.declared.state.Depth.{Depth}
@@ -101,19 +101,19 @@ module _ (p : ProgramTree) (g : GraphValue) (code : List InstructionTree) (index
 
   -- the second bound does not see the name
   entered : (turns : ℕ) (s : StateValue) (x : ℤ) → IsProper d turns s
-      → Moves p g code (At (index + 1) loops (with_new_integer s x)) (after_enter (number_in g.vertices end s) (index + 2) loops number d (with_new_integer s x))
+      → Moves p g code (At (index + 1) loops (with_new_integer s x)) (after_enter (int_value_in g.vertices end s) (index + 2) loops number d (with_new_integer s x))
   entered turns s x q =
       moves_on p g code (takes p g code (index + 1) loops (with_new_integer s x) (loop_step number (with_integer d) d (Enter name end)) (with_new_integer s x) stands.at_end
       (forgotten-all (with_integer d) (with_new_integer s x) (proper-integer d turns s x q).deep))
-      (ap (λ (t : StateValue). after_enter (number_in g.vertices end t) (index + 1 + 1) loops number d (with_new_integer s x)) (forgotten-integer d turns s x q)
-      ∙ ap (λ (y : ℕ). after_enter (number_in g.vertices end s) y loops number d (with_new_integer s x)) (omega arith))
+      (ap (λ (t : StateValue). after_enter (int_value_in g.vertices end t) (index + 1 + 1) loops number d (with_new_integer s x)) (forgotten-integer d turns s x q)
+      ∙ ap (λ (y : ℕ). after_enter (int_value_in g.vertices end s) y loops number d (with_new_integer s x)) (omega arith))
 
   first_value : (turns : ℕ) (s : StateValue) (x : ℤ) → IsProper d turns s → slice_index_or (s.scope.integers ++ x ∷ []) d.integers (pos 0) ≡ x
   first_value turns s x q =
       ap (λ (n : ℕ). slice_index_or (s.scope.integers ++ x ∷ []) n (pos 0)) (sym (ap (λ (d : Depth). d.integers) q.deep))
       ∙ get_or-append_seam s.scope.integers x [] (pos 0)
 
-  begun : (s m : StateValue) (o : Option ℤ) → forget_beyond d m ≡ s → number_in g.vertices first s ≡ o
+  begun : (s m : StateValue) (o : Option ℤ) → forget_beyond d m ≡ s → int_value_in g.vertices first s ≡ o
       → Moves p g code (At index loops m) (go_on (index + 1) loops d (with_value o number s (λ n. Live (with_new_integer s n))))
   begun s m o same e =
       moves_on p g code (takes p g code index loops m (plain number d (Do (DeclareInteger name first))) s stands.at_first same)
@@ -121,7 +121,7 @@ module _ (p : ProgramTree) (g : GraphValue) (code : List InstructionTree) (index
 
   with_bounds : (block : StateValue → Stand) (turns : ℕ) (s m : StateValue) (a b : Option ℤ) → IsWithin d e
       → ((r : LoopCounter) (n : ℕ) (t : StateValue) → IsProper (in_loop d) n t → Follows p g code back (r ∷ loops) e n (block t) (At (index + 4) (r ∷ loops) t))
-      → forget_beyond d m ≡ s → IsProper d turns s → number_in g.vertices first s ≡ a → number_in g.vertices end s ≡ b
+      → forget_beyond d m ≡ s → IsProper d turns s → int_value_in g.vertices first s ≡ a → int_value_in g.vertices end s ≡ b
       → Follows p g code to loops d turns (with_value (both_bounds a b) number s (λ r. after_for number block r s)) (At index loops m)
   with_bounds block turns s m None b within block_runs same q e_first e_end =
       by_step p g code (At index loops m) (Ended s (Fault 401 number)) (Ended s (Fault 401 number))
@@ -152,4 +152,4 @@ module _ (p : ProgramTree) (g : GraphValue) (code : List InstructionTree) (index
       → forget_beyond d m ≡ s → IsProper d turns s
       → Follows p g code to loops d turns (with_value (bounds_in g.vertices first end s) number s (λ r. after_for number block r s)) (At index loops m)
   for_runs block turns s m within block_runs same q =
-      with_bounds block turns s m (number_in g.vertices first s) (number_in g.vertices end s) within block_runs same q refl refl
+      with_bounds block turns s m (int_value_in g.vertices first s) (int_value_in g.vertices end s) within block_runs same q refl refl

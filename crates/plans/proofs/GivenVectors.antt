@@ -8,7 +8,7 @@ use Rattle.algorithm_meaning.specs.State.{edge_scope}
 use Rattle.algorithm_meaning.specs.Value.{value, truth}
 use Rattle.algorithm_meaning.specs.Function.{WorkValue, first_work, after_set, after_reduce, after_step, after_steps, after_block}
 use Rattle.algorithm_meaning.specs.EdgeApply.{gives}
-use Rattle.typed_tree.specs.Access.{is_none_of}
+use Rattle.typed_tree.specs.Independence.{is_none_of}
 use Rattle.typed_tree.specs.inside.Access.{integer_reads, condition_reads, step_uses, steps_use, step_writes, steps_write}
 use Rattle.std.proofs.lemmas.Bool.{and_parts}
 use Rattle.edge_lists.specs.Edge.{Edge}

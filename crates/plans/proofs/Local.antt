@@ -11,9 +11,9 @@ use Rattle.typed_tree.specs.FunctionStatementTree.{FunctionStatementTree, Declar
 use Rattle.algorithm_meaning.specs.Arithmetic.{negative, arithmetic, compared, connected, reduced}
 use Rattle.algorithm_meaning.specs.State.{ScopeValue, vertex_scope}
 use Rattle.algorithm_meaning.specs.Value.{vertex_at, entry, with_entry, reduce_at, value, truth}
-use Rattle.algorithm_meaning.specs.Variables.{new_integer, new_condition, set_integer, set_condition, reduce_integer, forget_new}
+use Rattle.algorithm_meaning.specs.Statements.{new_integer, new_condition, set_integer, set_condition, reduce_integer, forget_new}
 use Rattle.algorithm_meaning.specs.Function.{WorkValue, first_work, after_set, after_reduce, after_step, after_steps, after_block}
-use Rattle.algorithm_meaning.specs.VertexApply.{after_vertex}
+use Rattle.algorithm_meaning.specs.VertexSets.{after_vertex}
 use Rattle.std.proofs.lemmas.Bool.{and_parts}
 use Rattle.plans.specs.inside.Fusing.{integer_is_local, condition_is_local, step_is_local, steps_are_local}
 use Rattle.algorithm_meaning.specs.declared.state.SetBinding.{SetBinding}

@@ -9,9 +9,9 @@ use Rattle.typed_tree.specs.FunctionStatementTree.{FunctionTree}
 use Rattle.algorithm_meaning.specs.State.{GraphValue, StateValue}
 use Rattle.algorithm_meaning.specs.Value.{members_of}
 use Rattle.algorithm_meaning.specs.Function.{steps_of}
-use Rattle.algorithm_meaning.specs.Filter.{result_of}
+use Rattle.algorithm_meaning.specs.Function.{result_of}
 use Rattle.algorithm_meaning.specs.EdgeApply.{is_member, passes, matching}
-use Rattle.typed_tree.specs.Access.{is_none_of, are_apart, end_reads}
+use Rattle.typed_tree.specs.Independence.{is_none_of, are_apart, end_reads}
 use Rattle.typed_tree.specs.inside.Access.{steps_use, steps_use_where, steps_write, steps_write_where}
 use Rattle.std.proofs.lemmas.Bool.{and_parts}
 use Rattle.plans.specs.inside.Fusing.{steps_sizes, steps_sizes_where}

@@ -6,7 +6,7 @@ use Rattle.algorithm_meaning.specs.Arithmetic.{reduced}
 use Rattle.algorithm_meaning.specs.State.{vertex_scope}
 use Rattle.algorithm_meaning.specs.Value.{entry, with_entry, reduce_at, value, truth}
 use Rattle.algorithm_meaning.specs.Function.{WorkValue, first_work, after_set, after_reduce, after_step, after_steps, after_block}
-use Rattle.algorithm_meaning.specs.VertexApply.{after_vertex}
+use Rattle.algorithm_meaning.specs.VertexSets.{after_vertex}
 use Rattle.std.proofs.lemmas.Bool.{and_parts}
 use Rattle.plans.specs.inside.Fusing.{condition_is_local, step_is_local, steps_are_local}
 use Rattle.algorithm_meaning.specs.declared.state.SetBinding.{SetBinding}

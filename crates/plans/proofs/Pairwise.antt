@@ -4,7 +4,7 @@ use Rattle.std.proofs.lemmas.List.{map-append, take_more}
 use Rattle.std.specs.Option.{unwrap_or}
 use Rattle.algorithm_meaning.specs.Function.{steps_of}
 use Rattle.typed_tree.specs.FunctionStatementTree.{FunctionStatementsTree, NoStep, FunctionTree}
-use Rattle.plans.specs.Kernels.{ArePairwise}
+use Rattle.plans.specs.Operation.{ArePairwise}
 
 -- one more on either side
 pub pairwise_snoc : {A B : Type 0} (R : A → B → Type 0) (xs : List A) (ys : List B) (x : A) (y : B) → ArePairwise R xs ys → R x y → ArePairwise R (xs ++ x ∷ []) (ys ++ y ∷ [])

@@ -7,11 +7,11 @@ use Rattle.typed_tree.specs.BlockTree.{StatementKindTree, DeclareInteger, Declar
 use Rattle.typed_tree.specs.ProgramTree.{ProgramTree}
 use Rattle.algorithm_meaning.specs.State.{GraphValue, StateValue}
 use Rattle.algorithm_meaning.specs.Value.{members_of}
-use Rattle.algorithm_meaning.specs.Stand.{Stand, Live, Over, with_value, number_in, choice_in, vertex_in}
-use Rattle.algorithm_meaning.specs.Filter.{lets_through}
+use Rattle.algorithm_meaning.specs.Stand.{Stand, Live, Over, with_value, int_value_in, bool_value_in, vertex_in}
+use Rattle.algorithm_meaning.specs.Function.{lets_through}
 use Rattle.algorithm_meaning.specs.EdgeApply.{is_modified, after_edge_apply}
 use Rattle.algorithm_meaning.specs.VertexSets.{members_for, set_members, inserted, vectors_after, with_new_set, with_members}
-use Rattle.algorithm_meaning.specs.Entries.{with_vectors}
+use Rattle.algorithm_meaning.specs.Statements.{with_vectors}
 use Rattle.algorithm_meaning.specs.Arithmetic.{reduced}
 use Rattle.algorithm_meaning.specs.Meaning.{after}
 use Rattle.algorithm_meaning.specs.declared.state.Depth.{Depth}
@@ -131,31 +131,31 @@ module _ (p : ProgramTree) (g : GraphValue) (number : ℕ) (d : Depth) (turns : 
 
   pub alone-leaves : (a : StatementKindTree) → HasNoBlock a → Leaves d (behind a d) turns (after p g number a s)
   alone-leaves (DeclareInteger name e) alone =
-      by_value (number_in g.vertices e s) d (behind (DeclareInteger name e) d) turns number s _ proper.deep (λ n. record {
+      by_value (int_value_in g.vertices e s) d (behind (DeclareInteger name e) d) turns number s _ proper.deep (λ n. record {
         deep = λ i. record { integers = one_more s.scope.integers n d.integers integers_here i; conditions = conditions_here i; sets = sets_here i };
         sets = proper.sets;
         fewer = proper.fewer;
       })
   alone-leaves (DeclareCondition name c) alone =
-      by_value (choice_in g.vertices c s) d (behind (DeclareCondition name c) d) turns number s _ proper.deep (λ b. record {
+      by_value (bool_value_in g.vertices c s) d (behind (DeclareCondition name c) d) turns number s _ proper.deep (λ b. record {
         deep = λ i. record { integers = integers_here i; conditions = one_more s.scope.conditions b d.conditions conditions_here i; sets = sets_here i };
         sets = proper.sets;
         fewer = proper.fewer;
       })
   alone-leaves (SetInteger slot e) alone =
-      by_value (number_in g.vertices e s) d d turns number s _ proper.deep (λ n. record {
+      by_value (int_value_in g.vertices e s) d d turns number s _ proper.deep (λ n. record {
         deep = λ i. record { integers = (length-set s.scope.integers slot.index n ∙ integers_here) i; conditions = conditions_here i; sets = sets_here i };
         sets = proper.sets;
         fewer = proper.fewer;
       })
   alone-leaves (SetCondition slot c) alone =
-      by_value (choice_in g.vertices c s) d d turns number s _ proper.deep (λ b. record {
+      by_value (bool_value_in g.vertices c s) d d turns number s _ proper.deep (λ b. record {
         deep = λ i. record { integers = integers_here i; conditions = (length-set s.scope.conditions slot.index b ∙ conditions_here) i; sets = sets_here i };
         sets = proper.sets;
         fewer = proper.fewer;
       })
   alone-leaves (ReduceInteger slot reduction e) alone =
-      by_value (number_in g.vertices e s) d d turns number s _ proper.deep (λ n.
+      by_value (int_value_in g.vertices e s) d d turns number s _ proper.deep (λ n.
       let x : ℤ = reduced reduction (slice_index_or s.scope.integers slot.index (pos 0)) n in record {
         deep = λ i. record { integers = (length-set s.scope.integers slot.index x ∙ integers_here) i; conditions = conditions_here i; sets = sets_here i };
         sets = proper.sets;
@@ -163,11 +163,11 @@ module _ (p : ProgramTree) (g : GraphValue) (number : ℕ) (d : Depth) (turns : 
       })
   alone-leaves (SetEntry vector subscript e) alone =
       by_value (vertex_in g.vertices subscript s) d d turns number s _ proper.deep (λ v.
-      by_value (number_in g.vertices e s) d d turns number s _ proper.deep (λ n.
+      by_value (int_value_in g.vertices e s) d d turns number s _ proper.deep (λ n.
       record { deep = proper.deep; sets = proper.sets; fewer = proper.fewer }))
   alone-leaves (ReduceEntry vector subscript reduction e) alone =
       by_value (vertex_in g.vertices subscript s) d d turns number s _ proper.deep (λ v.
-      by_value (number_in g.vertices e s) d d turns number s _ proper.deep (λ n.
+      by_value (int_value_in g.vertices e s) d d turns number s _ proper.deep (λ n.
       record { deep = proper.deep; sets = proper.sets; fewer = proper.fewer }))
   alone-leaves (DeclareSet name set) alone = declared-proper d turns s proper name (members_for p g set s) (vectors_after p g set s) (members-ascend p g set s proper.sets)
   alone-leaves (AssignSet slot set) alone = assigned-proper d turns s proper slot.index (members_for p g set s) (vectors_after p g set s) (members-ascend p g set s proper.sets)
@@ -175,10 +175,10 @@ module _ (p : ProgramTree) (g : GraphValue) (number : ℕ) (d : Depth) (turns : 
       by_value (vertex_in g.vertices e s) d d turns number s _ proper.deep (λ v.
       assigned-proper d turns s proper slot.index (inserted v (members_of (slice_get s.sets slot.index))) s.vectors (ascends_inserted v 0 (members_of (slice_get s.sets slot.index)) (omega arith) (proper.sets slot.index)))
   alone-leaves (PrintInteger e) alone =
-      by_value (number_in g.vertices e s) d d turns number s _ proper.deep (λ n.
+      by_value (int_value_in g.vertices e s) d d turns number s _ proper.deep (λ n.
       record { deep = proper.deep; sets = proper.sets; fewer = proper.fewer })
   alone-leaves (PrintCondition c) alone =
-      by_value (choice_in g.vertices c s) d d turns number s _ proper.deep (λ b.
+      by_value (bool_value_in g.vertices c s) d d turns number s _ proper.deep (λ b.
       record { deep = proper.deep; sets = proper.sets; fewer = proper.fewer })
   alone-leaves (ApplyVertex set function) alone = record { deep = proper.deep; sets = proper.sets; fewer = proper.fewer }
   alone-leaves (ApplyEdges ends function) alone = record { deep = proper.deep; sets = proper.sets; fewer = proper.fewer }

@@ -5,10 +5,10 @@ use Rattle.std.specs.List.{filter, range_with_len}
 use Rattle.algorithm_meaning.specs.Arithmetic.{int_equal}
 use Rattle.algorithm_meaning.specs.State.{StateValue}
 use Rattle.algorithm_meaning.specs.Value.{members_of}
-use Rattle.algorithm_meaning.specs.Entries.{with_vectors}
+use Rattle.algorithm_meaning.specs.Statements.{with_vectors}
 use Rattle.algorithm_meaning.specs.VertexSets.{set_members, with_new_set, with_members}
 use Rattle.algorithm_meaning.specs.EdgeApply.{modified}
-use Rattle.typed_tree.specs.Access.{is_none_of, are_apart}
+use Rattle.typed_tree.specs.Independence.{is_none_of, are_apart}
 use Rattle.std.proofs.lemmas.Bool.{and_parts}
 use Rattle.algorithm_meaning.specs.declared.state.Depth.{Depth}
 use Rattle.plans.specs.Instruction.{ResultTree, Dropped, Declared, Assigned}

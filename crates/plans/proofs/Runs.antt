@@ -4,7 +4,7 @@ use Rattle.typed_tree.specs.BoolExpressionTree.{BoolExpressionTree}
 use Rattle.typed_tree.specs.BlockTree.{StatementKindTree, DeclareInteger, DeclareCondition, SetInteger, SetCondition, ReduceInteger, SetEntry, ReduceEntry, DeclareSet, AssignSet, AddVertex, PrintInteger, PrintCondition, ApplyVertex, ApplyEdges, If, IfElse, While, For, BlockTree, Empty, Then}
 use Rattle.typed_tree.specs.ProgramTree.{ProgramTree}
 use Rattle.algorithm_meaning.specs.State.{GraphValue, StateValue}
-use Rattle.algorithm_meaning.specs.Stand.{Stand, Live, Over, then_do, choice_in, with_value, choose}
+use Rattle.algorithm_meaning.specs.Stand.{Stand, Live, Over, then_do, bool_value_in, with_value, choose}
 use Rattle.algorithm_meaning.specs.Loop.{inside, depth_of, leave, forget_beyond}
 use Rattle.algorithm_meaning.specs.Meaning.{after, after_all}
 use Rattle.apply_options.specs.ScheduleTree.{ScheduleTree, choice_at}
@@ -51,7 +51,7 @@ module _ (p : ProgramTree) (g : GraphValue) (schedule : ScheduleTree) (code : Li
       (leaving p g code st to loops d (behind_all b d) turns s c' q.deep (within_behind_all b d) f)
 
   if_runs : (c : BoolExpressionTree) (body : BlockTree) (index number to : ℕ) (d : Depth) (turns : ℕ) (loops : List LoopCounter) (m s : StateValue) (o : Option Bool)
-      → slice_get code index ≡ Some (plain number d (Unless c to)) → forget_beyond d m ≡ s → IsProper d turns s → choice_in g.vertices c s ≡ o
+      → slice_get code index ≡ Some (plain number d (Unless c to)) → forget_beyond d m ≡ s → IsProper d turns s → bool_value_in g.vertices c s ≡ o
       → Follows p g code to loops (behind_all body d) turns (after_all p g body s) (At (index + 1) loops s)
       → Follows p g code to loops d turns (with_value o number s (λ b. choose b (inside (after_all p g body) s) (Live s))) (At index loops m)
   if_runs c body index number to d turns loops m s None at same q e body_runs = unless_faults p g code c index number to d turns loops m s at same q e
@@ -66,7 +66,7 @@ module _ (p : ProgramTree) (g : GraphValue) (schedule : ScheduleTree) (code : Li
   }
 
   if_else_runs : (c : BoolExpressionTree) (body other : BlockTree) (index number back from to : ℕ) (d : Depth) (turns : ℕ) (loops : List LoopCounter) (m s : StateValue) (o : Option Bool)
-      → slice_get code index ≡ Some (plain number d (Unless c from)) → slice_get code back ≡ Some (plain number d (Jump to)) → forget_beyond d m ≡ s → IsProper d turns s → choice_in g.vertices c s ≡ o
+      → slice_get code index ≡ Some (plain number d (Unless c from)) → slice_get code back ≡ Some (plain number d (Jump to)) → forget_beyond d m ≡ s → IsProper d turns s → bool_value_in g.vertices c s ≡ o
       → Follows p g code back loops (behind_all body d) turns (after_all p g body s) (At (index + 1) loops s)
       → Follows p g code to loops (behind_all other d) turns (after_all p g other s) (At from loops s)
       → Follows p g code to loops d turns (with_value o number s (λ b. choose b (inside (after_all p g body) s) (inside (after_all p g other) s))) (At index loops m)
@@ -180,7 +180,7 @@ module _ (p : ProgramTree) (g : GraphValue) (schedule : ScheduleTree) (code : Li
       action_runs (If c body) index number label d turns loops m s at same q =
           let to = index + 1 + size_all p schedule d false body in
           lands_at p g code (after p g number (If c body) s) to (index + size p schedule d (If c body)) loops d turns (At index loops m) (omega arith)
-          (if_runs c body index number to d turns loops m s (choice_in g.vertices c s) at.0 same q refl
+          (if_runs c body index number to d turns loops m s (bool_value_in g.vertices c s) at.0 same q refl
           (block_runs body false (index + 1) d turns loops s s at.1 (forgotten-all d s q.deep) q))
       action_runs (IfElse c body other) index number label d turns loops m s at same q =
           let back = index + 1 + size_all p schedule d false body in
@@ -188,7 +188,7 @@ module _ (p : ProgramTree) (g : GraphValue) (schedule : ScheduleTree) (code : Li
           let to = from + size_all p schedule d false other in
           let others = behind_block (index + 1) back d body (plain number d (Jump to) ∷ plan_all p schedule from d false other) refl at.1 in
           lands_at p g code (after p g number (IfElse c body other) s) to (index + size p schedule d (IfElse c body other)) loops d turns (At index loops m) (omega arith)
-          (if_else_runs c body other index number back from to d turns loops m s (choice_in g.vertices c s) at.0 others.0 same q refl
+          (if_else_runs c body other index number back from to d turns loops m s (bool_value_in g.vertices c s) at.0 others.0 same q refl
           (block_runs body false (index + 1) d turns loops s s (has_front code (index + 1) (plan_all p schedule (index + 1) d false body) (plain number d (Jump to) ∷ plan_all p schedule from d false other) at.1) (forgotten-all d s q.deep) q)
           (block_runs other false from d turns loops s s others.1 (forgotten-all d s q.deep) q))
       action_runs (While c body) index number label d turns loops m s at same q =

@@ -3,7 +3,7 @@ use Rattle.std.proofs.Common.{◌≡◌, ℕ, ◌+◌, ◌<◌, ◌==◌, ℤ, B
 use Rattle.std.proofs.lemmas.Bool.Decides.{nat_tests}
 use Rattle.typed_tree.specs.FunctionStatementTree.{FunctionStatementsTree}
 use Rattle.algorithm_meaning.specs.State.{StateValue}
-use Rattle.algorithm_meaning.specs.VertexApply.{after_vertex, after_vertices}
+use Rattle.algorithm_meaning.specs.VertexSets.{after_vertex, after_vertices}
 use Rattle.plans.specs.inside.Fusing.{steps_are_local}
 use Rattle.plans.specs.Machine.{after_both}
 use Rattle.algorithm_meaning.specs.declared.state.SetBinding.{SetBinding}

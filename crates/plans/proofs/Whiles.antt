@@ -5,8 +5,8 @@ use Rattle.typed_tree.specs.BoolExpressionTree.{BoolExpressionTree}
 use Rattle.typed_tree.specs.ProgramTree.{ProgramTree}
 use Rattle.algorithm_meaning.specs.declared.outcome.End.TheVariants.{TurnsOver, Fault}
 use Rattle.algorithm_meaning.specs.State.{GraphValue, StateValue}
-use Rattle.algorithm_meaning.specs.Stand.{Stand, Live, Over, choice_in}
-use Rattle.algorithm_meaning.specs.Variables.{with_new_integer}
+use Rattle.algorithm_meaning.specs.Stand.{Stand, Live, Over, bool_value_in}
+use Rattle.algorithm_meaning.specs.Statements.{with_new_integer}
 use Rattle.algorithm_meaning.specs.Loop.{inside, while_test, while_body, after_while, forget_beyond, depth_of}
 use Rattle.algorithm_meaning.specs.declared.state.LoopCounter.{LoopCounter}
 use Rattle.algorithm_meaning.specs.declared.state.Depth.{Depth}
@@ -50,7 +50,7 @@ forgotten-pushed d turns s next end proper =
 module _ (p : ProgramTree) (g : GraphValue) (code : List InstructionTree) where
   -- the test of a loop or of a choice, which has no value, or fails
   pub unless_faults : (c : BoolExpressionTree) (index number to : ℕ) (d : Depth) (turns : ℕ) (loops : List LoopCounter) (m s : StateValue)
-      → slice_get code index ≡ Some (plain number d (Unless c to)) → forget_beyond d m ≡ s → IsProper d turns s → choice_in g.vertices c s ≡ None
+      → slice_get code index ≡ Some (plain number d (Unless c to)) → forget_beyond d m ≡ s → IsProper d turns s → bool_value_in g.vertices c s ≡ None
       → Reaches p g code (At index loops m) (Ended s (Fault 401 number))
   unless_faults c index number to d turns loops m s at same proper e =
       by_step p g code (At index loops m) (Ended s (Fault 401 number)) (Ended s (Fault 401 number))
@@ -59,7 +59,7 @@ module _ (p : ProgramTree) (g : GraphValue) (code : List InstructionTree) where
       ∙ ap (λ (t : StateValue). Ended t (Fault 401 number)) (forgotten-all d s proper.deep))) here
 
   pub unless_chooses : (c : BoolExpressionTree) (index number to : ℕ) (d : Depth) (loops : List LoopCounter) (m s : StateValue) (b : Bool)
-      → slice_get code index ≡ Some (plain number d (Unless c to)) → forget_beyond d m ≡ s → choice_in g.vertices c s ≡ Some b
+      → slice_get code index ≡ Some (plain number d (Unless c to)) → forget_beyond d m ≡ s → bool_value_in g.vertices c s ≡ Some b
       → Moves p g code (At index loops m) (At (if b then index + 1 else to) loops s)
   unless_chooses c index number to d loops m s b at same e =
       moves_on p g code (takes p g code index loops m (plain number d (Unless c to)) s at same)
@@ -90,7 +90,7 @@ module _ (p : ProgramTree) (g : GraphValue) (code : List InstructionTree) where
       (loop_runs p g code ℕ (while_test g.vertices c) (while_body block) (λ (n : ℕ). n) number to loops d (IsAtWhile index loops d) runs s.turns 0 s (At index loops m)
       (record { deep = proper.deep; sets = proper.sets; fewer = omega arith }) (m, same, refl))
     where
-      chosen : (b : Bool) (t : StateValue) (x : Configuration) → IsAtWhile index loops d 0 t x → choice_in g.vertices c t ≡ Some b
+      chosen : (b : Bool) (t : StateValue) (x : Configuration) → IsAtWhile index loops d 0 t x → bool_value_in g.vertices c t ≡ Some b
           → Moves p g code x (At (if b then index + 1 else to) loops t)
       chosen b t x head e = moves_from p g code head.2 (unless_chooses c index number to d loops head.0 t b at_test head.1 e)
 

@@ -5,8 +5,8 @@ use Rattle.typed_tree.specs.FunctionStatementTree.{FunctionStatementsTree}
 use Rattle.typed_tree.specs.ProgramTree.{ProgramTree}
 use Rattle.algorithm_meaning.specs.Function.{steps_of}
 use Rattle.algorithm_meaning.specs.State.{StateValue}
-use Rattle.algorithm_meaning.specs.VertexApply.{after_vertices}
-use Rattle.typed_tree.specs.Access.{are_apart, function_writes}
+use Rattle.algorithm_meaning.specs.VertexSets.{after_vertices}
+use Rattle.typed_tree.specs.Independence.{are_apart, function_writes}
 use Rattle.plans.specs.Instruction.{OperationTree, Do, ApplyEdgesTogether, ApplyVerticesTogether, Unless, Enter, UnlessBelow, Advance, Turn, Jump, End, InstructionTree}
 use Rattle.plans.specs.Machine.{after_both}
 

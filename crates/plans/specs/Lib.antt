@@ -8,13 +8,7 @@ pub mod Choices
 pub mod Fused
 pub mod Reducing
 pub mod Examples
-pub mod Parts
-pub mod Kernels
-pub mod Functions
-pub mod SetExpression
 pub mod Operation
-pub mod Lowered
-pub mod PlanOf
 pub use Rattle.algorithm_meaning.specs.EdgeApply
 pub use Rattle.algorithm_meaning.specs.Function
 pub use Rattle.algorithm_meaning.specs.Laws

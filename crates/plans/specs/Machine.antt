@@ -9,12 +9,12 @@ use Rattle.algorithm_meaning.specs.declared.state.LoopCounter.{LoopCounter}
 use Rattle.algorithm_meaning.specs.declared.state.Depth.{Depth}
 use Rattle.algorithm_meaning.specs.State.{GraphValue, StateValue}
 use Rattle.algorithm_meaning.specs.Value.{members_of}
-use Rattle.algorithm_meaning.specs.Stand.{Stand, Live, Over, number_in, choice_in}
-use Rattle.algorithm_meaning.specs.Variables.{with_new_integer}
-use Rattle.algorithm_meaning.specs.Entries.{with_vectors}
+use Rattle.algorithm_meaning.specs.Stand.{Stand, Live, Over, int_value_in, bool_value_in}
+use Rattle.algorithm_meaning.specs.Statements.{with_new_integer}
+use Rattle.algorithm_meaning.specs.Statements.{with_vectors}
 use Rattle.algorithm_meaning.specs.Function.{steps_of}
 use Rattle.algorithm_meaning.specs.VertexSets.{with_new_set, with_members}
-use Rattle.algorithm_meaning.specs.VertexApply.{after_vertex}
+use Rattle.algorithm_meaning.specs.VertexSets.{after_vertex}
 use Rattle.algorithm_meaning.specs.EdgeApply.{after_edge_apply, modified}
 use Rattle.algorithm_meaning.specs.Loop.{forget_beyond, next_of}
 use Rattle.algorithm_meaning.specs.Meaning.{after}
@@ -91,9 +91,9 @@ abbrev pub act : ProgramTree → GraphValue → OperationTree → (number : ℕ)
 act p g (Do action) number shown index loops s = go_on (index + 1) loops shown (after p g number action s)
 act p g (ApplyEdgesTogether ends a b) number shown index loops s = At (index + 1) loops (after_parts p g ends (a ∷ b ∷ []) s)
 act p g (ApplyVerticesTogether set a b) number shown index loops s = At (index + 1) loops (after_apply_both p set.index a b s)
-act p g (Unless c to) number shown index loops s = after_unless (choice_in g.vertices c s) (index + 1) to loops number shown s
+act p g (Unless c to) number shown index loops s = after_unless (bool_value_in g.vertices c s) (index + 1) to loops number shown s
 act p g (Enter name e) number shown index loops s =
-    after_enter (number_in g.vertices e (forget_beyond shown s)) (index + 1) loops number shown s
+    after_enter (int_value_in g.vertices e (forget_beyond shown s)) (index + 1) loops number shown s
 act p g (UnlessBelow name to) number shown index loops s = after_unless_below (index + 1) to loops s
 act p g (Advance name) number shown index loops s = after_advance (index + 1) loops s
 act p g Turn number shown index loops s = after_turn s.turns (index + 1) loops shown s

@@ -1,21 +1,34 @@
 -- Of which operation of a plan an operation is.
-use Rattle.std.specs.Prelude.{◌≡◌, List, Option, Some, None}
+use Rattle.std.specs.Prelude.{◌≡◌, List, Option, Some, None, ◌∷◌, ℕ, slice_get}
+use Rattle.std.specs.Option.{unwrap_or}
 use Rattle.typed_tree.specs.declared.statement.ApplyEnds.{ApplyEnds}
 use Rattle.typed_tree.specs.IntExpressionTree.{IntExpressionTree}
 use Rattle.typed_tree.specs.BoolExpressionTree.{BoolExpressionTree}
 use Rattle.typed_tree.specs.BlockTree.{StatementKindTree, DeclareInteger, DeclareCondition, SetInteger, SetCondition, ReduceInteger, SetEntry, ReduceEntry, DeclareSet, AssignSet, AddVertex, PrintInteger, PrintCondition, ApplyVertex}
-use Rattle.kernels.specs.declared.expression.ExpressionKernel.{ExpressionKernel}
-use Rattle.kernels.specs.Expressions.{IsIntegerKernel, IsConditionKernel}
+use Rattle.typed_tree.specs.declared.statement.SetValue.{SetValue}
+use Rattle.typed_tree.specs.ProgramTree.{ProgramTree}
+use Rattle.typed_tree.specs.declared.statement.SetValue.TheVariants as set
 use Rattle.algorithm_meaning.specs.declared.state.Depth.{Depth}
-use Rattle.plans.specs.Instruction.{OperationTree, Do, ApplyEdgesTogether, ApplyVerticesTogether, Unless, Enter, UnlessBelow, Advance, Turn, Jump, End, InstructionTree}
+use Rattle.algorithm_meaning.specs.Function.{steps_of}
+use Rattle.kernels.specs.declared.expression.ExpressionKernel.{ExpressionKernel}
+use Rattle.kernels.specs.Kernels.{IsIntegerKernel, IsConditionKernel}
+use Rattle.kernels.specs.Meaning.{IsVertexCode}
+use Rattle.kernels.specs.Kernels.{IsEdgeKernel, IsFilterKernel}
+use Rattle.plans.specs.Instruction.{OperationTree, Do, ApplyEdgesTogether, ApplyVerticesTogether, Unless, Enter, UnlessBelow, Advance, Turn, Jump, End, InstructionTree, ResultTree, Dropped, Declared, Assigned, EdgePartTree}
 use Rattle.plans.specs.Fusing.{edge_apply_of}
 use Rattle.plans.specs.declared.part.EdgePart.{EdgePart}
-use Rattle.plans.specs.Parts.{part_tree}
+
 use Rattle.plans.specs.declared.operation.PlanOperation.{PlanOperation}
-use Rattle.plans.specs.declared.operation.PlanOperation.TheVariants as op
 use Rattle.plans.specs.declared.instruction.Instruction.{Instruction}
-use Rattle.plans.specs.Kernels.{ArePairwise}
-use Rattle.plans.specs.SetExpression.{set_value}
+
+
+use Rattle.plans.specs.declared.kernels_at.Kernels.{Kernels}
+use Rattle.plans.specs.declared.part.PartResult.{PartResult}
+use Rattle.plans.specs.declared.set_expression.SetExpression.{SetExpression}
+use Rattle.plans.specs.declared.set_expression.SetExpression.TheVariants.{Nothing, All, Copy, Filter}
+use Rattle.plans.specs.declared.functions.FunctionKernels.{FunctionKernels}
+use Rattle.plans.specs.declared.operation.PlanOperation.TheVariants as op
+use Rattle.plans.specs.declared.part.PartResult.TheVariants as result
 
 -- the kernel is made for n visible variables
 pub record IsFor (d : Depth) (k : ExpressionKernel) : Type 0 where
@@ -89,3 +102,35 @@ pub record IsInstruction (i : Instruction) (t : InstructionTree) : Type 0 where
 
 abbrev pub AreInstructions : List Instruction → List InstructionTree → Type 0
 AreInstructions is ts = ArePairwise IsInstruction is ts
+
+-- two lists are as long as each other, and the items at the same indices are in a relation
+abbrev pub ArePairwise : {A B : Type 0} → (A → B → Type 0) → List A → List B → Type 0
+ArePairwise R [] [] = Unit {0}
+ArePairwise R [] (y ∷ ys) = ⊥
+ArePairwise R (x ∷ xs) [] = ⊥
+ArePairwise R (x ∷ xs) (y ∷ ys) = R x y × ArePairwise R xs ys
+
+-- what runs for an index: the kernel there, or the one that does nothing
+abbrev pub kernel_at : {K : Type 0} → Kernels K → ℕ → K
+kernel_at ks index = unwrap_or (slice_get ks.at.items index) ks.nothing
+
+abbrev pub result_tree : PartResult → ResultTree
+result_tree result.Dropped = Dropped
+result_tree (result.Declared name vector) = Declared name vector
+result_tree (result.Assigned slot vector) = Assigned slot vector
+
+abbrev pub part_tree : EdgePart → EdgePartTree
+part_tree part = record { function = part.function; result = result_tree part.result }
+
+-- the value of the program that it is
+abbrev pub set_value : SetExpression → SetValue
+set_value Nothing = set.Empty
+set_value All = set.All
+set_value (Copy slot) = set.Copy slot
+set_value (Filter slot function) = set.Filter slot function
+
+-- they are the kernels of a program's functions, also where none is at an index
+pub record AreFunctionKernels (f : FunctionKernels) (p : ProgramTree) : Type 0 where
+  pub edge : (index : ℕ) → IsEdgeKernel (kernel_at f.edge index) (steps_of (slice_get p.edge_functions index))
+  pub vertex : (index : ℕ) → IsVertexCode (kernel_at f.vertex index).code.items (steps_of (slice_get p.vertex_functions index))
+  pub filter : (index : ℕ) → IsFilterKernel (kernel_at f.filter index) (steps_of (slice_get p.filters index))

@@ -1,11 +1,19 @@
 -- The plan of a program.
-use Rattle.std.specs.Prelude.{ℕ, ◌+◌, Bool, false, List, ◌∷◌, ◌++◌, length, Option}
+use Rattle.std.specs.Prelude.{ℕ, ◌+◌, Bool, false, List, ◌∷◌, ◌++◌, length, Option, ◌≡◌}
 use Rattle.apply_options.specs.ScheduleTree.{ScheduleTree, choice_at, no_choice}
 use Rattle.typed_tree.specs.BlockTree.{StatementKindTree, DeclareInteger, DeclareCondition, DeclareSet, If, IfElse, While, For, BlockTree, Empty, Then}
-use Rattle.typed_tree.specs.ProgramTree.{ProgramTree}
+use Rattle.typed_tree.specs.ProgramTree.{ProgramTree, program_tree}
+use Rattle.typed_tree.specs.declared.program.Vector.{Vector}
 use Rattle.algorithm_meaning.specs.declared.state.Depth.{Depth}
 use Rattle.plans.specs.Instruction.{OperationTree, Do, Unless, Enter, UnlessBelow, Advance, Turn, Jump, End, InstructionTree}
 use Rattle.plans.specs.Fusing.{FusionRole, Alone, WithNext, WithPrevious, fusion_role_of, takes_next}
+use Rattle.plans.specs.declared.functions.FunctionKernels.{FunctionKernels}
+use Rattle.plans.specs.declared.instruction.Instruction.{Instruction}
+use Rattle.plans.specs.Operation.{AreFunctionKernels}
+use Rattle.plans.specs.Operation.{AreInstructions}
+use Rattle.plans.specs.declared.plan.Plan.{Plan}
+
+use Rattle.plans.specs.Reducing.{AppliesReduce}
 
 -- one more of each kind
 abbrev pub with_integer : Depth → Depth
@@ -111,3 +119,26 @@ abbrev mutual
 -- the instructions of main, and the end
 abbrev pub plan_of : ProgramTree → ScheduleTree → List InstructionTree
 plan_of p s = plan_all p s 0 (main_depth p) false p.main ++ plain 0 (behind_all p.main (main_depth p)) End ∷ []
+
+-- they are those of the plan of a program under a schedule
+pub record ArePartsOf (is : List Instruction) (f : FunctionKernels) (vs : List Vector) (ss : List ℕ) (ns gs : List (List ℕ)) (p : ProgramTree) (s : ScheduleTree) : Type 0 where
+  pub instructions : AreInstructions is (plan_of p s)
+  pub functions : AreFunctionKernels f p
+  pub vectors : vs ≡ p.vectors
+  pub sets : ss ≡ p.sets
+  pub names : ns ≡ p.names
+  pub groups : gs ≡ s.groups
+
+-- the plan is that of a program under a schedule
+abbrev pub IsPlan : Plan → ProgramTree → ScheduleTree → Type 0
+IsPlan plan p s = ArePartsOf plan.instructions.items plan.functions plan.vectors.items plan.sets.items plan.names.items plan.groups.items p s
+
+-- the program that a plan is of
+abbrev pub program_of : Plan → ProgramTree
+program_of plan = program_tree plan.program.value
+
+-- the plan is that of its program under a schedule, and each edge apply of it gives a vector numbers by one reduction: what a run asks for
+pub record IsCompiled (plan : Plan) : Type 0 where
+  pub schedule : ScheduleTree
+  pub planned : IsPlan plan (program_of plan) schedule
+  pub reducing : AppliesReduce (program_of plan) (plan_of (program_of plan) schedule)

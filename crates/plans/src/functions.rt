@@ -3,7 +3,7 @@ ghost use Rattle.std.specs.Prelude.{◌≡◌, ℕ, IfOk, map, slice_get};
 ghost use Rattle.algorithm_meaning.specs.Function.{steps_of};
 ghost use Rattle.typed_tree.specs.ProgramTree.{program_tree};
 ghost use Rattle.typed_tree.specs.FunctionStatementTree.{function_tree};
-ghost use Rattle.plans.specs.Functions.{AreFunctionKernels};
+ghost use Rattle.plans.specs.Operation.{AreFunctionKernels};
 
 use crate::kernels_at::Kernels;
 use kernels::{EdgeKernel, FilterKernel, VertexKernel};

@@ -4,7 +4,7 @@ ghost use Rattle.algorithm_meaning.specs.Function.{steps_of};
 ghost use Rattle.typed_tree.specs.FunctionStatementTree.{FunctionStatementsTree, function_tree};
 ghost use Rattle.kernels.specs.Meaning.{IsVertexCode};
 ghost use Rattle.kernels.specs.Kernels.{IsEdgeKernel, IsFilterKernel};
-ghost use Rattle.plans.specs.Kernels.{ArePairwise, kernel_at};
+ghost use Rattle.plans.specs.Operation.{ArePairwise, kernel_at};
 
 use kernels::{EdgeKernel, FilterKernel, VertexKernel};
 use std::alloc::{AllocError, Global};

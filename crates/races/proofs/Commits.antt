@@ -11,21 +11,21 @@ use Rattle.shared_graph.specs.declared.error.SharedError.{SharedError}
 use Rattle.shared_graph.specs.declared.error.SharedError.TheVariants as shared
 use Rattle.shared_graph.specs.Histories.{own, steps_of}
 use Rattle.shared_graph.specs.Outcome.{Answers}
-use Rattle.shared_graph.specs.Passes.{Pass}
+use Rattle.shared_graph.specs.Histories.{ReaderState}
 use Rattle.races.specs.declared.outcomes.CommitReply.{CommitReply}
 use Rattle.races.specs.declared.outcomes.CommitReply.TheVariants as answer
 use Rattle.races.specs.Race.{AreAnswered, IsAnswered, commits, entries_of}
 use Rattle.races.specs.inside.Racing.{RepliesTo}
 
 -- some batches of all are answered: what the others are answered makes up the whole
-abbrev pub IsAnswering : State → Pass → (all left : List (List Change)) → List CommitReply → Pass → Type 0
-IsAnswering base old all left replies now = (more : List CommitReply) (new : Pass) → AreAnswered base now left more new → AreAnswered base old all (replies ++ more) new
+abbrev pub IsAnswering : State → ReaderState → (all left : List (List Change)) → List CommitReply → ReaderState → Type 0
+IsAnswering base old all left replies now = (more : List CommitReply) (new : ReaderState) → AreAnswered base now left more new → AreAnswered base old all (replies ++ more) new
 
-pub answering_starts : (base : State) (old : Pass) (all : List (List Change)) (replies : List CommitReply) → replies ≡ [] → IsAnswering base old all all replies old
+pub answering_starts : (base : State) (old : ReaderState) (all : List (List Change)) (replies : List CommitReply) → replies ≡ [] → IsAnswering base old all all replies old
 answering_starts base old all replies none = subst (λ (rs : List CommitReply). IsAnswering base old all all rs old) (sym none) (λ more new rest. rest)
 
 -- one more is answered
-pub answering_goes : (base : State) (old : Pass) (all left : List (List Change)) (batch : List Change) (replies made : List CommitReply) (reply : CommitReply) (now next : Pass)
+pub answering_goes : (base : State) (old : ReaderState) (all left : List (List Change)) (batch : List Change) (replies made : List CommitReply) (reply : CommitReply) (now next : ReaderState)
     → IsAnswering base old all (batch ∷ left) replies now → IsAnswered base now batch reply next → made ≡ replies ++ reply ∷ []
     → IsAnswering base old all left made next
 answering_goes base old all left batch replies made reply now next so_far one is =
@@ -33,7 +33,7 @@ answering_goes base old all left batch replies made reply now next so_far one is
     (λ more new rest. subst (λ (rs : List CommitReply). AreAnswered base old all rs new) (sym (append_assoc replies (reply ∷ []) more)) (so_far (reply ∷ more) new (next, one, rest)))
 
 -- all are answered
-pub answering_ends : (base : State) (old : Pass) (all left : List (List Change)) (replies : List CommitReply) (now : Pass) → IsAnswering base old all left replies now → left ≡ []
+pub answering_ends : (base : State) (old : ReaderState) (all left : List (List Change)) (replies : List CommitReply) (now : ReaderState) → IsAnswering base old all left replies now → left ≡ []
     → AreAnswered base old all replies now
 answering_ends base old all left replies now so_far none =
     subst (λ (rs : List CommitReply). AreAnswered base old all rs now) (append-nil replies)
@@ -47,12 +47,12 @@ bytes_written other (Err error) = other
 err≢ok : (error : AllocError) (reply : CommitReply) → Err error ≡ Ok reply → ⊥
 err≢ok error reply e = cc
 
-same_reply : (base : State) (old new : Pass) (batch : List Change) (result : Result CommitReply AllocError) (told reply : CommitReply) → result ≡ Ok told → result ≡ Ok reply
+same_reply : (base : State) (old new : ReaderState) (batch : List Change) (result : Result CommitReply AllocError) (told reply : CommitReply) → result ≡ Ok told → result ≡ Ok reply
     → IsAnswered base old batch told new → IsAnswered base old batch reply new
 same_reply base old new batch result told reply gives is met = subst (λ (r : CommitReply). IsAnswered base old batch r new) (ap (bytes_written reply) (sym gives ∙ is)) met
 
 -- what a commit gives is told by its reply
-pub is_answered : (base : State) (old new : Pass) (batch : List Change) (committed : Result ℕ SharedError) (result : Result CommitReply AllocError) (reply : CommitReply)
+pub is_answered : (base : State) (old new : ReaderState) (batch : List Change) (committed : Result ℕ SharedError) (result : Result CommitReply AllocError) (reply : CommitReply)
     → Answers base old (Commit batch) Version committed new → RepliesTo committed result → result ≡ Ok reply → IsAnswered base old batch reply new
 is_answered base old new batch (Ok version) result reply met gives is = same_reply base old new batch result (answer.Version version) reply gives is met
 is_answered base old new batch (Err shared.NoMemory) result reply met gives is = absurd (err≢ok _ reply (sym gives ∙ is))
@@ -64,12 +64,12 @@ is_answered base old new batch (Err shared.HistoryFull) result reply met gives i
 is_answered base old new batch (Err shared.BadSeats) result reply met gives is = elim met [ ]
 
 -- what one reply says of the reader's history
-record GoesOn (base : State) (batch : List Change) (reply : CommitReply) (old new : Pass) : Type 0 where
+record GoesOn (base : State) (batch : List Change) (reply : CommitReply) (old new : ReaderState) : Type 0 where
   pub number : new.number ≡ old.number
   pub own_entries : own old.number new.last ≡ own old.number old.last ++ entries_of old.number batch reply
   pub legal : IsLegal base (steps_of old.last) → IsLegal base (steps_of new.last)
 
-goes_on : (base : State) (batch : List Change) (reply : CommitReply) (old new : Pass) → IsAnswered base old batch reply new → GoesOn base batch reply old new
+goes_on : (base : State) (batch : List Change) (reply : CommitReply) (old new : ReaderState) → IsAnswered base old batch reply new → GoesOn base batch reply old new
 goes_on base batch (answer.Version version) old new met = record {
   number = met.number;
   own_entries = ap (own old.number) met.last ∙ met.own_entries;
@@ -82,22 +82,22 @@ goes_on base batch (answer.Refused number) old new met = record {
 }
 
 -- after batches that are answered the reader's history has just the commits that were not refused
-pub record HasCommits (base : State) (batches : List (List Change)) (replies : List CommitReply) (old new : Pass) : Type 0 where
+pub record HasCommits (base : State) (batches : List (List Change)) (replies : List CommitReply) (old new : ReaderState) : Type 0 where
   pub number : new.number ≡ old.number
   pub own_entries : own old.number new.last ≡ own old.number old.last ++ commits old.number batches replies
   pub legal : IsLegal base (steps_of old.last) → IsLegal base (steps_of new.last)
 
-pub has_commits : (base : State) (batches : List (List Change)) (replies : List CommitReply) (old new : Pass) → AreAnswered base old batches replies new
+pub has_commits : (base : State) (batches : List (List Change)) (replies : List CommitReply) (old new : ReaderState) → AreAnswered base old batches replies new
     → HasCommits base batches replies old new
 has_commits base [] [] old new is = record {
-  number = ap (λ (p : Pass). p.number) is;
-  own_entries = ap (λ (p : Pass). own old.number p.last) is ∙ sym (append-nil (own old.number old.last));
-  legal = λ before. subst (λ (p : Pass). IsLegal base (steps_of p.last)) (sym is) before;
+  number = ap (λ (p : ReaderState). p.number) is;
+  own_entries = ap (λ (p : ReaderState). own old.number p.last) is ∙ sym (append-nil (own old.number old.last));
+  legal = λ before. subst (λ (p : ReaderState). IsLegal base (steps_of p.last)) (sym is) before;
 }
 has_commits base [] (reply ∷ replies) old new is = elim is [ ]
 has_commits base (batch ∷ batches) [] old new is = elim is [ ]
 has_commits base (batch ∷ batches) (reply ∷ replies) old new is =
-    let next : Pass = is.0 in
+    let next : ReaderState = is.0 in
     let one = goes_on base batch reply old next is.1 in
     let rest = has_commits base batches replies next new is.2 in record {
       number = rest.number ∙ one.number;

@@ -9,7 +9,7 @@ use Rattle.plans.specs.declared.plan.Plan.{Plan}
 use Rattle.version_list.specs.Machine.{opened}
 use Rattle.shared_graph.specs.declared.entry.Entry.{Entry}
 use Rattle.shared_graph.specs.Histories.{batches_of}
-use Rattle.shared_graph.specs.Passes.{Pass, fresh}
+use Rattle.shared_graph.specs.Histories.{ReaderState, fresh_reader}
 use Rattle.shared_graph.proofs.Counted.{commits_alone}
 use Rattle.shared_graph.proofs.Prefixes.{prefix_self, prefix_trans, prefix_whole}
 use Rattle.shared_graph.proofs.Versions.{batches_prefix}
@@ -23,13 +23,13 @@ use Rattle.races.specs.Race.{AllRan, AreAnswered, IsRunOn, RanTwice}
 use Rattle.races.specs.RaceLaw.{accepted, AllRanThrough, AreNumbered, AreOnVersion, HasNoOtherCommits, IsRunThrough}
 
 -- after batches that were answered by the next numbers, the history has no other commits since
-pub only_own : (n room : ℕ) (batches : List (List Change)) (replies : List CommitReply) (old new : Pass) → AreAnswered (opened n room) old batches replies new
+pub only_own : (n room : ℕ) (batches : List (List Change)) (replies : List CommitReply) (old new : ReaderState) → AreAnswered (opened n room) old batches replies new
     → IsPrefix old.last old.shown → AreNumbered (length (batches_of old.last)) replies → batches_of new.last ≡ batches_of old.last ++ accepted batches replies
-only_own n room [] [] old new is begins numbered = ap (λ (p : Pass). batches_of p.last) is ∙ sym (append-nil (batches_of old.last))
+only_own n room [] [] old new is begins numbered = ap (λ (p : ReaderState). batches_of p.last) is ∙ sym (append-nil (batches_of old.last))
 only_own n room [] (reply ∷ replies) old new is begins numbered = elim is [ ]
 only_own n room (batch ∷ batches) [] old new is begins numbered = elim is [ ]
 only_own n room (batch ∷ batches) (answer.Version version ∷ replies) old new is begins numbered =
-    let next : Pass = is.0 in
+    let next : ReaderState = is.0 in
     let met = is.1 in
     let one : batches_of next.last ≡ batches_of old.last ++ batch ∷ [] =
     ap batches_of met.last ∙ commits_alone n room old.last old next batch version met begins numbered.0 in
@@ -38,7 +38,7 @@ only_own n room (batch ∷ batches) (answer.Version version ∷ replies) old new
     let rest = only_own n room batches replies next new is.2 starts (subst (λ k. AreNumbered k replies) (sym count) numbered.1) in
     rest ∙ ap (λ (bs : List (List Change)). bs ++ accepted batches replies) one ∙ append_assoc (batches_of old.last) (batch ∷ []) (accepted batches replies)
 only_own n room (batch ∷ batches) (answer.Refused number ∷ replies) old new is begins numbered =
-    let next : Pass = is.0 in
+    let next : ReaderState = is.0 in
     let shows = is.1.shows in
     let starts : IsPrefix next.last next.shown =
     subst (λ (l : List Entry). IsPrefix l next.shown) (sym shows.last) (prefix_trans old.last old.shown next.shown begins shows.shown) in
@@ -90,6 +90,6 @@ pub no_other_commits : (race : Race) → HasNoOtherCommits race
 no_other_commits race n room batches plans turns is numbered late =
     let raced = is.1 in
     let replies : List CommitReply = race.replies.items in
-    let same : batches_of raced.after.last ≡ accepted batches replies = only_own n room batches replies (fresh raced.writer) raced.after raced.answered ([], refl) numbered in
+    let same : batches_of raced.after.last ≡ accepted batches replies = only_own n room batches replies (fresh_reader raced.writer) raced.after raced.answered ([], refl) numbered in
     subst (λ (bs : List (List Change)). AllRanThrough n turns bs plans race.runs.items) same
     (all_through n room turns raced.after.last plans race.runs.items raced.ran (subst (λ (bs : List (List Change)). AreOnVersion (length bs) race.runs.items) (sym same) late))

@@ -7,7 +7,7 @@ use Rattle.tree_batch.specs.declared.batch.Entry.{Entry as Change}
 use Rattle.plans.specs.declared.plan.Plan.{Plan}
 use Rattle.version_list.specs.Machine.{State, opened}
 use Rattle.shared_graph.specs.declared.entry.Entry.{Entry}
-use Rattle.shared_graph.specs.Passes.{Pass, fresh, fresh_passes}
+use Rattle.shared_graph.specs.Histories.{ReaderState, fresh_reader, fresh_readers}
 use Rattle.races.specs.declared.outcomes.ProgramRuns.{ProgramRuns}
 use Rattle.races.specs.declared.outcomes.CommitReply.{CommitReply}
 use Rattle.races.specs.declared.error.RaceError.{RaceError}
@@ -15,36 +15,36 @@ use Rattle.races.specs.declared.error.RaceError.TheVariants.{NotOpened, NotRun}
 use Rattle.snapshot_runs.specs.declared.error.LatestRunError.TheVariants as run
 use Rattle.races.specs.Race.{AllRan, AreAnswered}
 use Rattle.races.specs.inside.Racing.{AnswersAll, IsRaced, RefusesRuns}
-use Rattle.races.specs.Refused.{AllAnswered, RefusesOnGraph}
+use Rattle.races.specs.RaceScript.{AllAnswered, RefusesOnGraph}
 use Rattle.races.proofs.Commits.{has_commits}
 
-pub length_passes : (n : ℕ) → length (fresh_passes n) ≡ n
+pub length_passes : (n : ℕ) → length (fresh_readers n) ≡ n
 length_passes zero = refl
-length_passes (suc n) = let one = length-append (fresh_passes n) (fresh n ∷ []) in let rest = length_passes n in omega arith
+length_passes (suc n) = let one = length-append (fresh_readers n) (fresh_reader n ∷ []) in let rest = length_passes n in omega arith
 
 -- the last reader is taken
-pub pass_popped : (n : ℕ) (old new : List Pass) (popped : Option Pass) (writer : Pass) → old ≡ fresh_passes (suc n) → old ≡ new ++ option_to_list popped → popped ≡ Some writer
-    → (new ≡ fresh_passes n) × (writer ≡ fresh n)
+pub pass_popped : (n : ℕ) (old new : List ReaderState) (popped : Option ReaderState) (writer : ReaderState) → old ≡ fresh_readers (suc n) → old ≡ new ++ option_to_list popped → popped ≡ Some writer
+    → (new ≡ fresh_readers n) × (writer ≡ fresh_reader n)
 pass_popped n old new popped writer are cut some =
-    same_from_push new (fresh_passes n) writer (fresh n) (ap (λ (o : Option Pass). new ++ option_to_list o) (sym some) ∙ sym cut ∙ are)
+    same_from_push new (fresh_readers n) writer (fresh_reader n) (ap (λ (o : Option ReaderState). new ++ option_to_list o) (sym some) ∙ sym cut ∙ are)
 
 -- there is a reader for each of n others
-pub as_many_left : (n : ℕ) (old new : List Pass) (popped : Option Pass) (writer : Pass) → old ≡ fresh_passes (suc n) → old ≡ new ++ option_to_list popped → popped ≡ Some writer
+pub as_many_left : (n : ℕ) (old new : List ReaderState) (popped : Option ReaderState) (writer : ReaderState) → old ≡ fresh_readers (suc n) → old ≡ new ++ option_to_list popped → popped ≡ Some writer
     → length new ≡ n
-as_many_left n old new popped writer are cut some = ap (λ (l : List Pass). length l) (pass_popped n old new popped writer are cut some).0 ∙ length_passes n
+as_many_left n old new popped writer are cut some = ap (λ (l : List ReaderState). length l) (pass_popped n old new popped writer are cut some).0 ∙ length_passes n
 
 -- where replies come back, all batches are answered
-pub answered_all : (base : State) (old new : Pass) (batches : List (List Change)) (result : Result (Vec CommitReply) AllocError) (replies : Vec CommitReply) → result ≡ Ok replies
+pub answered_all : (base : State) (old new : ReaderState) (batches : List (List Change)) (result : Result (Vec CommitReply) AllocError) (replies : Vec CommitReply) → result ≡ Ok replies
     → AnswersAll base old batches result new → AreAnswered base old batches replies.items new
 answered_all base old new batches result replies is answers = subst (λ (r : Result (Vec CommitReply) AllocError). AnswersAll base old batches r new) is answers
 
 -- the batches are answered, and each program ran before and after
-pub raced : (n room writer : ℕ) (batches : List (List Change)) (plans : List Plan) (turns : ℕ) (old new : Pass) (replies : Vec CommitReply) (runs : Vec ProgramRuns) (told : List Entry) (ran : List Plan)
-    → old ≡ fresh writer → AreAnswered (opened n room) old batches replies.items new → told ≡ new.last → ran ≡ plans → AllRan n room turns told ran runs.items
+pub raced : (n room writer : ℕ) (batches : List (List Change)) (plans : List Plan) (turns : ℕ) (old new : ReaderState) (replies : Vec CommitReply) (runs : Vec ProgramRuns) (told : List Entry) (ran : List Plan)
+    → old ≡ fresh_reader writer → AreAnswered (opened n room) old batches replies.items new → told ≡ new.last → ran ≡ plans → AllRan n room turns told ran runs.items
     → IsRaced n room batches plans turns (replies, runs)
 raced n room writer batches plans turns old new replies runs told ran is answers learned same all =
-    let answered = subst (λ (p : Pass). AreAnswered (opened n room) p batches replies.items new) is answers in
-    let made = has_commits (opened n room) batches replies.items (fresh writer) new answered in record {
+    let answered = subst (λ (p : ReaderState). AreAnswered (opened n room) p batches replies.items new) is answers in
+    let made = has_commits (opened n room) batches replies.items (fresh_reader writer) new answered in record {
       writer = writer;
       after = new;
       answered = answered;
@@ -53,23 +53,23 @@ raced n room writer batches plans turns old new replies runs told ran is answers
       ran = subst (λ (h : List Entry). AllRan n room turns h plans runs.items) learned (subst (λ (ps : List Plan). AllRan n room turns told ps runs.items) same all);
     }
 
-all_answered : (base : State) (writer : ℕ) (batches : List (List Change)) (old new : Pass) (replies : List CommitReply) → old ≡ fresh writer → AreAnswered base old batches replies new
+all_answered : (base : State) (writer : ℕ) (batches : List (List Change)) (old new : ReaderState) (replies : List CommitReply) → old ≡ fresh_reader writer → AreAnswered base old batches replies new
     → AllAnswered base batches
 all_answered base writer batches old new replies is answers = record {
   writer = writer;
   replies = replies;
   after = new;
-  answered = subst (λ (p : Pass). AreAnswered base p batches replies new) is answers;
+  answered = subst (λ (p : ReaderState). AreAnswered base p batches replies new) is answers;
 }
 
 -- a program is not run again
-pub refused_run : (base : State) (writer : ℕ) (batches : List (List Change)) (workers : ℕ) (old new : Pass) (replies : List CommitReply) (error : RaceError)
-    → old ≡ fresh writer → AreAnswered base old batches replies new → RefusesRuns workers error → RefusesOnGraph base batches workers error
+pub refused_run : (base : State) (writer : ℕ) (batches : List (List Change)) (workers : ℕ) (old new : ReaderState) (replies : List CommitReply) (error : RaceError)
+    → old ≡ fresh_reader writer → AreAnswered base old batches replies new → RefusesRuns workers error → RefusesOnGraph base batches workers error
 refused_run base writer batches workers old new replies (NotOpened error) is answers refuses = elim refuses [ ]
 refused_run base writer batches workers old new replies (NotRun run.NoMemory) is answers refuses = tt
 refused_run base writer batches workers old new replies (NotRun run.Closed) is answers refuses = (all_answered base writer batches old new replies is answers, refuses)
 refused_run base writer batches workers old new replies (NotRun run.BadWorkers) is answers refuses = (all_answered base writer batches old new replies is answers, refuses)
 
 -- a reader more than there are programs
-pub one_more : (n : ℕ) (passes : List Pass) → passes ≡ fresh_passes (n + 1) → passes ≡ fresh_passes (suc n)
-one_more n passes are = let more : n + 1 ≡ suc n = omega arith in are ∙ ap fresh_passes more
+pub one_more : (n : ℕ) (passes : List ReaderState) → passes ≡ fresh_readers (n + 1) → passes ≡ fresh_readers (suc n)
+one_more n passes are = let more : n + 1 ≡ suc n = omega arith in are ∙ ap fresh_readers more

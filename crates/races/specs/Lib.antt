@@ -3,6 +3,5 @@ pub mod RaceScript
 pub mod ScriptLaw
 pub mod Race
 pub mod RaceLaw
-pub mod Refused
 pub mod RaceText
 pub mod inside

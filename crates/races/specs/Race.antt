@@ -4,7 +4,7 @@ use Rattle.std.specs.List.{list_any}
 use mathlib.Core.List.{IsPrefix}
 use Rattle.tree_batch.specs.declared.batch.Entry.{Entry as Change}
 use Rattle.crew.specs.Outcome.{AreWorkers}
-use Rattle.replies.specs.OutcomeText.{is_fault}
+use Rattle.replies.specs.ReplyText.{is_fault}
 use Rattle.plans.specs.declared.plan.Plan.{Plan}
 use Rattle.version_list.specs.declared.step.Step.TheVariants.{Commit}
 use Rattle.version_list.specs.declared.step.Reply.TheVariants.{Version}
@@ -12,7 +12,7 @@ use Rattle.version_list.specs.Machine.{State, opened}
 use Rattle.version_list.specs.Timeline.{IsLegal}
 use Rattle.shared_graph.specs.declared.entry.Entry.{Entry}
 use Rattle.shared_graph.specs.Histories.{batches_of, entry, fold_of, own, steps_of}
-use Rattle.shared_graph.specs.Passes.{Pass, fresh, HasMade, IsRefused}
+use Rattle.shared_graph.specs.Histories.{ReaderState, fresh_reader, HasMade, IsRefused}
 use Rattle.snapshot_runs.specs.Outcome.{IsOutcomeOn}
 use Rattle.races.specs.declared.outcomes.CommitReply.{CommitReply}
 use Rattle.races.specs.declared.outcomes.CommitReply.TheVariants as answer
@@ -21,16 +21,16 @@ use Rattle.races.specs.declared.outcomes.ProgramRuns.{ProgramRuns}
 use Rattle.races.specs.declared.outcomes.Race.{Race}
 
 -- a reader's commit of the batch made this version; or the machine refuses it, by this number, at the end of the history that the reader then shows
-abbrev pub IsAnswered : State → Pass → List Change → CommitReply → Pass → Type 0
+abbrev pub IsAnswered : State → ReaderState → List Change → CommitReply → ReaderState → Type 0
 IsAnswered base old batch (answer.Version version) new = HasMade base old (Commit batch) (Version version) new
 IsAnswered base old batch (answer.Refused number) new = IsRefused base old (Commit batch) number new
 
 -- a reader gave these batches to be committed, one after another, and was answered so
-abbrev pub AreAnswered : State → Pass → List (List Change) → List CommitReply → Pass → Type 0
+abbrev pub AreAnswered : State → ReaderState → List (List Change) → List CommitReply → ReaderState → Type 0
 AreAnswered base old [] [] new = new ≡ old
 AreAnswered base old [] (reply ∷ replies) new = ⊥
 AreAnswered base old (batch ∷ batches) [] new = ⊥
-AreAnswered base old (batch ∷ batches) (reply ∷ replies) new = (next : Pass) × IsAnswered base old batch reply next × AreAnswered base next batches replies new
+AreAnswered base old (batch ∷ batches) (reply ∷ replies) new = (next : ReaderState) × IsAnswered base old batch reply next × AreAnswered base next batches replies new
 
 -- the entry of a commit that was answered so, if it is one of the history
 abbrev pub entries_of : ℕ → List Change → CommitReply → List Entry
@@ -72,8 +72,8 @@ MayRun workers runs = 0 < length runs → AreWorkers workers
 -- One reader of a graph of n vertices, whose history has so much room, gave these batches to be committed, in order, and was answered so. In the history after its last commit it made just those that were not refused, and the late run of each program knows that history whole.
 pub record AreRaced (n room : ℕ) (batches : List (List Change)) (replies : List CommitReply) (plans : List Plan) (turns : ℕ) (runs : List ProgramRuns) : Type 0 where
   pub writer : ℕ
-  pub after : Pass
-  pub answered : AreAnswered (opened n room) (fresh writer) batches replies after
+  pub after : ReaderState
+  pub answered : AreAnswered (opened n room) (fresh_reader writer) batches replies after
   pub legal : IsLegal (opened n room) (steps_of after.last)
   pub committed : own writer after.last ≡ commits writer batches replies
   pub ran : AllRan n room turns after.last plans runs

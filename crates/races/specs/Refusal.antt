@@ -1,6 +1,6 @@
 -- The numbers by which refusals are known.
 use Rattle.std.specs.Prelude.{ℕ}
-use Rattle.shared_graph.specs.Refusal.{number_of as shared_number_of}
+use Rattle.shared_graph.specs.Outcome.{number_of as shared_number_of}
 use Rattle.snapshot_runs.specs.Refusal.{number_of as run_number_of}
 use Rattle.races.specs.declared.error.RaceError.{RaceError}
 use Rattle.races.specs.declared.error.RaceError.TheVariants.{NotOpened, NotRun}

@@ -1,11 +1,11 @@
 //! Programs in a race, each with the reader by which it takes a version.
 ghost use Rattle.std.specs.Prelude.{◌≡◌, IfErr, IfOk, Ok, length, map};
 ghost use Rattle.crew.specs.Outcome.{AreWorkers};
-ghost use Rattle.shared_graph.specs.Passes.{Shows};
+ghost use Rattle.shared_graph.specs.Histories.{Shows};
 ghost use Rattle.version_list.specs.Machine.{opened};
 ghost use Rattle.races.specs.Race.{IsRunOn, RanTwice};
 ghost use Rattle.races.specs.inside.Racing.{RanEarly};
-ghost use Rattle.races.specs.Refused.{RefusesRun};
+ghost use Rattle.races.specs.RaceScript.{RefusesRun};
 
 use crate::outcomes::{ProgramRuns, VersionRun};
 use crew::Open;

@@ -2,9 +2,9 @@
 ghost use Rattle.std.specs.Prelude.{◌≡◌, ◌+◌, [], IfErr, IfOk, length, map, suc};
 ghost use Rattle.std.specs.List.{All};
 ghost use Rattle.version_list.specs.Machine.{opened};
-ghost use Rattle.shared_graph.specs.Passes.{fresh_passes};
+ghost use Rattle.shared_graph.specs.Histories.{fresh_readers};
 ghost use Rattle.races.specs.Race.{AllRan, IsRace, MayRun};
-ghost use Rattle.races.specs.Refused.{MayOpen, RefusesOnGraph, RefusesRace};
+ghost use Rattle.races.specs.RaceScript.{MayOpen, RefusesOnGraph, RefusesRace};
 ghost use Rattle.races.specs.inside.Racing.{AllRanEarly, AnswersAll, IsRaced, RanEarly, RefusesRuns, RepliesTo};
 
 use crate::entrants::{EarlyRun, Entrant, entrants};
@@ -98,7 +98,7 @@ fn race_on<J: Naming + Send + Sync, T: Threads + Wait + Sync>(
     batches: Vec<Batch>,
     programs: PlannedRuns<'_>,
 ) -> Result<(Vec<CommitReply>, Vec<ProgramRuns>), RaceError>
-    requires { readers.items ≡ fresh_passes (suc (length programs.plans.now)) }
+    requires { readers.items ≡ fresh_readers (suc (length programs.plans.now)) }
     ensures raced { IfOk result (IsRaced J.vertices J.room batches.items (map (λ p. p.now) programs.entry.plans.now) programs.entry.turns) }
     ensures workers { IfOk result (λ raced. MayRun programs.entry.workers raced.1.items) }
     ensures refused { IfErr result (RefusesOnGraph (opened J.vertices J.room) batches.items programs.entry.workers) }

@@ -1,5 +1,4 @@
 pub mod ReplyText
-pub mod OutcomeText
 pub mod Sending
 pub mod Refusal
 pub mod inside

@@ -2,7 +2,7 @@
 ghost use Rattle.std.specs.Fmt.{signed_decimal};
 ghost use Rattle.std.specs.List.{flat_map};
 ghost use Rattle.std.specs.Prelude.{◌≡◌, ◌∷◌, ◌++◌, OnOk, decimal};
-ghost use Rattle.replies.specs.OutcomeText.{end_line, end_text, fault_text, labelled, is_fault as faulted, outcome_text, set_line, vector_line};
+ghost use Rattle.replies.specs.ReplyText.{end_line, end_text, fault_text, labelled, is_fault as faulted, outcome_text, set_line, vector_line};
 ghost use Rattle.replies.specs.Sending.{Emits};
 
 use crate::reply_writer::ReplyWriter;

@@ -8,7 +8,7 @@ use Rattle.clap.specs.Walk.{Walk, idle, rows_after, walked}
 use Rattle.clap.specs.Faults.{defaults_fault, flag_word_fault, level_fault, walk_fault}
 use Rattle.clap.specs.Kinds.{Kinds}
 use Rattle.clap.specs.declared.error.kind.ErrorKind.TheVariants.{MissingRequiredArgument, UnknownArgument}
-use Rattle.requests.specs.CommandLine.{file_command, program}
+use Rattle.requests.specs.Asked.{file_command, program}
 use Rattle.requests.specs.Forms.{HasNoHyphen, operands}
 use Rattle.requests.proofs.Flags.{HasOnlyAnswers, TakesValues, dashes, first_is_quiet, held, is_value, no_dashes, none_or_help, second_is_quiet, step_is_fault}
 

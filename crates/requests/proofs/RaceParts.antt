@@ -6,7 +6,7 @@ use Rattle.clap.specs.Words.{Row, Text}
 use Rattle.clap.specs.Faults.{settle_fault, values_fault}
 use Rattle.clap.specs.Simple.{filled}
 use Rattle.clap.specs.Walk.{Waiting, Walk, idle, positional, settled_rows}
-use Rattle.requests.specs.CommandLine.{race_programs}
+use Rattle.requests.specs.Asked.{race_programs}
 use Rattle.requests.specs.Forms.{NumberOption, number_for, numbers_of, option_name, the_turns, the_workers}
 use Rattle.requests.proofs.RaceRows.{found_row, given, look, look_kept, look_more, look_new, no_row, without_none}
 use Rattle.requests.proofs.RaceWords.{race}

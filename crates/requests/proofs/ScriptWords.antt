@@ -12,7 +12,7 @@ use Rattle.clap.specs.Walk.{Walk, Waiting, finished, idle, positional, rows_afte
 use Rattle.clap.specs.Faults.{check_fault, defaults_fault, flag_word_fault, level_fault, settle_fault, values_fault, walk_fault}
 use Rattle.clap.specs.Kinds.{Kinds, or_else, range_kinds}
 use Rattle.clap.specs.declared.error.kind.ErrorKind.TheVariants.{MissingRequiredArgument}
-use Rattle.requests.specs.CommandLine.{command_line, script_command, script_files}
+use Rattle.requests.specs.Asked.{command_line, script_command, script_files}
 use Rattle.requests.specs.Forms.{HasNoHyphen, operands}
 use Rattle.requests.proofs.Flags.{HasOnlyAnswers, TakesValues, dashes, first_is_quiet, held, is_value, no_dashes, none_or_help, second_is_quiet}
 

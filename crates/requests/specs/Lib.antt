@@ -1,4 +1,3 @@
-pub mod CommandLine
 pub mod Refusal
 pub mod Asked
 pub mod Forms

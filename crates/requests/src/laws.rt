@@ -9,7 +9,7 @@ ghost use Rattle.clap.specs.Words.{Text, fault_of};
 ghost use Rattle.clap.specs.declared.builder.value_parser.ValueParser.TheVariants.{Unsigned};
 ghost use Rattle.clap.specs.declared.error.kind.ErrorKind.TheVariants.{ValueValidation};
 ghost use Rattle.requests.specs.Asked.{Asks, a_race, request_of};
-ghost use Rattle.requests.specs.CommandLine.{command_line};
+ghost use Rattle.requests.specs.Asked.{command_line};
 ghost use Rattle.requests.specs.Forms.{HasNoHyphen, HasOperands, IsCommand, IsTaken, RacePart};
 ghost use Rattle.requests.specs.Forms.{files_in, number_given, numbers_in, the_turns, the_workers, words_of};
 

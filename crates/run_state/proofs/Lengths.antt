@@ -11,7 +11,7 @@ use Rattle.algorithm_meaning.specs.Arithmetic.{wrapped}
 use Rattle.algorithm_meaning.specs.State.{GraphValue, StateValue}
 use Rattle.algorithm_meaning.specs.Value.{with_entry}
 use Rattle.algorithm_meaning.specs.Meaning.{opening_entries, out_degree}
-use Rattle.algorithm_meaning.specs.VertexApply.{after_vertex, after_vertices}
+use Rattle.algorithm_meaning.specs.VertexSets.{after_vertex, after_vertices}
 use Rattle.kernels.specs.RegisterInstruction.{RegisterInstruction}
 use Rattle.kernels.specs.RegisterInstruction.TheVariants.{SetEntry}
 use Rattle.kernels.specs.Registers.{Registers, HasSizes, CodeInput, after, is_active, step, written}

@@ -4,7 +4,7 @@ use Rattle.std.proofs.lemmas.List.{take-append-drop}
 use Rattle.std.specs.List.{filter}
 use Rattle.typed_tree.specs.FunctionStatementTree.{FunctionStatementsTree}
 use Rattle.algorithm_meaning.specs.State.{StateValue}
-use Rattle.algorithm_meaning.specs.VertexApply.{after_vertex, after_vertices}
+use Rattle.algorithm_meaning.specs.VertexSets.{after_vertex, after_vertices}
 use Rattle.kernels.specs.declared.block.Block.{Block}
 use Rattle.kernels.specs.Kernels.{passes_at}
 use Rattle.vertex_sets.specs.VertexSet.{IsAscendingBelow}

@@ -9,7 +9,7 @@ use Rattle.algorithm_meaning.specs.VertexSets.{vectors_after}
 use Rattle.typed_tree.specs.ProgramTree.{ProgramTree}
 use Rattle.plans.specs.declared.set_expression.SetExpression.{SetExpression}
 use Rattle.plans.specs.declared.set_expression.SetExpression.TheVariants.{Nothing, All, Copy, Filter}
-use Rattle.plans.specs.SetExpression.{set_value}
+use Rattle.plans.specs.Operation.{set_value}
 use Rattle.kernels.specs.Registers.{HasSizes}
 use Rattle.vectors.specs.Vectors.{VectorsValue}
 use Rattle.run_state.specs.State.{IsRunState, RunState}

@@ -2,7 +2,7 @@
 ghost use Rattle.std.specs.Prelude.{◌≡◌, ◌++◌, ◌∷◌, [], ℕ, ◌≤◌, ◌<◌, length, slice_index_or, if◌then◌else◌, Bool, IfOk, OnOk};
 ghost use Rattle.std.specs.List.{filter};
 ghost use Rattle.typed_tree.specs.FunctionStatementTree.{FunctionStatementsTree};
-ghost use Rattle.algorithm_meaning.specs.Filter.{result_of};
+ghost use Rattle.algorithm_meaning.specs.Function.{result_of};
 ghost use Rattle.algorithm_meaning.specs.State.{StateValue};
 ghost use Rattle.kernels.specs.declared.columns.TheConstants.{PAIRS};
 ghost use Rattle.kernels.specs.Registers.{HasSizes};

@@ -1,6 +1,6 @@
 //! Outcomes: what a run shows in the end.
 ghost use Rattle.std.specs.Prelude.{◌≡◌, length, map, take, IfOk};
-ghost use Rattle.algorithm_meaning.specs.Shown.{name_at, named_set, named_vectors};
+ghost use Rattle.algorithm_meaning.specs.Meaning.{name_at, named_set, named_vectors};
 ghost use Rattle.run_state.specs.inside.NamedSets.{named};
 
 use algorithm_meaning::{NamedSet, NamedVector};

@@ -1,6 +1,6 @@
 //! Printed text: what `print` writes.
 ghost use Rattle.std.specs.Prelude.{◌≡◌, ◌++◌, OnErr, OnOk};
-ghost use Rattle.algorithm_meaning.specs.Print.{condition_line, integer_line};
+ghost use Rattle.algorithm_meaning.specs.Statements.{condition_line, integer_line};
 
 use decimal::push_integer;
 use std::alloc::AllocError;

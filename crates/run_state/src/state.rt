@@ -6,23 +6,23 @@ ghost use Rattle.typed_tree.specs.IntExpressionTree.{IntExpressionTree};
 ghost use Rattle.typed_tree.specs.BoolExpressionTree.{BoolExpressionTree};
 ghost use Rattle.typed_tree.specs.ProgramTree.{ProgramTree};
 ghost use Rattle.typed_tree.specs.FunctionStatementTree.{FunctionStatementsTree};
-ghost use Rattle.algorithm_meaning.specs.Entries.{with_vectors};
-ghost use Rattle.algorithm_meaning.specs.Print.{condition_line, integer_line, with_text};
-ghost use Rattle.algorithm_meaning.specs.Shown.{shown};
-ghost use Rattle.algorithm_meaning.specs.Stand.{choice_in, number_in, vertex_in, vertex_number};
+ghost use Rattle.algorithm_meaning.specs.Statements.{with_vectors};
+ghost use Rattle.algorithm_meaning.specs.Statements.{condition_line, integer_line, with_text};
+ghost use Rattle.algorithm_meaning.specs.Meaning.{shown};
+ghost use Rattle.algorithm_meaning.specs.Stand.{bool_value_in, int_value_in, vertex_in, vertex_number};
 ghost use Rattle.algorithm_meaning.specs.State.{GraphValue, StateValue};
 ghost use Rattle.algorithm_meaning.specs.Value.{members_of, reduce_at, with_entry};
-ghost use Rattle.algorithm_meaning.specs.Variables.{new_condition, reduce_integer, set_condition, set_integer, with_new_integer, with_scope};
-ghost use Rattle.algorithm_meaning.specs.VertexApply.{after_vertices};
+ghost use Rattle.algorithm_meaning.specs.Statements.{new_condition, reduce_integer, set_condition, set_integer, with_new_integer, with_scope};
+ghost use Rattle.algorithm_meaning.specs.VertexSets.{after_vertices};
 ghost use Rattle.algorithm_meaning.specs.VertexSets.{after_assign_set, after_declare_set, inserted, members_for, with_members, with_new_set};
 ghost use Rattle.kernels.specs.Meaning.{IsVertexCode};
-ghost use Rattle.kernels.specs.Expressions.{IsConditionKernel, IsIntegerKernel, IsMainState};
+ghost use Rattle.kernels.specs.Kernels.{IsConditionKernel, IsIntegerKernel, IsMainState};
 ghost use Rattle.kernels.specs.Kernels.{HasRegisters, IsFilterKernel};
 ghost use Rattle.kernels.specs.RegisterCounts.{RegisterCounts};
 ghost use Rattle.algorithm_meaning.specs.Loop.{depth_of, forget_beyond};
 ghost use Rattle.vectors.specs.Changes.{with_all_changes};
-ghost use Rattle.plans.specs.Functions.{AreFunctionKernels};
-ghost use Rattle.plans.specs.SetExpression.{set_value};
+ghost use Rattle.plans.specs.Operation.{AreFunctionKernels};
+ghost use Rattle.plans.specs.Operation.{set_value};
 ghost use Rattle.plans.specs.Operation.{IsFor};
 ghost use Rattle.run_state.specs.View.{HasEntryForEach, IsViewOf};
 ghost use Rattle.run_state.specs.State.{AreGroups, IsRunState, RunState, opened, opened_vectors, with_state};
@@ -180,7 +180,7 @@ impl State {
     ) -> Result<Option<i64>, AllocError>
         requires { IsFor depth kernel.now }
         ensures { IfOk result (λ n. (e : IntExpressionTree) → IsIntegerKernel kernel.now e
-            → n ≡ number_in self.now.vertices e (forget_beyond depth self.now.state)) }
+            → n ≡ int_value_in self.now.vertices e (forget_beyond depth self.now.state)) }
     {
         kernel.eval_int(self.main_state(depth), registers)
     }
@@ -194,7 +194,7 @@ impl State {
     ) -> Result<Option<bool>, AllocError>
         requires { IsFor depth kernel.now }
         ensures { IfOk result (λ b. (c : BoolExpressionTree) → IsConditionKernel kernel.now c
-            → b ≡ choice_in self.now.vertices c (forget_beyond depth self.now.state)) }
+            → b ≡ bool_value_in self.now.vertices c (forget_beyond depth self.now.state)) }
     {
         kernel.eval_bool(self.main_state(depth), registers)
     }

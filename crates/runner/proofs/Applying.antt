@@ -9,7 +9,7 @@ use Rattle.typed_tree.specs.BlockTree.{StatementKindTree, ApplyEdges, AssignSet,
 use Rattle.typed_tree.specs.ProgramTree.{ProgramTree}
 use Rattle.algorithm_meaning.specs.Arithmetic.{int_equal}
 use Rattle.algorithm_meaning.specs.EdgeApply.{after_edge_apply, is_modified, modified}
-use Rattle.algorithm_meaning.specs.Entries.{with_vectors}
+use Rattle.algorithm_meaning.specs.Statements.{with_vectors}
 use Rattle.algorithm_meaning.specs.Meaning.{after}
 use Rattle.algorithm_meaning.specs.Stand.{Stand, Live}
 use Rattle.algorithm_meaning.specs.State.{GraphValue, StateValue}
@@ -17,7 +17,7 @@ use Rattle.algorithm_meaning.specs.Value.{entry}
 use Rattle.runner.specs.EdgeMap.{AreChangesTo}
 use Rattle.plans.specs.declared.part.EdgePart.{EdgePart}
 use Rattle.plans.specs.declared.part.PartResult.{PartResult}
-use Rattle.plans.specs.Parts.{result_tree}
+use Rattle.plans.specs.Operation.{result_tree}
 use Rattle.plans.specs.declared.instruction.Instruction.{Instruction}
 use Rattle.plans.specs.Operation.{ApplyEdgesOf}
 use Rattle.plans.specs.Fusing.{EdgeApplyTree, edge_apply_of}

@@ -3,7 +3,7 @@ use Rattle.std.proofs.Common.{◌≡◌, ℕ, zero, suc, List, [], ◌∷◌, Op
 use Rattle.std.specs.List.{HoldsAt}
 use Rattle.std.specs.Option.{option_copied, unwrap_or, IfSome, MatchOption}
 use Rattle.std.proofs.lemmas.Option.{slice_get_past, slice_get-get_or}
-use Rattle.plans.specs.Kernels.{ArePairwise}
+use Rattle.plans.specs.Operation.{ArePairwise}
 
 -- there is one, and it is in the relation
 pub record HasPartner {A B : Type 0} (R : A → B → Type 0) (x : A) (o : Option B) : Type 0 where

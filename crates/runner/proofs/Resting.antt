@@ -1,7 +1,7 @@
 -- What holds where a job rests holds where it stands.
 use Rattle.std.proofs.Common.{◌≡◌, ℕ, List, Option, Some, None, slice_get, refl, sym, ap, ◌∙◌, subst}
 use Rattle.algorithm_meaning.specs.declared.outcome.End.TheVariants.{TurnsOver}
-use Rattle.algorithm_meaning.specs.Shown.{shown}
+use Rattle.algorithm_meaning.specs.Meaning.{shown}
 use Rattle.algorithm_meaning.specs.State.{GraphValue, StateValue}
 use Rattle.apply_options.specs.ScheduleTree.{ScheduleTree}
 use Rattle.algorithm_meaning.specs.declared.state.LoopCounter.{LoopCounter}
@@ -14,7 +14,7 @@ use Rattle.plans.specs.Machine.{Configuration, At, Ended, act, act_at, step}
 use Rattle.plans.specs.Operation.{IsInstruction}
 use Rattle.plans.specs.inside.Plan.{IsWithin}
 use Rattle.plans.specs.Plan.{plan_of}
-use Rattle.plans.specs.PlanOf.{IsPlan}
+use Rattle.plans.specs.Plan.{IsPlan}
 use Rattle.plans.proofs.Depths.{forgotten-less}
 use Rattle.plans.proofs.ShownDepths.{shows_within}
 use Rattle.runner.specs.Position.{outcome_so_far, shown_where}

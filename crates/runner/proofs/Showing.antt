@@ -4,7 +4,7 @@ use Rattle.std.specs.Option.{unwrap_or}
 use Rattle.typed_tree.specs.ProgramTree.{ProgramTree}
 use Rattle.algorithm_meaning.specs.declared.outcome.End.{End as Ending}
 use Rattle.algorithm_meaning.specs.declared.outcome.End.TheVariants.{TurnsOver}
-use Rattle.algorithm_meaning.specs.Shown.{shown}
+use Rattle.algorithm_meaning.specs.Meaning.{shown}
 use Rattle.algorithm_meaning.specs.State.{StateValue}
 use Rattle.algorithm_meaning.specs.declared.state.LoopCounter.{LoopCounter}
 use Rattle.algorithm_meaning.specs.declared.state.Depth.{Depth}

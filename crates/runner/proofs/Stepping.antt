@@ -8,7 +8,7 @@ use Rattle.typed_tree.specs.BlockTree.{ApplyVertex}
 use Rattle.typed_tree.specs.ProgramTree.{ProgramTree}
 use Rattle.algorithm_meaning.specs.declared.outcome.End.{End as Ending}
 use Rattle.algorithm_meaning.specs.State.{GraphValue, StateValue}
-use Rattle.algorithm_meaning.specs.Variables.{with_new_integer}
+use Rattle.algorithm_meaning.specs.Statements.{with_new_integer}
 use Rattle.apply_options.specs.ScheduleTree.{ScheduleTree}
 use Rattle.algorithm_meaning.specs.declared.state.LoopCounter.{LoopCounter}
 use Rattle.algorithm_meaning.specs.declared.state.Depth.{Depth}
@@ -25,7 +25,7 @@ use Rattle.plans.specs.declared.instruction.Instruction.{Instruction}
 use Rattle.plans.specs.declared.operation.PlanOperation.TheVariants as op
 use Rattle.plans.specs.declared.plan.Plan.{Plan}
 use Rattle.plans.specs.Operation.{IsInstruction, IsOperation}
-use Rattle.plans.specs.PlanOf.{IsPlan, program_of}
+use Rattle.plans.specs.Plan.{IsPlan, program_of}
 use Rattle.plans.proofs.Bounds.{same_bound}
 use Rattle.runner.specs.declared.flow.Flow.TheVariants.{Next}
 use Rattle.runner.specs.declared.memory.Memory.{Memory}

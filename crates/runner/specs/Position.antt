@@ -5,7 +5,7 @@ use Rattle.algorithm_meaning.specs.State.{StateValue}
 use Rattle.algorithm_meaning.specs.Loop.{forget_beyond}
 use Rattle.algorithm_meaning.specs.declared.outcome.End.TheVariants.{TurnsOver}
 use Rattle.algorithm_meaning.specs.declared.outcome.Outcome.{Outcome}
-use Rattle.algorithm_meaning.specs.Shown.{shown}
+use Rattle.algorithm_meaning.specs.Meaning.{shown}
 use Rattle.plans.specs.Instruction.{InstructionTree}
 use Rattle.plans.specs.Machine.{Configuration, At, Ended}
 

@@ -7,7 +7,7 @@ ghost use Rattle.edge_fold.specs.Folded.{AreKernels};
 ghost use Rattle.edge_apply.specs.Applied.{AreChangesOf};
 ghost use Rattle.kernels.specs.Kernels.{IsEdgeKernel};
 ghost use Rattle.kernels.specs.declared.kernel.EdgeKernel.{EdgeKernel};
-ghost use Rattle.plans.specs.Functions.{AreFunctionKernels};
+ghost use Rattle.plans.specs.Operation.{AreFunctionKernels};
 ghost use Rattle.plans.specs.Reducing.{indices_of, steps_at};
 ghost use Rattle.runner.specs.EdgeMap.{AreChangesOfApply};
 ghost use Rattle.runner.specs.inside.EdgeMap.{IsApplyOfRun};

@@ -4,7 +4,7 @@ ghost use Rattle.typed_tree.specs.ProgramTree.{ProgramTree};
 ghost use Rattle.algorithm_meaning.specs.EdgeApply.{passes};
 ghost use Rattle.algorithm_meaning.specs.State.{StateValue};
 ghost use Rattle.edge_fold.specs.Ends.{IsEndTest};
-ghost use Rattle.plans.specs.Functions.{AreFunctionKernels};
+ghost use Rattle.plans.specs.Operation.{AreFunctionKernels};
 ghost use Rattle.run_state.specs.View.{HasSets};
 
 use kernels::EndpointFilter;

@@ -7,7 +7,7 @@ ghost use Rattle.algorithm_meaning.specs.Meaning.{opening};
 ghost use Rattle.algorithm_meaning.specs.Loop.{forget_beyond};
 ghost use Rattle.plans.specs.Machine.{Ended, first_configuration};
 ghost use Rattle.plans.specs.Plan.{plan_of};
-ghost use Rattle.plans.specs.PlanOf.{IsPlan};
+ghost use Rattle.plans.specs.Plan.{IsPlan};
 ghost use Rattle.run_state.specs.State.{graph_value};
 ghost use Rattle.runner.specs.inside.Done.{after_flow};
 ghost use Rattle.runner.specs.inside.Groups.{AreGroupsOf};

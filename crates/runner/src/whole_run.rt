@@ -1,11 +1,11 @@
 //! Whole runs: a plan from its first instruction to its end.
 ghost use Rattle.std.specs.Prelude.{◌≡◌, Err, IfOk};
 ghost use Rattle.typed_tree.specs.ProgramTree.{ProgramTree};
-ghost use Rattle.algorithm_meaning.specs.Shown.{meaning};
+ghost use Rattle.algorithm_meaning.specs.Meaning.{meaning};
 ghost use Rattle.apply_options.specs.ScheduleTree.{ScheduleTree};
 ghost use Rattle.plans.specs.Plan.{plan_of};
 ghost use Rattle.plans.specs.Reducing.{AppliesReduce};
-ghost use Rattle.plans.specs.PlanOf.{IsPlan};
+ghost use Rattle.plans.specs.Plan.{IsPlan};
 ghost use Rattle.crew.specs.Outcome.{AreWorkers};
 ghost use Rattle.run_state.specs.State.{graph_value};
 ghost use Rattle.edge_fold.specs.Changed.{AreApart};

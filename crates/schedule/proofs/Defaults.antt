@@ -15,7 +15,7 @@ use Rattle.typed_tree.specs.declared.apply.StatementApply.{StatementApply}
 use Rattle.typed_tree.specs.declared.apply.StatementApply.TheVariants.{Vertices, Edges}
 use Rattle.schedule.specs.Calls.{after_call, apply_at, fuse_at, fuse_or, fusing_fault, fusing_of_two, given, grown, schedule_of, two_of, value_at, value_of_two, value_on, with_call, with_call_of, with_calls, with_fields, with_group}
 use Rattle.schedule.specs.Laws.{AreOnceOnLabels, HasDefault, HasDefaults, IsConfig, IsGiven, IsGivenByTwo, IsGivenTo, IsOnLabel, NoneIsOnLabel}
-use Rattle.schedule.specs.Names.{label_index}
+use Rattle.schedule.specs.Schedule.{label_index}
 use Rattle.apply_options.specs.ScheduleTree.{ScheduleTree, choice_of, fused_as}
 use Rattle.schedule.specs.Schedule.{empty_schedule, with_choice, with_fused}
 use Rattle.schedule.proofs.CallSteps.{call_step, ok_is}

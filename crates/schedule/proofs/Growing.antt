@@ -4,7 +4,7 @@ use Rattle.std.specs.List.{list_any}
 use Rattle.std.specs.Prelude.{Option, Some, None, if◌then◌else◌}
 use Rattle.typed_tree.specs.ProgramTree.{ProgramTree}
 use Rattle.schedule.specs.Calls.{grown, grown_by}
-use Rattle.schedule.specs.Names.{vector_index}
+use Rattle.schedule.specs.Schedule.{vector_index}
 
 module _ (p : ProgramTree) (taken group : List ℕ) (names : List (List ℕ)) (i : ℕ) (name : List ℕ) (inside : i < length names) (is : name ≡ get_or names i name) where
   -- the next name

@@ -9,12 +9,12 @@ use Rattle.std.specs.Map.{lookup}
 use Rattle.std.specs.Option.{is_none}
 use Rattle.std.specs.Prelude.{Option, Some, None, if◌then◌else◌}
 use Rattle.std.specs.Str.{bytes_eq}
-use Rattle.expression_types.specs.Names.{found}
+use Rattle.expression_types.specs.ScopeTree.{found}
 use Rattle.typed_tree.specs.declared.statement.MainStatement.{MainStatement}
 use Rattle.typed_tree.specs.BlockTree.{block_tree}
 use Rattle.schedule.specs.declared.site.Site.{Site}
 use Rattle.schedule.specs.inside.Putting.{first_of, PutsIndex, PutsSite}
-use Rattle.schedule.specs.Sites.{label_of}
+use Rattle.schedule.specs.Schedule.{label_of}
 
 if_some : (b : Bool) (index : ℕ) (rest : Option ℕ) → first_of (if b then Some index else None) rest ≡ (if b then Some index else rest)
 if_some true index rest = refl

@@ -6,7 +6,7 @@ use Rattle.std.proofs.lemmas.List.Folds.{list_any_at}
 use Rattle.std.proofs.lemmas.Bool.{and_parts, eq-eqb}
 use Rattle.typed_tree.specs.declared.statement.VertexFilter.{VertexFilter}
 use Rattle.typed_tree.specs.FunctionStatementTree.{FunctionTree}
-use Rattle.typed_tree.specs.Access.{are_apart, end_reads, function_uses, is_none_of, vector_of}
+use Rattle.typed_tree.specs.Independence.{are_apart, end_reads, function_uses, is_none_of, vector_of}
 use Rattle.typed_tree.specs.Fold.{all_pass, end_fold, function_fold}
 use Rattle.typed_tree.proofs.Gathered.{end_gathered, function_gathered}
 

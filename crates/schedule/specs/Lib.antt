@@ -1,14 +1,11 @@
 pub mod BrokenRules
 pub mod Calls
 pub mod Laws
-pub mod Names
 pub mod Refusal
 pub mod Schedule
-pub mod Sites
-pub mod Values
 pub use Rattle.apply_options.specs.ScheduleTree
 pub use Rattle.apply_options.specs.declared.reduction.Reduction
-pub use Rattle.typed_tree.specs.Access
+pub use Rattle.typed_tree.specs.Independence
 pub use Rattle.typed_tree.specs.ProgramTree
 pub use Rattle.typed_tree.specs.FunctionStatementTree
 pub mod inside

@@ -1,7 +1,7 @@
 //! Access to vectors: whether functions leave them alone.
 ghost use Rattle.std.specs.Prelude.{◌≡◌, map};
 ghost use Rattle.typed_tree.specs.FunctionStatementTree.{function_tree};
-ghost use Rattle.typed_tree.specs.Access.{are_apart, end_reads, function_uses, vector_of};
+ghost use Rattle.typed_tree.specs.Independence.{are_apart, end_reads, function_uses, vector_of};
 
 use typed_tree::{Access, AccessTest, Function, VertexFilter, end_passes, function_passes};
 

@@ -1,7 +1,7 @@
 //! The values of `config` calls, by their texts.
 ghost use Rattle.std.specs.Prelude.{◌≡◌};
 ghost use Rattle.schedule.specs.Calls.{first_given as given_first, given as given_to};
-ghost use Rattle.schedule.specs.Values.{dense_vertex_set_of, direction_of, parallelization_of};
+ghost use Rattle.schedule.specs.Schedule.{dense_vertex_set_of, direction_of, parallelization_of};
 
 use crate::error::ScheduleRule;
 use apply_options::{ApplySchedule, DenseVertexSet, Direction, Parallelization, Setting};

@@ -1,7 +1,7 @@
 //! Vector names: the indices of the vectors that a `fuseFields` call names.
 ghost use Rattle.std.specs.Prelude.{◌≡◌, IfOk, OnOk};
 ghost use Rattle.typed_tree.specs.Independence.{name_at as name_of};
-ghost use Rattle.schedule.specs.Names.{vector_names};
+ghost use Rattle.schedule.specs.Schedule.{vector_names};
 ghost use Rattle.schedule.specs.inside.Putting.{AreIndices, PutsIndex};
 
 use expression_types::Names;

@@ -2,7 +2,7 @@
 ghost use Rattle.std.specs.Prelude.{◌≡◌, ◌++◌, drop, nat_eq, IfOk, OnOk};
 ghost use Rattle.std.specs.Map.{lookup};
 ghost use Rattle.typed_tree.specs.BlockTree.{statement_kind_tree, block_tree};
-ghost use Rattle.schedule.specs.Sites.{apply_of, label_of, modifying_as, sites_in, sites_of};
+ghost use Rattle.schedule.specs.Schedule.{apply_of, label_of, modifying_as, sites_in, sites_of};
 ghost use Rattle.schedule.specs.inside.Putting.{AreSites, PutsSite};
 
 use indexmap::IndexMap;

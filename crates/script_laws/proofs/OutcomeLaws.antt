@@ -11,13 +11,13 @@ use Rattle.algorithm_meaning.specs.declared.outcome.End.TheVariants.{Finished, T
 use Rattle.algorithm_meaning.specs.declared.outcome.NamedVector.{NamedVector}
 use Rattle.algorithm_meaning.specs.declared.outcome.NamedSet.{NamedSet}
 use Rattle.algorithm_meaning.specs.declared.outcome.Outcome.{Outcome}
-use Rattle.replies.specs.OutcomeText.{end_line, end_text, fault_text, labelled, outcome_text, set_line, vector_line}
+use Rattle.replies.specs.ReplyText.{end_line, end_text, fault_text, labelled, outcome_text, set_line, vector_line}
 use Rattle.scripts.specs.Pieces.{HasNone}
 use Rattle.meaning_laws.specs.Printing.{IsPrintedLine}
 use Rattle.meaning_laws.proofs.Sound.{prints}
 use Rattle.typed_tree.specs.ProgramTree.{ProgramTree}
 use Rattle.algorithm_meaning.specs.State.{GraphValue}
-use Rattle.algorithm_meaning.specs.Shown.{meaning}
+use Rattle.algorithm_meaning.specs.Meaning.{meaning}
 use Rattle.script_laws.specs.Shown.{HasNumbers, IsEnd, IsOutcome, IsSet, IsVector}
 use Rattle.script_laws.proofs.Cuts.{IsDigit, Passes, at_end, cut_at_byte, decimal_digits, digits_none, digits_pass, integer_passes, line_cut, line_of, no_end}
 

@@ -3,8 +3,8 @@ ghost use Rattle.std.specs.Prelude.{◌≡◌, ℕ};
 ghost use Rattle.typed_tree.specs.ProgramTree.{ProgramTree};
 ghost use Rattle.algorithm_meaning.specs.declared.outcome.Outcome as outcome;
 ghost use Rattle.algorithm_meaning.specs.State.{GraphValue};
-ghost use Rattle.algorithm_meaning.specs.Shown.{meaning};
-ghost use Rattle.replies.specs.OutcomeText.{outcome_text};
+ghost use Rattle.algorithm_meaning.specs.Meaning.{meaning};
+ghost use Rattle.replies.specs.ReplyText.{outcome_text};
 ghost use Rattle.script_laws.specs.Shown.{HasNumbers, IsOutcome};
 
 /// The law that the text of an outcome determines it: its end, its turns, its vectors and sets with their names, and what was

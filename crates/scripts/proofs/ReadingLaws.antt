@@ -7,7 +7,8 @@ use Rattle.scripts.specs.Pieces.{HasNone, ended_lines, unended_line}
 use Rattle.scripts.specs.Replies.{OpenState, answer, by_command, replies, replies_to_lines, replies_to_ended, state_after_lines, faults, has_faulted}
 use Rattle.replies.specs.declared.send_error.SendError.TheVariants.{NoMemory}
 use Rattle.replies.specs.Sending.{Output, Sends, Fails}
-use Rattle.scripts.specs.inside.Progress.{Reading, at_start, reading_after, replies_within}
+use Rattle.scripts.specs.Script.{Reading}
+use Rattle.scripts.specs.inside.Progress.{at_start, reading_after, replies_within}
 use Rattle.scripts.proofs.PieceLaws.{HasNone-append, lines_of-ended, ended_lines-append, unended_line-append, ended_lines-first, unended_line-first, ended_lines-none, unended_line-none}
 use Rattle.replies.proofs.SendingLaws.{sends_none, sends_then, lacks_memory, fails_then, fails_more}
 

@@ -13,7 +13,8 @@ use Rattle.scripts.specs.Replies.{OpenState, answer, replies, replies_to_ended, 
 use Rattle.scripts.specs.Script.{Input, Written, bytes_written_by, IsBeginning, NoneFails, RepliesInPart, RepliesToEnded, RunsScript}
 use Rattle.replies.specs.Sending.{Output, Sends, SendsPart, Fails}
 use Rattle.replies.specs.inside.Sending.{output}
-use Rattle.scripts.specs.inside.Progress.{Reading, at_start, reading_after, replies_within}
+use Rattle.scripts.specs.Script.{Reading}
+use Rattle.scripts.specs.inside.Progress.{at_start, reading_after, replies_within}
 use Rattle.scripts.proofs.PieceLaws.{HasNone-unended}
 use Rattle.scripts.proofs.ReadingLaws.{reading_then, replies_then, replies-last, faults-last}
 use Rattle.replies.proofs.SendingLaws.{sends_none, sends_then, fails_then, all_written}

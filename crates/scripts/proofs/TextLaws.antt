@@ -6,7 +6,7 @@ use Rattle.scripts.specs.declared.error.ScriptError.{ScriptError}
 use Rattle.scripts.specs.declared.error.ScriptError.TheVariants.{NoMemory, ReadFailed, WriteFailed}
 use Rattle.scripts.specs.Replies.{replies, faults}
 use Rattle.scripts.specs.Script.{Input, Written, input, RepliesInPart, RunsScript}
-use Rattle.scripts.specs.Text.{BeginsReplies, RunsText}
+use Rattle.scripts.specs.Script.{BeginsReplies, RunsText}
 use Rattle.scripts.proofs.ReadingLaws.{empty_when_none}
 
 -- before the text is read, and after n bytes of it

@@ -3,5 +3,4 @@ pub mod Commands
 pub mod Refusal
 pub mod Replies
 pub mod Script
-pub mod Text
 pub mod inside

@@ -2,7 +2,7 @@
 use Rattle.std.specs.Prelude.{ℕ, zero, suc, nat_lt, Bool, false, not, ◌||◌, ◌&&◌, Option, Some, None, if◌then◌else◌, List, [], ◌∷◌, ◌++◌, codes}
 use Rattle.std.specs.List.{slice_get}
 use Rattle.algorithm_meaning.specs.ProgramTree.{ProgramTree}
-use Rattle.algorithm_meaning.specs.Shown.{meaning}
+use Rattle.algorithm_meaning.specs.Meaning.{meaning}
 use Rattle.algorithm_meaning.specs.declared.outcome.Outcome.{Outcome}
 use Rattle.tree_batch.specs.declared.batch.Entry.{Entry}
 use Rattle.tree_batch.specs.declared.batch.Entry.TheVariants as entry
@@ -18,7 +18,7 @@ use Rattle.scripts.specs.declared.commands.Command.{Command}
 use Rattle.scripts.specs.declared.commands.Command.TheVariants as command
 use Rattle.scripts.specs.Commands.{command_of}
 use Rattle.scripts.specs.Pieces.{lines_of, ended_lines}
-use Rattle.replies.specs.OutcomeText.{is_fault, outcome_text}
+use Rattle.replies.specs.ReplyText.{is_fault, outcome_text}
 use Rattle.replies.specs.ReplyText.{word_line, ticket_line, edges_text}
 
 -- an open graph: its versions, the entries that the next commit takes, and whether some run on it has ended by a fault

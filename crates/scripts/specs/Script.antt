@@ -1,9 +1,9 @@
 -- Runs of a script, as changes of its reader and its writer.
-use Rattle.std.specs.Prelude.{◌≡◌, ℕ, ◌<◌, Bool, true, List, [], ◌++◌, Result, Ok, Err}
+use Rattle.std.specs.Prelude.{◌≡◌, ℕ, ◌<◌, Bool, true, List, [], ◌++◌, Result, Ok, Err, Option}
 use Rattle.algorithm_meaning.specs.ProgramTree.{ProgramTree}
 use Rattle.scripts.specs.declared.error.ScriptError.{ScriptError}
 use Rattle.scripts.specs.declared.error.ScriptError.TheVariants.{NoMemory, ReadFailed, WriteFailed}
-use Rattle.scripts.specs.Replies.{replies, replies_to_ended, faults}
+use Rattle.scripts.specs.Replies.{replies, replies_to_ended, faults, OpenState}
 
 -- the bytes that a reader has given, whether it has ended, and how often it has failed
 pub record Input : Type 0 where
@@ -63,3 +63,28 @@ RunsScript programs old new before after (Ok faulted) = RepliesToAll programs ol
 RunsScript programs old new before after (Err NoMemory) = RepliesInPart programs old new before after × NoneFails old new before after
 RunsScript programs old new before after (Err ReadFailed) = RepliesToEnded programs old new before after × (old.failures < new.failures) × (after.failures ≡ before.failures)
 RunsScript programs old new before after (Err WriteFailed) = RepliesInPart programs old new before after × (new.failures ≡ old.failures) × (before.failures < after.failures)
+
+-- what was written is the replies to the text, and it is known whether a run in it ended by a fault
+pub record RepliesToText (programs : List ProgramTree) (text : List ℕ) (before after : Written) (faulted : Bool) : Type 0 where
+  pub bytes_written : after.bytes_written ≡ before.bytes_written ++ replies programs text
+  pub fault : faulted ≡ faults programs text
+  pub quiet : after.failures ≡ before.failures
+
+-- what was written is a beginning of the replies to the text
+pub record BeginsReplies (programs : List ProgramTree) (text : List ℕ) (before after : Written) : Type 0 where
+  pub written : List ℕ
+  pub rest : List ℕ
+  pub bytes_written : after.bytes_written ≡ before.bytes_written ++ written
+  pub beginning : written ++ rest ≡ replies programs text
+
+-- how a script of this text ends
+abbrev pub RunsText : List ProgramTree → List ℕ → Written → Written → Result Bool ScriptError → Type 0
+RunsText programs text before after (Ok faulted) = RepliesToText programs text before after faulted
+RunsText programs text before after (Err NoMemory) = BeginsReplies programs text before after × (after.failures ≡ before.failures)
+RunsText programs text before after (Err ReadFailed) = ⊥
+RunsText programs text before after (Err WriteFailed) = BeginsReplies programs text before after × (before.failures < after.failures)
+
+-- what the lines that have ended left, and the beginning of the line that has not
+pub record Reading : Type 0 where
+  pub state : Option OpenState
+  pub partial : List ℕ

@@ -39,7 +39,7 @@ impl Drop for ScriptState {
 }
 
 impl Model for ScriptState {
-    ghost use Rattle.scripts.specs.inside.Progress.{Reading};
+    ghost use Rattle.scripts.specs.Script.{Reading};
 
     ghost Value = { Reading };
 

@@ -9,10 +9,10 @@ use Rattle.apply_options.specs.ScheduleTree.{ScheduleTree}
 use Rattle.flat_snapshot.specs.Digraph.{Digraph}
 use Rattle.plans.specs.declared.instruction.Instruction.{Instruction}
 use Rattle.plans.specs.declared.plan.Plan.{Plan}
-use Rattle.plans.specs.Kernels.{ArePairwise}
+use Rattle.plans.specs.Operation.{ArePairwise}
 use Rattle.plans.specs.Machine.{Configuration, At, Ended, first_configuration, step}
 use Rattle.plans.specs.Plan.{plan_of}
-use Rattle.plans.specs.PlanOf.{IsPlan}
+use Rattle.plans.specs.Plan.{IsPlan}
 use Rattle.plans.specs.Reducing.{AppliesReduce}
 use Rattle.plans.proofs.Pairwise.{pairwise_snoc}
 use Rattle.run_state.specs.State.{graph_value}

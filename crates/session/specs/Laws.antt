@@ -3,9 +3,9 @@ use Rattle.std.specs.Prelude.{◌≡◌, ℕ, ◌+◌, ◌==◌, Bool, false, Li
 use Rattle.std.specs.Option.{option_map}
 use Rattle.algorithm_meaning.specs.declared.outcome.End.{End}
 use Rattle.algorithm_meaning.specs.declared.outcome.Outcome.{Outcome}
-use Rattle.algorithm_meaning.specs.Shown.{meaning}
+use Rattle.algorithm_meaning.specs.Meaning.{meaning}
 use Rattle.plans.specs.declared.plan.Plan.{Plan}
-use Rattle.plans.specs.Kernels.{ArePairwise}
+use Rattle.plans.specs.Operation.{ArePairwise}
 use Rattle.plans.specs.Machine.{Configuration}
 use Rattle.plans.specs.Plan.{plan_of}
 use Rattle.run_state.specs.State.{graph_value}

@@ -2,7 +2,7 @@
 ghost use Rattle.std.specs.Prelude.{◌≡◌, ◌+◌, IfErr, IfOk, List, MatchOption, OnErr, map};
 ghost use Rattle.std.specs.Arc.{arc_value};
 ghost use Rattle.std.specs.Option.{option_copied};
-ghost use Rattle.plans.specs.Kernels.{ArePairwise};
+ghost use Rattle.plans.specs.Operation.{ArePairwise};
 ghost use Rattle.version_list.specs.declared.step.Step.TheVariants as versions;
 ghost use Rattle.session.specs.declared.error.SessionError.TheVariants.{NoMemory};
 ghost use Rattle.session.specs.declared.step.SessionStep.TheVariants.{Start, JobStep};

@@ -3,7 +3,7 @@ use Rattle.std.proofs.Common.{◌≡◌, ◌+◌, ℕ, List, [], ◌∷◌, ◌+
 use Rattle.std.proofs.lemmas.Bool.{cases_Bool}
 use mathlib.Core.List.{IsPrefix}
 use Rattle.tree_batch.specs.declared.batch.Entry.{Entry as Change}
-use Rattle.tree_batch.specs.Entry.{misfits}
+use Rattle.tree_batch.specs.Edge.{misfits}
 use Rattle.version_list.specs.declared.step.Done.{Done}
 use Rattle.version_list.specs.declared.step.Reply.{Reply}
 use Rattle.version_list.specs.declared.step.Step.TheVariants.{Commit}
@@ -12,7 +12,7 @@ use Rattle.version_list.specs.Machine.{State, lacks_room, newest_graph, newest_n
 use Rattle.version_list.specs.Timeline.{IsLegal, replay}
 use Rattle.shared_graph.specs.declared.entry.Entry.{Entry}
 use Rattle.shared_graph.specs.Histories.{batches_of, entry, state_at, steps_of}
-use Rattle.shared_graph.specs.Passes.{HasMade, Pass}
+use Rattle.shared_graph.specs.Histories.{HasMade, ReaderState}
 use Rattle.shared_graph.proofs.Growing.{steps_of-push}
 use Rattle.shared_graph.proofs.Prefixes.{prefix_trans, prefix_whole}
 use Rattle.shared_graph.proofs.Versions.{batches_append, batches_prefix, number_at}
@@ -57,15 +57,15 @@ ends_in_commit n room before log by batch number is legal =
     }
 
 -- what a reader had shown, and what others made before its commit
-abbrev before_commit : {base : State} {old new : Pass} {batch : List Change} {number : ℕ} → HasMade base old (Commit batch) (Version number) new → List Entry
+abbrev before_commit : {base : State} {old new : ReaderState} {batch : List Change} {number : ℕ} → HasMade base old (Commit batch) (Version number) new → List Entry
 before_commit {base} {old} made = old.shown ++ made.between
 
-pub number_counts : (n room : ℕ) (old new : Pass) (batch : List Change) (number : ℕ) → HasMade (opened n room) old (Commit batch) (Version number) new → number ≡ length (batches_of new.shown)
+pub number_counts : (n room : ℕ) (old new : ReaderState) (batch : List Change) (number : ℕ) → HasMade (opened n room) old (Commit batch) (Version number) new → number ≡ length (batches_of new.shown)
 number_counts n room old new batch number made =
     let ends = ends_in_commit n room (before_commit made) new.shown old.number batch number made.shown made.legal in
     omega (arith, ends.counted, ap length ends.batches, length-append (batches_of (before_commit made)) (batch ∷ []))
 
-pub commits_alone : (n room : ℕ) (log : List Entry) (old new : Pass) (batch : List Change) (number : ℕ) → HasMade (opened n room) old (Commit batch) (Version number) new
+pub commits_alone : (n room : ℕ) (log : List Entry) (old new : ReaderState) (batch : List Change) (number : ℕ) → HasMade (opened n room) old (Commit batch) (Version number) new
     → IsPrefix log old.shown → number ≡ length (batches_of log) + 1 → batches_of new.shown ≡ batches_of log ++ batch ∷ []
 commits_alone n room log old new batch number made begins next =
     let before : List Entry = before_commit made in

@@ -23,13 +23,13 @@ use Rattle.shared_graph.specs.declared.entry.Entry.{Entry}
 use Rattle.shared_graph.specs.Histories.{steps_of, own, state_at, IsNewest}
 use Rattle.shared_graph.specs.inside.Histories.{MayFollow}
 use Rattle.shared_graph.specs.Holding.{Hold, HoldsVersion}
-use Rattle.shared_graph.specs.Passes.{Pass, HasMade}
+use Rattle.shared_graph.specs.Histories.{ReaderState, HasMade}
 use Rattle.shared_graph.specs.Outcome.{Refuses}
 use Rattle.shared_graph.specs.inside.Refusal.{from_version}
 use Rattle.shared_graph.specs.inside.Locked.{IsTimelineOf, AreCounts, ShowsRefusal}
 use Rattle.shared_graph.proofs.Growing.{steps_of-push, legal-push, state_at-push, own-mine, own-other}
 
-pub made : (base : State) (old : Pass) (log : List Entry) (done : Done) → IsPrefix old.shown log → own old.number log ≡ own old.number old.last → IsLegal base (steps_of log) → MayFollow base log done
+pub made : (base : State) (old : ReaderState) (log : List Entry) (done : Done) → IsPrefix old.shown log → own old.number log ≡ own old.number old.last → IsLegal base (steps_of log) → MayFollow base log done
     → HasMade base old done.step done.reply (record old { shown = log ++ record { by = old.number; done = done } ∷ []; last = log ++ record { by = old.number; done = done } ∷ [] })
 made base old log done begins own_is legal may =
     let e : Entry = record { by = old.number; done = done } in
@@ -97,7 +97,7 @@ answer_at : (base : State) (log shown : List Entry) (old : Timeline) (step : Ste
 answer_at base log shown old step number is same answer = ap (λ l. reply_to (state_at base l) step) same ∙ ap (λ (s : State). reply_to s step) (sym is.state) ∙ answer
 
 -- a refusal of the versions is the machine's at the end of the history then shown
-pub refuses : {A : Type 0} (base : State) (log : List Entry) (old new : Timeline) (step : Step) (n : ℕ) (IsReady : Timeline → A → Type 0) (e : VersionError) (v w : Pass)
+pub refuses : {A : Type 0} (base : State) (log : List Entry) (old new : Timeline) (step : Step) (n : ℕ) (IsReady : Timeline → A → Type 0) (e : VersionError) (v w : ReaderState)
     → IsTimelineOf base log old → Prepares old step n IsReady (Err e) new → ShowsRefusal base e v log w → Refuses base v step (from_version e) w
 refuses base log old new step n IsReady NoMemory v w is p s = s
 refuses base log old new step n IsReady VertexRange v w is p s = record { shows = s.0; is_answer = answer_at base log w.shown old step 111 is s.1 p.is_answer }

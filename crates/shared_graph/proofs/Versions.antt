@@ -8,7 +8,7 @@ use Rattle.version_list.specs.declared.step.Done.{Done}
 use Rattle.version_list.specs.declared.step.Which.{Which}
 use Rattle.version_list.specs.Machine.{State, opened, newest_number, version_graph}
 use Rattle.version_list.specs.Timeline.{IsLegal}
-use Rattle.version_list.specs.Commits.{commits_of}
+use Rattle.version_list.specs.Machine.{commits_of}
 use Rattle.version_list.proofs.Stepping.{newest_graph_is}
 use Rattle.version_list.proofs.Commits.{commits_append, replay_commits, replay_opening}
 use Rattle.shared_graph.specs.declared.entry.Entry.{Entry}

@@ -3,7 +3,7 @@
 ghost use Rattle.std.specs.Prelude.{◌≡◌};
 ghost use Rattle.shared_graph.specs.declared.error.SharedError.TheVariants.{NoMemory};
 ghost use Rattle.shared_graph.specs.declared.error.LatestError.TheVariants as latest;
-ghost use Rattle.shared_graph.specs.Refusal.{number_of, latest_number_of};
+ghost use Rattle.shared_graph.specs.Outcome.{number_of, latest_number_of};
 ghost use Rattle.shared_graph.specs.inside.Refusal.{from_version};
 
 use refusal_numbers::{

@@ -12,7 +12,7 @@ ghost use Rattle.version_list.specs.Timeline.{IsLegal};
 ghost use Rattle.shared_graph.specs.declared.entry.Entry as entry;
 ghost use Rattle.shared_graph.specs.Histories.{steps_of, state_at, batches_of, fold_of, fold_of_first, IsNewest, IsVersionOf};
 ghost use Rattle.shared_graph.specs.Holding.{Hold, HoldsVersion};
-ghost use Rattle.shared_graph.specs.Passes.{HasMade, Pass};
+ghost use Rattle.shared_graph.specs.Histories.{HasMade, ReaderState};
 
 /// The law that a legal history has as many versions beside version 0 as it has commits, and that the
 /// graph of each is the fold of the batches up to it, of the newest that of all of them.
@@ -45,9 +45,9 @@ pub fn held_versions_are_of_the_history()
 /// The law that the number of a commit is how many commits its reader then shows. If it is one more than
 /// the commits of a history that the reader had shown, or a beginning of one, nobody else committed since.
 pub fn commits_are_counted()
-    ensures number { (n room : ℕ) (old new : Pass) (batch : List Change) (k : ℕ)
+    ensures number { (n room : ℕ) (old new : ReaderState) (batch : List Change) (k : ℕ)
         → HasMade (opened n room) old (Commit batch) (Version k) new → k ≡ length (batches_of new.shown) }
-    ensures alone { (n room : ℕ) (log : List entry.Entry) (old new : Pass) (batch : List Change) (k : ℕ)
+    ensures alone { (n room : ℕ) (log : List entry.Entry) (old new : ReaderState) (batch : List Change) (k : ℕ)
         → HasMade (opened n room) old (Commit batch) (Version k) new → IsPrefix log old.shown → k ≡ length (batches_of log) + 1
         → batches_of new.shown ≡ batches_of log ++ batch ∷ [] }
 {}

@@ -7,7 +7,7 @@ ghost use Rattle.version_list.specs.Machine.{opened, state_after};
 ghost use Rattle.version_list.specs.Timeline.{IsLegal};
 ghost use Rattle.shared_graph.specs.Histories.{own, steps_of, state_at, IsNewest};
 ghost use Rattle.shared_graph.specs.inside.Histories.{MayFollow};
-ghost use Rattle.shared_graph.specs.Passes.{HasMade, fresh_passes};
+ghost use Rattle.shared_graph.specs.Histories.{HasMade, fresh_readers};
 ghost use Rattle.shared_graph.specs.inside.Locked.{AreCounts, ShowsRefusal};
 ghost use Rattle.shared_graph.specs.inside.Refusal.{from_version};
 
@@ -88,7 +88,7 @@ impl<J: Naming, R: Wait + Drop> PublishedLog<J, R> {
         requires newest { IsNewest (state_at (opened J.vertices J.room) []) 0 (arc_value graph) }
         requires readers { (0 < readers) × (readers ≤ 64) }
         ensures published_log { IfOk result (λ r. r.0 ≡ []) }
-        ensures readers { IfOk result (λ r. r.1.items ≡ fresh_passes readers) }
+        ensures readers { IfOk result (λ r. r.1.items ≡ fresh_readers readers) }
     {
         let HistoryStart { vertices, room } = start;
         let (book, history_prefix) = opening.named::<J>();
@@ -269,7 +269,7 @@ fn fresh_readers<J: Naming, R: Wait + Drop>(
     requires first { first.now ≡ [] }
     requires book { (publisher.old.book ≡ J.book) × (publisher.old.base ≡ opened J.vertices J.room) }
     ensures same { publisher.new ≡ publisher.old }
-    ensures fresh { IfOk result (λ v. v.items ≡ fresh_passes readers) }
+    ensures fresh { IfOk result (λ v. v.items ≡ fresh_readers readers) }
 {
     let mut passes = Vec::with_capacity(alloc, readers)?;
     for number in 0..readers {

@@ -7,7 +7,7 @@ ghost use Rattle.left_right.specs.Sides.{view as view_of};
 ghost use Rattle.version_list.specs.Machine.{opened};
 ghost use Rattle.version_list.specs.Timeline.{IsLegal};
 ghost use Rattle.shared_graph.specs.Histories.{steps_of, own, state_at, IsNewest};
-ghost use Rattle.shared_graph.specs.Passes.{fresh, Shows};
+ghost use Rattle.shared_graph.specs.Histories.{fresh_reader, Shows};
 ghost use Rattle.shared_graph.specs.inside.Publishing.{Knows};
 
 use crate::error::LatestError;
@@ -48,10 +48,10 @@ impl<J: Naming> Model for Reader<J> {
     ghost use Rattle.left_right.specs.Sides.{view as view_of};
     ghost use Rattle.version_list.specs.Machine.{opened};
     ghost use Rattle.shared_graph.specs.Histories.{own};
-    ghost use Rattle.shared_graph.specs.Passes.{Pass};
+    ghost use Rattle.shared_graph.specs.Histories.{ReaderState};
     ghost use Rattle.shared_graph.specs.inside.Publishing.{Knows};
 
-    ghost Value = { Pass };
+    ghost Value = { ReaderState };
 
     ghost view = { λ r. record { number = r.number; shown = r.history_prefix; last = r.last } };
 
@@ -64,7 +64,7 @@ impl<J: Naming> Reader<J> {
     pub(crate) fn new(number: u64, read: ShownReader, first: &HistoryPrefix<J>) -> Reader<J>
         requires first { first.now ≡ [] }
         requires read { Knows J.book (opened J.vertices J.room) (view_of read.place) }
-        ensures { result ≡ fresh number }
+        ensures { result ≡ fresh_reader number }
     {
         Reader {
             number,

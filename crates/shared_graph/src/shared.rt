@@ -8,7 +8,7 @@ ghost use Rattle.version_list.specs.Timeline.{beginning};
 ghost use Rattle.shared_graph.specs.Histories.{state_at};
 ghost use Rattle.shared_graph.specs.Holding.{HoldsVersion};
 ghost use Rattle.shared_graph.specs.Outcome.{Answers, AnswersRelease, Opens};
-ghost use Rattle.shared_graph.specs.Passes.{fresh_passes};
+ghost use Rattle.shared_graph.specs.Histories.{fresh_readers};
 
 use crate::book::Opening;
 use crate::error::SharedError;
@@ -199,7 +199,7 @@ fn versions_for(
     readers: usize,
     room: u64,
 ) -> Result<Versions, SharedError>
-    ensures opens { Opens vertices chunk_size readers (λ _. fresh_passes readers) result }
+    ensures opens { Opens vertices chunk_size readers (λ _. fresh_readers readers) result }
     ensures versions { IfOk result (λ v. v ≡ beginning (opened vertices room)) }
     ensures readers { IfOk result (λ _. (0 < readers) × (readers ≤ 64)) }
 {

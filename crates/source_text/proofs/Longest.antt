@@ -10,7 +10,7 @@ use Rattle.lexer.specs.declared.symbol.Symbol.{Symbol}
 use Rattle.lexer.specs.declared.symbol.Symbol.TheVariants as symbol
 use Rattle.lexer.specs.declared.token.TokenKind.{TokenKind}
 use Rattle.lexer.specs.declared.token.TokenKind.TheVariants as kind
-use Rattle.lexer.specs.Bytes.{is_white, is_word_byte}
+use Rattle.lexer.specs.Spelling.{is_white, is_word_byte}
 use Rattle.lexer.specs.inside.Runs.{EndsRun}
 use Rattle.lexer.specs.Spelling.{keyword_spelling, symbol_spelling}
 use Rattle.lexer.specs.Tokens.{IsWord, Lexeme, IsLongest}

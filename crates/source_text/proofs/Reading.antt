@@ -5,7 +5,7 @@ use Rattle.lexer.specs.declared.keyword.Keyword.{Keyword}
 use Rattle.lexer.specs.declared.keyword.Keyword.TheVariants as keyword
 use Rattle.lexer.specs.declared.symbol.Symbol.{Symbol}
 use Rattle.lexer.specs.declared.symbol.Symbol.TheVariants as symbol
-use Rattle.lexer.specs.Bytes.{is_white}
+use Rattle.lexer.specs.Spelling.{is_white}
 use Rattle.lexer.specs.inside.Runs.{EndsRun}
 use Rattle.lexer.specs.Tokens.{White, Lexeme, Piece, IsSmall, AreSmall, AreLongest, IsReadUpTo, bytes_of, tokens_from, slice_of}
 use Rattle.lexer.proofs.LongestLaws.{white_longest}

@@ -1,6 +1,6 @@
 //! Expressions, one function for each level of the grammar.
 ghost use Rattle.std.specs.Prelude.{◌++◌, ◌∷◌, OnOk};
-ghost use Rattle.syntax.specs.ExpressionTrees.{Size};
+ghost use Rattle.syntax.specs.SourceTrees.{Size};
 ghost use Rattle.syntax.specs.inside.ExpressionViews.{comparison_of, conjunction_of, sum_of, term_of};
 ghost use Rattle.syntax.specs.ExpressionViews.{primary_of, unary_of};
 ghost use Rattle.syntax.specs.ExpressionSpelling.{addition_terminal, comparison_terminals, conjunction_terminals, expression_terminals, multiplication_terminal};

@@ -2,7 +2,8 @@
 use Rattle.std.proofs.Common.{◌≡◌, refl, ◌∙◌, ap, arith, List, [], ◌∷◌, ◌++◌, Option, Some, None, ℕ, zero, suc, ◌<◌, ◌≤◌, ◌+◌, length}
 use Rattle.lexer.specs.declared.symbol.Symbol.TheVariants as symbol
 use Rattle.syntax.specs.Terminals.{Terminal, Text, Opening, OfSymbol}
-use Rattle.syntax.specs.ExpressionReading.{◌>>=◌, links_by, linked}
+use Rattle.syntax.specs.Nesting.{◌>>=◌}
+use Rattle.syntax.specs.ExpressionReading.{links_by, linked}
 use Rattle.syntax.specs.declared.declaration.DeclaredType.{DeclaredType}
 use Rattle.syntax.specs.declared.declaration.DeclaredType.TheVariants as type
 use Rattle.apply_options.specs.declared.setting.Setting.{Setting}

@@ -3,7 +3,7 @@ use Rattle.std.proofs.Common.{◌≡◌, refl, sym, ◌∙◌, ℕ, zero, suc, �
 use Rattle.std.proofs.lemmas.List.{append-nil}
 use Rattle.std.proofs.lemmas.Option.{some_pair_parts}
 use Rattle.syntax.specs.Terminals.{Terminal}
-use Rattle.syntax.specs.ExpressionTrees.{ExpressionTree}
+use Rattle.syntax.specs.SourceTrees.{ExpressionTree}
 use Rattle.syntax.specs.ExpressionSpelling.{expression_terminals}
 use Rattle.syntax.specs.ExpressionDepth.{expression_depth}
 use Rattle.syntax.specs.ExpressionEnds.{EndsExpression}

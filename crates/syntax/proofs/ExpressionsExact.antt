@@ -1,7 +1,8 @@
 -- What a reader of a chain reads, from what the reader of its items reads.
 use Rattle.std.proofs.Common.{◌≡◌, refl, ◌∙◌, ap, ℕ, zero, suc, ◌<◌, ◌≤◌, arith, length, List, [], ◌∷◌, Option, Some, None}
 use Rattle.syntax.specs.Terminals.{Terminal}
-use Rattle.syntax.specs.ExpressionReading.{◌>>=◌, Reader, links_by, linked, chain_by}
+use Rattle.syntax.specs.Nesting.{◌>>=◌}
+use Rattle.syntax.specs.ExpressionReading.{Reader, links_by, linked, chain_by}
 
 -- what a reader answers is so
 abbrev pub At : {A : Type 0} → (List Terminal → A → List Terminal → Type 0) → List Terminal → Option (A × List Terminal) → Type 0

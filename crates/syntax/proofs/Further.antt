@@ -7,7 +7,7 @@ use Rattle.syntax.specs.declared.operators.Addition.{Addition}
 use Rattle.syntax.specs.declared.operators.Multiplication.{Multiplication}
 use Rattle.syntax.specs.declared.operators.Relation.{Relation}
 use Rattle.syntax.specs.Terminals.{Terminal, OfKeyword, OfSymbol, Identifier}
-use Rattle.syntax.specs.ExpressionTrees.{ExpressionTree, ConjunctionTree, ComparisonTree, SumTree, TermTree, UnaryTree, PrimaryTree, LastConjunction, ConjunctionThen, LastComparison, ComparisonThen, OneSum, TwoSums, LastTerm, TermThen, LastUnary, UnaryThen, Bare, Signed, Literal, Truth, Variable, Entry, Size, Parentheses}
+use Rattle.syntax.specs.SourceTrees.{ExpressionTree, ConjunctionTree, ComparisonTree, SumTree, TermTree, UnaryTree, PrimaryTree, LastConjunction, ConjunctionThen, LastComparison, ComparisonThen, OneSum, TwoSums, LastTerm, TermThen, LastUnary, UnaryThen, Bare, Signed, Literal, Truth, Variable, Entry, Size, Parentheses}
 use Rattle.syntax.specs.ExpressionSpelling.{addition_terminal, multiplication_terminal, relation_terminal, prefix_terminal, expression_terminals, conjunction_terminals, comparison_terminals, sum_terminals, term_terminals, unary_terminals, primary_terminals}
 use Rattle.syntax.specs.ExpressionEnds.{EndsExpression, EndsConjunction, EndsComparison, EndsSum, EndsTerm, EndsUnary, EndsPrimary}
 use Rattle.syntax.specs.ExpressionReading.{addition, multiplication, relation, after_or, after_and, after_open_bracket, after_dot}

@@ -3,9 +3,10 @@ use Rattle.std.proofs.Common.{◌≡◌, refl, sym, ◌∙◌, ap, subst, map, �
 use Rattle.std.proofs.lemmas.List.{append_assoc, append-nil, map-append}
 use Rattle.syntax.specs.declared.operators.Prefix.{Prefix}
 use Rattle.syntax.specs.Terminals.{Terminal}
-use Rattle.syntax.specs.ExpressionTrees.{UnaryTree, PrimaryTree, Bare, Signed}
+use Rattle.syntax.specs.SourceTrees.{UnaryTree, PrimaryTree, Bare, Signed}
 use Rattle.syntax.specs.ExpressionViews.{behind}
-use Rattle.syntax.specs.ExpressionReading.{◌>>=◌, Reader, links_by, linked, chain_by, operand_by, behind_by, signs_by, signed_by, prefix}
+use Rattle.syntax.specs.Nesting.{◌>>=◌}
+use Rattle.syntax.specs.ExpressionReading.{Reader, links_by, linked, chain_by, operand_by, behind_by, signs_by, signed_by, prefix}
 
 module _ {L : Type 0} where
   -- what was read before, and then what was read after

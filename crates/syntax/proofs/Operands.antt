@@ -6,12 +6,13 @@ use Rattle.lexer.specs.declared.keyword.Keyword.TheVariants as keyword
 use Rattle.lexer.specs.declared.symbol.Symbol.TheVariants as symbol
 use Rattle.syntax.specs.declared.operators.Prefix.{Prefix}
 use Rattle.syntax.specs.Terminals.{Terminal, Name, Number, OfKeyword, OfSymbol, Identifier}
-use Rattle.syntax.specs.ExpressionTrees.{ExpressionTree, UnaryTree, PrimaryTree, Bare, Signed, Literal, Truth, Variable, Entry, Size, Parentheses}
+use Rattle.syntax.specs.SourceTrees.{ExpressionTree, UnaryTree, PrimaryTree, Bare, Signed, Literal, Truth, Variable, Entry, Size, Parentheses}
 use Rattle.syntax.specs.ExpressionSpelling.{prefix_terminal, expression_terminals, unary_terminals, primary_terminals}
 use Rattle.syntax.specs.ExpressionDepth.{expression_depth, primary_depth}
 use Rattle.syntax.specs.ExpressionEnds.{EndsExpression, EndsPrimary}
 use Rattle.syntax.specs.ExpressionBeginnings.{IsReading}
-use Rattle.syntax.specs.ExpressionReading.{◌>>=◌, Reader, prefix, truth_of, after_open_bracket, after_close_bracket, after_open_parenthesis, after_close_parenthesis, after_dot, after_size, after_size_call, named_by, primary_by, signs_by, signed_by, unary_by}
+use Rattle.syntax.specs.Nesting.{◌>>=◌}
+use Rattle.syntax.specs.ExpressionReading.{Reader, prefix, truth_of, after_open_bracket, after_close_bracket, after_open_parenthesis, after_close_parenthesis, after_dot, after_size, after_size_call, named_by, primary_by, signs_by, signed_by, unary_by}
 use Rattle.syntax.proofs.FirstTerminals.{FrontAt, TerminalAt, prefix_at, prefix_found, bracket_ends, parenthesis_ends}
 use Rattle.syntax.proofs.ExpressionsExact.{At, Sound, Complete, then_at}
 use Rattle.syntax.proofs.Levels.{UnaryIs}

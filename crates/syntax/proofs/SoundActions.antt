@@ -3,7 +3,7 @@ use Rattle.std.proofs.Common.{◌≡◌, refl, ◌∙◌, ap, Bool, true, false,
 use Rattle.lexer.specs.declared.keyword.Keyword.TheVariants as keyword
 use Rattle.lexer.specs.declared.symbol.Symbol.TheVariants as symbol
 use Rattle.syntax.specs.Terminals.{Terminal, Identifier, Name, Number, Label, Opening, OfKeyword, OfSymbol}
-use Rattle.syntax.specs.ExpressionTrees.{ExpressionTree}
+use Rattle.syntax.specs.SourceTrees.{ExpressionTree}
 use Rattle.syntax.specs.ExpressionReading.{Reader}
 use Rattle.syntax.specs.ExpressionSpelling.{expression_terminals}
 use Rattle.apply_options.specs.declared.reduction.Reduction.TheVariants as reduction

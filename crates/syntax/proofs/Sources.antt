@@ -3,8 +3,8 @@ use Rattle.std.proofs.Common.{◌≡◌, refl, ◌∙◌, ap, arith, false, List
 use Rattle.lexer.specs.declared.keyword.Keyword.TheVariants as keyword
 use Rattle.lexer.specs.declared.symbol.Symbol.TheVariants as symbol
 use Rattle.syntax.specs.Terminals.{Terminal, OfKeyword, OfSymbol}
-use Rattle.syntax.specs.ExpressionTrees.{ExpressionTree}
-use Rattle.syntax.specs.ExpressionReading.{◌>>=◌}
+use Rattle.syntax.specs.SourceTrees.{ExpressionTree}
+use Rattle.syntax.specs.Nesting.{◌>>=◌}
 use Rattle.syntax.specs.ExpressionSpelling.{expression_terminals}
 use Rattle.syntax.specs.SourceTrees.{ParameterTree, Declare, BlockTree, Empty, Then, DeclarationTree, Constant, Function, ChainTree, SourceTree}
 use Rattle.syntax.specs.SourceSpelling.{assigned_before, block_before, result_before, declaration_before, chain_before, schedule_before, source_terminals}

@@ -3,7 +3,6 @@ pub mod ExpressionDepth
 pub mod ExpressionEnds
 pub mod ExpressionReading
 pub mod ExpressionSpelling
-pub mod ExpressionTrees
 pub mod ExpressionViews
 pub mod Nesting
 pub mod Offsets

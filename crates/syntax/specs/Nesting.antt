@@ -1,5 +1,5 @@
 -- How deep terminals stand in what is opened and not closed yet.
-use Rattle.std.specs.Prelude.{◌≡◌, ℕ, zero, suc, ◌<◌, ◌≤◌, List, ◌∷◌, ◌⊎◌}
+use Rattle.std.specs.Prelude.{◌≡◌, ℕ, zero, suc, ◌<◌, ◌≤◌, List, ◌∷◌, ◌⊎◌, Option, Some, None}
 use Rattle.lexer.specs.declared.keyword.Keyword.{Keyword}
 use Rattle.lexer.specs.declared.symbol.Symbol.{Symbol}
 use Rattle.lexer.specs.declared.token.Token.{Token}
@@ -60,3 +60,8 @@ PassesAt text n [] at = ⊥
 PassesAt text n (token ∷ tokens) at =
     let behind = nesting_behind (terminal_of token.kind (slice_of text token.span) token.span.start) n in
     ((limit < behind) × (at ≡ token.span.start)) ⊎ ((behind ≤ limit) × PassesAt text behind tokens at)
+
+infixl 10 ◌>>=◌
+abbrev pub ◌>>=◌ : {A B : Type 0} → Option A → (A → Option B) → Option B
+None >>= f = None
+(Some x) >>= f = f x

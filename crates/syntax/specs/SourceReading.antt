@@ -6,8 +6,9 @@ use Rattle.lexer.specs.declared.keyword.Keyword.TheVariants as keyword
 use Rattle.lexer.specs.declared.symbol.Symbol.TheVariants as symbol
 use Rattle.lexer.specs.Spelling.{keyword_spelling, symbol_spelling}
 use Rattle.syntax.specs.Terminals.{Terminal, Identifier, Name, Number, Label, Text, Opening, OfKeyword, OfSymbol}
-use Rattle.syntax.specs.ExpressionTrees.{ExpressionTree}
-use Rattle.syntax.specs.ExpressionReading.{Reader, ◌>>=◌, links_by, behind_by, expression_at}
+use Rattle.syntax.specs.SourceTrees.{ExpressionTree}
+use Rattle.syntax.specs.ExpressionReading.{Reader, links_by, behind_by, expression_at}
+use Rattle.syntax.specs.Nesting.{◌>>=◌}
 use Rattle.syntax.specs.declared.declaration.DeclaredType.{DeclaredType}
 use Rattle.syntax.specs.declared.declaration.DeclaredType.TheVariants as type
 use Rattle.apply_options.specs.declared.setting.Setting.{Setting}

@@ -1,10 +1,14 @@
 -- The trees of a source, one constructor for each rule of the grammar. Offsets of first tokens stand where no name tells them.
-use Rattle.std.specs.Prelude.{ℕ, ℤ, List, Option}
-use Rattle.syntax.specs.Terminals.{Identifier}
-use Rattle.syntax.specs.ExpressionTrees.{ExpressionTree}
-use Rattle.syntax.specs.declared.declaration.DeclaredType.{DeclaredType}
+use Rattle.std.specs.Prelude.{ℕ, ℤ, List, Option, Bool}
 use Rattle.apply_options.specs.declared.setting.Setting.{Setting}
 use Rattle.apply_options.specs.declared.reduction.Reduction.{Reduction}
+use Rattle.syntax.specs.Terminals.{Identifier}
+
+use Rattle.syntax.specs.declared.declaration.DeclaredType.{DeclaredType}
+use Rattle.syntax.specs.declared.operators.Addition.{Addition}
+use Rattle.syntax.specs.declared.operators.Multiplication.{Multiplication}
+use Rattle.syntax.specs.declared.operators.Prefix.{Prefix}
+use Rattle.syntax.specs.declared.operators.Relation.{Relation}
 
 -- a name and its type: a parameter of a function or its result, or what is declared
 pub record ParameterTree : Type 0 where
@@ -67,3 +71,42 @@ pub record ChainTree : Type 0 where
 pub record SourceTree : Type 0 where
   pub declarations : List DeclarationTree
   pub schedule : Option (List ChainTree)
+
+mutual
+  -- conjunctions with `or` between them
+  pub data ExpressionTree : Type 0 where
+    LastConjunction : ConjunctionTree → ExpressionTree
+    ConjunctionThen : ConjunctionTree → ExpressionTree → ExpressionTree
+
+  -- comparisons with `and` between them
+  pub data ConjunctionTree : Type 0 where
+    LastComparison : ComparisonTree → ConjunctionTree
+    ComparisonThen : ComparisonTree → ConjunctionTree → ConjunctionTree
+
+  -- one sum, or two with a relation between them
+  pub data ComparisonTree : Type 0 where
+    OneSum : SumTree → ComparisonTree
+    TwoSums : SumTree → Relation → SumTree → ComparisonTree
+
+  -- terms with `+` and `-` between them
+  pub data SumTree : Type 0 where
+    LastTerm : TermTree → SumTree
+    TermThen : TermTree → Addition → SumTree → SumTree
+
+  -- operands with `*`, `/` and `%` between them
+  pub data TermTree : Type 0 where
+    LastUnary : UnaryTree → TermTree
+    UnaryThen : UnaryTree → Multiplication → TermTree → TermTree
+
+  -- a primary after any number of `-` and `not`
+  pub data UnaryTree : Type 0 where
+    Bare : PrimaryTree → UnaryTree
+    Signed : Prefix → UnaryTree → UnaryTree
+
+  pub data PrimaryTree : Type 0 where
+    Literal : ℤ → PrimaryTree
+    Truth : Bool → PrimaryTree
+    Variable : Identifier → PrimaryTree
+    Entry : Identifier → ExpressionTree → PrimaryTree
+    Size : Identifier → PrimaryTree
+    Parentheses : ExpressionTree → PrimaryTree

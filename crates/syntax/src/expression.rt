@@ -20,7 +20,7 @@ impl Drop for Expression {
 
 impl Model for Expression {
     ghost use Rattle.std.specs.Prelude.{map};
-    ghost use Rattle.syntax.specs.ExpressionTrees.{ExpressionTree};
+    ghost use Rattle.syntax.specs.SourceTrees.{ExpressionTree};
     ghost use Rattle.syntax.specs.inside.ExpressionCodes.{coded_expression};
     ghost use Rattle.syntax.specs.ExpressionDepth.{expression_depth};
 

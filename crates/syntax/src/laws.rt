@@ -1,7 +1,7 @@
 //! Laws of the grammar. The calls do nothing.
 ghost use Rattle.std.specs.Prelude.{◌≡◌, ℕ, List, [], ◌∷◌, ◌++◌, Some};
 ghost use Rattle.syntax.specs.Terminals.{Terminal};
-ghost use Rattle.syntax.specs.ExpressionTrees.{ExpressionTree};
+ghost use Rattle.syntax.specs.SourceTrees.{ExpressionTree};
 ghost use Rattle.syntax.specs.ExpressionSpelling.{expression_terminals};
 ghost use Rattle.syntax.specs.ExpressionEnds.{EndsExpression, IsEnd};
 ghost use Rattle.syntax.specs.ExpressionBeginnings.{Begins};

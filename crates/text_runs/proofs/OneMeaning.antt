@@ -2,7 +2,7 @@
 use Rattle.std.proofs.Common.{◌≡◌, ℕ, List, length, Ok, sym, ap, ◌∙◌}
 use Rattle.typed_tree.specs.ProgramTree.{ProgramTree}
 use Rattle.algorithm_meaning.specs.declared.outcome.Outcome.{Outcome}
-use Rattle.algorithm_meaning.specs.Shown.{meaning}
+use Rattle.algorithm_meaning.specs.Meaning.{meaning}
 use Rattle.flat_snapshot.specs.Digraph.{Digraph}
 use Rattle.run_state.specs.State.{graph_value}
 use Rattle.parser.specs.SourceTrees.{SourceTree}
@@ -10,7 +10,7 @@ use Rattle.parser.specs.Outcome.{IsSource}
 use Rattle.parser.proofs.AnswerLaws.{one_answer}
 use Rattle.types.specs.Program.{program_of as checked}
 use Rattle.plans.specs.declared.plan.Plan.{Plan}
-use Rattle.plans.specs.PlanOf.{program_of}
+use Rattle.plans.specs.Plan.{program_of}
 use Rattle.compiler.specs.Outcome.{IsPlanOfText, IsTyped}
 use Rattle.compiler.specs.inside.Outcome.{is_compiled}
 use Rattle.snapshot_runs.specs.Outcome.{IsOutcomeOn}

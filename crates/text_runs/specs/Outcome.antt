@@ -2,11 +2,11 @@
 use Rattle.std.specs.Prelude.{◌≡◌, ℕ, List}
 use Rattle.typed_tree.specs.ProgramTree.{ProgramTree}
 use Rattle.algorithm_meaning.specs.declared.outcome.Outcome.{Outcome}
-use Rattle.algorithm_meaning.specs.Shown.{meaning}
+use Rattle.algorithm_meaning.specs.Meaning.{meaning}
 use Rattle.flat_snapshot.specs.Digraph.{Digraph}
 use Rattle.run_state.specs.State.{graph_value}
 use Rattle.version_list.specs.Machine.{State}
-use Rattle.shared_graph.specs.Passes.{Pass}
+use Rattle.shared_graph.specs.Histories.{ReaderState}
 use Rattle.snapshot_runs.specs.Outcome.{Leaves}
 use Rattle.plans.specs.declared.plan.Plan.{Plan}
 use Rattle.compiler.specs.Outcome.{IsPlanOfText, IsProgram}
@@ -25,6 +25,6 @@ pub record HasPlan (text : List ℕ) : Type 0 where
   pub of : IsPlanOfText text plan
 
 -- the reader is as it was where the text was not compiled, else as the refused run leaves it
-abbrev pub LeavesText : State → TextRunError → Pass → Pass → Type 0
+abbrev pub LeavesText : State → TextRunError → ReaderState → ReaderState → Type 0
 LeavesText base (NotCompiled why) old new = new ≡ old
 LeavesText base (NotRun why) old new = Leaves base why old new

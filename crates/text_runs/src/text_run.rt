@@ -4,7 +4,7 @@ ghost use Rattle.compiler.specs.declared.error.CompileError as why;
 ghost use Rattle.compiler.specs.Outcome.{Compiles};
 ghost use Rattle.crew.specs.Outcome.{AreWorkers};
 ghost use Rattle.shared_graph.specs.Histories.{batches_of, fold_of};
-ghost use Rattle.shared_graph.specs.Passes.{Shows};
+ghost use Rattle.shared_graph.specs.Histories.{Shows};
 ghost use Rattle.snapshot_runs.specs.declared.error.LatestRunError as run;
 ghost use Rattle.snapshot_runs.specs.declared.error.LatestRunError.TheVariants.{BadWorkers};
 ghost use Rattle.text_runs.specs.declared.error.TextRunError.TheVariants.{NotCompiled, NotRun};

@@ -3,7 +3,7 @@ use Rattle.std.proofs.Common.{◌≡◌, false, Result, Ok, Err, IsErr, IsErrAnd
 use Rattle.tree_batch.specs.declared.error.GraphError.{GraphError}
 use Rattle.tree_batch.specs.declared.error.GraphError.TheVariants.{VertexRange, BadChunkSize, NoMemory}
 use Rattle.tree_batch.specs.declared.batch.Entry.{Entry}
-use Rattle.tree_batch.specs.Entry.{misfits}
+use Rattle.tree_batch.specs.Edge.{misfits}
 use Rattle.tree_batch.specs.Digraph.{Digraph}
 use Rattle.tree_batch.specs.Outcome.{Applies}
 

@@ -16,7 +16,7 @@ use Rattle.weighted_updates.specs.WeightedUpdates.{weight_said, decided_weight, 
 use Rattle.tree_batch.specs.declared.batch.Entry.{Entry}
 use Rattle.tree_batch.specs.declared.batch.Entry.TheVariants.{Add, Remove, Grow}
 use Rattle.tree_batch.specs.Edge.{Ends}
-use Rattle.tree_batch.specs.Entry.{has_weight}
+use Rattle.tree_batch.specs.Edge.{has_weight}
 use Rattle.tree_batch.specs.inside.Entry.{IsUpdateOf}
 
 is_one_is : (w : ℤ) → is_one w ≡ true → w ≡ pos 1

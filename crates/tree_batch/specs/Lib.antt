@@ -1,5 +1,4 @@
 pub mod Edge
-pub mod Entry
 pub mod Digraph
 pub mod Neighbours
 pub mod VertexBlocks

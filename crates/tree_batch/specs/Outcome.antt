@@ -3,7 +3,7 @@ use Rattle.std.specs.Prelude.{◌≡◌, ℕ, true, false, Result, Ok, Err, List
 use Rattle.tree_batch.specs.declared.error.GraphError.{GraphError}
 use Rattle.tree_batch.specs.declared.error.GraphError.TheVariants.{VertexRange, BadChunkSize, NoMemory}
 use Rattle.tree_batch.specs.declared.batch.Entry.{Entry}
-use Rattle.tree_batch.specs.Entry.{misfits}
+use Rattle.tree_batch.specs.Edge.{misfits}
 use Rattle.tree_batch.specs.Digraph.{Digraph, empty_graph, graph_after, is_vertex_count, is_chunk_size}
 
 -- a graph of n vertices in chunks of b without edges, or the first refusal

@@ -3,7 +3,7 @@
 ghost use Rattle.std.specs.Prelude.{◌≡◌, ◌++◌, [], ◌∷◌, IfErr, OnOk, OnErr};
 ghost use Rattle.std.specs.List.{list_any};
 ghost use Rattle.tree_batch.specs.declared.error.GraphError.TheVariants.{NoMemory};
-ghost use Rattle.tree_batch.specs.Entry.{count_asked, entry_misfits, has_weight, misfits, named_by, vertices_after};
+ghost use Rattle.tree_batch.specs.Edge.{count_asked, entry_misfits, has_weight, misfits, named_by, vertices_after};
 
 use crate::error::GraphError;
 use crate::graph::MAX_VERTICES;
@@ -82,7 +82,7 @@ impl Model for Batch {
     ghost use Rattle.std.specs.Prelude.{◌≡◌, List};
     ghost use Rattle.tree_batch.specs.declared.batch.Entry.{Entry};
     ghost use Rattle.std.specs.List.{list_any};
-    ghost use Rattle.tree_batch.specs.Entry.{has_weight, most_asked};
+    ghost use Rattle.tree_batch.specs.Edge.{has_weight, most_asked};
 
     ghost Value = { List Entry };
 

@@ -3,8 +3,8 @@ use Rattle.std.proofs.Common.{inl, inr, subst, ℕ, Bool, true, false, if◌then
 use Rattle.std.specs.Prelude.{map}
 use Rattle.std.specs.List.{AllByRecursion, Contains}
 use Rattle.syntax.specs.Terminals.{Identifier}
-use Rattle.syntax.specs.ExpressionTrees as tree
-use Rattle.syntax.specs.ExpressionTrees.{ExpressionTree, ConjunctionTree, ComparisonTree, SumTree, TermTree, UnaryTree, PrimaryTree}
+use Rattle.syntax.specs.SourceTrees as tree
+use Rattle.syntax.specs.SourceTrees.{ExpressionTree, ConjunctionTree, ComparisonTree, SumTree, TermTree, UnaryTree, PrimaryTree}
 use Rattle.syntax.specs.SourceTrees as source
 use Rattle.syntax.specs.SourceTrees.{StatementKindTree, BlockTree, DeclarationTree, EndsTree, InitialTree, ParameterTree, SourceTree}
 use Rattle.typed_tree.specs.declared.expression.Endpoint.{Endpoint}

@@ -2,7 +2,7 @@
 use Rattle.std.proofs.Common.{◌≡◌, refl, sym, subst, ap, arith, ℕ, suc, Bool, true, false, ◌&&◌, if◌then◌else◌, List, [], ◌∷◌, ◌++◌, Option, Some, None, inl, inr}
 use Rattle.std.specs.List.{AllByRecursion, Contains}
 use Rattle.syntax.specs.Terminals.{Identifier}
-use Rattle.syntax.specs.ExpressionTrees.{ExpressionTree}
+use Rattle.syntax.specs.SourceTrees.{ExpressionTree}
 use Rattle.syntax.specs.SourceTrees as source
 use Rattle.syntax.specs.SourceTrees.{InitialTree, ParameterTree, DeclarationTree, SourceTree}
 use Rattle.typed_tree.specs.declared.expression.Endpoint.{Endpoint}
@@ -15,7 +15,7 @@ use Rattle.expression_types.specs.declared.scope.Entity.TheVariants as entity
 use Rattle.expression_types.specs.declared.scope.Inside.{Inside}
 use Rattle.expression_types.specs.declared.scope.Inside.TheVariants as inside
 use Rattle.expression_types.specs.Expression.{index_lacks_value, index_value, no_vertex, used, value_of, vector_index}
-use Rattle.expression_types.specs.WithFaults.{WithFaults, fault_at, sure}
+use Rattle.expression_types.specs.Faults.{WithFaults, fault_at, sure}
 use Rattle.expression_types.specs.Operators.{entry_value, function_entry, main_entry}
 use Rattle.expression_types.specs.ScopeTree.{ScopeTree}
 use Rattle.expression_types.specs.ValueTree.{ValueTree, Integer, Condition, Vertex, Set, ErrorValue, condition_reads_entry, reads_entry}
@@ -27,7 +27,7 @@ use Rattle.types.specs.Initial.{initializer_of}
 use Rattle.types.specs.Program.{opening, program_of, set_count}
 use Rattle.types.specs.Statement.{add_vertex, assign, print, reduce, reduce_entry, set_entry}
 use Rattle.types.specs.Step.{assign_step, at_own, may_reduce, may_set, own_vertex, reduce_step, same_endpoint, set_entry_step, step_behind, step_typed, steps_behind, steps_typed, written_at}
-use Rattle.types.specs.Wanted.{as_index, condition_in, integer_in, no_index}
+use Rattle.types.specs.Checker.{as_index, condition_in, integer_in, no_index}
 use Rattle.type_laws.proofs.Booleans.{both_true}
 use Rattle.type_laws.proofs.ClearValues.{IsClear, condition_index_is_error}
 use Rattle.type_laws.proofs.EachDeclaration.{each_declaration, main_is_declared, user_declared}

@@ -10,8 +10,8 @@ use Rattle.syntax.specs.declared.operators.Relation.TheVariants as relation
 use Rattle.syntax.specs.SourceTrees as source
 use Rattle.syntax.specs.SourceTrees.{InitialTree}
 use Rattle.syntax.specs.Terminals.{Identifier}
-use Rattle.syntax.specs.ExpressionTrees as tree
-use Rattle.syntax.specs.ExpressionTrees.{ExpressionTree, ConjunctionTree, ComparisonTree, SumTree, TermTree, UnaryTree, PrimaryTree}
+use Rattle.syntax.specs.SourceTrees as tree
+use Rattle.syntax.specs.SourceTrees.{ExpressionTree, ConjunctionTree, ComparisonTree, SumTree, TermTree, UnaryTree, PrimaryTree}
 use Rattle.typed_tree.specs.declared.expression.ComparisonOperator.{ComparisonOperator}
 use Rattle.typed_tree.specs.declared.expression.ComparisonOperator.TheVariants as comparison
 use Rattle.typed_tree.specs.declared.expression.Connective.{Connective}
@@ -27,7 +27,7 @@ use Rattle.expression_types.specs.Expression.{as_size, as_vector, comparison_val
 use Rattle.expression_types.specs.Operators.{ConditionsTree, Conditions, MixedConditions, ErrorConditions, IntegersTree, Integers, MixedIntegers, ErrorIntegers, added, beside_condition, beside_integer, compared_value, entry_value, equated_value, first_condition, first_integer, given, grouped_conditions, grouped_integers, multiplied, related_value, signed_value}
 use Rattle.expression_types.specs.ScopeTree.{ScopeTree}
 use Rattle.expression_types.specs.ValueTree.{ValueTree, Integer, Condition, Vertex, Set, ErrorValue, is_error, named_value}
-use Rattle.expression_types.specs.WithFaults.{WithFaults, sure}
+use Rattle.expression_types.specs.Faults.{WithFaults, sure}
 use Rattle.types.specs.Checker.{CheckerTree}
 use Rattle.types.specs.Initial.{ErrorInitializer, InitializerTree, end_of, filter_named, initializer_of, is_error_end, is_sound, names_error}
 use Rattle.type_laws.specs.SourceParts.{initial_forms, name_before}

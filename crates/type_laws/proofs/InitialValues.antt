@@ -16,7 +16,7 @@ use Rattle.type_laws.specs.InitialValues.{ActionInitialsFit, BlockInitialsFit, D
 use Rattle.types.specs.Program.{opening, program_of, set_count}
 use Rattle.types.specs.Statement.{assign}
 use Rattle.types.specs.Step.{assign_step, step_behind, step_typed, steps_behind, steps_typed}
-use Rattle.types.specs.Wanted.{condition_in, integer_in}
+use Rattle.types.specs.Checker.{condition_in, integer_in}
 use Rattle.type_laws.proofs.EachDeclaration.{each_declaration}
 use Rattle.type_laws.proofs.Faultless.{no_left, no_right, not_empty}
 

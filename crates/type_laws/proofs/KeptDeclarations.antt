@@ -3,8 +3,8 @@ use Rattle.std.proofs.Common.{◌≡◌, refl, sym, subst, ap, ◌∙◌, arith,
 use Rattle.std.specs.Prelude.{IsSome, is_some}
 use Rattle.syntax.specs.Terminals.{Identifier}
 use Rattle.syntax.specs.declared.operators.Prefix.TheVariants as prefix
-use Rattle.syntax.specs.ExpressionTrees as tree
-use Rattle.syntax.specs.ExpressionTrees.{ExpressionTree, PrimaryTree, UnaryTree}
+use Rattle.syntax.specs.SourceTrees as tree
+use Rattle.syntax.specs.SourceTrees.{ExpressionTree, PrimaryTree, UnaryTree}
 use Rattle.syntax.specs.SourceTrees as source
 use Rattle.syntax.specs.SourceTrees.{DeclarationTree, InitialTree, ParameterTree, SourceTree}
 use Rattle.syntax.specs.declared.declaration.DeclaredType.{DeclaredType}
@@ -15,7 +15,7 @@ use Rattle.expression_types.specs.declared.scope.Entity.TheVariants as entity
 use Rattle.expression_types.specs.declared.scope.Inside.TheVariants as inside
 use Rattle.expression_types.specs.Expression.{primary_value, unary_value, used, value_of}
 use Rattle.expression_types.specs.ScopeTree.{ScopeTree}
-use Rattle.expression_types.specs.WithFaults.{WithFaults, sure}
+use Rattle.expression_types.specs.Faults.{WithFaults, sure}
 use Rattle.typed_tree.specs.declared.program.InitialValue.TheVariants as beginning
 use Rattle.types.specs.Checker.{CheckerTree, declared_in}
 use Rattle.types.specs.Declaration.{DeclaredTree, begins, declare_constant_as, declare_name, literal_or_fault, next_name, only_edges, declare_edges}

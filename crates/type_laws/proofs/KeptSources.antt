@@ -17,7 +17,7 @@ use Rattle.expression_types.specs.declared.scope.Entity.TheVariants as entity
 use Rattle.expression_types.specs.declared.scope.Inside.{Inside}
 use Rattle.expression_types.specs.declared.scope.Inside.TheVariants as inside
 use Rattle.expression_types.specs.ScopeTree.{entered}
-use Rattle.expression_types.specs.WithFaults.{WithFaults}
+use Rattle.expression_types.specs.Faults.{WithFaults}
 use Rattle.types.specs.Block.{statements_typed}
 use Rattle.types.specs.Checker.{CheckerTree, condition_slot, declared_in, restarted, with_scope}
 use Rattle.types.specs.Declaration.{DeclaredTree, EdgeKind, FilterKind, MainKind, NoKind, VertexKind, declaration_typed, declarations_typed, declare_function, declare_name, is_bool, is_vertex, kind_of, main_bytes, main_declared, opened, parameter, steps_declared, takes_nothing, is_int}

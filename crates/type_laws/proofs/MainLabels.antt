@@ -13,8 +13,8 @@ use Rattle.typed_tree.specs.BlockTree.{StatementKindTree, BlockTree, Empty, Then
 use Rattle.expression_types.specs.declared.scope.Entity.{Entity}
 use Rattle.expression_types.specs.declared.scope.Entity.TheVariants as entity
 use Rattle.expression_types.specs.Expression.{used, value_of, vector_index}
-use Rattle.expression_types.specs.Names.{found}
-use Rattle.expression_types.specs.WithFaults.{WithFaults}
+use Rattle.expression_types.specs.ScopeTree.{found}
+use Rattle.expression_types.specs.Faults.{WithFaults}
 use Rattle.expression_types.specs.ValueTree as value
 use Rattle.expression_types.specs.ValueTree.{ValueTree, named_set}
 use Rattle.types.specs.Block.{action_typed, behind, closed, statements_typed}
@@ -23,7 +23,7 @@ use Rattle.types.specs.Declaration.{DeclaredTree, FunctionKindTree, MainKind, Ed
 use Rattle.types.specs.Initial.{ApplyEndTree, InitializerTree, edge_function, end_of, initializer_of, is_edges, names_error, is_error_end, is_wrong, vertex_function, lacks_weights}
 use Rattle.types.specs.Program.{main_of, opening, program_of, set_count}
 use Rattle.types.specs.Statement.{add_vertex, added, applied, apply, assign, assigned, declare_as, edges_applied, entry_reduced, entry_set, has_ends, print, printed, reduce, reduce_entry, reduced, set_applied, set_entry, vertices_applied}
-use Rattle.types.specs.Wanted.{as_index, condition_in, integer_in}
+use Rattle.types.specs.Checker.{as_index, condition_in, integer_in}
 use Rattle.type_laws.specs.LabelIndices.{LabelsAreInOrder, inner_indices, label_indices, own_index}
 use Rattle.type_laws.specs.Numbers.{InOrder}
 use Rattle.type_laws.proofs.Faultless.{no_left, no_right, not_empty}

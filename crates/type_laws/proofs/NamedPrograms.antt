@@ -13,7 +13,7 @@ use Rattle.syntax.specs.SourceTrees as source
 use Rattle.syntax.specs.SourceTrees.{ParameterTree, InitialTree, DeclarationTree, SourceTree}
 use Rattle.typed_tree.specs.declared.expression.Endpoint.{Endpoint}
 use Rattle.typed_tree.specs.declared.expression.Endpoint.TheVariants as endpoint
-use Rattle.typed_tree.specs.Access.{function_writes}
+use Rattle.typed_tree.specs.Independence.{function_writes}
 use Rattle.typed_tree.specs.inside.Access.{steps_write, steps_write_where}
 use Rattle.typed_tree.specs.BlockTree.{StatementKindTree, BlockTree, Empty, Then, If, IfElse, While, For}
 use Rattle.typed_tree.specs.FunctionStatementTree.{FunctionTree, FunctionStatementsTree, NoStep}

@@ -13,8 +13,8 @@ use Rattle.typed_tree.specs.BlockTree.{StatementKindTree, BlockTree, Empty, Then
 use Rattle.expression_types.specs.declared.scope.Entity.{Entity}
 use Rattle.expression_types.specs.declared.scope.Entity.TheVariants as entity
 use Rattle.expression_types.specs.Expression.{used, value_of, vector_index}
-use Rattle.expression_types.specs.Names.{found}
-use Rattle.expression_types.specs.WithFaults.{WithFaults}
+use Rattle.expression_types.specs.ScopeTree.{found}
+use Rattle.expression_types.specs.Faults.{WithFaults}
 use Rattle.expression_types.specs.ValueTree as value
 use Rattle.expression_types.specs.ValueTree.{ValueTree, named_set}
 use Rattle.types.specs.Block.{action_typed, behind, statements_typed}
@@ -24,7 +24,7 @@ use Rattle.types.specs.Initial.{ApplyEndTree, InitializerTree, edge_function, en
 use Rattle.type_laws.specs.Numbers.{InOrder, inner_numbers, numbers}
 use Rattle.types.specs.Program.{main_of, opening, program_of, set_count}
 use Rattle.types.specs.Statement.{added, applied, assigned, declare_as, edges_applied, entry_reduced, entry_set, has_ends, printed, reduced, set_applied, vertices_applied}
-use Rattle.types.specs.Wanted.{as_index, integer_in}
+use Rattle.types.specs.Checker.{as_index, integer_in}
 
 -- numbers that go on after so many
 record Counts (from : ℕ) (ns : List ℕ) (to : ℕ) : Type 0 where

@@ -28,7 +28,7 @@ use Rattle.types.specs.Literal.{literal_condition, literal_integer}
 use Rattle.types.specs.Program.{main_of, opening, set_count}
 use Rattle.types.specs.Statement.{declare_as, has_ends}
 use Rattle.types.specs.Step.{declare_step_as, may_reduce, may_set, own_vertex, step_behind, step_typed, steps_typed, written_at}
-use Rattle.types.specs.Wanted.{as_index}
+use Rattle.types.specs.Checker.{as_index}
 use Rattle.type_laws.specs.BrokenRules.{begins_constant, declares_in_function, declares_in_main, is_edgeset, is_initial, is_kind}
 use Rattle.type_laws.specs.ExpressionParts as form
 use Rattle.type_laws.specs.ExpressionParts.{Form, any_faulty, faults_of_all, form_faults, parts}

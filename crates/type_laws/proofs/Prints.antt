@@ -10,7 +10,7 @@ use Rattle.types.specs.Declaration.{DeclaredTree, FunctionKindTree, declaration_
 use Rattle.type_laws.specs.Prints.{ActionPrintsNothing, BlockPrintsNothing, PrintsInMainAlone}
 use Rattle.types.specs.Program.{opening, program_of, set_count}
 use Rattle.types.specs.Step.{step_behind, step_typed, steps_behind, steps_typed}
-use Rattle.types.specs.Wanted.{condition_in}
+use Rattle.types.specs.Checker.{condition_in}
 use Rattle.type_laws.proofs.EachDeclaration.{each_declaration, user_declared}
 use Rattle.type_laws.proofs.Faultless.{no_left, no_right, not_empty}
 

@@ -19,7 +19,7 @@ use Rattle.expression_types.specs.declared.scope.Entity.TheVariants as entity
 use Rattle.expression_types.specs.declared.scope.Inside.{Inside}
 use Rattle.expression_types.specs.declared.scope.Inside.TheVariants as inside
 use Rattle.expression_types.specs.Expression.{used, value_of, vector_index}
-use Rattle.expression_types.specs.WithFaults.{WithFaults, fault_at, sure, ◌>>=◌}
+use Rattle.expression_types.specs.Faults.{WithFaults, fault_at, sure, ◌>>=◌}
 use Rattle.expression_types.specs.ValueTree.{ValueTree, Integer, Condition, Vertex, Set, ErrorValue, is_error, named_set}
 use Rattle.types.specs.Checker.{CheckerTree, condition_slot, integer_slot, labelled}
 use Rattle.types.specs.Declaration.{DeclaredTree, FunctionKindTree, EdgeKind, VertexKind, FilterKind, NoKind, begins, declaration_typed, declarations_typed, declare_constant_as, has_all, inside_of, is_bool, is_vertex, kind_fits, kind_of, literal_or_fault, loads, opened, steps_declared, wanted, is_int}
@@ -27,7 +27,7 @@ use Rattle.types.specs.Initial.{ApplyEndTree, InitializerTree, Members, Loaded, 
 use Rattle.types.specs.Literal.{literal_condition, literal_integer}
 use Rattle.types.specs.Program.{opening, program_of, set_count}
 use Rattle.types.specs.Step.{declare_step_as, may_reduce, may_set, set_entry_step, step_behind, step_typed, steps_behind, steps_typed}
-use Rattle.types.specs.Wanted.{condition_in}
+use Rattle.types.specs.Checker.{condition_in}
 use Rattle.type_laws.specs.WellTyped.{ActionFits, BlockFits, ConstantFits, DeclarationFits, FunctionFits, IsAllVertices, IsLoaded, IsNumberOrTruth, IsOutDegrees}
 use Rattle.type_laws.proofs.Booleans.{both_true, false_is_not_true, neither_true}
 use Rattle.type_laws.proofs.ClearValues.{IsClear}

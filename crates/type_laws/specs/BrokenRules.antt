@@ -17,7 +17,7 @@ use Rattle.expression_types.specs.declared.scope.Inside.{Inside}
 use Rattle.expression_types.specs.declared.scope.Inside.TheVariants as inside
 use Rattle.expression_types.specs.Expression.{index_value, used, value_of, vector_index}
 use Rattle.expression_types.specs.Faults.{number_of}
-use Rattle.expression_types.specs.Names.{found}
+use Rattle.expression_types.specs.ScopeTree.{found}
 use Rattle.expression_types.specs.ValueTree.{ValueTree, Integer, Condition, Vertex, Set, ErrorValue, is_error, named_set, named_vector}
 use Rattle.types.specs.Checker.{CheckerTree}
 use Rattle.types.specs.Declaration.{DeclaredTree, FunctionKindTree, NoKind, declarations_typed, kind}

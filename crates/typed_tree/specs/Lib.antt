@@ -5,6 +5,5 @@ pub mod BlockTree
 pub mod ProgramTree
 pub mod Resolved
 pub mod Fold
-pub mod Access
 pub mod Independence
 pub mod inside

@@ -5,7 +5,7 @@ ghost use Rattle.typed_tree.specs.IntExpressionTree.{int_expression_tree};
 ghost use Rattle.typed_tree.specs.BoolExpressionTree.{bool_expression_tree};
 ghost use Rattle.typed_tree.specs.FunctionStatementTree.{function_tree, function_statement_tree, function_statements_tree};
 ghost use Rattle.typed_tree.specs.Fold.{all_pass, condition_fold, conditions_fold, end_fold, function_fold, integer_fold, operands_fold, step_fold, steps_fold};
-ghost use Rattle.typed_tree.specs.Access.{function_writes};
+ghost use Rattle.typed_tree.specs.Independence.{function_writes};
 ghost use Rattle.typed_tree.specs.inside.Access.{step_writes, steps_write};
 
 use crate::expression::{BoolExpression, IntExpression, Operand};

@@ -5,7 +5,7 @@ use Rattle.syntax.specs.SourceTrees.{EndsTree}
 use Rattle.expression_types.specs.declared.fault.Fault.{Fault}
 use Rattle.expression_types.specs.Expression.{used}
 use Rattle.expression_types.specs.ScopeTree.{ScopeTree}
-use Rattle.expression_types.specs.WithFaults.{WithFaults, sure, outcome, ◌>>=◌}
+use Rattle.expression_types.specs.Faults.{WithFaults, sure, outcome, ◌>>=◌}
 use Rattle.expression_types.proofs.Steps.{bind-bind, outcome_then}
 use Rattle.types.specs.Initial.{end_of}
 use Rattle.types.specs.inside.Applies.{ApplyTree, apply_named}

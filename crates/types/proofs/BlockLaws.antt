@@ -2,7 +2,7 @@
 use Rattle.std.proofs.Common.{◌≡◌, refl, ap, sym, ◌∙◌, ℕ, suc, ◌+◌, ◌<◌, List, [], ◌∷◌, ◌++◌, length, drop, get_or, drop-cons, add-one, Option}
 use Rattle.std.specs.Global.{Vec}
 use Rattle.syntax.specs.Terminals.{Identifier}
-use Rattle.syntax.specs.ExpressionTrees.{ExpressionTree}
+use Rattle.syntax.specs.SourceTrees.{ExpressionTree}
 use Rattle.syntax.specs.declared.statement.Action.{Action}
 use Rattle.syntax.specs.declared.statement.Action.TheViews as views
 use Rattle.syntax.specs.declared.statement.Statement.{Statement}
@@ -12,12 +12,12 @@ use Rattle.typed_tree.specs.declared.statement.MainStatement as typed
 use Rattle.typed_tree.specs.BlockTree.{BlockTree, While, If, IfElse, Empty, Then, block_tree as typed_block, statement_kind_tree as typed_action}
 use Rattle.typed_tree.specs.BoolExpressionTree.{BoolExpressionTree}
 use Rattle.expression_types.specs.declared.fault.Fault.{Fault}
-use Rattle.expression_types.specs.WithFaults.{WithFaults, sure, outcome, ◌>>=◌}
+use Rattle.expression_types.specs.Faults.{WithFaults, sure, outcome, ◌>>=◌}
 use Rattle.expression_types.proofs.Steps.{bind-bind, outcome_then}
 use Rattle.types.specs.inside.Block.{StatementTree, block_typed, statement_tree, statement_typed}
 use Rattle.types.specs.Block.{action_typed, behind, closed, statements_typed}
 use Rattle.types.specs.Checker.{CheckerTree, counted, labelled}
-use Rattle.types.specs.Wanted.{condition_in}
+use Rattle.types.specs.Checker.{condition_in}
 use Rattle.types.proofs.Sources.{statement_kind_tree-While, statement_kind_tree-If, statement_kind_tree-IfElse}
 
 -- what goes on after a block

@@ -3,7 +3,7 @@ use Rattle.std.proofs.Common.{◌≡◌, ap, sym, ◌∙◌, ℕ, suc, ◌+◌, 
 use Rattle.syntax.specs.declared.declaration.Declaration.{Declaration}
 use Rattle.syntax.specs.SourceViews.{declaration_tree}
 use Rattle.expression_types.specs.declared.fault.Fault.{Fault}
-use Rattle.expression_types.specs.WithFaults.{outcome}
+use Rattle.expression_types.specs.Faults.{outcome}
 use Rattle.expression_types.proofs.Steps.{outcome_then}
 use Rattle.types.specs.Declaration.{DeclaredTree, declaration_typed, declarations_typed}
 

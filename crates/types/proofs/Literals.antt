@@ -3,7 +3,7 @@ use Rattle.std.proofs.Common.{◌≡◌, ◌<◌, refl, arith, length, List, [],
 use Rattle.syntax.specs.declared.operators.Prefix.{Prefix}
 use Rattle.syntax.specs.declared.operators.Prefix.TheVariants as prefix
 use Rattle.syntax.specs.ExpressionViews.{behind}
-use Rattle.syntax.specs.ExpressionTrees.{PrimaryTree, Bare}
+use Rattle.syntax.specs.SourceTrees.{PrimaryTree, Bare}
 use Rattle.types.specs.Literal.{unary_number, unary_truth}
 
 pub signed_truth : (signs : List Prefix) (p : PrimaryTree) → 0 < length signs → None ≡ unary_truth (behind signs (Bare p))

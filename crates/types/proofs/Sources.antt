@@ -2,7 +2,7 @@
 use Rattle.std.proofs.Common.{◌≡◌, ℕ, ap, refl, rules}
 use Rattle.std.specs.Global.{Vec}
 use Rattle.syntax.specs.Terminals.{Identifier}
-use Rattle.syntax.specs.ExpressionTrees.{ExpressionTree}
+use Rattle.syntax.specs.SourceTrees.{ExpressionTree}
 use Rattle.syntax.specs.declared.statement.Statement.{Statement}
 use Rattle.syntax.specs.declared.statement.Action.{Row_of-Statement, end_of-Statement, more_of-Statement, items-the_row-Statement}
 use Rattle.syntax.specs.declared.statement.Action.TheViews as views

@@ -2,7 +2,7 @@
 use Rattle.std.proofs.Common.{◌≡◌, refl, ap, sym, ◌∙◌, ℕ, suc, ◌+◌, ◌<◌, List, [], ◌∷◌, ◌++◌, length, drop, get_or, drop-cons, add-one, Option, Some}
 use Rattle.std.specs.Global.{Vec}
 use Rattle.syntax.specs.Terminals.{Identifier}
-use Rattle.syntax.specs.ExpressionTrees.{ExpressionTree}
+use Rattle.syntax.specs.SourceTrees.{ExpressionTree}
 use Rattle.syntax.specs.declared.statement.Action.{Action}
 use Rattle.syntax.specs.declared.statement.Action.TheViews as views
 use Rattle.syntax.specs.declared.statement.Statement.{Statement}
@@ -14,12 +14,12 @@ use Rattle.typed_tree.specs.BoolExpressionTree.{BoolExpressionTree}
 use Rattle.expression_types.specs.declared.fault.Fault.{Fault}
 use Rattle.expression_types.specs.declared.fault.TypeRule.TheVariants as rule
 use Rattle.expression_types.specs.Faults.{earlier}
-use Rattle.expression_types.specs.WithFaults.{WithFaults, sure, fault_at, outcome, ◌>>=◌}
+use Rattle.expression_types.specs.Faults.{WithFaults, sure, fault_at, outcome, ◌>>=◌}
 use Rattle.expression_types.proofs.Steps.{bind-bind, outcome_then}
 use Rattle.types.specs.Checker.{CheckerTree, labelled}
 use Rattle.types.specs.inside.Step.{labelled_step, steps_inside}
 use Rattle.types.specs.Step.{no_step, step_behind, step_typed, steps_behind, steps_typed}
-use Rattle.types.specs.Wanted.{condition_in}
+use Rattle.types.specs.Checker.{condition_in}
 use Rattle.types.proofs.Sources.{statement_kind_tree-While, statement_kind_tree-If, statement_kind_tree-IfElse}
 
 -- what goes on after a block

@@ -6,7 +6,7 @@ use Rattle.syntax.specs.Terminals.{Terminal, Identifier}
 use Rattle.syntax.specs.declared.declaration.DeclaredType.{DeclaredType}
 use Rattle.syntax.specs.declared.declaration.DeclaredType.TheVariants as declared
 use Rattle.apply_options.specs.declared.reduction.Reduction.{Reduction}
-use Rattle.syntax.specs.ExpressionTrees.{ExpressionTree}
+use Rattle.syntax.specs.SourceTrees.{ExpressionTree}
 use Rattle.syntax.specs.ExpressionSpelling.{expression_terminals}
 use Rattle.syntax.specs.Offsets.{StandWhere, StandsWhere}
 use Rattle.syntax.specs.SourceTrees as source
@@ -20,14 +20,14 @@ use Rattle.expression_types.specs.declared.scope.Entity.TheVariants as entity
 use Rattle.expression_types.specs.declared.scope.Inside.{Inside}
 use Rattle.expression_types.specs.declared.scope.Inside.TheVariants as inside
 use Rattle.expression_types.specs.Expression.{index_value, used, value_of, vector_index}
-use Rattle.expression_types.specs.WithFaults.{WithFaults}
+use Rattle.expression_types.specs.Faults.{WithFaults}
 use Rattle.expression_types.specs.ScopeTree.{ScopeTree}
 use Rattle.expression_types.specs.ValueTree.{ValueTree, Integer, Condition, Vertex, Set, ErrorValue}
 use Rattle.expression_types.proofs.FaultOffsets.{FaultsStand, both_stand, index_stands, used_stands, value_stands, vector_stands}
 use Rattle.types.specs.Checker.{CheckerTree, condition_slot, declared_in, integer_slot, labelled}
 use Rattle.types.specs.Initial.{InitializerTree, initializer_condition, end_of, initializer_of, initializer_integer}
 use Rattle.types.specs.Step.{assign_step, assigned_step, at_own, declare_step_as, may_reduce, may_set, no_add, no_apply, one_reduction, own_vertex, reduce_entry_step, reduce_step, reduced_as, reduced_step, same_endpoint, same_reduction, set_entry_step, step_behind, step_in_place, step_typed, steps_behind, steps_typed, written_at, written_with}
-use Rattle.types.specs.Wanted.{as_integer, condition_in, integer_in}
+use Rattle.types.specs.Checker.{as_integer, condition_in, integer_in}
 use Rattle.types.proofs.ValueOffsets.{as_integer_stands, initializer_condition_stands, condition_in_stands, end_stands, initializer_stands, initializer_integer_stands, integer_in_stands}
 use Rattle.types.proofs.StatementOffsets.{at_back, declared_in_stands, in_front, labelled_stands, last_stands}
 

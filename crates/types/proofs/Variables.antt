@@ -9,7 +9,7 @@ use Rattle.typed_tree.specs.FunctionStatementTree.{FunctionStatementTree}
 use Rattle.expression_types.specs.declared.fault.Fault.{Fault}
 use Rattle.expression_types.specs.declared.scope.Entity.{Entity}
 use Rattle.expression_types.specs.declared.scope.Entity.TheVariants as entity
-use Rattle.expression_types.specs.WithFaults.{WithFaults, sure, outcome, ◌>>=◌}
+use Rattle.expression_types.specs.Faults.{WithFaults, sure, outcome, ◌>>=◌}
 use Rattle.expression_types.proofs.Steps.{bind-bind, outcome_then}
 use Rattle.types.specs.Checker.{CheckerTree, declared_in, integer_slot, condition_slot, set_slot}
 use Rattle.types.specs.Initial.{InitializerTree, initializer_integer, initializer_condition, initializer_members}

@@ -8,5 +8,4 @@ pub mod Program
 pub mod Refusal
 pub mod Statement
 pub mod Step
-pub mod Wanted
 pub mod inside

@@ -1,10 +1,10 @@
 -- Literals, which are all that constants of type int or bool, and vectors, may be declared to be.
 use Rattle.std.specs.Prelude.{ℤ, pos, negsuc, neg_ℤ, Bool, Option, Some, None}
 use Rattle.syntax.specs.declared.operators.Prefix.TheVariants as prefix
-use Rattle.syntax.specs.ExpressionTrees as tree
-use Rattle.syntax.specs.ExpressionTrees.{ExpressionTree, UnaryTree, PrimaryTree}
+use Rattle.syntax.specs.SourceTrees as tree
+use Rattle.syntax.specs.SourceTrees.{ExpressionTree, UnaryTree, PrimaryTree}
 use Rattle.syntax.specs.SourceTrees.{InitialTree, NewSet, Load, Vertices, OutDegrees, Filter, ApplyModified, Value}
-use Rattle.syntax.specs.ExpressionReading.{◌>>=◌}
+use Rattle.syntax.specs.Nesting.{◌>>=◌}
 use Rattle.expression_types.specs.BareNames.{only_operand}
 
 -- a number without its sign is changed; a source has no other

@@ -1,7 +1,7 @@
 -- Typing of statements of main without blocks. Where one is faulty a harmless one stands in its place.
 use Rattle.std.specs.Prelude.{ℕ, Bool, ◌||◌, if◌then◌else◌, length, Option, Some, None, is_some}
 use Rattle.syntax.specs.Terminals.{Identifier}
-use Rattle.syntax.specs.ExpressionTrees.{ExpressionTree}
+use Rattle.syntax.specs.SourceTrees.{ExpressionTree}
 use Rattle.syntax.specs.declared.declaration.DeclaredType.{DeclaredType}
 use Rattle.syntax.specs.declared.declaration.DeclaredType.TheVariants as declared
 use Rattle.apply_options.specs.declared.reduction.Reduction.{Reduction}
@@ -13,12 +13,12 @@ use Rattle.expression_types.specs.declared.fault.TypeRule.TheVariants as rule
 use Rattle.expression_types.specs.declared.scope.Entity.{Entity}
 use Rattle.expression_types.specs.declared.scope.Entity.TheVariants as entity
 use Rattle.expression_types.specs.Expression.{used, value_of, vector_index}
-use Rattle.expression_types.specs.WithFaults.{WithFaults, sure, fault_at, ◌>>=◌}
+use Rattle.expression_types.specs.Faults.{WithFaults, sure, fault_at, ◌>>=◌}
 use Rattle.expression_types.specs.ScopeTree.{ScopeTree}
 use Rattle.expression_types.specs.ValueTree.{ValueTree, Integer, Condition, Vertex, Set, ErrorValue, named_set}
 use Rattle.types.specs.Checker.{CheckerTree, integer_slot, condition_slot, set_slot, declared_in}
 use Rattle.types.specs.Initial.{InitializerTree, ApplyEndTree, initializer_of, end_of, is_wrong, is_error_end, ends_given, names_error, is_edges, lacks_weights, edge_function, vertex_function, initializer_integer, initializer_condition, initializer_members}
-use Rattle.types.specs.Wanted.{some_integer, as_integer, as_index, integer_in}
+use Rattle.types.specs.Checker.{some_integer, as_integer, as_index, integer_in}
 
 -- what stands in place of a faulty statement
 abbrev pub no_action : StatementKindTree

@@ -4,7 +4,7 @@ use Rattle.std.specs.Map.{lookup}
 use Rattle.apply_options.specs.declared.reduction.Reduction.{Reduction}
 use Rattle.apply_options.specs.declared.reduction.Reduction.TheVariants as reduction
 use Rattle.syntax.specs.Terminals.{Identifier}
-use Rattle.syntax.specs.ExpressionTrees.{ExpressionTree}
+use Rattle.syntax.specs.SourceTrees.{ExpressionTree}
 use Rattle.syntax.specs.declared.declaration.DeclaredType.{DeclaredType}
 use Rattle.syntax.specs.SourceTrees.{InitialTree}
 use Rattle.syntax.specs.declared.declaration.DeclaredType.TheVariants as declared
@@ -17,7 +17,7 @@ use Rattle.typed_tree.specs.declared.expression.Endpoint.TheVariants as endpoint
 use Rattle.expression_types.specs.declared.scope.Entity.{Entity}
 use Rattle.expression_types.specs.declared.scope.Inside.{Inside}
 use Rattle.expression_types.specs.Expression.{index_value, used, value_of, vector_index}
-use Rattle.expression_types.specs.WithFaults.{WithFaults, sure, fault_at, ◌>>=◌}
+use Rattle.expression_types.specs.Faults.{WithFaults, sure, fault_at, ◌>>=◌}
 use Rattle.expression_types.specs.ScopeTree.{ScopeTree}
 use Rattle.expression_types.specs.ValueTree.{ValueTree, Integer, Condition, Vertex, Set, ErrorValue}
 use Rattle.expression_types.specs.declared.fault.TypeRule.TheVariants as rule
@@ -25,7 +25,7 @@ use Rattle.expression_types.specs.declared.scope.Entity.TheVariants as entity
 use Rattle.expression_types.specs.declared.scope.Inside.TheVariants as inside
 use Rattle.types.specs.Checker.{CheckerTree, integer_slot, condition_slot, with_scope, declared_in, labelled}
 use Rattle.types.specs.Initial.{InitializerTree, end_of, initializer_of, initializer_integer, initializer_condition}
-use Rattle.types.specs.Wanted.{as_integer, integer_in, condition_in}
+use Rattle.types.specs.Checker.{as_integer, integer_in, condition_in}
 
 -- what stands in place of a faulty statement
 abbrev pub no_step : FunctionStatementTree

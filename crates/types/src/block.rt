@@ -2,7 +2,7 @@
 ghost use Rattle.std.specs.Prelude.{◌≡◌, OnOk};
 ghost use Rattle.syntax.specs.SourceViews.{statement_kind_tree as source_action, block_tree as source_block};
 ghost use Rattle.typed_tree.specs.BlockTree.{Empty, statement_kind_tree, block_tree};
-ghost use Rattle.expression_types.specs.WithFaults.{ReportsFaults};
+ghost use Rattle.expression_types.specs.Faults.{ReportsFaults};
 ghost use Rattle.expression_types.specs.ScopeTree.{Keeps};
 ghost use Rattle.types.specs.Block.{action_typed, statements_typed};
 ghost use Rattle.types.specs.inside.Block.{block_typed, statement_tree, statement_typed};

@@ -1,7 +1,7 @@
 //! The state of the checker on its way through a source: the scope, names, labels and statements so far.
 ghost use Rattle.std.specs.Prelude.{◌≡◌, suc, IfOk, OnOk};
 ghost use Rattle.expression_types.specs.declared.scope.Entity.TheVariants.{LoopVariable};
-ghost use Rattle.expression_types.specs.WithFaults.{ReportsFaults};
+ghost use Rattle.expression_types.specs.Faults.{ReportsFaults};
 ghost use Rattle.expression_types.specs.ScopeTree.{Keeps};
 ghost use Rattle.types.specs.inside.Checker.{checker_of};
 ghost use Rattle.types.specs.Checker.{condition_slot as slot_of_condition, counted};

@@ -7,7 +7,7 @@ ghost use Rattle.types.specs.Program.{program_tree_of};
 ghost use Rattle.typed_tree.specs.FunctionStatementTree.{function_tree, function_statements_tree};
 ghost use Rattle.expression_types.specs.ScopeTree.{Keeps};
 ghost use Rattle.expression_types.specs.Faults.{earlier};
-ghost use Rattle.expression_types.specs.WithFaults.{ReportsFaults, outcome};
+ghost use Rattle.expression_types.specs.Faults.{ReportsFaults, outcome};
 ghost use Rattle.types.specs.Initial.{ErrorInitializer, is_sound};
 ghost use Rattle.types.specs.inside.Checker.{checker_of};
 ghost use Rattle.types.specs.Declaration.{declaration_typed, declarations_typed, declare_condition, declare_constant, declare_constant_as, declare_edges, declare_integer, declare_name, declare_set, declare_vector, edge_function_declared, function_declared, has_all, begins, inside_of};

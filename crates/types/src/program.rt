@@ -4,7 +4,7 @@ ghost use Rattle.syntax.specs.SourceTrees.{DeclarationTree};
 ghost use Rattle.syntax.specs.SourceViews.{declaration_tree, source_tree};
 ghost use Rattle.typed_tree.specs.BlockTree.{block_tree};
 ghost use Rattle.typed_tree.specs.ProgramTree.{program_tree};
-ghost use Rattle.expression_types.specs.WithFaults.{ReportsFaults, outcome};
+ghost use Rattle.expression_types.specs.Faults.{ReportsFaults, outcome};
 ghost use Rattle.types.specs.inside.Declaration.{declared_of};
 ghost use Rattle.types.specs.Program.{Answers, main_of, opening, program_of, set_count};
 

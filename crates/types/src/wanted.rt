@@ -3,9 +3,9 @@ ghost use Rattle.std.specs.Prelude.{◌≡◌};
 ghost use Rattle.std.specs.Option.{option_map};
 ghost use Rattle.typed_tree.specs.BoolExpressionTree.{bool_expression_tree};
 ghost use Rattle.typed_tree.specs.IntExpressionTree.{int_expression_tree};
-ghost use Rattle.expression_types.specs.WithFaults.{ReportsFaults, outcome};
+ghost use Rattle.expression_types.specs.Faults.{ReportsFaults, outcome};
 ghost use Rattle.expression_types.specs.ValueTree.{value_tree};
-ghost use Rattle.types.specs.Wanted.{as_condition, as_index, as_integer, as_members, condition_in, integer_in};
+ghost use Rattle.types.specs.Checker.{as_condition, as_index, as_integer, as_members, condition_in, integer_in};
 
 use expression_types::{Fault, Scope, TypeRule, Value, note, reads_entry, type_expression};
 use std::alloc::{AllocError, Global};

@@ -4,7 +4,7 @@ use Rattle.std.proofs.lemmas.Bool.{cases_Bool, cases_lt, eq-eqb, ne_eqb, or_righ
 use Rattle.std.proofs.lemmas.List.{take-append-le}
 use Rattle.std.specs.Option.{option_map}
 use Rattle.tree_batch.specs.declared.batch.Entry.{Entry}
-use Rattle.tree_batch.specs.Entry.{misfits}
+use Rattle.tree_batch.specs.Edge.{misfits}
 use Rattle.tree_batch.specs.Digraph.{Digraph, graph_through}
 use Rattle.version_list.specs.declared.step.Step.{Step}
 use Rattle.version_list.specs.declared.step.Step.TheVariants.{Commit, Acquire, Release, Trim}

@@ -8,7 +8,7 @@ ghost use Rattle.version_list.specs.declared.step.Which as which;
 ghost use Rattle.version_list.specs.declared.step.Step.TheVariants.{Acquire, Commit, Release};
 ghost use Rattle.version_list.specs.declared.step.Reply.TheVariants.{Released, Ticket, Version};
 ghost use Rattle.version_list.specs.Machine.{State, newest_number, opened, reply_to, state_after, ticket_graph, version_graph};
-ghost use Rattle.version_list.specs.Commits.{commits_of};
+ghost use Rattle.version_list.specs.Machine.{commits_of};
 ghost use Rattle.version_list.specs.Timeline.{IsLegal, replay, replies_to};
 ghost use Rattle.version_laws.specs.Keeping.{HasNoReleaseOf, Keeps, release_of, state_through, steps_in, ticket_given};
 ghost use Rattle.version_laws.specs.Numbering.{CountsFromOne, replies_in, tickets_in, versions_in};

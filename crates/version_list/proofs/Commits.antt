@@ -3,7 +3,7 @@ use Rattle.std.proofs.Common.{◌≡◌, ℕ, List, [], ◌∷◌, ◌++◌, inl
 use Rattle.std.proofs.lemmas.Bool.{cases_Bool}
 use Rattle.std.proofs.lemmas.List.{append-nil}
 use Rattle.tree_batch.specs.declared.batch.Entry.{Entry}
-use Rattle.tree_batch.specs.Entry.{misfits}
+use Rattle.tree_batch.specs.Edge.{misfits}
 use Rattle.version_list.specs.declared.step.Step.{Step}
 use Rattle.version_list.specs.declared.step.Which.{Which}
 use Rattle.version_list.specs.declared.step.Step.TheVariants.{Commit, Acquire, Release, Trim}
@@ -12,7 +12,7 @@ use Rattle.version_list.specs.declared.step.Reply.TheVariants.{Version, Ticket, 
 use Rattle.version_list.specs.declared.step.Done.{Done}
 use Rattle.version_list.specs.Machine.{State, changed, lacks_room, newest_graph, reply_to, state_after}
 use Rattle.version_list.specs.Timeline.{IsAccepted, IsLegal, replay}
-use Rattle.version_list.specs.Commits.{committed_by, commits_of}
+use Rattle.version_list.specs.Machine.{committed_by, commits_of}
 
 commit_adds : (s : State) (batch : List Entry) → IsAccepted (reply_to s (Commit batch)) → (state_after s (Commit batch)).batches ≡ s.batches ++ batch ∷ []
 commit_adds s batch accepted = elim (cases_Bool (misfits (newest_graph s).vertices batch)) [

@@ -2,7 +2,7 @@
 use Rattle.std.proofs.Common.{◌≡◌, ℕ, ◌+◌, ◌≤◌, ◌==◌, true, List, [], ◌∷◌, length, inl, inr, refl, sym, ap, ◌∙◌, subst, arith, length-append}
 use Rattle.std.specs.List.{list_any}
 use Rattle.std.proofs.lemmas.Bool.{false≢true, cases_Bool, ltb-false}
-use Rattle.tree_batch.specs.Entry.{misfits}
+use Rattle.tree_batch.specs.Edge.{misfits}
 use Rattle.version_list.specs.declared.step.Step.{Step}
 use Rattle.version_list.specs.declared.step.Step.TheVariants.{Commit, Acquire, Release, Trim}
 use Rattle.version_list.specs.declared.step.Reply.TheVariants.{Trimmed, Refused}

@@ -4,5 +4,4 @@ pub mod Prepared
 pub mod Trims
 pub mod Refusal
 pub mod Kept
-pub mod Commits
 pub mod inside

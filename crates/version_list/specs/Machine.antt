@@ -3,7 +3,7 @@ use Rattle.std.specs.Prelude.{ℕ, ◌+◌, ◌==◌, nat_lt, min, Bool, not, �
 use Rattle.std.specs.Option.{option_map}
 use Rattle.std.specs.List.{filter, list_any}
 use Rattle.tree_batch.specs.declared.batch.Entry.{Entry}
-use Rattle.tree_batch.specs.Entry.{misfits}
+use Rattle.tree_batch.specs.Edge.{misfits}
 use Rattle.tree_batch.specs.Digraph.{Digraph, empty_graph, graph_through}
 use Rattle.version_list.specs.declared.step.Which.{Which}
 use Rattle.version_list.specs.declared.step.Which.TheVariants.{Newest, At}
@@ -11,6 +11,7 @@ use Rattle.version_list.specs.declared.step.Step.{Step}
 use Rattle.version_list.specs.declared.step.Step.TheVariants.{Commit, Acquire, Release, Trim}
 use Rattle.version_list.specs.declared.step.Reply.{Reply}
 use Rattle.version_list.specs.declared.step.Reply.TheVariants.{Version, Ticket, Released, Trimmed, Refused}
+use Rattle.version_list.specs.declared.step.Done.{Done}
 
 -- a ticket that is open: its number, and the number of the version that it holds
 pub record OpenTicket : Type 0 where
@@ -102,3 +103,15 @@ changed s step reply = s
 -- the state after a step
 abbrev pub state_after : State → Step → State
 state_after s step = changed s step (reply_to s step)
+
+-- the batch that a step commits
+abbrev pub committed_by : Step → List (List Entry)
+committed_by (Commit batch) = batch ∷ []
+committed_by (Acquire which) = []
+committed_by (Release number) = []
+committed_by Trim = []
+
+-- the batches that the steps of a history commit, in order
+abbrev pub commits_of : List Done → List (List Entry)
+commits_of [] = []
+commits_of (done ∷ history) = committed_by done.step ++ commits_of history

@@ -5,7 +5,7 @@ ghost use Rattle.std.specs.Prelude.{IfErr, IfSome, MatchOption, None, OnOk, List
 ghost use Rattle.std.specs.Option.{option_copied};
 ghost use Rattle.indexmap.specs.IndexMap.{IsUnchanged, index_map_len};
 ghost use Rattle.tree_batch.specs.declared.batch.Entry.{Entry};
-ghost use Rattle.tree_batch.specs.Entry.{misfits};
+ghost use Rattle.tree_batch.specs.Edge.{misfits};
 ghost use Rattle.tree_batch.specs.Digraph.{graph_after};
 ghost use Rattle.version_list.specs.declared.error.VersionError.TheVariants.{VertexRange, NotHeld, HistoryFull, NoMemory};
 ghost use Rattle.version_list.specs.declared.step.Step.TheVariants.{Commit, Acquire, Release};

@@ -6,7 +6,7 @@ use Rattle.plans.specs.declared.plan.Plan.{Plan}
 use Rattle.driver.specs.declared.error.ServeError.{ServeError}
 use Rattle.driver.specs.Reading.{FailsRead, HoldsPlan, IsNoProgram, HoldPrograms, LacksProgram}
 use Rattle.driver.specs.declared.compiled_plan.CompiledPlan.{CompiledPlan}
-use Rattle.driver.specs.Programs.{tree_of}
+use Rattle.driver.specs.Reading.{tree_of}
 
 -- what is read of the file of this name
 abbrev pub ReadsWhole : (List ℕ → Type 0) → (Error → Type 0) → List ℕ → Result (Vec ℕ) ServeError → Type 0

@@ -6,7 +6,7 @@ use Rattle.edge_lists.specs.Edge.{Edge}
 use Rattle.vectors.specs.declared.changes.Changes.{Changes}
 use Rattle.vectors.specs.declared.changes.EntryChange.{EntryChange}
 use Rattle.kernels.specs.FunctionStatementTree.{FunctionStatementsTree}
-use Rattle.kernels.specs.Laws.{IsGivenBy}
+use Rattle.algorithm_meaning.specs.EdgeApply.{IsGivenBy}
 use Rattle.kernels.specs.State.{StateValue}
 use Rattle.kernels.specs.Value.{entry}
 use Rattle.kernels.specs.Registers.{HasSizes}

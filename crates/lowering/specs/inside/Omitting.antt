@@ -1,6 +1,6 @@
 -- Independence of an edge apply from a vertex set, looked at as the code does.
 use Rattle.std.specs.Prelude.{ℕ, Bool, ◌&&◌, List, [], ◌∷◌, Option, Some, None}
-use Rattle.typed_tree.specs.Access.{are_apart}
+use Rattle.typed_tree.specs.Independence.{are_apart}
 use Rattle.typed_tree.specs.ProgramTree.{ProgramTree}
 use Rattle.plans.specs.Fusing.{EdgeApplyTree, end_sets, function_sizes}
 

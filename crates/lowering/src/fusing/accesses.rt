@@ -1,7 +1,7 @@
 //! Access to vertex sets and to other vertices: which of it functions do without.
 ghost use Rattle.std.specs.Prelude.{◌≡◌, [], ◌∷◌, map};
 ghost use Rattle.typed_tree.specs.FunctionStatementTree.{function_tree};
-ghost use Rattle.typed_tree.specs.Access.{are_apart};
+ghost use Rattle.typed_tree.specs.Independence.{are_apart};
 ghost use Rattle.plans.specs.Fusing.{end_sets, function_is_local as local_function, function_sizes, is_local, set_of};
 
 use typed_tree::{Access, AccessTest, Function, VertexFilter, end_passes, function_passes};

@@ -2,12 +2,12 @@
 ghost use Rattle.std.specs.Prelude.{◌≡◌, map, IfOk};
 ghost use Rattle.typed_tree.specs.ProgramTree.{program_tree};
 ghost use Rattle.typed_tree.specs.FunctionStatementTree.{function_tree};
-ghost use Rattle.typed_tree.specs.Access.{are_apart, function_writes};
+ghost use Rattle.typed_tree.specs.Independence.{are_apart, function_writes};
 ghost use Rattle.plans.specs.Fusing.{apply_tree, edges_fit as fit_edges, is_same_end as same_end};
 ghost use Rattle.plans.specs.Fusing.{result_indices, result_vectors, sets_read, vertices_fit as fit_vertices};
 ghost use Rattle.lowering.specs.inside.Omitting.{edges_omit, listed};
 ghost use Rattle.plans.specs.inside.Parts.{edge_apply_tree, vertex_apply_tree};
-ghost use Rattle.plans.specs.Parts.{result_tree};
+ghost use Rattle.plans.specs.Operation.{result_tree};
 
 use crate::fusing::accesses::{end_does_omit, function_does_omit, function_is_local};
 use algorithm_meaning::Depth;

@@ -4,7 +4,8 @@ use Rattle.lexer.specs.declared.keyword.Keyword.{Keyword}
 use Rattle.lexer.specs.declared.keyword.Keyword.TheVariants as keyword
 use Rattle.lexer.specs.declared.symbol.Symbol.TheVariants as symbol
 use Rattle.syntax.specs.Terminals.{Terminal, Identifier, OfKeyword, OfSymbol}
-use Rattle.syntax.specs.ExpressionReading.{Reader, ◌>>=◌}
+use Rattle.syntax.specs.ExpressionReading.{Reader}
+use Rattle.syntax.specs.Nesting.{◌>>=◌}
 use Rattle.syntax.specs.SourceTrees.{ParameterTree, DeclarationTree, Constant, Function}
 use Rattle.syntax.specs.SourceReading.{block, typed_at, assigned_at, name_at, parameters_at, result_by, after_terminal, closed, each_at, next_parameter}
 use Rattle.parser.specs.declared.declaration.Beginning.{Beginning}

@@ -3,7 +3,7 @@ use Rattle.std.specs.Prelude.{List, ◌≡◌, Option, option_map, ◌≢◌, �
 use Rattle.lexer.specs.declared.token.Token.{Token}
 use Rattle.lexer.specs.Tokens.{slice_of}
 use Rattle.syntax.specs.Terminals.{Terminal, terminals_of, terminal_of, Name, Identifier}
-use Rattle.syntax.specs.ExpressionTrees.{ExpressionTree}
+use Rattle.syntax.specs.SourceTrees.{ExpressionTree}
 use Rattle.syntax.specs.ExpressionBeginnings.{Begins}
 use Rattle.parser.specs.declared.cursor.Cursor.{Cursor}
 use Rattle.parser.specs.declared.syntax_error.SyntaxError.{SyntaxError}

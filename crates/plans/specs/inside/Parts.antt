@@ -1,7 +1,7 @@
 -- Beside `Parts`: definitions that no public contract cites.
 use Rattle.plans.specs.Fusing.{EdgeApplyTree, VertexApplyTree}
 use Rattle.plans.specs.declared.part.EdgeApply.{EdgeApply}
-use Rattle.plans.specs.Parts.{part_tree}
+use Rattle.plans.specs.Operation.{part_tree}
 use Rattle.plans.specs.declared.part.VertexApply.{VertexApply}
 use Rattle.plans.specs.Instruction.{OperationTree, ApplyEdgesTogether, ApplyVerticesTogether}
 use Rattle.plans.specs.declared.part.FusedPair.{FusedPair}

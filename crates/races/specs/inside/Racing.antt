@@ -8,8 +8,8 @@ use Rattle.version_list.specs.Machine.{State}
 use Rattle.plans.specs.declared.plan.Plan.{Plan}
 use Rattle.shared_graph.specs.declared.error.SharedError.{SharedError}
 use Rattle.shared_graph.specs.declared.error.SharedError.TheVariants as shared
-use Rattle.shared_graph.specs.Passes.{Pass}
-use Rattle.shared_graph.specs.Refusal.{number_of}
+use Rattle.shared_graph.specs.Histories.{ReaderState}
+use Rattle.shared_graph.specs.Outcome.{number_of}
 use Rattle.races.specs.declared.entrants.EarlyRun.{EarlyRun}
 use Rattle.races.specs.declared.entrants.Entrant.{Entrant}
 use Rattle.races.specs.declared.outcomes.CommitReply.{CommitReply}
@@ -18,7 +18,7 @@ use Rattle.races.specs.declared.outcomes.ProgramRuns.{ProgramRuns}
 use Rattle.races.specs.declared.error.RaceError.{RaceError}
 use Rattle.races.specs.declared.error.RaceError.TheVariants.{NotOpened, NotRun}
 use Rattle.races.specs.Race.{AreAnswered, AreRaced, IsRunOn}
-use Rattle.races.specs.Refused.{RefusesRun}
+use Rattle.races.specs.RaceScript.{RefusesRun}
 
 -- the run is on the newest version of the history that the reader shows, or refused
 abbrev pub RanEarly : {J : Type 0} → ℕ → ℕ → ℕ → EarlyRun J → Type 0
@@ -29,7 +29,7 @@ abbrev pub AllRanEarly : {J : Type 0} → ℕ → ℕ → ℕ → List (Entrant 
 AllRanEarly n turns workers entrants ran = (map (λ r. r.plan.now) ran ≡ map (λ e. e.plan.now) entrants) × All (RanEarly n turns workers) ran
 
 -- all batches are answered so; or memory ran out
-abbrev pub AnswersAll : State → Pass → List (List Change) → Result (Vec CommitReply) AllocError → Pass → Type 0
+abbrev pub AnswersAll : State → ReaderState → List (List Change) → Result (Vec CommitReply) AllocError → ReaderState → Type 0
 AnswersAll base old batches (Ok replies) new = AreAnswered base old batches replies.items new
 AnswersAll base old batches (Err error) new = Unit {0}
 

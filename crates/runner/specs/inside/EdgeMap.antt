@@ -3,7 +3,7 @@ use Rattle.std.specs.Prelude.{◌≡◌}
 use Rattle.typed_tree.specs.ProgramTree.{ProgramTree}
 use Rattle.algorithm_meaning.specs.EdgeApply.{passes}
 use Rattle.algorithm_meaning.specs.State.{StateValue}
-use Rattle.plans.specs.Functions.{AreFunctionKernels}
+use Rattle.plans.specs.Operation.{AreFunctionKernels}
 use Rattle.plans.specs.Reducing.{indices_of, steps_at}
 use Rattle.edge_fold.specs.Ends.{IsEndTest}
 use Rattle.edge_fold.specs.Folded.{AreKernels}

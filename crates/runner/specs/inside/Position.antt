@@ -5,7 +5,7 @@ use Rattle.algorithm_meaning.specs.State.{StateValue, GraphValue}
 use Rattle.algorithm_meaning.specs.declared.state.LoopCounter.{LoopCounter}
 use Rattle.algorithm_meaning.specs.declared.state.Depth.{Depth}
 use Rattle.algorithm_meaning.specs.Loop.{forget_beyond}
-use Rattle.algorithm_meaning.specs.Shown.{shown}
+use Rattle.algorithm_meaning.specs.Meaning.{shown}
 use Rattle.plans.specs.Machine.{Configuration, At, Ended}
 use Rattle.plans.specs.Instruction.{InstructionTree}
 use Rattle.plans.specs.inside.Outline.{most_steps_of}

@@ -1,12 +1,12 @@
 -- Results of an edge apply: the vertex set that a run makes of the vertices at which a vector changed.
 use Rattle.std.specs.Prelude.{Option, Some, None, ◌≡◌, ℕ, ℤ, List}
 use Rattle.algorithm_meaning.specs.State.{StateValue}
-use Rattle.algorithm_meaning.specs.Entries.{with_vectors}
+use Rattle.algorithm_meaning.specs.Statements.{with_vectors}
 use Rattle.plans.specs.declared.part.EdgePart.{EdgePart}
 use Rattle.plans.specs.declared.part.PartResult.{PartResult}
 use Rattle.plans.specs.Instruction.{ResultTree}
 use Rattle.plans.specs.Machine.{with_result}
-use Rattle.plans.specs.Parts.{result_tree}
+use Rattle.plans.specs.Operation.{result_tree}
 use Rattle.plans.specs.declared.part.PartResult.TheVariants as result
 use Rattle.run_state.specs.declared.set_update.SetUpdate.{SetUpdate}
 use Rattle.run_state.specs.SetUpdate.{with_update}

@@ -1,13 +1,9 @@
 -- Progress of a script: how far it has been read.
-use Rattle.std.specs.Prelude.{ℕ, Option, None, List, [], ◌++◌}
+use Rattle.std.specs.Prelude.{ℕ, None, List, ◌++◌}
 use Rattle.algorithm_meaning.specs.ProgramTree.{ProgramTree}
 use Rattle.scripts.specs.Pieces.{ended_lines, unended_line}
-use Rattle.scripts.specs.Replies.{OpenState, replies_to_lines, state_after_lines}
-
--- what the lines that have ended left, and the beginning of the line that has not
-pub record Reading : Type 0 where
-  pub state : Option OpenState
-  pub partial : List ℕ
+use Rattle.scripts.specs.Replies.{replies_to_lines, state_after_lines}
+use Rattle.scripts.specs.Script.{Reading}
 
 -- before the first byte
 abbrev pub at_start : Reading

@@ -4,7 +4,7 @@ use Rattle.version_list.specs.Machine.{State}
 use Rattle.version_list.specs.Timeline.{Timeline}
 use Rattle.version_list.specs.declared.error.VersionError.{VersionError}
 use Rattle.version_list.specs.declared.error.VersionError.TheVariants.{VertexRange, BadChunkSize, NotKept, NotHeld, HistoryFull, NoMemory}
-use Rattle.shared_graph.specs.Passes.{Pass, Shows}
+use Rattle.shared_graph.specs.Histories.{ReaderState, Shows}
 use Rattle.shared_graph.specs.declared.entry.Entry.{Entry}
 use Rattle.shared_graph.specs.Histories.{steps_of, own, state_at}
 
@@ -22,7 +22,7 @@ abbrev pub AreCounts : List Entry → List ℕ → Type 0
 AreCounts log counts = (reader : ℕ) → reader < length counts → slice_index counts reader ≡ length (own reader log)
 
 -- a reader shows this history, at whose end a step is refused; where memory ran out it is as it was
-abbrev pub ShowsRefusal : State → VersionError → Pass → List Entry → Pass → Type 0
+abbrev pub ShowsRefusal : State → VersionError → ReaderState → List Entry → ReaderState → Type 0
 ShowsRefusal base NoMemory old log new = new ≡ old
 ShowsRefusal base VertexRange old log new = Shows base old new × (new.shown ≡ log)
 ShowsRefusal base BadChunkSize old log new = Shows base old new × (new.shown ≡ log)

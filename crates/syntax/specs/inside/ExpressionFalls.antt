@@ -9,7 +9,7 @@ use Rattle.syntax.specs.ExpressionDepth.{primary_depth, unary_depth, term_depth,
 use Rattle.syntax.specs.ExpressionViews.{primary_of, behind, unary_of, term_from, sum_from, conjunction_from, expression_from}
 use Rattle.syntax.specs.inside.ExpressionViews.{term_of, sum_of, comparison_from, comparison_of, conjunction_of}
 use Rattle.syntax.specs.declared.operators.Prefix.{Prefix}
-use Rattle.syntax.specs.ExpressionTrees.{UnaryTree, Bare, TermTree, SumTree, ComparisonTree, ConjunctionTree}
+use Rattle.syntax.specs.SourceTrees.{UnaryTree, Bare, TermTree, SumTree, ComparisonTree, ConjunctionTree}
 use Rattle.syntax.specs.declared.expression.Unary.{Unary}
 use Rattle.syntax.specs.declared.operators.Multiplication.{Multiplication}
 use Rattle.syntax.specs.declared.expression.Term.{Term}

@@ -1,6 +1,6 @@
 -- Beside `ExpressionReading`: definitions that no public contract cites.
 use Rattle.std.specs.Prelude.{ℕ, zero, suc}
-use Rattle.syntax.specs.ExpressionTrees.{ExpressionTree}
+use Rattle.syntax.specs.SourceTrees.{ExpressionTree}
 use Rattle.syntax.specs.ExpressionReading.{Reader, no_expression, expression_at}
 
 -- where one more is opened

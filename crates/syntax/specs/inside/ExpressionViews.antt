@@ -2,7 +2,7 @@
 use Rattle.std.specs.Prelude.{map, Option, Some, None}
 use Rattle.std.specs.Global.{Box}
 use Rattle.syntax.specs.declared.expression.Term.{Term}
-use Rattle.syntax.specs.ExpressionTrees.{TermTree, SumTree, ComparisonTree, OneSum, TwoSums, ConjunctionTree}
+use Rattle.syntax.specs.SourceTrees.{TermTree, SumTree, ComparisonTree, OneSum, TwoSums, ConjunctionTree}
 use Rattle.syntax.specs.ExpressionViews.{unary_of, term_from, sum_from, conjunction_from}
 use Rattle.syntax.specs.declared.expression.Sum.{Sum}
 use Rattle.syntax.specs.declared.operators.Relation.{Relation}

@@ -2,7 +2,7 @@
 use Rattle.std.specs.Prelude.{ℕ, List, Option}
 use Rattle.typed_tree.specs.IntExpressionTree.{IntExpressionTree}
 use Rattle.typed_tree.specs.Fold.{integer_fold, condition_fold, step_fold, steps_fold, steps_fold_where}
-use Rattle.typed_tree.specs.Access.{used, written}
+use Rattle.typed_tree.specs.Independence.{used, written}
 use Rattle.typed_tree.specs.BoolExpressionTree.{BoolExpressionTree}
 use Rattle.typed_tree.specs.FunctionStatementTree.{FunctionStatementTree, FunctionStatementsTree, FunctionTree}
 

@@ -3,7 +3,7 @@ use Rattle.syntax.specs.Terminals.{Identifier}
 use Rattle.syntax.specs.SourceTrees.{EndsTree}
 use Rattle.expression_types.specs.declared.scope.Entity.{Entity}
 use Rattle.expression_types.specs.Expression.{used}
-use Rattle.expression_types.specs.WithFaults.{WithFaults, sure, ◌>>=◌}
+use Rattle.expression_types.specs.Faults.{WithFaults, sure, ◌>>=◌}
 use Rattle.expression_types.specs.ScopeTree.{ScopeTree}
 use Rattle.types.specs.declared.initial.NamedApply.{NamedApply}
 use Rattle.types.specs.Initial.{ApplyEndTree, end_of}

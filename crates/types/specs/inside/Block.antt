@@ -4,7 +4,7 @@ use Rattle.syntax.specs.Terminals.{Identifier}
 use Rattle.syntax.specs.SourceTrees as source
 use Rattle.typed_tree.specs.BlockTree.{StatementKindTree, statement_kind_tree, BlockTree, Empty}
 use Rattle.typed_tree.specs.declared.statement.MainStatement.{MainStatement}
-use Rattle.expression_types.specs.WithFaults.{WithFaults, sure, ◌>>=◌}
+use Rattle.expression_types.specs.Faults.{WithFaults, sure, ◌>>=◌}
 use Rattle.types.specs.Checker.{CheckerTree, labelled, counted}
 use Rattle.types.specs.Block.{action_typed, closed, statements_typed}
 

@@ -3,7 +3,7 @@ use Rattle.std.specs.Prelude.{Option}
 use Rattle.syntax.specs.Terminals.{Identifier}
 use Rattle.syntax.specs.SourceTrees as source
 use Rattle.typed_tree.specs.FunctionStatementTree.{FunctionStatementTree, FunctionStatementsTree, NoStep}
-use Rattle.expression_types.specs.WithFaults.{WithFaults, ◌>>=◌, sure}
+use Rattle.expression_types.specs.Faults.{WithFaults, ◌>>=◌, sure}
 use Rattle.types.specs.Checker.{CheckerTree, labelled}
 use Rattle.types.specs.Step.{steps_behind, steps_typed}
 

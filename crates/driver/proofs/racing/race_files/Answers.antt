@@ -2,7 +2,7 @@
 use Rattle.std.proofs.Common.{inl, inr, refl, map}
 use Rattle.std.proofs.lemmas.Result.{err_from_is_err_and}
 use Rattle.races.specs.RaceText.{race_text}
-use Rattle.driver.specs.Programs.{tree_of}
+use Rattle.driver.specs.Reading.{tree_of}
 use Rattle.driver.proofs.FileRaces.{begins_text, ends_writing, race_of_files, refused_race_of_files}
 use Rattle.driver.proofs.racing.race_files.Goals as goal
 

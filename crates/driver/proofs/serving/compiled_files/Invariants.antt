@@ -1,5 +1,5 @@
 use Rattle.std.proofs.Common.{map, drop}
-use Rattle.driver.specs.Programs.{tree_of}
+use Rattle.driver.specs.Reading.{tree_of}
 use Rattle.driver.proofs.Compiling.{Compiles}
 use Rattle.driver.proofs.serving.compiled_files.Given as goal
 

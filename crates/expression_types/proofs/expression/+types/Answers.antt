@@ -1,13 +1,13 @@
 -- Proofs of the mutually recursive functions of src/expression.rt.
 use Rattle.std.proofs.Common.{◌≡◌, ◌==◌, ◌<◌, ◌≤◌, ap, sym, subst, ◌∙◌, ℕ, Bool, if◌then◌else◌, length, get_or}
-use Rattle.syntax.specs.ExpressionTrees.{ExpressionTree}
+use Rattle.syntax.specs.SourceTrees.{ExpressionTree}
 use Rattle.syntax.specs.Terminals.{Identifier}
 use Rattle.syntax.specs.ExpressionViews.{unary_of, primary_of}
 use Rattle.syntax.specs.inside.ExpressionViews.{term_of, sum_of, comparison_of, comparison_from, conjunction_of}
 use Rattle.typed_tree.specs.declared.expression.Connective.TheVariants as connective
 use Rattle.expression_types.specs.declared.fault.TypeRule.TheVariants as rule
 use Rattle.expression_types.specs.Expression.{value_of, conjunction_value, comparison_value, index_lacks_value, no_vertex, sum_value, term_value, unary_value, primary_value, used, entry_of}
-use Rattle.expression_types.specs.WithFaults.{WithFaults, ReportsFaults, sure, outcome, ◌>>=◌}
+use Rattle.expression_types.specs.Faults.{WithFaults, ReportsFaults, sure, outcome, ◌>>=◌}
 use Rattle.expression_types.specs.inside.Operands.{conditions_of, integers_of}
 use Rattle.expression_types.specs.Operators.{added, multiplied, given, related_value, first_integer, first_condition, beside_integer, beside_condition, grouped_integers, grouped_conditions}
 use Rattle.expression_types.specs.inside.Signs.{signs_value}

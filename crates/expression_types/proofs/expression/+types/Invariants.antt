@@ -2,7 +2,7 @@ use Rattle.std.proofs.Common.{◌≡◌, drop}
 use Rattle.syntax.specs.inside.ExpressionViews.{conjunction_of, sum_of, term_of}
 use Rattle.typed_tree.specs.declared.expression.Connective.TheVariants as connective
 use Rattle.expression_types.specs.Expression.{conjunction_value, sum_value, term_value, value_of}
-use Rattle.expression_types.specs.WithFaults.{outcome, ◌>>=◌}
+use Rattle.expression_types.specs.Faults.{outcome, ◌>>=◌}
 use Rattle.expression_types.specs.inside.Operands.{conditions_of, integers_of}
 use Rattle.expression_types.specs.Operators.{grouped_conditions, grouped_integers}
 use Rattle.expression_types.proofs.Levels.{expression_step, conjunction_step, sum_step, term_step}

@@ -1,6 +1,6 @@
 -- Proofs of `line_len`, src/bytes.rt.
 use Rattle.std.proofs.Common.{rules}
-use Rattle.lexer.specs.Bytes.{is_in_line}
+use Rattle.lexer.specs.Spelling.{is_in_line}
 use Rattle.lexer.proofs.RunLaws.{run_to, run_all}
 use Rattle.lexer.proofs.bytes.line_len.Goals as goal
 

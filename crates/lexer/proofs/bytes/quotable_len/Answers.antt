@@ -1,6 +1,6 @@
 -- Proofs of `quotable_len`, src/bytes.rt.
 use Rattle.std.proofs.Common.{rules}
-use Rattle.lexer.specs.Bytes.{is_quotable}
+use Rattle.lexer.specs.Spelling.{is_quotable}
 use Rattle.lexer.proofs.RunLaws.{run_to, run_all}
 use Rattle.lexer.proofs.bytes.quotable_len.Goals as goal
 

@@ -1,6 +1,6 @@
 -- Proofs of `white_len`, src/bytes.rt.
 use Rattle.std.proofs.Common.{rules}
-use Rattle.lexer.specs.Bytes.{is_white}
+use Rattle.lexer.specs.Spelling.{is_white}
 use Rattle.lexer.proofs.RunLaws.{run_to, run_all}
 use Rattle.lexer.proofs.bytes.white_len.Goals as goal
 

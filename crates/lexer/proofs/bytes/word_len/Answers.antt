@@ -1,6 +1,6 @@
 -- Proofs of `word_len`, src/bytes.rt.
 use Rattle.std.proofs.Common.{rules}
-use Rattle.lexer.specs.Bytes.{is_word_byte}
+use Rattle.lexer.specs.Spelling.{is_word_byte}
 use Rattle.lexer.proofs.RunLaws.{run_to, run_all}
 use Rattle.lexer.proofs.bytes.word_len.Goals as goal
 

@@ -9,8 +9,9 @@ use Rattle.syntax.specs.Terminals.{Name, terminal_of}
 use Rattle.parser.specs.inside.Readers.{terminals, Gives}
 use Rattle.syntax.specs.ExpressionViews.{primary_of, unary_of, term_from, sum_from, conjunction_from, expression_from}
 use Rattle.syntax.specs.inside.ExpressionViews.{term_of, sum_of, comparison_of, conjunction_of}
-use Rattle.syntax.specs.ExpressionTrees.{Bare}
-use Rattle.syntax.specs.ExpressionReading.{◌>>=◌, operand_by, behind_by, multiplication, addition, after_and, after_or, unary_at, term_at, comparison_at, conjunction_at}
+use Rattle.syntax.specs.SourceTrees.{Bare}
+use Rattle.syntax.specs.Nesting.{◌>>=◌}
+use Rattle.syntax.specs.ExpressionReading.{operand_by, behind_by, multiplication, addition, after_and, after_or, unary_at, term_at, comparison_at, conjunction_at}
 use Rattle.syntax.specs.inside.ExpressionReading.{expression_in}
 use Rattle.parser.proofs.Faults.{passed_on, refused}
 use Rattle.parser.proofs.Fronts.{none_or, none_and}

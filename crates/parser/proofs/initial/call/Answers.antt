@@ -4,7 +4,7 @@ use Rattle.lexer.specs.declared.keyword.Keyword.TheVariants as keyword
 use Rattle.lexer.specs.declared.symbol.Symbol.TheVariants as symbol
 use Rattle.syntax.specs.Terminals.{OfKeyword, OfSymbol}
 use Rattle.parser.specs.inside.Readers.{terminals, Gives}
-use Rattle.syntax.specs.ExpressionReading.{◌>>=◌}
+use Rattle.syntax.specs.Nesting.{◌>>=◌}
 use Rattle.syntax.specs.SourceReading.{in_parentheses}
 use Rattle.syntax.specs.SourceTrees.{Vertices, OutDegrees}
 use Rattle.syntax.specs.SourceViews.{initial_tree}

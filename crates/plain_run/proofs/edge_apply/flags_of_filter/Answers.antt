@@ -2,7 +2,7 @@
 use Rattle.std.proofs.Common.{ℕ, ℤ, ◌+◌, ◌-◌, ◌<◌, Bool, List, [], ◌∷◌, ◌++◌, map, ap, sym, ◌∙◌, arith, append_assoc}
 use Rattle.std.specs.List.{range_with_len}
 use Rattle.typed_tree.specs.FunctionStatementTree.{function_statements_tree}
-use Rattle.algorithm_meaning.specs.Filter.{result_of}
+use Rattle.algorithm_meaning.specs.Function.{result_of}
 use Rattle.algorithm_meaning.proofs.Lists.{first_of_range}
 use Rattle.plain_run.proofs.edge_apply.flags_of_filter.Goals as goal
 

@@ -1,7 +1,7 @@
 use Rattle.std.proofs.Common.{◌≡◌, ◌-◌, ◌++◌, map}
 use Rattle.std.specs.List.{range_with_len}
 use Rattle.typed_tree.specs.FunctionStatementTree.{function_statements_tree}
-use Rattle.algorithm_meaning.specs.Filter.{result_of}
+use Rattle.algorithm_meaning.specs.Function.{result_of}
 use Rattle.plain_run.proofs.edge_apply.flags_of_filter.Given as goal
 
 -- the flags so far, and those that are to come, are all; the vectors stay

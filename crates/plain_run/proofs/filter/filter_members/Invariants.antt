@@ -1,6 +1,6 @@
 use Rattle.std.proofs.Common.{◌≡◌, ◌++◌, drop, map}
 use Rattle.typed_tree.specs.FunctionStatementTree.{function_tree}
-use Rattle.algorithm_meaning.specs.Filter.{filtered}
+use Rattle.algorithm_meaning.specs.Function.{filtered}
 use Rattle.plain_run.proofs.filter.filter_members.Given as goal
 
 -- what is kept, and what is still to be, are all; the vectors stay

@@ -1,5 +1,5 @@
 use Rattle.std.proofs.Common.{◌≡◌, ◌++◌, map}
-use Rattle.algorithm_meaning.specs.Shown.{named_set}
+use Rattle.algorithm_meaning.specs.Meaning.{named_set}
 use Rattle.plain_run.proofs.outcome.name_sets.Given as goal
 
 -- what is named, and what is still to be, are all

@@ -1,5 +1,5 @@
 use Rattle.std.proofs.Common.{◌≡◌, ◌++◌, drop}
-use Rattle.algorithm_meaning.specs.Shown.{named_vectors}
+use Rattle.algorithm_meaning.specs.Meaning.{named_vectors}
 use Rattle.plain_run.proofs.outcome.name_vectors.Given as goal
 
 -- what is named, and what is still to be, are all

@@ -1,6 +1,6 @@
 use Rattle.std.proofs.Common.{◌≡◌, drop}
 use Rattle.typed_tree.specs.FunctionStatementTree.{function_statements_tree}
-use Rattle.algorithm_meaning.specs.VertexApply.{after_vertices}
+use Rattle.algorithm_meaning.specs.VertexSets.{after_vertices}
 use Rattle.plain_run.proofs.vertex_apply.run_for_vertices.Given as goal
 
 -- what is left to do from here comes to what was to be done

@@ -1,7 +1,7 @@
 use Rattle.std.proofs.Common.{◌≡◌, ◌++◌, drop}
 use Rattle.typed_tree.specs.ProgramTree.{program_tree}
 use Rattle.plan_text.specs.inside.Rows.{operand_words}
-use Rattle.plan_text.specs.Words.{spaced}
+use Rattle.plan_text.specs.Expressions.{spaced}
 use Rattle.plan_text.proofs.expressions.+integers.Given as goal
 
 -- with what is left to put it is what was to be put

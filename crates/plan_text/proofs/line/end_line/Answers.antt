@@ -1,6 +1,6 @@
 -- Proofs of `end_line`, src/line.rt.
 use Rattle.std.proofs.Common.{◌∷◌, [], ◌++◌, ap, ◌∙◌, append_assoc, vec_len}
-use Rattle.plan_text.specs.Words.{joined}
+use Rattle.plan_text.specs.Expressions.{joined}
 use Rattle.plan_text.proofs.Spaces.{before_space, popped}
 use Rattle.plan_text.proofs.line.end_line.Goals as goal
 

@@ -1,7 +1,7 @@
 -- Proofs of `close_bracket`, src/words.rt.
 use Rattle.std.proofs.Common.{◌∷◌, [], ◌++◌, ap, ◌∙◌, append_assoc, vec_len}
 use Rattle.std.proofs.lemmas.Result.{on_ok_weaker}
-use Rattle.plan_text.specs.Words.{joined}
+use Rattle.plan_text.specs.Expressions.{joined}
 use Rattle.plan_text.proofs.Spaces.{before_space, popped}
 use Rattle.plan_text.proofs.words.close_bracket.Goals as goal
 

@@ -1,7 +1,7 @@
 -- Proofs of `put_times`, src/words.rt.
 use Rattle.std.proofs.Common.{◌∷◌, [], ◌++◌, ◌∙◌, sym, ap}
 use Rattle.plan_text.specs.inside.Rows.{times}
-use Rattle.plan_text.specs.Words.{spaced}
+use Rattle.plan_text.specs.Expressions.{spaced}
 use Rattle.plan_text.proofs.Spaces.{put_behind, times_more}
 use Rattle.plan_text.proofs.words.put_times.Goals as goal
 

@@ -1,6 +1,6 @@
 use Rattle.std.proofs.Common.{◌≡◌, ◌++◌}
 use Rattle.plan_text.specs.inside.Rows.{times}
-use Rattle.plan_text.specs.Words.{spaced}
+use Rattle.plan_text.specs.Expressions.{spaced}
 use Rattle.plan_text.proofs.words.put_times.Given as goal
 
 -- so many are there

@@ -1,7 +1,7 @@
 -- Proofs of `kernels_of`, src/kernels_at.rt.
 use Rattle.std.proofs.Common.{rules, ◌≡◌, ◌++◌, ◌∷◌, ◌+◌, [], map, take, sym, subst}
 use Rattle.typed_tree.specs.FunctionStatementTree.{function_tree}
-use Rattle.plans.specs.Kernels.{ArePairwise}
+use Rattle.plans.specs.Operation.{ArePairwise}
 use Rattle.plans.proofs.Pairwise.{pairwise_next}
 use Rattle.plans.proofs.kernels_at.kernels_of.Goals as goal
 

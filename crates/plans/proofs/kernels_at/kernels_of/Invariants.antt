@@ -1,6 +1,6 @@
 use Rattle.std.proofs.Common.{map, take}
 use Rattle.typed_tree.specs.FunctionStatementTree.{function_tree}
-use Rattle.plans.specs.Kernels.{ArePairwise}
+use Rattle.plans.specs.Operation.{ArePairwise}
 use Rattle.plans.proofs.kernels_at.kernels_of.Given as goal
 
 abbrev pub invariant-functions : goal.invariant-functions

@@ -1,6 +1,6 @@
 -- Proofs of `send_run`, src/race_text.rt.
 use Rattle.std.proofs.Common.{◌∙◌}
-use Rattle.replies.specs.OutcomeText.{outcome_text}
+use Rattle.replies.specs.ReplyText.{outcome_text}
 use Rattle.replies.proofs.SendingLaws.{emits_next, emits_none, emits_stopped}
 use Rattle.races.specs.RaceText.{run_line}
 use Rattle.races.proofs.race_text.send_run.Goals as goal

@@ -1,5 +1,5 @@
 -- Proofs of `command`, src/command_line.rt.
-use Rattle.requests.specs.CommandLine.{file_commands, race_command}
+use Rattle.requests.specs.Asked.{file_commands, race_command}
 use Rattle.requests.proofs.command_line.command.Goals as goal
 
 pub returns : goal.returns

@@ -1,7 +1,7 @@
 -- Proofs of `file_commands`, src/command_line.rt.
 use Rattle.std.proofs.Common.{codes}
 use Rattle.clap.specs.Words.{with_subcommand}
-use Rattle.requests.specs.CommandLine.{file_command, program, script_command}
+use Rattle.requests.specs.Asked.{file_command, program, script_command}
 use Rattle.requests.proofs.command_line.file_commands.Goals as goal
 
 pub returns : goal.returns

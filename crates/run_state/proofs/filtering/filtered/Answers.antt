@@ -2,7 +2,7 @@
 use Rattle.std.proofs.Common.{rules, ◌≡◌, ℕ, List, ◌++◌, length, take, zero-add, append-nil, append_assoc, refl, ap, ap₂, sym, subst, ◌∙◌, arith}
 use Rattle.std.specs.List.{filter}
 use Rattle.std.proofs.lemmas.List.Elements.{filter-append}
-use Rattle.algorithm_meaning.specs.Filter.{result_of}
+use Rattle.algorithm_meaning.specs.Function.{result_of}
 use Rattle.kernels.specs.Kernels.{HasRegisters, passes_at}
 use Rattle.kernels.specs.RegisterCounts.{RegisterCounts}
 use Rattle.vertex_sets.specs.VertexSet.{IsAscendingBelow}

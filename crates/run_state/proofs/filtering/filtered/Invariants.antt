@@ -1,7 +1,7 @@
 use Rattle.std.proofs.Common.{◌≡◌, ◌++◌, length}
 use Rattle.std.specs.List.{filter}
 use Rattle.typed_tree.specs.FunctionStatementTree.{FunctionStatementsTree}
-use Rattle.algorithm_meaning.specs.Filter.{result_of}
+use Rattle.algorithm_meaning.specs.Function.{result_of}
 use Rattle.algorithm_meaning.specs.State.{StateValue}
 use Rattle.kernels.specs.declared.columns.TheConstants.{PAIRS}
 use Rattle.kernels.specs.Registers.{HasSizes}

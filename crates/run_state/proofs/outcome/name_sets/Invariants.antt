@@ -1,5 +1,5 @@
 use Rattle.std.proofs.Common.{◌≡◌, ◌++◌, map, drop}
-use Rattle.algorithm_meaning.specs.Shown.{named_set}
+use Rattle.algorithm_meaning.specs.Meaning.{named_set}
 use Rattle.run_state.specs.inside.NamedSets.{named}
 use Rattle.run_state.proofs.outcome.name_sets.Given as goal
 

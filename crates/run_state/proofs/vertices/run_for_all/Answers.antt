@@ -2,7 +2,7 @@
 use Rattle.std.proofs.Common.{rules, ℕ, List, take, refl, ap, sym, subst, ◌∙◌, arith}
 use Rattle.std.specs.List.Sorted.{IsStrictlyIncreasing}
 use Rattle.algorithm_meaning.specs.State.{StateValue}
-use Rattle.algorithm_meaning.specs.VertexApply.{after_vertices}
+use Rattle.algorithm_meaning.specs.VertexSets.{after_vertices}
 use Rattle.vertex_sets.proofs.Ascending.{Rises, increasing_from_rises, rises_from_increasing}
 use Rattle.run_state.proofs.Passed.{after_vertices-append, parts_of, rises_drop, rises_take}
 use Rattle.run_state.proofs.vertices.run_for_all.Goals as goal

@@ -1,7 +1,7 @@
 use Rattle.std.proofs.Common.{◌≡◌, length}
 use Rattle.typed_tree.specs.FunctionStatementTree.{FunctionStatementsTree}
 use Rattle.algorithm_meaning.specs.State.{StateValue}
-use Rattle.algorithm_meaning.specs.VertexApply.{after_vertices}
+use Rattle.algorithm_meaning.specs.VertexSets.{after_vertices}
 use Rattle.kernels.specs.declared.columns.TheConstants.{PAIRS}
 use Rattle.kernels.specs.Registers.{HasSizes}
 use Rattle.kernels.specs.Meaning.{IsVertexCode}

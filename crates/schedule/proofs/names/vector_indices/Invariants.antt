@@ -1,6 +1,6 @@
 use Rattle.std.proofs.Common.{◌≡◌, ℕ, List, drop}
-use Rattle.expression_types.specs.Names.{found}
-use Rattle.schedule.specs.Names.{index_from, vector_names}
+use Rattle.expression_types.specs.ScopeTree.{found}
+use Rattle.schedule.specs.Schedule.{index_from, vector_names}
 use Rattle.schedule.specs.inside.Putting.{first_of}
 use Rattle.schedule.proofs.names.vector_indices.Given as goal
 

@@ -3,7 +3,7 @@ use Rattle.std.proofs.Common.{ap, ◌∙◌}
 use Rattle.std.proofs.lemmas.List.{append_assoc}
 use Rattle.std.proofs.lemmas.Result.{on_ok_weaker}
 use Rattle.typed_tree.specs.BlockTree.{statement_kind_tree, block_tree}
-use Rattle.schedule.specs.Sites.{sites_of}
+use Rattle.schedule.specs.Schedule.{sites_of}
 use Rattle.typed_tree.proofs.Blocks.{statement_kind_tree-If, statement_kind_tree-IfElse, statement_kind_tree-While, statement_kind_tree-For}
 use Rattle.schedule.proofs.site.+sites.Goals as goal
 

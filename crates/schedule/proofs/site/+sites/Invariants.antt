@@ -1,6 +1,6 @@
 use Rattle.std.proofs.Common.{◌≡◌, ◌++◌, drop}
 use Rattle.typed_tree.specs.BlockTree.{block_tree}
-use Rattle.schedule.specs.Sites.{sites_of}
+use Rattle.schedule.specs.Schedule.{sites_of}
 use Rattle.schedule.proofs.site.+sites.Given as goal
 
 -- the labels so far were put after, and those of the others are to come

@@ -2,7 +2,7 @@
 use Rattle.std.proofs.Common.{◌≡◌, ◌∷◌, ◌++◌, [], List, sym, ap, ◌∙◌, subst, arith}
 use Rattle.version_list.specs.Machine.{State, opened}
 use Rattle.shared_graph.specs.declared.entry.Entry.{Entry}
-use Rattle.shared_graph.specs.Passes.{HasMade}
+use Rattle.shared_graph.specs.Histories.{HasMade}
 use Rattle.shared_graph.proofs.Growing.{length-own, next_few}
 use Rattle.shared_graph.proofs.Steps.{made}
 use Rattle.shared_graph.proofs.published_log.make_step.Goals as goal

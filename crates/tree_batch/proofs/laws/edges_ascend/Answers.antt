@@ -1,6 +1,6 @@
 -- Proofs of `edges_ascend`, src/laws.rt.
 use Rattle.std.proofs.Common.{◌^◌, arith}
-use Rattle.tree_batch.specs.Entry.{vertices_after, weight_after}
+use Rattle.tree_batch.specs.Edge.{vertices_after, weight_after}
 use Rattle.tree_batch.proofs.Rising.{same_edges}
 use Rattle.tree_batch.proofs.AllEdges.{rises_all, few_vertices}
 use Rattle.tree_batch.proofs.Deciding.{count_after}

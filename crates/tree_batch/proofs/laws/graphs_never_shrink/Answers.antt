@@ -3,7 +3,7 @@ use Rattle.std.proofs.Common.{◌≡◌, inl, inr, sym, subst, arith}
 use Rattle.std.proofs.lemmas.Bool.{cases_lt}
 use Rattle.std.specs.List.{Contains}
 use Rattle.tree_batch.specs.declared.batch.Entry.TheVariants.{Grow}
-use Rattle.tree_batch.specs.Entry.{most_asked, vertices_after}
+use Rattle.tree_batch.specs.Edge.{most_asked, vertices_after}
 use Rattle.tree_batch.proofs.Deciding.{asked_most, most_is_asked}
 use Rattle.tree_batch.proofs.laws.graphs_never_shrink.Goals as goal
 

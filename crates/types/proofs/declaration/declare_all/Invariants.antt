@@ -1,6 +1,6 @@
 use Rattle.std.proofs.Common.{◌≡◌, drop, map}
 use Rattle.syntax.specs.SourceViews.{declaration_tree}
-use Rattle.expression_types.specs.WithFaults.{outcome}
+use Rattle.expression_types.specs.Faults.{outcome}
 use Rattle.types.specs.Declaration.{declarations_typed}
 use Rattle.types.specs.inside.Declaration.{declared_of}
 use Rattle.types.proofs.declaration.declare_all.Given as goal

@@ -1,7 +1,7 @@
 use Rattle.std.proofs.Common.{◌≡◌, drop, map}
 use Rattle.syntax.specs.SourceViews.{parameter_tree}
 use Rattle.typed_tree.specs.declared.expression.Endpoint.TheVariants.{Source}
-use Rattle.expression_types.specs.WithFaults.{outcome}
+use Rattle.expression_types.specs.Faults.{outcome}
 use Rattle.expression_types.specs.ScopeTree.{Keeps}
 use Rattle.types.specs.inside.Checker.{checker_of}
 use Rattle.types.specs.Declaration.{parameters_declared}

@@ -2,7 +2,7 @@
 use Rattle.std.proofs.Common.{ap, subst, ◌∙◌, map, option_map}
 use Rattle.syntax.specs.SourceViews.{block_tree as source_block, parameter_tree}
 use Rattle.typed_tree.specs.FunctionStatementTree.{NoStep, function_statements_tree}
-use Rattle.expression_types.specs.WithFaults.{ReportsFaults, ◌>>=◌}
+use Rattle.expression_types.specs.Faults.{ReportsFaults, ◌>>=◌}
 use Rattle.expression_types.specs.ScopeTree.{left}
 use Rattle.expression_types.proofs.Steps.{reports_then}
 use Rattle.types.specs.inside.Checker.{checker_of}

@@ -3,7 +3,7 @@ use Rattle.std.proofs.Common.{◌≡◌, ap, sym, subst, ◌∙◌, length, map,
 use Rattle.syntax.specs.SourceViews.{block_tree as source_block, parameter_tree}
 use Rattle.typed_tree.specs.BlockTree.{Empty, block_tree}
 use Rattle.expression_types.specs.declared.scope.Entity.TheVariants as entity
-use Rattle.expression_types.specs.WithFaults.{outcome, sure, ◌>>=◌}
+use Rattle.expression_types.specs.Faults.{outcome, sure, ◌>>=◌}
 use Rattle.expression_types.specs.ScopeTree.{left}
 use Rattle.expression_types.proofs.Steps.{outcome_then}
 use Rattle.types.specs.Block.{statements_typed}

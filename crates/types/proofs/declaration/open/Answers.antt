@@ -2,7 +2,7 @@
 use Rattle.std.proofs.Common.{◌≡◌, ap, subst, ◌∙◌, [], map, option_map}
 use Rattle.syntax.specs.SourceViews.{parameter_tree}
 use Rattle.typed_tree.specs.declared.expression.Endpoint.TheVariants.{Source}
-use Rattle.expression_types.specs.WithFaults.{outcome}
+use Rattle.expression_types.specs.Faults.{outcome}
 use Rattle.expression_types.specs.ScopeTree.{entered}
 use Rattle.expression_types.proofs.Steps.{reports_then}
 use Rattle.types.specs.inside.Checker.{checker_of}

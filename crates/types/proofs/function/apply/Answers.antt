@@ -4,7 +4,7 @@ use Rattle.syntax.specs.SourceViews.{ends_tree}
 use Rattle.typed_tree.specs.FunctionStatementTree.{function_statement_tree}
 use Rattle.expression_types.specs.declared.fault.TypeRule.TheVariants as rule
 use Rattle.expression_types.specs.Expression.{used}
-use Rattle.expression_types.specs.WithFaults.{outcome, sure, fault_at, ◌>>=◌}
+use Rattle.expression_types.specs.Faults.{outcome, sure, fault_at, ◌>>=◌}
 use Rattle.expression_types.proofs.Steps.{outcome_then}
 use Rattle.types.specs.Initial.{end_of}
 use Rattle.types.specs.Step.{no_apply, no_step}

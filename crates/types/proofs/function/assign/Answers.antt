@@ -2,7 +2,7 @@
 use Rattle.std.proofs.Common.{◌∙◌, ◌≡◌, subst}
 use Rattle.syntax.specs.SourceViews.{initial_tree}
 use Rattle.expression_types.specs.Expression.{used}
-use Rattle.expression_types.specs.WithFaults.{◌>>=◌, outcome}
+use Rattle.expression_types.specs.Faults.{◌>>=◌, outcome}
 use Rattle.expression_types.proofs.Steps.{outcome_then}
 use Rattle.types.specs.inside.Checker.{checker_of}
 use Rattle.types.specs.inside.Initializer.{initializer_tree}

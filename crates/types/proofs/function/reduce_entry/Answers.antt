@@ -3,12 +3,12 @@ use Rattle.std.proofs.Common.{ℕ, Bool, List, ◌≡◌, ap, subst, sym, ◌∙
 use Rattle.apply_options.specs.declared.reduction.Reduction.{Reduction}
 use Rattle.typed_tree.specs.IntExpressionTree.{int_expression_tree}
 use Rattle.expression_types.specs.Expression.{index_value, vector_index}
-use Rattle.expression_types.specs.WithFaults.{sure, outcome, ◌>>=◌}
+use Rattle.expression_types.specs.Faults.{sure, outcome, ◌>>=◌}
 use Rattle.expression_types.specs.ValueTree.{value_tree}
 use Rattle.expression_types.proofs.Steps.{outcome_then}
 use Rattle.types.specs.inside.Checker.{checker_of}
 use Rattle.types.specs.Step.{may_reduce, own_vertex, reduction_step, with_writes, written_at, reduce_entry_step}
-use Rattle.types.specs.Wanted.{integer_in}
+use Rattle.types.specs.Checker.{integer_in}
 use Rattle.typed_tree.specs.FunctionStatementTree.{function_statement_tree}
 use Rattle.types.proofs.function.reduce_entry.Goals as goal
 

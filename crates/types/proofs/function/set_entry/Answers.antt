@@ -2,11 +2,11 @@
 use Rattle.std.proofs.Common.{◌≡◌, ap, subst, sym, ◌∙◌}
 use Rattle.typed_tree.specs.IntExpressionTree.{int_expression_tree}
 use Rattle.expression_types.specs.Expression.{index_value, vector_index}
-use Rattle.expression_types.specs.WithFaults.{sure, outcome, ◌>>=◌}
+use Rattle.expression_types.specs.Faults.{sure, outcome, ◌>>=◌}
 use Rattle.expression_types.specs.ValueTree.{value_tree}
 use Rattle.expression_types.proofs.Steps.{outcome_then}
 use Rattle.types.specs.Step.{entry_step, may_set, own_vertex, written_at, set_entry_step}
-use Rattle.types.specs.Wanted.{integer_in}
+use Rattle.types.specs.Checker.{integer_in}
 use Rattle.typed_tree.specs.FunctionStatementTree.{function_statement_tree}
 use Rattle.types.proofs.function.set_entry.Goals as goal
 

@@ -1,7 +1,7 @@
 -- Proofs of `read_apply`, src/initial.rt.
 use Rattle.std.proofs.Common.{◌∙◌}
 use Rattle.expression_types.specs.Expression.{used}
-use Rattle.expression_types.specs.WithFaults.{sure, ◌>>=◌}
+use Rattle.expression_types.specs.Faults.{sure, ◌>>=◌}
 use Rattle.expression_types.proofs.Steps.{outcome_then}
 use Rattle.types.specs.inside.Initializer.{apply_end_tree}
 use Rattle.types.specs.Initial.{end_of}

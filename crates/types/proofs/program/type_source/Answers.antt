@@ -3,7 +3,7 @@ use Rattle.std.proofs.Common.{◌≡◌, ap, sym, subst, ◌∙◌, map}
 use Rattle.syntax.specs.SourceViews.{declaration_tree, source_tree}
 use Rattle.typed_tree.specs.BlockTree.{block_tree}
 use Rattle.typed_tree.specs.ProgramTree.{call_tree}
-use Rattle.expression_types.specs.WithFaults.{outcome, sure, ◌>>=◌}
+use Rattle.expression_types.specs.Faults.{outcome, sure, ◌>>=◌}
 use Rattle.expression_types.proofs.Steps.{outcome_then}
 use Rattle.types.specs.Declaration.{declarations_typed}
 use Rattle.types.specs.inside.Declaration.{declared_of}

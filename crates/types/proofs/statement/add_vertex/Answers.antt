@@ -1,7 +1,7 @@
 -- Proofs of `add_vertex`, src/statement.rt.
 use Rattle.std.proofs.Common.{◌∙◌, ◌≡◌, subst}
 use Rattle.expression_types.specs.Expression.{used, value_of}
-use Rattle.expression_types.specs.WithFaults.{◌>>=◌, outcome}
+use Rattle.expression_types.specs.Faults.{◌>>=◌, outcome}
 use Rattle.expression_types.specs.ValueTree.{value_tree}
 use Rattle.expression_types.proofs.Steps.{outcome_then}
 use Rattle.types.specs.Statement.{added, add_vertex}

@@ -2,7 +2,7 @@
 use Rattle.std.proofs.Common.{◌≡◌, ap, subst, sym, ◌∙◌}
 use Rattle.syntax.specs.SourceViews.{ends_tree}
 use Rattle.typed_tree.specs.BlockTree.{statement_kind_tree}
-use Rattle.expression_types.specs.WithFaults.{outcome}
+use Rattle.expression_types.specs.Faults.{outcome}
 use Rattle.types.specs.Statement.{applied, apply, has_ends}
 use Rattle.types.specs.inside.Applies.{apply_tree}
 use Rattle.types.proofs.Applies.{apply_then}

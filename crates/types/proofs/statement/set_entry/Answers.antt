@@ -3,11 +3,11 @@ use Rattle.std.proofs.Common.{sym, ◌∙◌, ◌≡◌, subst}
 use Rattle.typed_tree.specs.IntExpressionTree.{int_expression_tree}
 use Rattle.std.specs.Option.{option_map}
 use Rattle.expression_types.specs.Expression.{value_of, vector_index}
-use Rattle.expression_types.specs.WithFaults.{sure, ◌>>=◌, outcome}
+use Rattle.expression_types.specs.Faults.{sure, ◌>>=◌, outcome}
 use Rattle.expression_types.specs.ValueTree.{value_tree}
 use Rattle.expression_types.proofs.Steps.{outcome_then}
 use Rattle.types.specs.Statement.{entry_set, set_entry}
-use Rattle.types.specs.Wanted.{as_index, integer_in}
+use Rattle.types.specs.Checker.{as_index, integer_in}
 use Rattle.typed_tree.specs.BlockTree.{statement_kind_tree}
 use Rattle.types.proofs.statement.set_entry.Goals as goal
 

@@ -8,13 +8,13 @@ use Rattle.typed_tree.specs.IntExpressionTree.{int_expression_tree}
 use Rattle.typed_tree.proofs.Steps.{function_statement_tree-If, function_statement_tree-IfElse}
 use Rattle.expression_types.specs.declared.fault.TypeRule.TheVariants as rule
 use Rattle.expression_types.specs.declared.scope.Entity.TheVariants as entity
-use Rattle.expression_types.specs.WithFaults.{fault_at, outcome, sure, ◌>>=◌}
+use Rattle.expression_types.specs.Faults.{fault_at, outcome, sure, ◌>>=◌}
 use Rattle.expression_types.specs.ScopeTree.{left}
 use Rattle.expression_types.proofs.Steps.{outcome_then}
 use Rattle.types.specs.Step.{no_step, step_typed, steps_behind, steps_typed}
 use Rattle.types.specs.inside.Checker.{checker_of}
 use Rattle.types.specs.Checker.{declared_in, integer_slot, with_scope}
-use Rattle.types.specs.Wanted.{integer_in}
+use Rattle.types.specs.Checker.{integer_in}
 use Rattle.types.proofs.StepLaws.{while_step, if_step, if_else_step, step_on}
 use Rattle.types.proofs.Kept.{keeps_on, keeps_same, left_again}
 use Rattle.types.proofs.Sources as sources

@@ -1,7 +1,7 @@
 use Rattle.std.proofs.Common.{◌≡◌, drop}
 use Rattle.syntax.specs.SourceViews.{block_tree as source_block}
 use Rattle.typed_tree.specs.FunctionStatementTree.{NoStep, function_statements_tree}
-use Rattle.expression_types.specs.WithFaults.{outcome}
+use Rattle.expression_types.specs.Faults.{outcome}
 use Rattle.expression_types.specs.ScopeTree.{Keeps}
 use Rattle.types.specs.Step.{steps_typed}
 use Rattle.types.specs.inside.Checker.{checker_of}

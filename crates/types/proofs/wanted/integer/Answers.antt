@@ -3,7 +3,7 @@ use Rattle.std.proofs.Common.{◌∙◌}
 use Rattle.expression_types.specs.Expression.{value_of}
 use Rattle.expression_types.specs.ValueTree.{value_tree}
 use Rattle.expression_types.proofs.Steps.{outcome_then}
-use Rattle.types.specs.Wanted.{as_integer}
+use Rattle.types.specs.Checker.{as_integer}
 use Rattle.types.proofs.wanted.integer.Goals as goal
 
 pub returns : goal.returns

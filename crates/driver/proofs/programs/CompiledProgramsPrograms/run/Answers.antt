@@ -5,7 +5,7 @@ use Rattle.std.proofs.lemmas.Option.{same_Some, slice_get-get_or, slice_get-map}
 use Rattle.std.proofs.lemmas.Result.{IfOk-weaker}
 use Rattle.algorithm_meaning.specs.ProgramTree.{ProgramTree}
 use Rattle.scripts.specs.Replies.{meaning_on}
-use Rattle.driver.specs.Programs.{tree_of}
+use Rattle.driver.specs.Reading.{tree_of}
 use Rattle.driver.proofs.Workers.{counted_workers}
 use Rattle.driver.proofs.programs.CompiledProgramsPrograms.run.Goals as goal
 

@@ -1,7 +1,7 @@
 -- Proofs of `join_block`, src/vector_accumulators.rt.
 use Rattle.std.proofs.Common.{rules, ℕ, ◌<◌, ◌++◌, [], length, take, ap, sym, ◌∙◌, subst}
 use Rattle.kernels.specs.Columns.{registers_at}
-use Rattle.kernels.specs.FunctionCode.{given_by}
+use Rattle.kernels.specs.Meaning.{given_by}
 use Rattle.kernels.specs.ContributionColumns.{contribution_at}
 use Rattle.edge_fold.specs.Contributions.{IsBy, reduced_at}
 use Rattle.edge_fold.specs.inside.Contributions.{given_from}

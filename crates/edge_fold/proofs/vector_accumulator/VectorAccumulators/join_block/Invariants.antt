@@ -1,7 +1,7 @@
 use Rattle.std.proofs.Common.{ℕ, ◌<◌, length, take}
 use Rattle.apply_options.specs.declared.reduction.Reduction.{Reduction}
 use Rattle.kernels.specs.Columns.{registers_at}
-use Rattle.kernels.specs.FunctionCode.{given_by}
+use Rattle.kernels.specs.Meaning.{given_by}
 use Rattle.edge_fold.specs.Contributions.{IsBy}
 use Rattle.edge_fold.specs.inside.Contributions.{given_from}
 use Rattle.edge_fold.specs.inside.VectorAccumulators.{HaveJoined}

@@ -1,6 +1,6 @@
 -- Proofs of `get`, src/names.rt.
 use Rattle.std.proofs.Common.{ap, ◌∙◌}
-use Rattle.expression_types.specs.Names.{found}
+use Rattle.expression_types.specs.ScopeTree.{found}
 use Rattle.expression_types.proofs.NamesLaws.{found-shown}
 use Rattle.expression_types.proofs.names.Names.get.Goals as goal
 

@@ -3,7 +3,7 @@ use Rattle.std.proofs.Common.{◌≡◌, ap, sym, ◌∙◌, subst, [], ◌∷�
 use Rattle.std.specs.Str.{bytes_eq}
 use Rattle.std.specs.Map.{lookup}
 use Rattle.indexmap.proofs.CallerLemmas.{insert_entry-new}
-use Rattle.expression_types.specs.Names.{found}
+use Rattle.expression_types.specs.ScopeTree.{found}
 use Rattle.expression_types.specs.inside.Names.{shown}
 use Rattle.expression_types.proofs.NamesLaws.{found-shown, shown-append}
 use Rattle.expression_types.proofs.names.Names.push.Goals as goal

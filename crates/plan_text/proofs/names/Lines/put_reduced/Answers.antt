@@ -5,7 +5,7 @@ use Rattle.typed_tree.specs.IntExpressionTree.{int_expression_tree}
 use Rattle.typed_tree.specs.ProgramTree.{program_tree}
 use Rattle.plan_text.specs.Expressions.{integer_words, name_at}
 use Rattle.plan_text.specs.Lines.{reducing_word}
-use Rattle.plan_text.specs.Words.{spaced}
+use Rattle.plan_text.specs.Expressions.{spaced}
 use Rattle.plan_text.proofs.Spaces.{put_behind}
 use Rattle.plan_text.proofs.names.Lines.put_reduced.Goals as goal
 

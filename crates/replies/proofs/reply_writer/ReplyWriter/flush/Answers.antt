@@ -1,6 +1,6 @@
 -- Proofs of `flush`, src/reply_writer.rt.
 use Rattle.std.proofs.Common.{refl, subst}
-use Rattle.devices.specs.Drain.{TakesPart}
+use Rattle.devices.specs.Devices.{TakesPart}
 use Rattle.replies.proofs.SendingLaws.{part_of_write}
 use Rattle.replies.proofs.reply_writer.ReplyWriter.flush.Goals as goal
 

@@ -1,6 +1,6 @@
 -- Proofs of `send_end`, src/outcome_text.rt.
 use Rattle.std.proofs.Common.{[], ap}
-use Rattle.replies.specs.OutcomeText.{end_line}
+use Rattle.replies.specs.ReplyText.{end_line}
 use Rattle.replies.proofs.SendingLaws.{lacks_memory, fails_more, emits_failed}
 use Rattle.replies.proofs.reply_writer.ReplyWriter.send_end.Goals as goal
 

@@ -1,7 +1,7 @@
 -- Proofs of `send_outcome`, src/outcome_text.rt.
 use Rattle.std.proofs.Common.{◌++◌, refl, sym, ap}
 use Rattle.std.specs.List.{flat_map}
-use Rattle.replies.specs.OutcomeText.{end_line, vector_line, set_line}
+use Rattle.replies.specs.ReplyText.{end_line, vector_line, set_line}
 use Rattle.replies.proofs.SendingLaws.{emits_as, emits_next, emits_stopped}
 use Rattle.replies.proofs.reply_writer.ReplyWriter.send_outcome.Goals as goal
 

@@ -2,7 +2,7 @@
 use Rattle.std.proofs.Common.{◌≤◌, ◌<◌, length, subst, arith}
 use Rattle.std.proofs.lemmas.List.{take_all}
 use Rattle.std.specs.List.{flat_map}
-use Rattle.replies.specs.OutcomeText.{vector_line}
+use Rattle.replies.specs.ReplyText.{vector_line}
 use Rattle.replies.specs.Sending.{Sends}
 use Rattle.replies.proofs.SendingLaws.{sends_none, sends_at, fails_at, emits_failed}
 use Rattle.replies.proofs.reply_writer.ReplyWriter.send_vectors.Goals as goal

@@ -1,6 +1,6 @@
 use Rattle.std.proofs.Common.{take}
 use Rattle.std.specs.List.{flat_map}
-use Rattle.replies.specs.OutcomeText.{vector_line}
+use Rattle.replies.specs.ReplyText.{vector_line}
 use Rattle.replies.specs.Sending.{Sends}
 use Rattle.replies.proofs.reply_writer.ReplyWriter.send_vectors.Given as goal
 

@@ -1,7 +1,7 @@
 -- Proofs of `shown`, src/named_sets.rt.
 use Rattle.std.proofs.Common.{◌≡◌, ℕ, List, IfOk, map, take, ap, ap₂, subst, ◌∙◌}
 use Rattle.algorithm_meaning.specs.declared.outcome.NamedSet.{NamedSet}
-use Rattle.algorithm_meaning.specs.Shown.{named_set}
+use Rattle.algorithm_meaning.specs.Meaning.{named_set}
 use Rattle.algorithm_meaning.specs.State.{StateValue}
 use Rattle.vertex_sets.specs.VertexSet.{VertexSubset}
 use Rattle.run_state.specs.inside.NamedSets.{named}

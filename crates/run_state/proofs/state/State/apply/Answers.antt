@@ -1,9 +1,9 @@
 -- Proofs of `apply`, src/state.rt.
 use Rattle.std.proofs.Common.{ℕ, ℤ, List, slice_get, refl, ap, ap₂, sym, subst, ◌∙◌}
-use Rattle.algorithm_meaning.specs.Entries.{with_vectors}
+use Rattle.algorithm_meaning.specs.Statements.{with_vectors}
 use Rattle.algorithm_meaning.specs.State.{StateValue}
 use Rattle.algorithm_meaning.specs.Value.{members_of}
-use Rattle.algorithm_meaning.specs.VertexApply.{after_vertices}
+use Rattle.algorithm_meaning.specs.VertexSets.{after_vertices}
 use Rattle.kernels.specs.Registers.{HasSizes}
 use Rattle.run_state.specs.inside.NamedSets.{HaveLength, run_state}
 use Rattle.run_state.specs.State.{RunState, with_state}

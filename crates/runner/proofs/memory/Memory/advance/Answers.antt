@@ -1,7 +1,7 @@
 -- Proofs of `advance`, src/control.rt.
 use Rattle.std.proofs.Common.{rules, ◌≡◌, ◌∙◌, ◌+◌, ◌++◌, ◌∷◌, [], ℤ, pos, ◌+ℤ◌, ap, reverse, to_z, of_z, w64}
 use Rattle.algorithm_meaning.specs.Arithmetic.{wrapped}
-use Rattle.algorithm_meaning.specs.Variables.{with_new_integer}
+use Rattle.algorithm_meaning.specs.Statements.{with_new_integer}
 use Rattle.algorithm_meaning.specs.declared.state.LoopCounter.{LoopCounter}
 use Rattle.algorithm_meaning.specs.Loop.{next_of}
 use Rattle.plans.specs.Machine.{At}

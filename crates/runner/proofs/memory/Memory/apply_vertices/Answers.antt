@@ -1,6 +1,6 @@
 -- Proofs of `apply_vertices`, src/applies.rt.
 use Rattle.std.proofs.Common.{◌∙◌, ◌+◌, ℤ, List, slice_get, ap, subst, sym}
-use Rattle.algorithm_meaning.specs.Entries.{with_vectors}
+use Rattle.algorithm_meaning.specs.Statements.{with_vectors}
 use Rattle.algorithm_meaning.specs.Function.{steps_of}
 use Rattle.algorithm_meaning.specs.Value.{members_of}
 use Rattle.kernels.specs.declared.vertex_kernel.VertexKernel.{VertexKernel}

@@ -1,7 +1,7 @@
 -- Proofs of `into_outcome`, src/plan_run.rt.
 use Rattle.std.proofs.Common.{◌∙◌, ap, sym}
 use Rattle.algorithm_meaning.specs.declared.outcome.End.{End as Ending}
-use Rattle.algorithm_meaning.specs.Shown.{shown}
+use Rattle.algorithm_meaning.specs.Meaning.{shown}
 use Rattle.algorithm_meaning.specs.Loop.{forget_beyond}
 use Rattle.plans.specs.Plan.{plan_of}
 use Rattle.run_state.specs.State.{RunState}

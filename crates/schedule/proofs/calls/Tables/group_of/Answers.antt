@@ -6,7 +6,7 @@ use Rattle.std.specs.List.{list_any}
 use Rattle.std.specs.Prelude.{if◌then◌else◌}
 use Rattle.typed_tree.specs.ProgramTree.{program_tree}
 use Rattle.schedule.specs.Calls.{grown}
-use Rattle.schedule.specs.Names.{vector_index}
+use Rattle.schedule.specs.Schedule.{vector_index}
 use Rattle.schedule.proofs.Growing.{grown_on, grown_taken, grown_unknown}
 use Rattle.schedule.proofs.calls.Tables.group_of.Goals as goal
 

@@ -3,7 +3,7 @@ use Rattle.std.proofs.Common.{ℕ, List, subst}
 use Rattle.typed_tree.specs.declared.program.Vector.{Vector}
 use Rattle.typed_tree.specs.declared.statement.MainStatement.{MainStatement}
 use Rattle.typed_tree.specs.BlockTree.{block_tree}
-use Rattle.schedule.specs.Names.{vector_names}
+use Rattle.schedule.specs.Schedule.{vector_names}
 use Rattle.schedule.specs.inside.Putting.{AreIndices, AreSites}
 use Rattle.schedule.proofs.calls.Tables.of.Goals as goal
 

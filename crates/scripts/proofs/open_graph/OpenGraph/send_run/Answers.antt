@@ -4,7 +4,7 @@ use Rattle.std.specs.Option.{option_map, IfSome}
 use Rattle.version_flats.specs.VersionFlats.{IsKept}
 use Rattle.replies.specs.declared.line_reply.LineReply.TheVariants as line_reply
 use Rattle.algorithm_meaning.specs.declared.outcome.Outcome.{Outcome}
-use Rattle.replies.specs.OutcomeText.{outcome_text, is_fault}
+use Rattle.replies.specs.ReplyText.{outcome_text, is_fault}
 use Rattle.tree_batch.specs.Digraph.{Digraph}
 use Rattle.scripts.specs.Replies.{Answer, OpenState, graph_of, meaning_on, ran as ran_on}
 use Rattle.replies.specs.ReplyText.{line_text}

@@ -1,6 +1,6 @@
 -- Proofs of `apply_forked`, src/graph.rt.
 use Rattle.std.proofs.Common.{◌≡◌, false, sym, refl}
-use Rattle.tree_batch.specs.Entry.{misfits}
+use Rattle.tree_batch.specs.Edge.{misfits}
 use Rattle.tree_batch.specs.inside.Sorted.{sorted_pairs}
 use Rattle.tree_batch.proofs.AllEdges.{few_vertices}
 use Rattle.tree_batch.proofs.Deciding.{all_inside}
