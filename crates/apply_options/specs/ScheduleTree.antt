@@ -6,24 +6,24 @@ use Rattle.apply_options.specs.declared.apply_schedule.Fused.{Fused}
 
 -- what the calls say of each label that they name, and the groups of vectors in the order of the calls
 pub record ScheduleTree : Type 0 where
-  pub choices : List (ℕ × ApplySchedule)
+  pub apply_schedules : List (ℕ × ApplySchedule)
   pub groups : List (List ℕ)
 
-abbrev pub no_choice : ApplySchedule
-no_choice = record { direction = None; parallelization = None; dense_vertex_set = None; fused = None }
+abbrev pub no_apply_schedule : ApplySchedule
+no_apply_schedule = record { direction = None; parallelization = None; dense_vertex_set = None; fused = None }
 
-abbrev pub or_no_choice : Option ApplySchedule → ApplySchedule
-or_no_choice None = no_choice
-or_no_choice (Some c) = c
+abbrev pub or_no_apply_schedule : Option ApplySchedule → ApplySchedule
+or_no_apply_schedule None = no_apply_schedule
+or_no_apply_schedule (Some c) = c
 
 -- what the calls say of a label
-abbrev pub choice_of : ℕ → ScheduleTree → ApplySchedule
-choice_of label s = or_no_choice (lookup (nat_eq label) s.choices)
+abbrev pub apply_schedule_of : ℕ → ScheduleTree → ApplySchedule
+apply_schedule_of label s = or_no_apply_schedule (lookup (nat_eq label) s.apply_schedules)
 
-abbrev pub choice_at : Option ℕ → ScheduleTree → ApplySchedule
-choice_at None s = no_choice
-choice_at (Some label) s = choice_of label s
+abbrev pub apply_schedule_at : Option ℕ → ScheduleTree → ApplySchedule
+apply_schedule_at None s = no_apply_schedule
+apply_schedule_at (Some label) s = apply_schedule_of label s
 
--- a label's choice with where it stands in a fusing
+-- a label's apply schedule with where it stands in a fusing
 abbrev pub fused_as : Fused → ApplySchedule → ApplySchedule
 fused_as fused c = record { direction = c.direction; parallelization = c.parallelization; dense_vertex_set = c.dense_vertex_set; fused = Some fused }

@@ -1,6 +1,6 @@
 //! What a schedule says of an apply: its direction, its parallelization, its dense vertex sets, and the apply that it is fused with.
 ghost use Rattle.std.specs.Prelude.{◌≡◌};
-ghost use Rattle.apply_options.specs.ScheduleTree.{no_choice};
+ghost use Rattle.apply_options.specs.ScheduleTree.{no_apply_schedule};
 
 /// In which way an edge apply goes over the edges: from the sources of a sparse or a dense set, or to each
 /// destination.
@@ -59,7 +59,7 @@ pub struct ApplySchedule {
 impl ApplySchedule {
     /// What is said where no call is made.
     pub fn none() -> ApplySchedule
-        ensures { result ≡ no_choice }
+        ensures { result ≡ no_apply_schedule }
     {
         ApplySchedule {
             direction: None,

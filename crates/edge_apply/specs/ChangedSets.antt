@@ -5,7 +5,7 @@ use Rattle.apply_options.specs.declared.apply_schedule.DenseVertexSet.TheVariant
 use Rattle.vertex_sets.specs.declared.form.Form.{Form}
 use Rattle.vertex_sets.specs.declared.form.Form.TheVariants.{List, Flags, Bits}
 
--- of a dense set, by the schedule's choice
+-- of a dense set, by the apply's schedule
 abbrev pub dense_form : DenseVertexSet → Form
 dense_form BoolArray = Flags
 dense_form Bitvector = Bits

@@ -52,9 +52,9 @@ regroup old number words target = simp append_assoc
 -- a number, the words of an instruction, and where it may go
 pub words_of_line : (p : ProgramTree) (index : ℕ) (i : Instruction) (t : InstructionTree) (old a b d e : List ℕ) → IsWritten p i t
     → a ≡ old ++ decimal index → b ≡ a ++ 32 ∷ [] → d ≡ b ++ i.words.items → e ≡ d ++ spaced (indices_of i.operation)
-    → e ≡ old ++ spaced (decimal index ∷ (operation_words p t.choice t.operation ++ target_words t.operation))
+    → e ≡ old ++ spaced (decimal index ∷ (operation_words p t.apply_schedule t.operation ++ target_words t.operation))
 words_of_line p index i t old a b d e written number space words target =
-    let ws = operation_words p t.choice t.operation in
+    let ws = operation_words p t.apply_schedule t.operation in
     let vs = target_words t.operation in
     let behind : spaced (indices_of i.operation) ≡ spaced vs = ap spaced (target_words_of i.keep i.shown i.operation t.operation written.instruction.operation) in
     target
@@ -70,7 +70,7 @@ pub line_written : (p : ProgramTree) (index : ℕ) (i : Instruction) (t : Instru
     → ((before : List ℕ) (ws : List (List ℕ)) → ws ≢ [] → e ≡ before ++ spaced ws → new ≡ before ++ (joined ws ++ 10 ∷ []))
     → new ≡ old ++ instruction_line p index t
 line_written p index i t old a b d e new written number space words target ends =
-    ends old (decimal index ∷ (operation_words p t.choice t.operation ++ target_words t.operation)) (absurd_cons _ _)
+    ends old (decimal index ∷ (operation_words p t.apply_schedule t.operation ++ target_words t.operation)) (absurd_cons _ _)
     (words_of_line p index i t old a b d e written number space words target)
 
 -- after a beginning of a text there are the lines of the instructions before an index; with those of the others it is the whole

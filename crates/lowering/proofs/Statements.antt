@@ -61,11 +61,11 @@ module _ (p : ProgramTree) (s : ScheduleTree) where
       let index : to ≡ length a + 1 + size_all p s d false body = behind ∙ ends_at b c d body puts ∙ ap (λ m. m + size_all p s d false body) one in
       puts_filled p a b c e n _ _ keeps (subst (λ m. Puts p b c (plan_all p s m d false body)) one puts) (subst (λ m. Fills p c e n (plain number d (Unless t m))) index fills)
 
-  pub puts_choice : (a b c e k g h : List Instruction) (n to m : ℕ) (d : Depth) (number : ℕ) (label : Option ℕ) (t : BoolExpressionTree) (body other : BlockTree)
+  pub puts_apply_schedule : (a b c e k g h : List Instruction) (n to m : ℕ) (d : Depth) (number : ℕ) (label : Option ℕ) (t : BoolExpressionTree) (body other : BlockTree)
       → KeepsIndex a b n → Puts p b c (plan_all p s (length b) d false body) → to ≡ length c + 1 → Fills p c e n (plain number d (Unless t to))
       → KeepsIndex e k m → Puts p k g (plan_all p s (length k) d false other) → Fills p g h m (loop_step number d d (Jump (length g)))
       → Puts p a h (plan p s (length a) d number label (IfElse t body other))
-  puts_choice a b c e k g h n to m d number label t body other keeps puts otherwise fills keeps_jump more jump =
+  puts_apply_schedule a b c e k g h n to m d number label t body other keeps puts otherwise fills keeps_jump more jump =
       let one = index_length a b n keeps in
       let inside : length c ≡ length a + 1 + size_all p s d false body = ends_at b c d body puts ∙ ap (λ q. q + size_all p s d false body) one in
       let index : to ≡ length a + 1 + size_all p s d false body + 1 = otherwise ∙ ap (λ q. q + 1) inside in

@@ -25,16 +25,16 @@ shown_part part = record { function = part.function; changed = changed_set part.
 
 -- the words of an operation, before the index that it may go to; an apply is done as the schedule says
 abbrev pub operation_words : ProgramTree → ApplySchedule → OperationTree → List (List ℕ)
-operation_words p choice (Do action) = statement_words p action choice
-operation_words p choice (ApplyEdgesTogether ends first second) = edges_words p ends (shown_part first) (Some (shown_part second)) choice
-operation_words p choice (ApplyVerticesTogether set first second) = vertices_words p set first (Some second)
-operation_words p choice (Unless c to) = unless_words p c
-operation_words p choice (Enter name end) = bound_words p name end
-operation_words p choice (UnlessBelow name to) = below_words p name
-operation_words p choice (Advance name) = advance_words p name
-operation_words p choice Turn = codes "turn" ∷ []
-operation_words p choice (Jump to) = codes "jump" ∷ []
-operation_words p choice End = codes "end" ∷ []
+operation_words p apply_schedule (Do action) = statement_words p action apply_schedule
+operation_words p apply_schedule (ApplyEdgesTogether ends first second) = edges_words p ends (shown_part first) (Some (shown_part second)) apply_schedule
+operation_words p apply_schedule (ApplyVerticesTogether set first second) = vertices_words p set first (Some second)
+operation_words p apply_schedule (Unless c to) = unless_words p c
+operation_words p apply_schedule (Enter name end) = bound_words p name end
+operation_words p apply_schedule (UnlessBelow name to) = below_words p name
+operation_words p apply_schedule (Advance name) = advance_words p name
+operation_words p apply_schedule Turn = codes "turn" ∷ []
+operation_words p apply_schedule (Jump to) = codes "jump" ∷ []
+operation_words p apply_schedule End = codes "end" ∷ []
 
 -- the number of the instruction that an operation may go to
 abbrev pub target_words : OperationTree → List (List ℕ)
@@ -55,7 +55,7 @@ line_of ws = joined ws ++ 10 ∷ []
 
 -- an instruction with its number; those from this number on
 abbrev pub instruction_line : ProgramTree → (index : ℕ) → InstructionTree → List ℕ
-instruction_line p index i = line_of (decimal index ∷ operation_words p i.choice i.operation ++ target_words i.operation)
+instruction_line p index i = line_of (decimal index ∷ operation_words p i.apply_schedule i.operation ++ target_words i.operation)
 
 abbrev pub instruction_lines : ProgramTree → (index : ℕ) → List InstructionTree → List ℕ
 instruction_lines p index [] = []
@@ -73,7 +73,7 @@ text_of p s = group_lines p s.groups ++ instruction_lines p 0 (plan_of p s)
 -- an instruction that keeps its words, with a space after each
 pub record IsWritten (p : ProgramTree) (i : Instruction) (t : InstructionTree) : Type 0 where
   pub instruction : IsInstruction i t
-  pub words : i.words.items ≡ spaced (operation_words p t.choice t.operation)
+  pub words : i.words.items ≡ spaced (operation_words p t.apply_schedule t.operation)
 
 abbrev pub AreWritten : ProgramTree → List Instruction → List InstructionTree → Type 0
 AreWritten p is ts = ArePairwise (IsWritten p) is ts

@@ -118,7 +118,7 @@ impl Lowering<'_> {
             StatementKind::If(c, body) => self.put_if(number, c, body, visible, code),
             StatementKind::IfElse(c, body, other) => {
                 let branches = Branches { body, other };
-                self.put_choice(number, c, branches, visible, code)
+                self.put_apply_schedule(number, c, branches, visible, code)
             }
             StatementKind::While(c, body) => self.put_while(number, c, body, visible, code),
             StatementKind::For(name, first, end, body) => {
@@ -164,7 +164,7 @@ impl Lowering<'_> {
 
     /// `if` and `else`: between the two blocks stands a jump after the second.
     #[cycle(lower)]
-    fn put_choice(
+    fn put_apply_schedule(
         self,
         number: u64,
         c: &BoolExpression,

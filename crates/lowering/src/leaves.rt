@@ -4,7 +4,7 @@ ghost use Rattle.typed_tree.specs.BlockTree.{DeclareInteger, statement_kind_tree
 ghost use Rattle.typed_tree.specs.BoolExpressionTree.{bool_expression_tree};
 ghost use Rattle.typed_tree.specs.IntExpressionTree.{int_expression_tree};
 ghost use Rattle.typed_tree.specs.ProgramTree.{program_tree};
-ghost use Rattle.apply_options.specs.ScheduleTree.{no_choice};
+ghost use Rattle.apply_options.specs.ScheduleTree.{no_apply_schedule};
 ghost use Rattle.plans.specs.Instruction.{Advance, Do, Enter, Jump, Turn, Unless, UnlessBelow};
 ghost use Rattle.plans.specs.Plan.{chosen, in_loop, loop_step, plain as plain_tree, with_integer};
 ghost use Rattle.plan_text.specs.Expressions.{spaced};
@@ -53,7 +53,7 @@ pub(crate) fn plain(
     ensures number { result.number ≡ number }
     ensures keep { result.keep ≡ depth }
     ensures shown { result.shown ≡ depth }
-    ensures choice { result.choice ≡ no_choice }
+    ensures apply_schedule { result.apply_schedule ≡ no_apply_schedule }
     ensures words { result.words ≡ words }
 {
     let head = InstructionHead {
@@ -70,14 +70,14 @@ fn instruction_of(head: InstructionHead, operation: PlanOperation, words: Vec<u8
     ensures number { result.number ≡ head.number }
     ensures keep { result.keep ≡ head.keep }
     ensures shown { result.shown ≡ head.shown }
-    ensures choice { result.choice ≡ no_choice }
+    ensures apply_schedule { result.apply_schedule ≡ no_apply_schedule }
     ensures words { result.words ≡ words }
 {
     Instruction {
         number: head.number,
         keep: head.keep,
         shown: head.shown,
-        choice: ApplySchedule::none(),
+        apply_schedule: ApplySchedule::none(),
         operation,
         words,
     }
@@ -380,18 +380,18 @@ impl Lowering<'_> {
             → OnOk result (Puts (program_tree self.entry.program.now) code.old.items code.new.items
             (chosen self.entry.schedule.now statement.now.number statement.now.label depth (Do (statement_kind_tree statement.now.action)) ∷ [])) }
     {
-        let choice = self.schedule.choice_at(statement.label);
+        let apply_schedule = self.schedule.apply_schedule_at(statement.label);
         let mut words = Vec::new(self.alloc);
         Lines {
             program: self.program,
         }
-        .put_statement(&mut words, &statement.action, choice)?;
+        .put_statement(&mut words, &statement.action, apply_schedule)?;
         let operation = operation_of(self.alloc, &statement.action, depth)?;
         code.push(Instruction {
             number: statement.number,
             keep: depth,
             shown: depth,
-            choice,
+            apply_schedule,
             operation,
             words,
         })?;
@@ -409,14 +409,14 @@ impl Lowering<'_> {
         ensures { OnOk result (Puts (program_tree self.entry.program.now) code.old.items code.new.items
             (chosen self.entry.schedule.now statement.now.number statement.now.label depth (together_tree pair) ∷ [])) }
     {
-        let choice = self.schedule.choice_at(statement.label);
+        let apply_schedule = self.schedule.apply_schedule_at(statement.label);
         let mut words = Vec::new(self.alloc);
-        self.put_pair_words(&mut words, pair, choice)?;
+        self.put_pair_words(&mut words, pair, apply_schedule)?;
         code.push(Instruction {
             number: statement.number,
             keep: depth,
             shown: depth,
-            choice,
+            apply_schedule,
             operation: operation_of_pair(pair),
             words,
         })?;
@@ -427,10 +427,10 @@ impl Lowering<'_> {
         self,
         words: &mut Vec<u8>,
         pair: FusedPair,
-        choice: ApplySchedule,
+        apply_schedule: ApplySchedule,
     ) -> Result<(), AllocError>
         ensures { OnOk result (words.new.items ≡ words.old.items
-            ++ spaced (operation_words (program_tree self.entry.program.now) choice (together_tree pair))) }
+            ++ spaced (operation_words (program_tree self.entry.program.now) apply_schedule (together_tree pair))) }
     {
         let lines = Lines {
             program: self.program,
@@ -440,7 +440,7 @@ impl Lowering<'_> {
                 ends,
                 first,
                 second,
-            } => { lines.put_edges(words, ends, part_of(first), Some(part_of(second)), choice) }
+            } => { lines.put_edges(words, ends, part_of(first), Some(part_of(second)), apply_schedule) }
             FusedPair::Vertices { set, first, second } => {
                 lines.put_vertices(words, set, first, Some(second))
             }

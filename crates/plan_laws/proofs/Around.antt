@@ -2,7 +2,7 @@
 use Rattle.std.proofs.Common.{◌≡◌, ℕ, zero, suc, ◌+◌, ◌≤◌, Bool, true, false, List, [], ◌∷◌, ◌++◌, length, if◌then◌else◌, Option, Some, None, slice_get, refl, arith, subst}
 use Rattle.typed_tree.specs.BlockTree.{StatementKindTree, DeclareInteger, DeclareCondition, DeclareSet, BlockTree, Empty, Then}
 use Rattle.typed_tree.specs.ProgramTree.{ProgramTree}
-use Rattle.apply_options.specs.ScheduleTree.{ScheduleTree, choice_at}
+use Rattle.apply_options.specs.ScheduleTree.{ScheduleTree, apply_schedule_at}
 use Rattle.algorithm_meaning.specs.declared.state.Depth.{Depth}
 use Rattle.plans.specs.Instruction.{OperationTree, Do, ApplyEdgesTogether, ApplyVerticesTogether, Unless, Enter, UnlessBelow, Advance, Turn, Jump, End, InstructionTree}
 use Rattle.plans.specs.Fusing.{EdgeApplyTree, VertexApplyTree, edge_apply_of, vertex_apply_of, edges_fit, vertices_fit, edges_together, vertices_together, either, together, is_with, FusionRole, Alone, WithNext, WithPrevious, with_next, fusion_role_of, takes_next}
@@ -172,7 +172,7 @@ pub company_fits : (p : ProgramTree) (s : ScheduleTree) (d : Depth) (is_done : B
 company_fits p s d true number label a rest done = done
 company_fits p s d false number label a Empty done = tt
 company_fits p s d false number label a (Then second other b rest) done =
-    fused_fits (is_with (choice_at label s).fused other) a b second other rest (together p d a b)
+    fused_fits (is_with (apply_schedule_at label s).fused other) a b second other rest (together p d a b)
     (either_fits_both a b (edges_together p d (edge_apply_of a) (edge_apply_of b)) (vertices_together p (vertex_apply_of a) (vertex_apply_of b))
     (edges_fit_both p d a b (edge_apply_of a) (edge_apply_of b) refl refl) (vertices_fit_both p a b (vertex_apply_of a) (vertex_apply_of b) refl refl))
 

@@ -163,16 +163,16 @@ module _ (p : ProgramTree) (g : GraphValue) (code : List InstructionTree) (table
         are = (append_get shown.integers xs (end ∷ []) _ (own_get xs shown.integers inside), last_get xs end (shown.integers + 1) long, counters_joined is loops xs (end ∷ []) are);
       }
 
-  by_choice : (b : Bool) (here there : ℕ) (m : ℕ) (is : List ℕ) (n : ℕ) (r : LoopCounter) (rs : List LoopCounter) (s : StateValue) → Entry code table here (m ∷ is) n → Entry code table there is n
+  by_apply_schedule : (b : Bool) (here there : ℕ) (m : ℕ) (is : List ℕ) (n : ℕ) (r : LoopCounter) (rs : List LoopCounter) (s : StateValue) → Entry code table here (m ∷ is) n → Entry code table there is n
       → n ≤ length s.scope.integers → AreCounters (m ∷ is) (r ∷ rs) s.scope.integers → Stays (if b then At here (r ∷ rs) s else At there rs s)
-  by_choice true here there m is n r rs s first second long are = arrives here (m ∷ is) n (r ∷ rs) s first long are
-  by_choice false here there m is n r rs s first second long are = arrives there is n rs s second long are.2
+  by_apply_schedule true here there m is n r rs s first second long are = arrives here (m ∷ is) n (r ∷ rs) s first long are
+  by_apply_schedule false here there m is n r rs s first second long are = arrives there is n rs s second long are.2
 
   after_loop_test : (is : List ℕ) (index to keep shown : ℕ) (loops : List LoopCounter) (s : StateValue) → TestsInnermost code table index to is keep shown → keep ≤ length s.scope.integers
       → AreCounters is loops s.scope.integers → Stays (after_unless_below (index + 1) to loops s)
   after_loop_test [] index to keep shown loops s tests long are = absurd tests
   after_loop_test (m ∷ is) index to keep shown [] s tests long are = absurd are
-  after_loop_test (m ∷ is) index to keep shown (r ∷ rs) s tests long are = by_choice (int_lt r.next r.end) (index + 1) to m is keep r rs s tests.1 tests.2 long are
+  after_loop_test (m ∷ is) index to keep shown (r ∷ rs) s tests long are = by_apply_schedule (int_lt r.next r.end) (index + 1) to m is keep r rs s tests.1 tests.2 long are
 
   after_next : (is : List ℕ) (index keep shown : ℕ) (loops : List LoopCounter) (s : StateValue) (xs : List ℤ) → AdvancesInnermost code table index is keep shown → keep ≤ length xs → s.scope.integers ≡ take keep xs
       → AreCounters is loops xs → Stays (after_advance (index + 1) loops s)

@@ -10,7 +10,7 @@ use Rattle.typed_tree.specs.Resolved as resolved
 use Rattle.typed_tree.specs.Resolved.{VisibleTree, ActionIsResolved, BlockIsResolved, behind_action}
 use Rattle.apply_options.specs.declared.apply_schedule.Fused.{Fused}
 use Rattle.apply_options.specs.declared.apply_schedule.Fused.TheVariants.{With, Into}
-use Rattle.apply_options.specs.ScheduleTree.{ScheduleTree, choice_at, choice_of}
+use Rattle.apply_options.specs.ScheduleTree.{ScheduleTree, apply_schedule_at, apply_schedule_of}
 use Rattle.schedule.specs.Laws.{FusesInPairs}
 use Rattle.algorithm_meaning.specs.declared.state.Depth.{Depth}
 use Rattle.plans.specs.Instruction.{OperationTree, InstructionTree, Jump, Advance}
@@ -30,7 +30,7 @@ pub record Split (s : ScheduleTree) (one other : StatementTree) (is : List Instr
   pub rest : List InstructionTree
   pub all : is ≡ before ++ instruction ∷ rest
   pub number : instruction.number ≡ one.number
-  pub choice : instruction.choice ≡ choice_at one.label s
+  pub apply_schedule : instruction.apply_schedule ≡ apply_schedule_at one.label s
   pub done : AreTogether one.action other.action instruction.operation
   pub others_before : AllByRecursion (IsOfNeither one other) before
   pub others_behind : AllByRecursion (IsOfNeither one other) rest
@@ -43,7 +43,7 @@ split_behind s one other xs is others x = record {
   rest = x.rest;
   all = ap (λ ys. xs ++ ys) x.all ∙ sym (append_assoc xs x.before (x.instruction ∷ x.rest));
   number = x.number;
-  choice = x.choice;
+  apply_schedule = x.apply_schedule;
   done = x.done;
   others_before = all_two (IsOfNeither one other) xs x.before others x.others_before;
   others_behind = x.others_behind;
@@ -56,7 +56,7 @@ split_before s one other is xs x others = record {
   rest = x.rest ++ xs;
   all = ap (λ ys. ys ++ xs) x.all ∙ append_assoc x.before (x.instruction ∷ x.rest) xs;
   number = x.number;
-  choice = x.choice;
+  apply_schedule = x.apply_schedule;
   done = x.done;
   others_before = x.others_before;
   others_behind = all_two (IsOfNeither one other) x.rest xs x.others_behind others;
@@ -68,7 +68,7 @@ pub record IsPair (p : ProgramTree) (s : ScheduleTree) (one other : StatementTre
   pub second : ℕ
   pub first_has : one.label ≡ Some first
   pub second_has : other.label ≡ Some second
-  pub fused : (choice_of first s).fused ≡ Some (With second)
+  pub fused : (apply_schedule_of first s).fused ≡ Some (With second)
   pub fit : (v : VisibleTree) (d : Depth) → d.sets ≡ length v.sets → length p.sets ≤ d.sets → ActionIsResolved p v one.action → ActionIsResolved p (behind_action one.action v) other.action
       → OneDoes p d one.action other.action
 
@@ -84,7 +84,7 @@ IsPlain _ = Unit {0}
 abbrev IsDone : ScheduleTree → Bool → BlockTree → Type 0
 IsDone s false b = Unit {0}
 IsDone s true Empty = ⊥
-IsDone s true (Then number label action rest) = IsPlain action × ((first : ℕ) × ((choice_at label s).fused ≡ Some (Into first)))
+IsDone s true (Then number label action rest) = IsPlain action × ((first : ℕ) × ((apply_schedule_at label s).fused ≡ Some (Into first)))
 
 module _ (p : ProgramTree) (s : ScheduleTree) (pairs : FusesInPairs s) where
   -- a statement with a block is done with no other
@@ -102,19 +102,19 @@ module _ (p : ProgramTree) (s : ScheduleTree) (pairs : FusesInPairs s) where
   second_is_plain d a _ o is = tt
 
   -- the label that a schedule fuses another with
-  second_fused : (label other : Option ℕ) → is_with (choice_at label s).fused other ≡ true → (first : ℕ) × ((choice_at other s).fused ≡ Some (Into first))
+  second_fused : (label other : Option ℕ) → is_with (apply_schedule_at label s).fused other ≡ true → (first : ℕ) × ((apply_schedule_at other s).fused ≡ Some (Into first))
   second_fused None other is = absurd cc
-  second_fused (Some first) other is = by_choice (choice_of first s).fused other refl is
+  second_fused (Some first) other is = by_apply_schedule (apply_schedule_of first s).fused other refl is
     where
-      by_choice : (fused : Option Fused) (other : Option ℕ) → (choice_of first s).fused ≡ fused → is_with fused other ≡ true → (label : ℕ) × ((choice_at other s).fused ≡ Some (Into label))
-      by_choice None other chosen is = absurd cc
-      by_choice (Some (Into label)) other chosen is = absurd cc
-      by_choice (Some (With second)) None chosen is = absurd cc
-      by_choice (Some (With second)) (Some label) chosen is =
+      by_apply_schedule : (fused : Option Fused) (other : Option ℕ) → (apply_schedule_of first s).fused ≡ fused → is_with fused other ≡ true → (label : ℕ) × ((apply_schedule_at other s).fused ≡ Some (Into label))
+      by_apply_schedule None other chosen is = absurd cc
+      by_apply_schedule (Some (Into label)) other chosen is = absurd cc
+      by_apply_schedule (Some (With second)) None chosen is = absurd cc
+      by_apply_schedule (Some (With second)) (Some label) chosen is =
           let same : second ≡ label = eqb-true second label is in
-          (first, subst (λ l. (choice_of l s).fused ≡ Some (Into first)) same (pairs.0 first second chosen))
+          (first, subst (λ l. (apply_schedule_of l s).fused ≡ Some (Into first)) same (pairs.0 first second chosen))
 
-  next_done : (d : Depth) (label other : Option ℕ) (number : ℕ) (a b : StatementKindTree) (rest : BlockTree) (test : Bool) (o : Option OperationTree) → is_with (choice_at label s).fused other ≡ test
+  next_done : (d : Depth) (label other : Option ℕ) (number : ℕ) (a b : StatementKindTree) (rest : BlockTree) (test : Bool) (o : Option OperationTree) → is_with (apply_schedule_at label s).fused other ≡ test
       → together p d a b ≡ o → IsDone s (takes_next (if test then with_next o else Alone)) (Then number other b rest)
   next_done d label other number a b rest false o is does = tt
   next_done d label other number a b rest true None is does = tt
@@ -123,7 +123,7 @@ module _ (p : ProgramTree) (s : ScheduleTree) (pairs : FusesInPairs s) where
   rest_done : (d : Depth) (is_done : Bool) (label : Option ℕ) (a : StatementKindTree) (rest : BlockTree) → IsDone s (takes_next (fusion_role_of p s d is_done label a rest)) rest
   rest_done d true label a rest = tt
   rest_done d false label a Empty = tt
-  rest_done d false label a (Then number other b rest) = next_done d label other number a b rest (is_with (choice_at label s).fused other) (together p d a b) refl refl
+  rest_done d false label a (Then number other b rest) = next_done d label other number a b rest (is_with (apply_schedule_at label s).fused other) (together p d a b) refl refl
 
   -- a statement that is no apply is done alone
   none_taken : (test : Bool) → (if test then with_next None else Alone) ≡ Alone
@@ -133,7 +133,7 @@ module _ (p : ProgramTree) (s : ScheduleTree) (pairs : FusesInPairs s) where
   is_alone : (d : Depth) (label : Option ℕ) (a : StatementKindTree) (rest : BlockTree) → edge_apply_of a ≡ None → vertex_apply_of a ≡ None → fusion_role_of p s d false label a rest ≡ Alone
   is_alone d label a Empty no_edges no_vertices = refl
   is_alone d label a (Then number other b rest) no_edges no_vertices =
-      let test = is_with (choice_at label s).fused other in
+      let test = is_with (apply_schedule_at label s).fused other in
       ap (λ e. if test then with_next (either (edges_together p d e (edge_apply_of b)) (vertices_together p (vertex_apply_of a) (vertex_apply_of b))) else Alone) no_edges
       ∙ ap (λ e. if test then with_next (either (edges_together p d None (edge_apply_of b)) (vertices_together p e (vertex_apply_of b))) else Alone) no_vertices
       ∙ none_taken test
@@ -152,12 +152,12 @@ module _ (p : ProgramTree) (s : ScheduleTree) (pairs : FusesInPairs s) where
   inside_alone one other d is_done number label _ rest are done = absurd are
 
   -- the first of a fusing is done with the second
-  not_second : (is_done : Bool) (number : ℕ) (label : Option ℕ) (a : StatementKindTree) (rest : BlockTree) (second : ℕ) → (choice_at label s).fused ≡ Some (With second)
+  not_second : (is_done : Bool) (number : ℕ) (label : Option ℕ) (a : StatementKindTree) (rest : BlockTree) (second : ℕ) → (apply_schedule_at label s).fused ≡ Some (With second)
       → IsDone s is_done (Then number label a rest) → is_done ≡ false
   not_second false number label a rest second fused done = refl
   not_second true number label a rest second fused done =
       let first = done.1.0 in
-      let into : (choice_at label s).fused ≡ Some (Into first) = done.1.1 in
+      let into : (apply_schedule_at label s).fused ≡ Some (Into first) = done.1.1 in
       let bad : Some (With second) ≡ Some (Into first) = sym fused ∙ into in
       cc
 
@@ -165,10 +165,10 @@ module _ (p : ProgramTree) (s : ScheduleTree) (pairs : FusesInPairs s) where
   taken true o is = refl
   taken false o is = cc
 
-  takes : (d : Depth) (number other_number : ℕ) (label other : Option ℕ) (a b : StatementKindTree) (rest : BlockTree) (second : ℕ) (o : OperationTree) → (choice_at label s).fused ≡ Some (With second)
+  takes : (d : Depth) (number other_number : ℕ) (label other : Option ℕ) (a b : StatementKindTree) (rest : BlockTree) (second : ℕ) (o : OperationTree) → (apply_schedule_at label s).fused ≡ Some (With second)
       → other ≡ Some second → together p d a b ≡ Some o → fusion_role_of p s d false label a (Then other_number other b rest) ≡ WithNext o
   takes d number other_number label other a b rest second o fused has does =
-      ap (λ t. if is_with (choice_at label s).fused other then with_next t else Alone) does
+      ap (λ t. if is_with (apply_schedule_at label s).fused other then with_next t else Alone) does
       ∙ ap (λ f. if is_with f other then with_next (Some o) else Alone) fused
       ∙ ap (λ l. if is_with (Some (With second)) l then with_next (Some o) else Alone) has
       ∙ taken (nat_eq second second) o (eq-eqb second second refl)
@@ -207,7 +207,7 @@ module _ (p : ProgramTree) (s : ScheduleTree) (pairs : FusesInPairs s) where
       rest = remaining;
       all = refl;
       number = refl;
-      choice = refl;
+      apply_schedule = refl;
       done = does;
       others_before = tt;
       others_behind = neither;
@@ -218,7 +218,7 @@ module _ (p : ProgramTree) (s : ScheduleTree) (pairs : FusesInPairs s) where
         → Split s first_statement second_statement (plan_all p s index d is_done (Then number label a others))
     both_here v is_done pair deep low first second order done =
         let does = pair.fit v d deep low first second in
-        let fused = ap (λ l. (choice_at l s).fused) pair.first_has ∙ pair.fused in
+        let fused = ap (λ l. (apply_schedule_at l s).fused) pair.first_has ∙ pair.fused in
         let inner = inner_numbers a in
         let two = in_two (suc n) inner (numbers others) order.1 in
         let three = in_two (suc (length inner + suc n)) (inner_numbers b) (numbers rest) two.1.1 in

@@ -5,7 +5,7 @@ use Rattle.typed_tree.specs.BlockTree.{StatementKindTree, If, IfElse, While, For
 use Rattle.typed_tree.specs.ProgramTree.{ProgramTree}
 use Rattle.typed_tree.specs.Resolved.{IsResolved, behind_action, in_main}
 use Rattle.apply_options.specs.declared.apply_schedule.Fused.TheVariants.{With}
-use Rattle.apply_options.specs.ScheduleTree.{ScheduleTree, choice_at, choice_of}
+use Rattle.apply_options.specs.ScheduleTree.{ScheduleTree, apply_schedule_at, apply_schedule_of}
 use Rattle.schedule.specs.Calls.{schedule_of}
 use Rattle.schedule.specs.Laws.{IsFusedWell}
 use Rattle.schedule.proofs.FusedOnce.{accepted_fuses_in_pairs}
@@ -59,7 +59,7 @@ module _ (P : SetNames → StatementKindTree → Type 0) (one other : StatementT
     both_of (Then number label a rest) names (inr (inl are)) all = both_inside a names are all.1
     both_of (Then number label a rest) names (inr (inr are)) all = both_of rest (names_behind a names) are all.2
 
-module _ (p : ProgramTree) (s : ScheduleTree) (all : IsResolved p) (named : NamesSetsApart p) (asked : AskForWritten p) (first second : ℕ) (fused : (choice_of first s).fused ≡ Some (With second)) (well : IsFusedWell p first second) (both : AreFused p.main first second well.one well.other) where
+module _ (p : ProgramTree) (s : ScheduleTree) (all : IsResolved p) (named : NamesSetsApart p) (asked : AskForWritten p) (first second : ℕ) (fused : (apply_schedule_of first s).fused ≡ Some (With second)) (well : IsFusedWell p first second) (both : AreFused p.main first second well.one well.other) where
   pair : IsPair p s both.one both.other
   pair =
       let sets = both_of (NamesSets p) both.one both.other p.main (names_before named.constants_before p.sets) both.neighbours named.each in
@@ -97,14 +97,14 @@ module _ (p : ProgramTree) (s : ScheduleTree) (all : IsResolved p) (named : Name
         behind = y.rest;
         plan = y.all;
         number = y.number;
-        choice = y.choice ∙ ap (λ l. choice_at l s) both.first_has;
+        apply_schedule = y.apply_schedule ∙ ap (λ l. apply_schedule_at l s) both.first_has;
         together = y.done;
         others_before = y.others_before;
         others_behind = y.others_behind;
       }
 
 pub fused_are_one : (p : ProgramTree) (s : ScheduleTree) → IsResolved p → NamesSetsApart p → AskForWritten p → LabelsAreInOrder p → InOrder 1 (numbers p.main) → schedule_of p ≡ Ok s
-    → (first second : ℕ) → (choice_of first s).fused ≡ Some (With second) → IsOneInstruction p s first second
+    → (first second : ℕ) → (apply_schedule_of first s).fused ≡ Some (With second) → IsOneInstruction p s first second
 fused_are_one p s all named asked labels order accepted first second fused =
     let well = accepted_fuses_well p s accepted first second fused in
     let both = fused_stand p labels.first first second labels.ordered well in

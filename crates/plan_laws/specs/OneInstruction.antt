@@ -3,7 +3,7 @@ use Rattle.std.specs.Prelude.{◌≡◌, ◌≢◌, ◌⊎◌, ℕ, true, List, 
 use Rattle.std.specs.List.{AllByRecursion}
 use Rattle.typed_tree.specs.BlockTree.{StatementKindTree}
 use Rattle.typed_tree.specs.ProgramTree.{ProgramTree}
-use Rattle.apply_options.specs.ScheduleTree.{ScheduleTree, choice_of}
+use Rattle.apply_options.specs.ScheduleTree.{ScheduleTree, apply_schedule_of}
 use Rattle.plans.specs.Instruction.{OperationTree, ApplyEdgesTogether, ApplyVerticesTogether, InstructionTree}
 use Rattle.plans.specs.Fusing.{EdgeApplyTree, VertexApplyTree, edge_apply_of, is_same_end, vertex_apply_of}
 use Rattle.plans.specs.Plan.{plan_of}
@@ -50,7 +50,7 @@ pub record IsOneInstruction (p : ProgramTree) (s : ScheduleTree) (first_label se
   pub behind : List InstructionTree
   pub plan : plan_of p s ≡ before ++ instruction ∷ behind
   pub number : instruction.number ≡ first.number
-  pub choice : instruction.choice ≡ choice_of first_label s
+  pub apply_schedule : instruction.apply_schedule ≡ apply_schedule_of first_label s
   pub together : AreTogether first.action second.action instruction.operation
   pub others_before : AllByRecursion (IsOfNeither first second) before
   pub others_behind : AllByRecursion (IsOfNeither first second) behind

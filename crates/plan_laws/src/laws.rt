@@ -4,7 +4,7 @@ ghost use Rattle.syntax.specs.SourceTrees.{SourceTree};
 ghost use Rattle.typed_tree.specs.ProgramTree.{ProgramTree};
 ghost use Rattle.types.specs.Program.{Checks};
 ghost use Rattle.type_laws.specs.LoopVariables.{KeepsLoopVariables};
-ghost use Rattle.apply_options.specs.ScheduleTree.{ScheduleTree, choice_of};
+ghost use Rattle.apply_options.specs.ScheduleTree.{ScheduleTree, apply_schedule_of};
 ghost use Rattle.apply_options.specs.declared.apply_schedule.Fused.TheVariants.{With};
 ghost use Rattle.algorithm_meaning.specs.Meaning.{opening};
 ghost use Rattle.algorithm_meaning.specs.State.{GraphValue};
@@ -22,7 +22,7 @@ ghost use Rattle.plan_laws.specs.OneInstruction.{IsOneInstruction};
 pub fn fused_statements_are_one_instruction()
     ensures { (source : SourceTree) (length : ℕ) (program : ProgramTree) (schedule : ScheduleTree) → Checks source length (Ok program)
         → schedule_of program ≡ Ok schedule
-        → (first second : ℕ) → (choice_of first schedule).fused ≡ Some (With second) → IsOneInstruction program schedule first second }
+        → (first second : ℕ) → (apply_schedule_of first schedule).fused ≡ Some (With second) → IsOneInstruction program schedule first second }
 {}
 
 /// The law that the groups of vectors of an accepted schedule fit, on every graph: each group names vectors of the program,

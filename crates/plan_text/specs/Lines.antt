@@ -92,10 +92,10 @@ second_words p (Some part) = part_words p part
 
 -- eapply FROM TO f g : DIRECTION PARALLELIZATION DENSE
 abbrev pub edges_words : ProgramTree → ApplyEnds → AppliedFunction → Option AppliedFunction → ApplySchedule → List (List ℕ)
-edges_words p ends first second choice =
+edges_words p ends first second apply_schedule =
     codes "eapply" ∷ end_word p ends.from ∷ end_word p ends.to
     ∷ (part_words p first ++ (second_words p second
-    ++ codes ":" ∷ direction_word choice.direction ∷ parallelization_word choice.parallelization ∷ dense_word choice.dense_vertex_set ∷ []))
+    ++ codes ":" ∷ direction_word apply_schedule.direction ∷ parallelization_word apply_schedule.parallelization ∷ dense_word apply_schedule.dense_vertex_set ∷ []))
 
 -- vapply s f g
 abbrev pub second_function_words : ProgramTree → Option ℕ → List (List ℕ)
@@ -120,32 +120,32 @@ one_part function changed = record { function = function; changed = changed }
 
 -- a set that gets a value; what an apply changes is that apply, as the schedule says
 abbrev pub set_line : ProgramTree → (name : ℕ) → SetValue → ApplySchedule → List (List ℕ)
-set_line p name (set.Modified ends function vector) choice = edges_words p ends (one_part function (Some (record { name = name; vector = vector }))) None choice
-set_line p name set.Empty choice = set_value_words p name set.Empty
-set_line p name set.All choice = set_value_words p name set.All
-set_line p name (set.Copy slot) choice = set_value_words p name (set.Copy slot)
-set_line p name (set.Filter slot index) choice = set_value_words p name (set.Filter slot index)
+set_line p name (set.Modified ends function vector) apply_schedule = edges_words p ends (one_part function (Some (record { name = name; vector = vector }))) None apply_schedule
+set_line p name set.Empty apply_schedule = set_value_words p name set.Empty
+set_line p name set.All apply_schedule = set_value_words p name set.All
+set_line p name (set.Copy slot) apply_schedule = set_value_words p name (set.Copy slot)
+set_line p name (set.Filter slot index) apply_schedule = set_value_words p name (set.Filter slot index)
 
 -- a statement without a block; what stands for one with a block is no instruction of its own
 abbrev pub statement_words : ProgramTree → StatementKindTree → ApplySchedule → List (List ℕ)
-statement_words p (DeclareInteger name e) choice = set_words (name_at p name) (integer_words p e)
-statement_words p (DeclareCondition name c) choice = set_words (name_at p name) (condition_words p c)
-statement_words p (SetInteger slot e) choice = set_words (name_at p slot.name) (integer_words p e)
-statement_words p (SetCondition slot c) choice = set_words (name_at p slot.name) (condition_words p c)
-statement_words p (ReduceInteger slot r e) choice = set_words (name_at p slot.name) (name_at p slot.name ∷ integer_words p e ++ reducing_word r ∷ [])
-statement_words p (SetEntry vector index e) choice = put_words p vector index (codes "=") e
-statement_words p (ReduceEntry vector index r e) choice = put_words p vector index (reduction_word r) e
-statement_words p (DeclareSet name value) choice = set_line p name value choice
-statement_words p (AssignSet slot value) choice = set_line p slot.name value choice
-statement_words p (AddVertex slot e) choice = codes "addvertex" ∷ name_at p slot.name ∷ bracketed (integer_words p e) ∷ []
-statement_words p (PrintInteger e) choice = codes "print" ∷ bracketed (integer_words p e) ∷ []
-statement_words p (PrintCondition c) choice = codes "print" ∷ bracketed (condition_words p c) ∷ []
-statement_words p (ApplyVertex set function) choice = vertices_words p set function None
-statement_words p (ApplyEdges ends function) choice = edges_words p ends (one_part function None) None choice
-statement_words p (If c body) choice = []
-statement_words p (IfElse c body other) choice = []
-statement_words p (While c body) choice = []
-statement_words p (For name first last body) choice = []
+statement_words p (DeclareInteger name e) apply_schedule = set_words (name_at p name) (integer_words p e)
+statement_words p (DeclareCondition name c) apply_schedule = set_words (name_at p name) (condition_words p c)
+statement_words p (SetInteger slot e) apply_schedule = set_words (name_at p slot.name) (integer_words p e)
+statement_words p (SetCondition slot c) apply_schedule = set_words (name_at p slot.name) (condition_words p c)
+statement_words p (ReduceInteger slot r e) apply_schedule = set_words (name_at p slot.name) (name_at p slot.name ∷ integer_words p e ++ reducing_word r ∷ [])
+statement_words p (SetEntry vector index e) apply_schedule = put_words p vector index (codes "=") e
+statement_words p (ReduceEntry vector index r e) apply_schedule = put_words p vector index (reduction_word r) e
+statement_words p (DeclareSet name value) apply_schedule = set_line p name value apply_schedule
+statement_words p (AssignSet slot value) apply_schedule = set_line p slot.name value apply_schedule
+statement_words p (AddVertex slot e) apply_schedule = codes "addvertex" ∷ name_at p slot.name ∷ bracketed (integer_words p e) ∷ []
+statement_words p (PrintInteger e) apply_schedule = codes "print" ∷ bracketed (integer_words p e) ∷ []
+statement_words p (PrintCondition c) apply_schedule = codes "print" ∷ bracketed (condition_words p c) ∷ []
+statement_words p (ApplyVertex set function) apply_schedule = vertices_words p set function None
+statement_words p (ApplyEdges ends function) apply_schedule = edges_words p ends (one_part function None) None apply_schedule
+statement_words p (If c body) apply_schedule = []
+statement_words p (IfElse c body other) apply_schedule = []
+statement_words p (While c body) apply_schedule = []
+statement_words p (For name first last body) apply_schedule = []
 
 -- unless [c], before the index that it goes to
 abbrev pub unless_words : ProgramTree → BoolExpressionTree → List (List ℕ)

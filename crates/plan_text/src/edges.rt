@@ -22,14 +22,14 @@ impl<'a> Lines<'a> {
         ends: ApplyEnds,
         first: AppliedFunction,
         second: Option<AppliedFunction>,
-        choice: ApplySchedule,
+        apply_schedule: ApplySchedule,
     ) -> Result<(), AllocError>
-        ensures { OnOk result (out.new.items ≡ out.old.items ++ spaced (edges_words (program_tree self.entry.program.now) ends first second choice)) }
+        ensures { OnOk result (out.new.items ≡ out.old.items ++ spaced (edges_words (program_tree self.entry.program.now) ends first second apply_schedule)) }
     {
         self.put_ends(out, ends)?;
         self.put_part(out, first)?;
         self.put_second(out, second)?;
-        put_choice(out, choice)
+        put_apply_schedule(out, apply_schedule)
     }
 
     /// `eapply FROM TO`
@@ -110,14 +110,14 @@ impl<'a> Lines<'a> {
 }
 
 /// `: DIRECTION PARALLELIZATION DENSE`
-fn put_choice(out: &mut Vec<u8>, choice: ApplySchedule) -> Result<(), AllocError>
+fn put_apply_schedule(out: &mut Vec<u8>, apply_schedule: ApplySchedule) -> Result<(), AllocError>
     ensures { OnOk result (out.new.items ≡ out.old.items
-        ++ spaced (codes ":" ∷ direction_word choice.direction ∷ parallelization_word choice.parallelization ∷ dense_word choice.dense_vertex_set ∷ [])) }
+        ++ spaced (codes ":" ∷ direction_word apply_schedule.direction ∷ parallelization_word apply_schedule.parallelization ∷ dense_word apply_schedule.dense_vertex_set ∷ [])) }
 {
     put_word(out, b":")?;
-    put_word(out, direction_text(choice.direction))?;
-    put_word(out, parallelization_text(choice.parallelization))?;
-    put_word(out, dense_text(choice.dense_vertex_set))
+    put_word(out, direction_text(apply_schedule.direction))?;
+    put_word(out, parallelization_text(apply_schedule.parallelization))?;
+    put_word(out, dense_text(apply_schedule.dense_vertex_set))
 }
 
 fn direction_text(direction: Option<Direction>) -> &'static [u8]

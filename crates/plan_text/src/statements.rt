@@ -26,14 +26,14 @@ impl Lines<'_> {
         self,
         out: &mut Vec<u8>,
         action: &StatementKind,
-        choice: ApplySchedule,
+        apply_schedule: ApplySchedule,
     ) -> Result<(), AllocError>
         ensures { OnOk result (out.new.items ≡ out.old.items
-            ++ spaced (statement_words (program_tree self.entry.program.now) (statement_kind_tree action.now) choice)) }
+            ++ spaced (statement_words (program_tree self.entry.program.now) (statement_kind_tree action.now) apply_schedule)) }
     {
         match action {
-            StatementKind::DeclareSet(name, value) => self.put_set(out, *name, *value, choice),
-            StatementKind::AssignSet(slot, value) => self.put_set(out, slot.name, *value, choice),
+            StatementKind::DeclareSet(name, value) => self.put_set(out, *name, *value, apply_schedule),
+            StatementKind::AssignSet(slot, value) => self.put_set(out, slot.name, *value, apply_schedule),
             StatementKind::ApplyVertex(set, function) => self.put_vertices(
                 out, *set, *function, None,
             ),
@@ -42,7 +42,7 @@ impl Lines<'_> {
                     function: *function,
                     changed: None,
                 };
-                self.put_edges(out, *ends, part, None, choice)
+                self.put_edges(out, *ends, part, None, apply_schedule)
             }
             StatementKind::If(_, _)
             | StatementKind::IfElse(_, _, _)
@@ -55,8 +55,8 @@ impl Lines<'_> {
     /// Puts the words of a statement that takes values of expressions, and has no block.
     fn put_values(self, out: &mut Vec<u8>, action: &StatementKind) -> Result<(), AllocError>
         requires { TakesValues action.now }
-        ensures { (choice : ApplySchedule) → OnOk result (out.new.items ≡ out.old.items
-            ++ spaced (statement_words (program_tree self.entry.program.now) (statement_kind_tree action.now) choice)) }
+        ensures { (apply_schedule : ApplySchedule) → OnOk result (out.new.items ≡ out.old.items
+            ++ spaced (statement_words (program_tree self.entry.program.now) (statement_kind_tree action.now) apply_schedule)) }
     {
         match action {
             StatementKind::DeclareInteger(name, e) => self.put_set_integer(out, *name, e),
@@ -235,9 +235,9 @@ impl Lines<'_> {
         out: &mut Vec<u8>,
         name: usize,
         value: SetValue,
-        choice: ApplySchedule,
+        apply_schedule: ApplySchedule,
     ) -> Result<(), AllocError>
-        ensures { OnOk result (out.new.items ≡ out.old.items ++ spaced (set_line (program_tree self.entry.program.now) name value choice)) }
+        ensures { OnOk result (out.new.items ≡ out.old.items ++ spaced (set_line (program_tree self.entry.program.now) name value apply_schedule)) }
     {
         match value {
             SetValue::Modified(ends, function, vector) => {
@@ -247,7 +247,7 @@ impl Lines<'_> {
                     ends,
                     AppliedFunction { function, changed },
                     None,
-                    choice,
+                    apply_schedule,
                 )
             }
             SetValue::Empty => self.put_words(out, b"newset", name),

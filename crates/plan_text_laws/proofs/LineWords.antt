@@ -153,25 +153,25 @@ second_bare : (p : ProgramTree) (o : Option AppliedFunction) → HasBareNames p 
 second_bare p None are = tt
 second_bare p (Some part) are = part_bare p part are
 
-edges_bare : (p : ProgramTree) (ends : ApplyEnds) (first : AppliedFunction) (second : Option AppliedFunction) (choice : ApplySchedule) → HasBareNames p
-    → AreBare (edges_words p ends first second choice)
-edges_bare p ends first second choice are =
-    let last : AreBare (codes ":" ∷ direction_word choice.direction ∷ parallelization_word choice.parallelization ∷ dense_word choice.dense_vertex_set ∷ []) =
-    (bare (codes ":") refl, (direction_is_bare choice.direction, (parallelization_is_bare choice.parallelization, (dense_is_bare choice.dense_vertex_set, tt)))) in (
+edges_bare : (p : ProgramTree) (ends : ApplyEnds) (first : AppliedFunction) (second : Option AppliedFunction) (apply_schedule : ApplySchedule) → HasBareNames p
+    → AreBare (edges_words p ends first second apply_schedule)
+edges_bare p ends first second apply_schedule are =
+    let last : AreBare (codes ":" ∷ direction_word apply_schedule.direction ∷ parallelization_word apply_schedule.parallelization ∷ dense_word apply_schedule.dense_vertex_set ∷ []) =
+    (bare (codes ":") refl, (direction_is_bare apply_schedule.direction, (parallelization_is_bare apply_schedule.parallelization, (dense_is_bare apply_schedule.dense_vertex_set, tt)))) in (
       bare (codes "eapply") refl,
       (
         end_is_bare p ends.from are,
         (
           end_is_bare p ends.to are,
-          all_both IsBare (part_words p first) (second_words p second ++ codes ":" ∷ direction_word choice.direction ∷ parallelization_word choice.parallelization ∷ dense_word choice.dense_vertex_set ∷ [])
+          all_both IsBare (part_words p first) (second_words p second ++ codes ":" ∷ direction_word apply_schedule.direction ∷ parallelization_word apply_schedule.parallelization ∷ dense_word apply_schedule.dense_vertex_set ∷ [])
               (part_bare p first are) (all_both IsBare (second_words p second) _ (second_bare p second are) last),
         ),
       ),
     )
 
-edges_are : (p : ProgramTree) (ends : ApplyEnds) (first : AppliedFunction) (second : Option AppliedFunction) (choice : ApplySchedule) → HasBareNames p
-    → AreLineWords (edges_words p ends first second choice)
-edges_are p ends first second choice are = plain_words (edges_words p ends first second choice) (edges_bare p ends first second choice are)
+edges_are : (p : ProgramTree) (ends : ApplyEnds) (first : AppliedFunction) (second : Option AppliedFunction) (apply_schedule : ApplySchedule) → HasBareNames p
+    → AreLineWords (edges_words p ends first second apply_schedule)
+edges_are p ends first second apply_schedule are = plain_words (edges_words p ends first second apply_schedule) (edges_bare p ends first second apply_schedule are)
 
 vertex_function_bare : (p : ProgramTree) (o : Option ℕ) → HasBareNames p → AreBare (second_function_words p o)
 vertex_function_bare p None are = tt
@@ -181,61 +181,61 @@ vertices_are : (p : ProgramTree) (slot : VarRef) (first : ℕ) (second : Option 
 vertices_are p slot first second are = plain_words (vertices_words p slot first second)
     (bare (codes "vapply") refl, (name_is_bare p slot.name are, (function_is_bare p (slice_get p.vertex_functions first) are, vertex_function_bare p second are)))
 
-set_line_are : (p : ProgramTree) (name : ℕ) (value : SetValue) (choice : ApplySchedule) → HasBareNames p → AreLineWords (set_line p name value choice)
-set_line_are p name set.Empty choice are = plain_words (codes "newset" ∷ name_at p name ∷ []) (bare (codes "newset") refl, (name_is_bare p name are, tt))
-set_line_are p name set.All choice are = plain_words (codes "allset" ∷ name_at p name ∷ []) (bare (codes "allset") refl, (name_is_bare p name are, tt))
-set_line_are p name (set.Copy slot) choice are =
+set_line_are : (p : ProgramTree) (name : ℕ) (value : SetValue) (apply_schedule : ApplySchedule) → HasBareNames p → AreLineWords (set_line p name value apply_schedule)
+set_line_are p name set.Empty apply_schedule are = plain_words (codes "newset" ∷ name_at p name ∷ []) (bare (codes "newset") refl, (name_is_bare p name are, tt))
+set_line_are p name set.All apply_schedule are = plain_words (codes "allset" ∷ name_at p name ∷ []) (bare (codes "allset") refl, (name_is_bare p name are, tt))
+set_line_are p name (set.Copy slot) apply_schedule are =
     plain_words (codes "copyset" ∷ name_at p name ∷ name_at p slot.name ∷ []) (bare (codes "copyset") refl, (name_is_bare p name are, (name_is_bare p slot.name are, tt)))
-set_line_are p name (set.Filter slot function) choice are =
+set_line_are p name (set.Filter slot function) apply_schedule are =
     plain_words (codes "filter" ∷ name_at p name ∷ name_at p slot.name ∷ function_at p p.filters function ∷ [])
     (bare (codes "filter") refl, (name_is_bare p name are, (name_is_bare p slot.name are, (function_is_bare p (slice_get p.filters function) are, tt))))
-set_line_are p name (set.Modified ends function vector) choice are =
-    edges_are p ends (one_part function (Some (record { name = name; vector = vector }))) None choice are
+set_line_are p name (set.Modified ends function vector) apply_schedule are =
+    edges_are p ends (one_part function (Some (record { name = name; vector = vector }))) None apply_schedule are
 
 word_and_brackets : (word : List ℕ) (words : List (List ℕ)) → IsBare word → AreBare words → AreLineWords (word ∷ bracketed words ∷ [])
 word_and_brackets word words is are = (plain_word word is, (in_brackets words are, tt))
 
-statement_are : (p : ProgramTree) (action : StatementKindTree) (choice : ApplySchedule) → HasBareNames p → AreLineWords (statement_words p action choice)
-statement_are p (action.DeclareInteger name e) choice are = set_are (name_at p name) (integer_words p e) (name_is_bare p name are) (integer_bare p e are)
-statement_are p (action.DeclareCondition name c) choice are = set_are (name_at p name) (condition_words p c) (name_is_bare p name are) (condition_bare p c are)
-statement_are p (action.SetInteger slot e) choice are = set_are (name_at p slot.name) (integer_words p e) (name_is_bare p slot.name are) (integer_bare p e are)
-statement_are p (action.SetCondition slot c) choice are = set_are (name_at p slot.name) (condition_words p c) (name_is_bare p slot.name are) (condition_bare p c are)
-statement_are p (action.ReduceInteger slot reduction e) choice are =
+statement_are : (p : ProgramTree) (action : StatementKindTree) (apply_schedule : ApplySchedule) → HasBareNames p → AreLineWords (statement_words p action apply_schedule)
+statement_are p (action.DeclareInteger name e) apply_schedule are = set_are (name_at p name) (integer_words p e) (name_is_bare p name are) (integer_bare p e are)
+statement_are p (action.DeclareCondition name c) apply_schedule are = set_are (name_at p name) (condition_words p c) (name_is_bare p name are) (condition_bare p c are)
+statement_are p (action.SetInteger slot e) apply_schedule are = set_are (name_at p slot.name) (integer_words p e) (name_is_bare p slot.name are) (integer_bare p e are)
+statement_are p (action.SetCondition slot c) apply_schedule are = set_are (name_at p slot.name) (condition_words p c) (name_is_bare p slot.name are) (condition_bare p c are)
+statement_are p (action.ReduceInteger slot reduction e) apply_schedule are =
     set_are (name_at p slot.name) (name_at p slot.name ∷ integer_words p e ++ reducing_word reduction ∷ []) (name_is_bare p slot.name are)
     (name_is_bare p slot.name are, bare_and (integer_words p e) (reducing_word reduction) (integer_bare p e are) (reducing_is_bare reduction))
-statement_are p (action.SetEntry vector index e) choice are = put_are p vector index (codes "=") e are (bare (codes "=") refl)
-statement_are p (action.ReduceEntry vector index reduction e) choice are = put_are p vector index (reduction_word reduction) e are (reduction_is_bare reduction)
-statement_are p (action.DeclareSet name value) choice are = set_line_are p name value choice are
-statement_are p (action.AssignSet slot value) choice are = set_line_are p slot.name value choice are
-statement_are p (action.AddVertex slot e) choice are =
+statement_are p (action.SetEntry vector index e) apply_schedule are = put_are p vector index (codes "=") e are (bare (codes "=") refl)
+statement_are p (action.ReduceEntry vector index reduction e) apply_schedule are = put_are p vector index (reduction_word reduction) e are (reduction_is_bare reduction)
+statement_are p (action.DeclareSet name value) apply_schedule are = set_line_are p name value apply_schedule are
+statement_are p (action.AssignSet slot value) apply_schedule are = set_line_are p slot.name value apply_schedule are
+statement_are p (action.AddVertex slot e) apply_schedule are =
     (plain_word (codes "addvertex") (bare (codes "addvertex") refl), word_and_brackets (name_at p slot.name) (integer_words p e) (name_is_bare p slot.name are) (integer_bare p e are))
-statement_are p (action.PrintInteger e) choice are = word_and_brackets (codes "print") (integer_words p e) (bare (codes "print") refl) (integer_bare p e are)
-statement_are p (action.PrintCondition c) choice are = word_and_brackets (codes "print") (condition_words p c) (bare (codes "print") refl) (condition_bare p c are)
-statement_are p (action.ApplyVertex slot function) choice are = vertices_are p slot function None are
-statement_are p (action.ApplyEdges ends function) choice are = edges_are p ends (one_part function None) None choice are
-statement_are p (action.If c body) choice are = tt
-statement_are p (action.IfElse c body other) choice are = tt
-statement_are p (action.While c body) choice are = tt
-statement_are p (action.For name first last body) choice are = tt
+statement_are p (action.PrintInteger e) apply_schedule are = word_and_brackets (codes "print") (integer_words p e) (bare (codes "print") refl) (integer_bare p e are)
+statement_are p (action.PrintCondition c) apply_schedule are = word_and_brackets (codes "print") (condition_words p c) (bare (codes "print") refl) (condition_bare p c are)
+statement_are p (action.ApplyVertex slot function) apply_schedule are = vertices_are p slot function None are
+statement_are p (action.ApplyEdges ends function) apply_schedule are = edges_are p ends (one_part function None) None apply_schedule are
+statement_are p (action.If c body) apply_schedule are = tt
+statement_are p (action.IfElse c body other) apply_schedule are = tt
+statement_are p (action.While c body) apply_schedule are = tt
+statement_are p (action.For name first last body) apply_schedule are = tt
 
 end_name_bare : (p : ProgramTree) (name : ℕ) → HasBareNames p → IsBare (end_name p name)
 end_name_bare p name are = marked_is_bare (name_at p name) (codes ".end") (name_is_bare p name are) (bare (codes ".end") refl)
 
-operation_are : (p : ProgramTree) (choice : ApplySchedule) (o : OperationTree) → HasBareNames p → AreLineWords (operation_words p choice o)
-operation_are p choice (operation.Do action) are = statement_are p action choice are
-operation_are p choice (operation.ApplyEdgesTogether ends first second) are = edges_are p ends (shown_part first) (Some (shown_part second)) choice are
-operation_are p choice (operation.ApplyVerticesTogether slot first second) are = vertices_are p slot first (Some second) are
-operation_are p choice (operation.Unless c to) are = word_and_brackets (codes "unless") (condition_words p c) (bare (codes "unless") refl) (condition_bare p c are)
-operation_are p choice (operation.Enter name e) are = set_are (end_name p name) (integer_words p e) (end_name_bare p name are) (integer_bare p e are)
-operation_are p choice (operation.UnlessBelow name to) are =
+operation_are : (p : ProgramTree) (apply_schedule : ApplySchedule) (o : OperationTree) → HasBareNames p → AreLineWords (operation_words p apply_schedule o)
+operation_are p apply_schedule (operation.Do action) are = statement_are p action apply_schedule are
+operation_are p apply_schedule (operation.ApplyEdgesTogether ends first second) are = edges_are p ends (shown_part first) (Some (shown_part second)) apply_schedule are
+operation_are p apply_schedule (operation.ApplyVerticesTogether slot first second) are = vertices_are p slot first (Some second) are
+operation_are p apply_schedule (operation.Unless c to) are = word_and_brackets (codes "unless") (condition_words p c) (bare (codes "unless") refl) (condition_bare p c are)
+operation_are p apply_schedule (operation.Enter name e) are = set_are (end_name p name) (integer_words p e) (end_name_bare p name are) (integer_bare p e are)
+operation_are p apply_schedule (operation.UnlessBelow name to) are =
     word_and_brackets (codes "unless") (name_at p name ∷ end_name p name ∷ codes "<" ∷ []) (bare (codes "unless") refl)
     (name_is_bare p name are, (end_name_bare p name are, (bare (codes "<") refl, tt)))
-operation_are p choice (operation.Advance name) are =
+operation_are p apply_schedule (operation.Advance name) are =
     set_are (name_at p name) (name_at p name ∷ codes "1" ∷ codes "+" ∷ []) (name_is_bare p name are)
     (name_is_bare p name are, (bare (codes "1") refl, (bare (codes "+") refl, tt)))
-operation_are p choice operation.Turn are = (plain_word (codes "turn") (bare (codes "turn") refl), tt)
-operation_are p choice (operation.Jump to) are = (plain_word (codes "jump") (bare (codes "jump") refl), tt)
-operation_are p choice operation.End are = (plain_word (codes "end") (bare (codes "end") refl), tt)
+operation_are p apply_schedule operation.Turn are = (plain_word (codes "turn") (bare (codes "turn") refl), tt)
+operation_are p apply_schedule (operation.Jump to) are = (plain_word (codes "jump") (bare (codes "jump") refl), tt)
+operation_are p apply_schedule operation.End are = (plain_word (codes "end") (bare (codes "end") refl), tt)
 
 number_word : (n : ℕ) → IsLineWord (decimal n)
 number_word n = plain_word (decimal n) (decimal_is_bare n)
@@ -254,7 +254,7 @@ target_are operation.End = tt
 
 instruction_are : (p : ProgramTree) (number : ℕ) (i : InstructionTree) → HasBareNames p → AreLineWords (decimal number ∷ instruction_words p i)
 instruction_are p number i are =
-    (number_word number, all_both IsLineWord (operation_words p i.choice i.operation) (target_words i.operation) (operation_are p i.choice i.operation are) (target_are i.operation))
+    (number_word number, all_both IsLineWord (operation_words p i.apply_schedule i.operation) (target_words i.operation) (operation_are p i.apply_schedule i.operation are) (target_are i.operation))
 
 -- a line
 cut_line : (words : List (List ℕ)) → 0 < length words → AreLineWords words → words_of_line false (joined words) ≡ words

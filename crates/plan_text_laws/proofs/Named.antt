@@ -30,47 +30,47 @@ use Rattle.plan_text_laws.proofs.Machine.{bytes_differ}
 use Rattle.plan_text_laws.proofs.Words.{kind_is}
 
 -- names by kind
-set_names : (p : ProgramTree) (name : ℕ) (value : SetValue) (choice : ApplySchedule) → names_behind (Some (kind_of_set value)) (set_line p name value choice ++ []) ≡ names_of_set p name value
-set_names p name set.Empty choice = refl
-set_names p name set.All choice = refl
-set_names p name (set.Copy slot) choice = refl
-set_names p name (set.Filter slot function) choice = refl
-set_names p name (set.Modified ends function vector) choice = refl
+set_names : (p : ProgramTree) (name : ℕ) (value : SetValue) (apply_schedule : ApplySchedule) → names_behind (Some (kind_of_set value)) (set_line p name value apply_schedule ++ []) ≡ names_of_set p name value
+set_names p name set.Empty apply_schedule = refl
+set_names p name set.All apply_schedule = refl
+set_names p name (set.Copy slot) apply_schedule = refl
+set_names p name (set.Filter slot function) apply_schedule = refl
+set_names p name (set.Modified ends function vector) apply_schedule = refl
 
-action_names : (p : ProgramTree) (action : StatementKindTree) (choice : ApplySchedule) → names_behind (kind_of_action action) (statement_words p action choice ++ []) ≡ names_of_action p action
-action_names p (action.DeclareInteger name e) choice = refl
-action_names p (action.DeclareCondition name c) choice = refl
-action_names p (action.SetInteger slot e) choice = refl
-action_names p (action.SetCondition slot c) choice = refl
-action_names p (action.ReduceInteger slot reduction e) choice = refl
-action_names p (action.SetEntry vector index e) choice = refl
-action_names p (action.ReduceEntry vector index reduction e) choice = refl
-action_names p (action.DeclareSet name value) choice = set_names p name value choice
-action_names p (action.AssignSet slot value) choice = set_names p slot.name value choice
-action_names p (action.AddVertex slot e) choice = refl
-action_names p (action.PrintInteger e) choice = refl
-action_names p (action.PrintCondition c) choice = refl
-action_names p (action.ApplyVertex slot function) choice = refl
-action_names p (action.ApplyEdges ends function) choice = refl
-action_names p (action.If c body) choice = refl
-action_names p (action.IfElse c body other) choice = refl
-action_names p (action.While c body) choice = refl
-action_names p (action.For name first last body) choice = refl
+action_names : (p : ProgramTree) (action : StatementKindTree) (apply_schedule : ApplySchedule) → names_behind (kind_of_action action) (statement_words p action apply_schedule ++ []) ≡ names_of_action p action
+action_names p (action.DeclareInteger name e) apply_schedule = refl
+action_names p (action.DeclareCondition name c) apply_schedule = refl
+action_names p (action.SetInteger slot e) apply_schedule = refl
+action_names p (action.SetCondition slot c) apply_schedule = refl
+action_names p (action.ReduceInteger slot reduction e) apply_schedule = refl
+action_names p (action.SetEntry vector index e) apply_schedule = refl
+action_names p (action.ReduceEntry vector index reduction e) apply_schedule = refl
+action_names p (action.DeclareSet name value) apply_schedule = set_names p name value apply_schedule
+action_names p (action.AssignSet slot value) apply_schedule = set_names p slot.name value apply_schedule
+action_names p (action.AddVertex slot e) apply_schedule = refl
+action_names p (action.PrintInteger e) apply_schedule = refl
+action_names p (action.PrintCondition c) apply_schedule = refl
+action_names p (action.ApplyVertex slot function) apply_schedule = refl
+action_names p (action.ApplyEdges ends function) apply_schedule = refl
+action_names p (action.If c body) apply_schedule = refl
+action_names p (action.IfElse c body other) apply_schedule = refl
+action_names p (action.While c body) apply_schedule = refl
+action_names p (action.For name first last body) apply_schedule = refl
 
-names_at : (p : ProgramTree) (choice : ApplySchedule) (o : OperationTree) → names_behind (kind_of o) (operation_words p choice o ++ target_words o) ≡ names_of p o
-names_at p choice (operation.Do action) = action_names p action choice
-names_at p choice (operation.ApplyEdgesTogether ends first second) = refl
-names_at p choice (operation.ApplyVerticesTogether slot first second) = refl
-names_at p choice (operation.Unless c to) = refl
-names_at p choice (operation.Enter name e) = refl
-names_at p choice (operation.UnlessBelow name to) = refl
-names_at p choice (operation.Advance name) = refl
-names_at p choice operation.Turn = refl
-names_at p choice (operation.Jump to) = refl
-names_at p choice operation.End = refl
+names_at : (p : ProgramTree) (apply_schedule : ApplySchedule) (o : OperationTree) → names_behind (kind_of o) (operation_words p apply_schedule o ++ target_words o) ≡ names_of p o
+names_at p apply_schedule (operation.Do action) = action_names p action apply_schedule
+names_at p apply_schedule (operation.ApplyEdgesTogether ends first second) = refl
+names_at p apply_schedule (operation.ApplyVerticesTogether slot first second) = refl
+names_at p apply_schedule (operation.Unless c to) = refl
+names_at p apply_schedule (operation.Enter name e) = refl
+names_at p apply_schedule (operation.UnlessBelow name to) = refl
+names_at p apply_schedule (operation.Advance name) = refl
+names_at p apply_schedule operation.Turn = refl
+names_at p apply_schedule (operation.Jump to) = refl
+names_at p apply_schedule operation.End = refl
 
 pub names_are : (p : ProgramTree) (i : InstructionTree) → names_in (instruction_words p i) ≡ names_of p i.operation
-names_are p i = ap (λ (k : Option InstructionKind). names_behind k (instruction_words p i)) (kind_is p i) ∙ names_at p i.choice i.operation
+names_are p i = ap (λ (k : Option InstructionKind). names_behind k (instruction_words p i)) (kind_is p i) ∙ names_at p i.apply_schedule i.operation
 
 -- reductions of entries
 entry_reduction : (r : Reduction) → lookup (bytes_eq (reduction_word r)) entry_reductions ≡ Some (Some r)
@@ -85,41 +85,41 @@ no_reduction_of_set (set.Copy slot) words = refl
 no_reduction_of_set (set.Filter slot function) words = refl
 no_reduction_of_set (set.Modified ends function vector) words = refl
 
-action_reduction : (p : ProgramTree) (action : StatementKindTree) (choice : ApplySchedule)
-    → reduction_behind (kind_of_action action) (statement_words p action choice ++ []) ≡ reduction_of (operation.Do action)
-action_reduction p (action.DeclareInteger name e) choice = refl
-action_reduction p (action.DeclareCondition name c) choice = refl
-action_reduction p (action.SetInteger slot e) choice = refl
-action_reduction p (action.SetCondition slot c) choice = refl
-action_reduction p (action.ReduceInteger slot reduction e) choice = refl
-action_reduction p (action.SetEntry vector index e) choice = refl
-action_reduction p (action.ReduceEntry vector index reduction e) choice = entry_reduction reduction
-action_reduction p (action.DeclareSet name value) choice = no_reduction_of_set value (set_line p name value choice ++ [])
-action_reduction p (action.AssignSet slot value) choice = no_reduction_of_set value (set_line p slot.name value choice ++ [])
-action_reduction p (action.AddVertex slot e) choice = refl
-action_reduction p (action.PrintInteger e) choice = refl
-action_reduction p (action.PrintCondition c) choice = refl
-action_reduction p (action.ApplyVertex slot function) choice = refl
-action_reduction p (action.ApplyEdges ends function) choice = refl
-action_reduction p (action.If c body) choice = refl
-action_reduction p (action.IfElse c body other) choice = refl
-action_reduction p (action.While c body) choice = refl
-action_reduction p (action.For name first last body) choice = refl
+action_reduction : (p : ProgramTree) (action : StatementKindTree) (apply_schedule : ApplySchedule)
+    → reduction_behind (kind_of_action action) (statement_words p action apply_schedule ++ []) ≡ reduction_of (operation.Do action)
+action_reduction p (action.DeclareInteger name e) apply_schedule = refl
+action_reduction p (action.DeclareCondition name c) apply_schedule = refl
+action_reduction p (action.SetInteger slot e) apply_schedule = refl
+action_reduction p (action.SetCondition slot c) apply_schedule = refl
+action_reduction p (action.ReduceInteger slot reduction e) apply_schedule = refl
+action_reduction p (action.SetEntry vector index e) apply_schedule = refl
+action_reduction p (action.ReduceEntry vector index reduction e) apply_schedule = entry_reduction reduction
+action_reduction p (action.DeclareSet name value) apply_schedule = no_reduction_of_set value (set_line p name value apply_schedule ++ [])
+action_reduction p (action.AssignSet slot value) apply_schedule = no_reduction_of_set value (set_line p slot.name value apply_schedule ++ [])
+action_reduction p (action.AddVertex slot e) apply_schedule = refl
+action_reduction p (action.PrintInteger e) apply_schedule = refl
+action_reduction p (action.PrintCondition c) apply_schedule = refl
+action_reduction p (action.ApplyVertex slot function) apply_schedule = refl
+action_reduction p (action.ApplyEdges ends function) apply_schedule = refl
+action_reduction p (action.If c body) apply_schedule = refl
+action_reduction p (action.IfElse c body other) apply_schedule = refl
+action_reduction p (action.While c body) apply_schedule = refl
+action_reduction p (action.For name first last body) apply_schedule = refl
 
-reduction_at : (p : ProgramTree) (choice : ApplySchedule) (o : OperationTree) → reduction_behind (kind_of o) (operation_words p choice o ++ target_words o) ≡ reduction_of o
-reduction_at p choice (operation.Do action) = action_reduction p action choice
-reduction_at p choice (operation.ApplyEdgesTogether ends first second) = refl
-reduction_at p choice (operation.ApplyVerticesTogether slot first second) = refl
-reduction_at p choice (operation.Unless c to) = refl
-reduction_at p choice (operation.Enter name e) = refl
-reduction_at p choice (operation.UnlessBelow name to) = refl
-reduction_at p choice (operation.Advance name) = refl
-reduction_at p choice operation.Turn = refl
-reduction_at p choice (operation.Jump to) = refl
-reduction_at p choice operation.End = refl
+reduction_at : (p : ProgramTree) (apply_schedule : ApplySchedule) (o : OperationTree) → reduction_behind (kind_of o) (operation_words p apply_schedule o ++ target_words o) ≡ reduction_of o
+reduction_at p apply_schedule (operation.Do action) = action_reduction p action apply_schedule
+reduction_at p apply_schedule (operation.ApplyEdgesTogether ends first second) = refl
+reduction_at p apply_schedule (operation.ApplyVerticesTogether slot first second) = refl
+reduction_at p apply_schedule (operation.Unless c to) = refl
+reduction_at p apply_schedule (operation.Enter name e) = refl
+reduction_at p apply_schedule (operation.UnlessBelow name to) = refl
+reduction_at p apply_schedule (operation.Advance name) = refl
+reduction_at p apply_schedule operation.Turn = refl
+reduction_at p apply_schedule (operation.Jump to) = refl
+reduction_at p apply_schedule operation.End = refl
 
 pub reduction_is : (p : ProgramTree) (i : InstructionTree) → reduction_in (instruction_words p i) ≡ reduction_of i.operation
-reduction_is p i = ap (λ (k : Option InstructionKind). reduction_behind k (instruction_words p i)) (kind_is p i) ∙ reduction_at p i.choice i.operation
+reduction_is p i = ap (λ (k : Option InstructionKind). reduction_behind k (instruction_words p i)) (kind_is p i) ∙ reduction_at p i.apply_schedule i.operation
 
 -- no name of an edge apply is one of its marks
 empty_is_no_mark : IsNoMark []
@@ -190,16 +190,16 @@ edges_named p ends first second = record {
 abbrev with_parts : Option (List ℕ) → Option (List ℕ) → PartNames → Option PartNames → Option EdgeApplyNames
 with_parts from to first second = Some (record { from = from; to = to; first = first; second = second })
 
-edges_read : (p : ProgramTree) (ends : ApplyEnds) (first : AppliedFunction) (second : Option AppliedFunction) (choice : ApplySchedule) → HasNoMarks p
-    → edges_behind (Some ApplyEdges) (edges_words p ends first second choice ++ []) ≡ Some (edges_named p ends first second)
-edges_read p ends first second choice none =
-    let d = direction_word choice.direction in
-    let q = parallelization_word choice.parallelization in
-    let v = dense_word choice.dense_vertex_set in
+edges_read : (p : ProgramTree) (ends : ApplyEnds) (first : AppliedFunction) (second : Option AppliedFunction) (apply_schedule : ApplySchedule) → HasNoMarks p
+    → edges_behind (Some ApplyEdges) (edges_words p ends first second apply_schedule ++ []) ≡ Some (edges_named p ends first second)
+edges_read p ends first second apply_schedule none =
+    let d = direction_word apply_schedule.direction in
+    let q = parallelization_word apply_schedule.parallelization in
+    let v = dense_word apply_schedule.dense_vertex_set in
     let rest = part_words p first ++ (second_words p second ++ codes ":" ∷ d ∷ q ∷ v ∷ []) in
     let one = first_is p (function_at p p.edge_functions first.function) first.changed second d q v none in
     let names : PartNames = record { function = function_at p p.edge_functions first.function; changed = named p first.changed } in
-    ap (edges_behind (Some ApplyEdges)) (append-nil (edges_words p ends first second choice))
+    ap (edges_behind (Some ApplyEdges)) (append-nil (edges_words p ends first second apply_schedule))
     ∙ ap (λ (x : PartNames × List (List ℕ)). with_parts (end_in (end_word p ends.from)) (end_in (end_word p ends.to)) x.0 (second_in x.1)) one
     ∙ ap (λ (x : Option PartNames). with_parts (end_in (end_word p ends.from)) (end_in (end_word p ends.to)) names x) (second_is p second d q v none)
     ∙ ap (λ (x : Option (List ℕ)). with_parts x (end_in (end_word p ends.to)) names (second_named p second)) (end_is p ends.from none)
@@ -211,37 +211,37 @@ named_is p Dropped = refl
 named_is p (Declared name vector) = refl
 named_is p (Assigned slot vector) = refl
 
-set_edges : (p : ProgramTree) (name : ℕ) (value : SetValue) (make : (vector : ℕ) → ResultTree) (choice : ApplySchedule) → HasNoMarks p
+set_edges : (p : ProgramTree) (name : ℕ) (value : SetValue) (make : (vector : ℕ) → ResultTree) (apply_schedule : ApplySchedule) → HasNoMarks p
     → ((vector : ℕ) → changed_names p (make vector) ≡ Some (name_at p name, vector_at p vector))
-    → edges_behind (Some (kind_of_set value)) (set_line p name value choice ++ []) ≡ option_map (λ x. apply_names p x.ends x.part None) (modifying make value)
-set_edges p name set.Empty make choice none same = refl
-set_edges p name set.All make choice none same = refl
-set_edges p name (set.Copy slot) make choice none same = refl
-set_edges p name (set.Filter slot function) make choice none same = refl
-set_edges p name (set.Modified ends function vector) make choice none same =
-    edges_read p ends (one_part function (Some (record { name = name; vector = vector }))) None choice none
+    → edges_behind (Some (kind_of_set value)) (set_line p name value apply_schedule ++ []) ≡ option_map (λ x. apply_names p x.ends x.part None) (modifying make value)
+set_edges p name set.Empty make apply_schedule none same = refl
+set_edges p name set.All make apply_schedule none same = refl
+set_edges p name (set.Copy slot) make apply_schedule none same = refl
+set_edges p name (set.Filter slot function) make apply_schedule none same = refl
+set_edges p name (set.Modified ends function vector) make apply_schedule none same =
+    edges_read p ends (one_part function (Some (record { name = name; vector = vector }))) None apply_schedule none
     ∙ ap (λ (x : Option (List ℕ × List ℕ)). with_parts (end_names p ends.from) (end_names p ends.to) (record { function = function_at p p.edge_functions function; changed = x }) None) (sym (same vector))
 
-action_edges : (p : ProgramTree) (action : StatementKindTree) (choice : ApplySchedule) → HasNoMarks p
-    → edges_behind (kind_of_action action) (statement_words p action choice ++ []) ≡ edges_of p (operation.Do action)
-action_edges p (action.DeclareInteger name e) choice none = refl
-action_edges p (action.DeclareCondition name c) choice none = refl
-action_edges p (action.SetInteger slot e) choice none = refl
-action_edges p (action.SetCondition slot c) choice none = refl
-action_edges p (action.ReduceInteger slot reduction e) choice none = refl
-action_edges p (action.SetEntry vector index e) choice none = refl
-action_edges p (action.ReduceEntry vector index reduction e) choice none = refl
-action_edges p (action.DeclareSet name value) choice none = set_edges p name value (Declared name) choice none (λ vector. refl)
-action_edges p (action.AssignSet slot value) choice none = set_edges p slot.name value (Assigned slot) choice none (λ vector. refl)
-action_edges p (action.AddVertex slot e) choice none = refl
-action_edges p (action.PrintInteger e) choice none = refl
-action_edges p (action.PrintCondition c) choice none = refl
-action_edges p (action.ApplyVertex slot function) choice none = refl
-action_edges p (action.ApplyEdges ends function) choice none = edges_read p ends (one_part function None) None choice none
-action_edges p (action.If c body) choice none = refl
-action_edges p (action.IfElse c body other) choice none = refl
-action_edges p (action.While c body) choice none = refl
-action_edges p (action.For name first last body) choice none = refl
+action_edges : (p : ProgramTree) (action : StatementKindTree) (apply_schedule : ApplySchedule) → HasNoMarks p
+    → edges_behind (kind_of_action action) (statement_words p action apply_schedule ++ []) ≡ edges_of p (operation.Do action)
+action_edges p (action.DeclareInteger name e) apply_schedule none = refl
+action_edges p (action.DeclareCondition name c) apply_schedule none = refl
+action_edges p (action.SetInteger slot e) apply_schedule none = refl
+action_edges p (action.SetCondition slot c) apply_schedule none = refl
+action_edges p (action.ReduceInteger slot reduction e) apply_schedule none = refl
+action_edges p (action.SetEntry vector index e) apply_schedule none = refl
+action_edges p (action.ReduceEntry vector index reduction e) apply_schedule none = refl
+action_edges p (action.DeclareSet name value) apply_schedule none = set_edges p name value (Declared name) apply_schedule none (λ vector. refl)
+action_edges p (action.AssignSet slot value) apply_schedule none = set_edges p slot.name value (Assigned slot) apply_schedule none (λ vector. refl)
+action_edges p (action.AddVertex slot e) apply_schedule none = refl
+action_edges p (action.PrintInteger e) apply_schedule none = refl
+action_edges p (action.PrintCondition c) apply_schedule none = refl
+action_edges p (action.ApplyVertex slot function) apply_schedule none = refl
+action_edges p (action.ApplyEdges ends function) apply_schedule none = edges_read p ends (one_part function None) None apply_schedule none
+action_edges p (action.If c body) apply_schedule none = refl
+action_edges p (action.IfElse c body other) apply_schedule none = refl
+action_edges p (action.While c body) apply_schedule none = refl
+action_edges p (action.For name first last body) apply_schedule none = refl
 
 both_edges : (p : ProgramTree) (ends : ApplyEnds) (first second : EdgePartTree)
     → Some (edges_named p ends (shown_part first) (Some (shown_part second))) ≡ Some (apply_names p ends first (Some second))
@@ -254,18 +254,18 @@ both_edges p ends first second =
     ap (λ (x : Option (List ℕ × List ℕ)). with_parts from to (record { function = f; changed = x }) (Some other)) (named_is p first.result)
     ∙ ap (λ (x : Option (List ℕ × List ℕ)). with_parts from to (part_names p first) (Some (record { function = g; changed = x }))) (named_is p second.result)
 
-edges_at : (p : ProgramTree) (choice : ApplySchedule) (o : OperationTree) → HasNoMarks p → edges_behind (kind_of o) (operation_words p choice o ++ target_words o) ≡ edges_of p o
-edges_at p choice (operation.Do action) none = action_edges p action choice none
-edges_at p choice (operation.ApplyEdgesTogether ends first second) none =
-    edges_read p ends (shown_part first) (Some (shown_part second)) choice none ∙ both_edges p ends first second
-edges_at p choice (operation.ApplyVerticesTogether slot first second) none = refl
-edges_at p choice (operation.Unless c to) none = refl
-edges_at p choice (operation.Enter name e) none = refl
-edges_at p choice (operation.UnlessBelow name to) none = refl
-edges_at p choice (operation.Advance name) none = refl
-edges_at p choice operation.Turn none = refl
-edges_at p choice (operation.Jump to) none = refl
-edges_at p choice operation.End none = refl
+edges_at : (p : ProgramTree) (apply_schedule : ApplySchedule) (o : OperationTree) → HasNoMarks p → edges_behind (kind_of o) (operation_words p apply_schedule o ++ target_words o) ≡ edges_of p o
+edges_at p apply_schedule (operation.Do action) none = action_edges p action apply_schedule none
+edges_at p apply_schedule (operation.ApplyEdgesTogether ends first second) none =
+    edges_read p ends (shown_part first) (Some (shown_part second)) apply_schedule none ∙ both_edges p ends first second
+edges_at p apply_schedule (operation.ApplyVerticesTogether slot first second) none = refl
+edges_at p apply_schedule (operation.Unless c to) none = refl
+edges_at p apply_schedule (operation.Enter name e) none = refl
+edges_at p apply_schedule (operation.UnlessBelow name to) none = refl
+edges_at p apply_schedule (operation.Advance name) none = refl
+edges_at p apply_schedule operation.Turn none = refl
+edges_at p apply_schedule (operation.Jump to) none = refl
+edges_at p apply_schedule operation.End none = refl
 
 pub edges_are : (p : ProgramTree) (i : InstructionTree) → HasNoMarks p → edges_in (instruction_words p i) ≡ edges_of p i.operation
-edges_are p i none = ap (λ (k : Option InstructionKind). edges_behind k (instruction_words p i)) (kind_is p i) ∙ edges_at p i.choice i.operation none
+edges_are p i none = ap (λ (k : Option InstructionKind). edges_behind k (instruction_words p i)) (kind_is p i) ∙ edges_at p i.apply_schedule i.operation none

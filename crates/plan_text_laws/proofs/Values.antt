@@ -46,28 +46,28 @@ no_values names words (set.Copy slot) = refl
 no_values names words (set.Filter slot function) = refl
 no_values names words (set.Modified ends function vector) = refl
 
-action_values : (p : ProgramTree) (names : Names) (s : StateValue) (action : StatementKindTree) (choice : ApplySchedule) → HasNamesOfOneWord p → ActionIsGiven p names s action
-    → read_indices names (statement_words p action choice ++ []) (bracket_indices (kind_of_action action)) ≡ values_of_action names.vertices s action
-action_values p names s (action.DeclareInteger name e) choice one given = one_value _ _ (integer_in_brackets p names s e one given)
-action_values p names s (action.DeclareCondition name c) choice one given = one_value _ _ (condition_in_brackets p names s c one given)
-action_values p names s (action.SetInteger slot e) choice one given = one_value _ _ (integer_in_brackets p names s e one given)
-action_values p names s (action.SetCondition slot c) choice one given = one_value _ _ (condition_in_brackets p names s c one given)
-action_values p names s (action.ReduceInteger slot reduction e) choice one given = absurd given
-action_values p names s (action.SetEntry vector index e) choice one given =
+action_values : (p : ProgramTree) (names : Names) (s : StateValue) (action : StatementKindTree) (apply_schedule : ApplySchedule) → HasNamesOfOneWord p → ActionIsGiven p names s action
+    → read_indices names (statement_words p action apply_schedule ++ []) (bracket_indices (kind_of_action action)) ≡ values_of_action names.vertices s action
+action_values p names s (action.DeclareInteger name e) apply_schedule one given = one_value _ _ (integer_in_brackets p names s e one given)
+action_values p names s (action.DeclareCondition name c) apply_schedule one given = one_value _ _ (condition_in_brackets p names s c one given)
+action_values p names s (action.SetInteger slot e) apply_schedule one given = one_value _ _ (integer_in_brackets p names s e one given)
+action_values p names s (action.SetCondition slot c) apply_schedule one given = one_value _ _ (condition_in_brackets p names s c one given)
+action_values p names s (action.ReduceInteger slot reduction e) apply_schedule one given = absurd given
+action_values p names s (action.SetEntry vector index e) apply_schedule one given =
     two_values _ _ _ _ (integer_in_brackets p names s index one given.0) (integer_in_brackets p names s e one given.1)
-action_values p names s (action.ReduceEntry vector index reduction e) choice one given =
+action_values p names s (action.ReduceEntry vector index reduction e) apply_schedule one given =
     two_values _ _ _ _ (integer_in_brackets p names s index one given.0) (integer_in_brackets p names s e one given.1)
-action_values p names s (action.DeclareSet name value) choice one given = no_values names (set_line p name value choice ++ []) value
-action_values p names s (action.AssignSet slot value) choice one given = no_values names (set_line p slot.name value choice ++ []) value
-action_values p names s (action.AddVertex slot e) choice one given = one_value _ _ (integer_in_brackets p names s e one given)
-action_values p names s (action.PrintInteger e) choice one given = one_value _ _ (integer_in_brackets p names s e one given)
-action_values p names s (action.PrintCondition c) choice one given = one_value _ _ (condition_in_brackets p names s c one given)
-action_values p names s (action.ApplyVertex slot function) choice one given = refl
-action_values p names s (action.ApplyEdges ends function) choice one given = refl
-action_values p names s (action.If c body) choice one given = refl
-action_values p names s (action.IfElse c body other) choice one given = refl
-action_values p names s (action.While c body) choice one given = refl
-action_values p names s (action.For name first last body) choice one given = refl
+action_values p names s (action.DeclareSet name value) apply_schedule one given = no_values names (set_line p name value apply_schedule ++ []) value
+action_values p names s (action.AssignSet slot value) apply_schedule one given = no_values names (set_line p slot.name value apply_schedule ++ []) value
+action_values p names s (action.AddVertex slot e) apply_schedule one given = one_value _ _ (integer_in_brackets p names s e one given)
+action_values p names s (action.PrintInteger e) apply_schedule one given = one_value _ _ (integer_in_brackets p names s e one given)
+action_values p names s (action.PrintCondition c) apply_schedule one given = one_value _ _ (condition_in_brackets p names s c one given)
+action_values p names s (action.ApplyVertex slot function) apply_schedule one given = refl
+action_values p names s (action.ApplyEdges ends function) apply_schedule one given = refl
+action_values p names s (action.If c body) apply_schedule one given = refl
+action_values p names s (action.IfElse c body other) apply_schedule one given = refl
+action_values p names s (action.While c body) apply_schedule one given = refl
+action_values p names s (action.For name first last body) apply_schedule one given = refl
 
 -- the test and the next number of a `for`
 end_is_one : (p : ProgramTree) (name : ℕ) → HasNamesOfOneWord p → IsOneWord (end_name p name)
@@ -88,24 +88,24 @@ next_read p names name r one first =
     (name_is_one p name one, (looked_at (codes "1") refl, (looked_at (codes "+") refl, tt)))
     ∙ ap (option_and_then (read_words names (codes "1" ∷ codes "+" ∷ []))) (read_name names (name_at p name) (Number r.next) [] first)
 
-operation_values : (p : ProgramTree) (names : Names) (r : LoopCounter) (s : StateValue) (choice : ApplySchedule) (o : OperationTree) → HasNamesOfOneWord p → OperationIsGiven p names r s o
-    → read_indices names (operation_words p choice o ++ target_words o) (bracket_indices (kind_of o)) ≡ values_of names.vertices r s o
-operation_values p names r s choice (operation.Do action) one given = action_values p names s action choice one given
-operation_values p names r s choice (operation.ApplyEdgesTogether ends first second) one given = refl
-operation_values p names r s choice (operation.ApplyVerticesTogether slot first second) one given = refl
-operation_values p names r s choice (operation.Unless c to) one given = one_value _ _ (condition_in_brackets p names s c one given)
-operation_values p names r s choice (operation.Enter name e) one given = one_value _ _ (integer_in_brackets p names s e one given)
-operation_values p names r s choice (operation.UnlessBelow name to) one given = one_value _ _ (below_read p names name r.next r.end one given.0 given.1)
-operation_values p names r s choice (operation.Advance name) one given = one_value _ _ (next_read p names name r one given)
-operation_values p names r s choice operation.Turn one given = refl
-operation_values p names r s choice (operation.Jump to) one given = refl
-operation_values p names r s choice operation.End one given = refl
+operation_values : (p : ProgramTree) (names : Names) (r : LoopCounter) (s : StateValue) (apply_schedule : ApplySchedule) (o : OperationTree) → HasNamesOfOneWord p → OperationIsGiven p names r s o
+    → read_indices names (operation_words p apply_schedule o ++ target_words o) (bracket_indices (kind_of o)) ≡ values_of names.vertices r s o
+operation_values p names r s apply_schedule (operation.Do action) one given = action_values p names s action apply_schedule one given
+operation_values p names r s apply_schedule (operation.ApplyEdgesTogether ends first second) one given = refl
+operation_values p names r s apply_schedule (operation.ApplyVerticesTogether slot first second) one given = refl
+operation_values p names r s apply_schedule (operation.Unless c to) one given = one_value _ _ (condition_in_brackets p names s c one given)
+operation_values p names r s apply_schedule (operation.Enter name e) one given = one_value _ _ (integer_in_brackets p names s e one given)
+operation_values p names r s apply_schedule (operation.UnlessBelow name to) one given = one_value _ _ (below_read p names name r.next r.end one given.0 given.1)
+operation_values p names r s apply_schedule (operation.Advance name) one given = one_value _ _ (next_read p names name r one given)
+operation_values p names r s apply_schedule operation.Turn one given = refl
+operation_values p names r s apply_schedule (operation.Jump to) one given = refl
+operation_values p names r s apply_schedule operation.End one given = refl
 
 pub values_are : (p : ProgramTree) (names : Names) (r : LoopCounter) (s : StateValue) (i : InstructionTree) → HasNamesOfOneWord p → OperationIsGiven p names r s i.operation
     → values_in names (instruction_words p i) ≡ values_of names.vertices r s i.operation
 values_are p names r s i one given =
     ap (λ (k : Option InstructionKind). read_indices names (instruction_words p i) (bracket_indices k)) (kind_is p i)
-    ∙ operation_values p names r s i.choice i.operation one given
+    ∙ operation_values p names r s i.apply_schedule i.operation one given
 
 -- the last word is a reduction of what the others leave
 through : {A B : Type 0} (f : A → Option A) (g h : A → Option B) (o : Option A) → ((x : A) → h x ≡ option_and_then g (f x)) → option_and_then h o ≡ option_and_then g (option_and_then f o)
@@ -135,11 +135,11 @@ reduce_value : (names : Names) (r : Reduction) (a : ℤ) (o : Option ℤ)
 reduce_value names r a None = refl
 reduce_value names r a (Some n) = reduce_is names r a n
 
-pub reduction_is_read : (p : ProgramTree) (names : Names) (s : StateValue) (x : VarRef) (r : Reduction) (e : IntExpressionTree) (choice : ApplySchedule) → HasNamesOfOneWord p
+pub reduction_is_read : (p : ProgramTree) (names : Names) (s : StateValue) (x : VarRef) (r : Reduction) (e : IntExpressionTree) (apply_schedule : ApplySchedule) → HasNamesOfOneWord p
     → IsNamed names (name_at p x.name) (Number (slice_index_or s.scope.integers x.index (pos 0))) → IntegerIsGiven p names s e
-    → read_reduction names (slice_index_or (statement_words p (action.ReduceInteger x r e) choice) 2 [])
+    → read_reduction names (slice_index_or (statement_words p (action.ReduceInteger x r e) apply_schedule) 2 [])
     ≡ option_map (λ n. reduced r (slice_index_or s.scope.integers x.index (pos 0)) n) (int_value_in names.vertices e s)
-reduction_is_read p names s x r e choice one named given =
+reduction_is_read p names s x r e apply_schedule one named given =
     let a = slice_index_or s.scope.integers x.index (pos 0) in
     let words = name_at p x.name ∷ integer_words p e in
     let all : AllByRecursion IsOneWord (name_at p x.name ∷ integer_words p e ++ reducing_word r ∷ []) =

@@ -28,47 +28,47 @@ use Rattle.plan_text_laws.specs.Kinds.{InstructionKind, ApplyEdges, instruction_
 use Rattle.plan_text_laws.specs.Settings.{dense_vertex_sets, directions, parallelizations, settings_in, settings_of, settings_used, settings_with}
 
 -- the kind of each operation
-set_kind : (p : ProgramTree) (name : ℕ) (value : SetValue) (choice : ApplySchedule) → kind_in (set_line p name value choice ++ []) ≡ Some (kind_of_set value)
-set_kind p name set.Empty choice = refl
-set_kind p name set.All choice = refl
-set_kind p name (set.Copy slot) choice = refl
-set_kind p name (set.Filter slot function) choice = refl
-set_kind p name (set.Modified ends function vector) choice = refl
+set_kind : (p : ProgramTree) (name : ℕ) (value : SetValue) (apply_schedule : ApplySchedule) → kind_in (set_line p name value apply_schedule ++ []) ≡ Some (kind_of_set value)
+set_kind p name set.Empty apply_schedule = refl
+set_kind p name set.All apply_schedule = refl
+set_kind p name (set.Copy slot) apply_schedule = refl
+set_kind p name (set.Filter slot function) apply_schedule = refl
+set_kind p name (set.Modified ends function vector) apply_schedule = refl
 
-action_kind : (p : ProgramTree) (action : StatementKindTree) (choice : ApplySchedule) → kind_in (statement_words p action choice ++ []) ≡ kind_of_action action
-action_kind p (action.DeclareInteger name e) choice = refl
-action_kind p (action.DeclareCondition name c) choice = refl
-action_kind p (action.SetInteger slot e) choice = refl
-action_kind p (action.SetCondition slot c) choice = refl
-action_kind p (action.ReduceInteger slot reduction e) choice = refl
-action_kind p (action.SetEntry vector index e) choice = refl
-action_kind p (action.ReduceEntry vector index reduction e) choice = refl
-action_kind p (action.DeclareSet name value) choice = set_kind p name value choice
-action_kind p (action.AssignSet slot value) choice = set_kind p slot.name value choice
-action_kind p (action.AddVertex slot e) choice = refl
-action_kind p (action.PrintInteger e) choice = refl
-action_kind p (action.PrintCondition c) choice = refl
-action_kind p (action.ApplyVertex slot function) choice = refl
-action_kind p (action.ApplyEdges ends function) choice = refl
-action_kind p (action.If c body) choice = refl
-action_kind p (action.IfElse c body other) choice = refl
-action_kind p (action.While c body) choice = refl
-action_kind p (action.For name first last body) choice = refl
+action_kind : (p : ProgramTree) (action : StatementKindTree) (apply_schedule : ApplySchedule) → kind_in (statement_words p action apply_schedule ++ []) ≡ kind_of_action action
+action_kind p (action.DeclareInteger name e) apply_schedule = refl
+action_kind p (action.DeclareCondition name c) apply_schedule = refl
+action_kind p (action.SetInteger slot e) apply_schedule = refl
+action_kind p (action.SetCondition slot c) apply_schedule = refl
+action_kind p (action.ReduceInteger slot reduction e) apply_schedule = refl
+action_kind p (action.SetEntry vector index e) apply_schedule = refl
+action_kind p (action.ReduceEntry vector index reduction e) apply_schedule = refl
+action_kind p (action.DeclareSet name value) apply_schedule = set_kind p name value apply_schedule
+action_kind p (action.AssignSet slot value) apply_schedule = set_kind p slot.name value apply_schedule
+action_kind p (action.AddVertex slot e) apply_schedule = refl
+action_kind p (action.PrintInteger e) apply_schedule = refl
+action_kind p (action.PrintCondition c) apply_schedule = refl
+action_kind p (action.ApplyVertex slot function) apply_schedule = refl
+action_kind p (action.ApplyEdges ends function) apply_schedule = refl
+action_kind p (action.If c body) apply_schedule = refl
+action_kind p (action.IfElse c body other) apply_schedule = refl
+action_kind p (action.While c body) apply_schedule = refl
+action_kind p (action.For name first last body) apply_schedule = refl
 
-kind_at : (p : ProgramTree) (choice : ApplySchedule) (o : OperationTree) → kind_in (operation_words p choice o ++ target_words o) ≡ kind_of o
-kind_at p choice (operation.Do action) = action_kind p action choice
-kind_at p choice (operation.ApplyEdgesTogether ends first second) = refl
-kind_at p choice (operation.ApplyVerticesTogether slot first second) = refl
-kind_at p choice (operation.Unless c to) = refl
-kind_at p choice (operation.Enter name e) = refl
-kind_at p choice (operation.UnlessBelow name to) = refl
-kind_at p choice (operation.Advance name) = refl
-kind_at p choice operation.Turn = refl
-kind_at p choice (operation.Jump to) = refl
-kind_at p choice operation.End = refl
+kind_at : (p : ProgramTree) (apply_schedule : ApplySchedule) (o : OperationTree) → kind_in (operation_words p apply_schedule o ++ target_words o) ≡ kind_of o
+kind_at p apply_schedule (operation.Do action) = action_kind p action apply_schedule
+kind_at p apply_schedule (operation.ApplyEdgesTogether ends first second) = refl
+kind_at p apply_schedule (operation.ApplyVerticesTogether slot first second) = refl
+kind_at p apply_schedule (operation.Unless c to) = refl
+kind_at p apply_schedule (operation.Enter name e) = refl
+kind_at p apply_schedule (operation.UnlessBelow name to) = refl
+kind_at p apply_schedule (operation.Advance name) = refl
+kind_at p apply_schedule operation.Turn = refl
+kind_at p apply_schedule (operation.Jump to) = refl
+kind_at p apply_schedule operation.End = refl
 
 pub kind_is : (p : ProgramTree) (i : InstructionTree) → kind_in (instruction_words p i) ≡ kind_of i.operation
-kind_is p i = kind_at p i.choice i.operation
+kind_is p i = kind_at p i.apply_schedule i.operation
 
 -- a statement goes on at no other index
 no_index_of_set : (value : SetValue) (words : List (List ℕ)) → index_behind (Some (kind_of_set value)) words ≡ None
@@ -101,22 +101,22 @@ no_index (action.For name first last body) words = refl
 number_is : (to : ℕ) → to < 2 ^ 64 → number_of (2 ^ 64) (decimal to) ≡ Some to
 number_is to below = decimal-IsReadBack (2 ^ 64) to below below 0
 
-index_at : (p : ProgramTree) (choice : ApplySchedule) (o : OperationTree) → IfSome (index_of o) (λ to. to < 2 ^ 64)
-    → index_behind (kind_of o) (operation_words p choice o ++ target_words o) ≡ index_of o
-index_at p choice (operation.Do action) below = no_index action (statement_words p action choice ++ [])
-index_at p choice (operation.ApplyEdgesTogether ends first second) below = refl
-index_at p choice (operation.ApplyVerticesTogether slot first second) below = refl
-index_at p choice (operation.Unless c to) below = number_is to below
-index_at p choice (operation.Enter name e) below = refl
-index_at p choice (operation.UnlessBelow name to) below = number_is to below
-index_at p choice (operation.Advance name) below = refl
-index_at p choice operation.Turn below = refl
-index_at p choice (operation.Jump to) below = number_is to below
-index_at p choice operation.End below = refl
+index_at : (p : ProgramTree) (apply_schedule : ApplySchedule) (o : OperationTree) → IfSome (index_of o) (λ to. to < 2 ^ 64)
+    → index_behind (kind_of o) (operation_words p apply_schedule o ++ target_words o) ≡ index_of o
+index_at p apply_schedule (operation.Do action) below = no_index action (statement_words p action apply_schedule ++ [])
+index_at p apply_schedule (operation.ApplyEdgesTogether ends first second) below = refl
+index_at p apply_schedule (operation.ApplyVerticesTogether slot first second) below = refl
+index_at p apply_schedule (operation.Unless c to) below = number_is to below
+index_at p apply_schedule (operation.Enter name e) below = refl
+index_at p apply_schedule (operation.UnlessBelow name to) below = number_is to below
+index_at p apply_schedule (operation.Advance name) below = refl
+index_at p apply_schedule operation.Turn below = refl
+index_at p apply_schedule (operation.Jump to) below = number_is to below
+index_at p apply_schedule operation.End below = refl
 
 pub index_is : (p : ProgramTree) (i : InstructionTree) → IfSome (index_of i.operation) (λ to. to < 2 ^ 64) → index_in (instruction_words p i) ≡ index_of i.operation
 index_is p i below =
-    ap (λ (k : Option InstructionKind). index_behind k (instruction_words p i)) (kind_is p i) ∙ index_at p i.choice i.operation below
+    ap (λ (k : Option InstructionKind). index_behind k (instruction_words p i)) (kind_is p i) ∙ index_at p i.apply_schedule i.operation below
 
 -- what the words of a schedule say
 direction_is : (o : Option Direction) → lookup (bytes_eq (direction_word o)) directions ≡ Some (unwrap_or o direction.SparsePush)
@@ -139,78 +139,78 @@ dense_is (Some dense.BoolArray) = refl
 dense_is (Some dense.Bitvector) = refl
 
 abbrev three_words : ApplySchedule → List (List ℕ)
-three_words choice = direction_word choice.direction ∷ parallelization_word choice.parallelization ∷ dense_word choice.dense_vertex_set ∷ []
+three_words apply_schedule = direction_word apply_schedule.direction ∷ parallelization_word apply_schedule.parallelization ∷ dense_word apply_schedule.dense_vertex_set ∷ []
 
-three_are : (choice : ApplySchedule) → settings_of (three_words choice) ≡ Some (settings_used choice)
-three_are choice =
-    let p = lookup (bytes_eq (parallelization_word choice.parallelization)) parallelizations in
-    let v = lookup (bytes_eq (dense_word choice.dense_vertex_set)) dense_vertex_sets in
-    let d = unwrap_or choice.direction direction.SparsePush in
-    let q = unwrap_or choice.parallelization parallelization.Serial in
-    ap (λ (x : Option Direction). settings_with x p v) (direction_is choice.direction)
-    ∙ ap (λ (x : Option Parallelization). settings_with (Some d) x v) (parallelization_is choice.parallelization)
-    ∙ ap (λ (x : Option DenseVertexSet). settings_with (Some d) (Some q) x) (dense_is choice.dense_vertex_set)
+three_are : (apply_schedule : ApplySchedule) → settings_of (three_words apply_schedule) ≡ Some (settings_used apply_schedule)
+three_are apply_schedule =
+    let p = lookup (bytes_eq (parallelization_word apply_schedule.parallelization)) parallelizations in
+    let v = lookup (bytes_eq (dense_word apply_schedule.dense_vertex_set)) dense_vertex_sets in
+    let d = unwrap_or apply_schedule.direction direction.SparsePush in
+    let q = unwrap_or apply_schedule.parallelization parallelization.Serial in
+    ap (λ (x : Option Direction). settings_with x p v) (direction_is apply_schedule.direction)
+    ∙ ap (λ (x : Option Parallelization). settings_with (Some d) x v) (parallelization_is apply_schedule.parallelization)
+    ∙ ap (λ (x : Option DenseVertexSet). settings_with (Some d) (Some q) x) (dense_is apply_schedule.dense_vertex_set)
 
 last_three : (front three : List (List ℕ)) → length three ≡ 3 → drop (length (front ++ three) - 3) (front ++ three) ≡ three
 last_three front three long =
     let size : length (front ++ three) - 3 ≡ length front = omega (arith, length-append front three, long) in
     ap (λ (n : ℕ). drop n (front ++ three)) size ∙ drop-append_seam front three
 
-edges_are : (p : ProgramTree) (ends : ApplyEnds) (first : AppliedFunction) (second : Option AppliedFunction) (choice : ApplySchedule)
-    → settings_in (edges_words p ends first second choice ++ []) ≡ Some (settings_used choice)
-edges_are p ends first second choice =
+edges_are : (p : ProgramTree) (ends : ApplyEnds) (first : AppliedFunction) (second : Option AppliedFunction) (apply_schedule : ApplySchedule)
+    → settings_in (edges_words p ends first second apply_schedule ++ []) ≡ Some (settings_used apply_schedule)
+edges_are p ends first second apply_schedule =
     let one = part_words p first in
     let two = second_words p second in
     let front = codes "eapply" ∷ end_word p ends.from ∷ end_word p ends.to ∷ (one ++ (two ++ codes ":" ∷ [])) in
-    let inner : one ++ (two ++ codes ":" ∷ three_words choice) ≡ (one ++ (two ++ codes ":" ∷ [])) ++ three_words choice =
-    ap (λ (l : List (List ℕ)). one ++ l) (sym (append_assoc two (codes ":" ∷ []) (three_words choice))) ∙ sym (append_assoc one (two ++ codes ":" ∷ []) (three_words choice)) in
-    let whole : edges_words p ends first second choice ++ [] ≡ front ++ three_words choice =
-    append-nil (edges_words p ends first second choice) ∙ ap (λ (l : List (List ℕ)). codes "eapply" ∷ end_word p ends.from ∷ end_word p ends.to ∷ l) inner in
-    ap settings_in whole ∙ ap settings_of (last_three front (three_words choice) refl) ∙ three_are choice
+    let inner : one ++ (two ++ codes ":" ∷ three_words apply_schedule) ≡ (one ++ (two ++ codes ":" ∷ [])) ++ three_words apply_schedule =
+    ap (λ (l : List (List ℕ)). one ++ l) (sym (append_assoc two (codes ":" ∷ []) (three_words apply_schedule))) ∙ sym (append_assoc one (two ++ codes ":" ∷ []) (three_words apply_schedule)) in
+    let whole : edges_words p ends first second apply_schedule ++ [] ≡ front ++ three_words apply_schedule =
+    append-nil (edges_words p ends first second apply_schedule) ∙ ap (λ (l : List (List ℕ)). codes "eapply" ∷ end_word p ends.from ∷ end_word p ends.to ∷ l) inner in
+    ap settings_in whole ∙ ap settings_of (last_three front (three_words apply_schedule) refl) ∙ three_are apply_schedule
 
 -- an edge apply is one of these
-set_settings : (p : ProgramTree) (name : ℕ) (value : SetValue) (choice : ApplySchedule) → Some (kind_of_set value) ≡ Some ApplyEdges
-    → settings_in (set_line p name value choice ++ []) ≡ Some (settings_used choice)
-set_settings p name set.Empty choice is = absurd cc
-set_settings p name set.All choice is = absurd cc
-set_settings p name (set.Copy slot) choice is = absurd cc
-set_settings p name (set.Filter slot function) choice is = absurd cc
-set_settings p name (set.Modified ends function vector) choice is =
-    edges_are p ends (one_part function (Some (record { name = name; vector = vector }))) None choice
+set_settings : (p : ProgramTree) (name : ℕ) (value : SetValue) (apply_schedule : ApplySchedule) → Some (kind_of_set value) ≡ Some ApplyEdges
+    → settings_in (set_line p name value apply_schedule ++ []) ≡ Some (settings_used apply_schedule)
+set_settings p name set.Empty apply_schedule is = absurd cc
+set_settings p name set.All apply_schedule is = absurd cc
+set_settings p name (set.Copy slot) apply_schedule is = absurd cc
+set_settings p name (set.Filter slot function) apply_schedule is = absurd cc
+set_settings p name (set.Modified ends function vector) apply_schedule is =
+    edges_are p ends (one_part function (Some (record { name = name; vector = vector }))) None apply_schedule
 
-action_settings : (p : ProgramTree) (action : StatementKindTree) (choice : ApplySchedule) → kind_of_action action ≡ Some ApplyEdges
-    → settings_in (statement_words p action choice ++ []) ≡ Some (settings_used choice)
-action_settings p (action.DeclareInteger name e) choice is = absurd cc
-action_settings p (action.DeclareCondition name c) choice is = absurd cc
-action_settings p (action.SetInteger slot e) choice is = absurd cc
-action_settings p (action.SetCondition slot c) choice is = absurd cc
-action_settings p (action.ReduceInteger slot reduction e) choice is = absurd cc
-action_settings p (action.SetEntry vector index e) choice is = absurd cc
-action_settings p (action.ReduceEntry vector index reduction e) choice is = absurd cc
-action_settings p (action.DeclareSet name value) choice is = set_settings p name value choice is
-action_settings p (action.AssignSet slot value) choice is = set_settings p slot.name value choice is
-action_settings p (action.AddVertex slot e) choice is = absurd cc
-action_settings p (action.PrintInteger e) choice is = absurd cc
-action_settings p (action.PrintCondition c) choice is = absurd cc
-action_settings p (action.ApplyVertex slot function) choice is = absurd cc
-action_settings p (action.ApplyEdges ends function) choice is = edges_are p ends (one_part function None) None choice
-action_settings p (action.If c body) choice is = absurd cc
-action_settings p (action.IfElse c body other) choice is = absurd cc
-action_settings p (action.While c body) choice is = absurd cc
-action_settings p (action.For name first last body) choice is = absurd cc
+action_settings : (p : ProgramTree) (action : StatementKindTree) (apply_schedule : ApplySchedule) → kind_of_action action ≡ Some ApplyEdges
+    → settings_in (statement_words p action apply_schedule ++ []) ≡ Some (settings_used apply_schedule)
+action_settings p (action.DeclareInteger name e) apply_schedule is = absurd cc
+action_settings p (action.DeclareCondition name c) apply_schedule is = absurd cc
+action_settings p (action.SetInteger slot e) apply_schedule is = absurd cc
+action_settings p (action.SetCondition slot c) apply_schedule is = absurd cc
+action_settings p (action.ReduceInteger slot reduction e) apply_schedule is = absurd cc
+action_settings p (action.SetEntry vector index e) apply_schedule is = absurd cc
+action_settings p (action.ReduceEntry vector index reduction e) apply_schedule is = absurd cc
+action_settings p (action.DeclareSet name value) apply_schedule is = set_settings p name value apply_schedule is
+action_settings p (action.AssignSet slot value) apply_schedule is = set_settings p slot.name value apply_schedule is
+action_settings p (action.AddVertex slot e) apply_schedule is = absurd cc
+action_settings p (action.PrintInteger e) apply_schedule is = absurd cc
+action_settings p (action.PrintCondition c) apply_schedule is = absurd cc
+action_settings p (action.ApplyVertex slot function) apply_schedule is = absurd cc
+action_settings p (action.ApplyEdges ends function) apply_schedule is = edges_are p ends (one_part function None) None apply_schedule
+action_settings p (action.If c body) apply_schedule is = absurd cc
+action_settings p (action.IfElse c body other) apply_schedule is = absurd cc
+action_settings p (action.While c body) apply_schedule is = absurd cc
+action_settings p (action.For name first last body) apply_schedule is = absurd cc
 
-settings_at : (p : ProgramTree) (choice : ApplySchedule) (o : OperationTree) → kind_of o ≡ Some ApplyEdges
-    → settings_in (operation_words p choice o ++ target_words o) ≡ Some (settings_used choice)
-settings_at p choice (operation.Do action) is = action_settings p action choice is
-settings_at p choice (operation.ApplyEdgesTogether ends first second) is = edges_are p ends (shown_part first) (Some (shown_part second)) choice
-settings_at p choice (operation.ApplyVerticesTogether slot first second) is = absurd cc
-settings_at p choice (operation.Unless c to) is = absurd cc
-settings_at p choice (operation.Enter name e) is = absurd cc
-settings_at p choice (operation.UnlessBelow name to) is = absurd cc
-settings_at p choice (operation.Advance name) is = absurd cc
-settings_at p choice operation.Turn is = absurd cc
-settings_at p choice (operation.Jump to) is = absurd cc
-settings_at p choice operation.End is = absurd cc
+settings_at : (p : ProgramTree) (apply_schedule : ApplySchedule) (o : OperationTree) → kind_of o ≡ Some ApplyEdges
+    → settings_in (operation_words p apply_schedule o ++ target_words o) ≡ Some (settings_used apply_schedule)
+settings_at p apply_schedule (operation.Do action) is = action_settings p action apply_schedule is
+settings_at p apply_schedule (operation.ApplyEdgesTogether ends first second) is = edges_are p ends (shown_part first) (Some (shown_part second)) apply_schedule
+settings_at p apply_schedule (operation.ApplyVerticesTogether slot first second) is = absurd cc
+settings_at p apply_schedule (operation.Unless c to) is = absurd cc
+settings_at p apply_schedule (operation.Enter name e) is = absurd cc
+settings_at p apply_schedule (operation.UnlessBelow name to) is = absurd cc
+settings_at p apply_schedule (operation.Advance name) is = absurd cc
+settings_at p apply_schedule operation.Turn is = absurd cc
+settings_at p apply_schedule (operation.Jump to) is = absurd cc
+settings_at p apply_schedule operation.End is = absurd cc
 
-pub settings_are : (p : ProgramTree) (i : InstructionTree) → kind_of i.operation ≡ Some ApplyEdges → settings_in (instruction_words p i) ≡ Some (settings_used i.choice)
-settings_are p i is = settings_at p i.choice i.operation is
+pub settings_are : (p : ProgramTree) (i : InstructionTree) → kind_of i.operation ≡ Some ApplyEdges → settings_in (instruction_words p i) ≡ Some (settings_used i.apply_schedule)
+settings_are p i is = settings_at p i.apply_schedule i.operation is

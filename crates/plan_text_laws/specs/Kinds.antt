@@ -38,7 +38,7 @@ kinds =
 
 -- the words of an instruction, after its number
 abbrev pub instruction_words : ProgramTree → InstructionTree → List (List ℕ)
-instruction_words p i = operation_words p i.choice i.operation ++ target_words i.operation
+instruction_words p i = operation_words p i.apply_schedule i.operation ++ target_words i.operation
 
 -- the kind that the words say, and where they say to go on
 abbrev pub kind_in : List (List ℕ) → Option InstructionKind

@@ -18,10 +18,10 @@ pub record ApplySettings : Type 0 where
 
 -- by what an engine goes: what the schedule says, and where it says nothing `SparsePush`, `serial` and `bool-array`
 abbrev pub settings_used : ApplySchedule → ApplySettings
-settings_used choice = record {
-  direction = unwrap_or choice.direction direction.SparsePush;
-  parallelization = unwrap_or choice.parallelization parallelization.Serial;
-  dense_vertex_set = unwrap_or choice.dense_vertex_set dense.BoolArray;
+settings_used apply_schedule = record {
+  direction = unwrap_or apply_schedule.direction direction.SparsePush;
+  parallelization = unwrap_or apply_schedule.parallelization parallelization.Serial;
+  dense_vertex_set = unwrap_or apply_schedule.dense_vertex_set dense.BoolArray;
 }
 
 -- how each is spelled

@@ -42,9 +42,9 @@ pub fn instructions_have_their_values()
 /// The law that `set x [x e min]`, of which the last word is that of a reduction and the others are read from left to right,
 /// has the value of `x` reduced with that of `e`. The call does nothing.
 pub fn reductions_are_read_by_hand()
-    ensures { (p : ProgramTree) (names : Names) (s : StateValue) (x : slot.VarRef) (r : reduction.Reduction) (e : IntExpressionTree) (choice : schedule.ApplySchedule)
+    ensures { (p : ProgramTree) (names : Names) (s : StateValue) (x : slot.VarRef) (r : reduction.Reduction) (e : IntExpressionTree) (apply_schedule : schedule.ApplySchedule)
         → HasNamesOfOneWord p → IsNamed names (name_at p x.name) (Number (slice_index_or s.scope.integers x.index (pos 0)))
         → IntegerIsGiven p names s e
-        → read_reduction names (slice_index_or (statement_words p (ReduceInteger x r e) choice) 2 [])
+        → read_reduction names (slice_index_or (statement_words p (ReduceInteger x r e) apply_schedule) 2 [])
         ≡ option_map (λ n. reduced r (slice_index_or s.scope.integers x.index (pos 0)) n) (int_value_in names.vertices e s) }
 {}

@@ -23,5 +23,5 @@ pub fn words_say_where_to_go()
 /// dense vertex sets that the schedule gives it, or what holds where it gives none. The call does nothing.
 pub fn words_say_the_settings()
     ensures { (p : ProgramTree) (i : InstructionTree) → kind_of i.operation ≡ Some ApplyEdges
-        → settings_in (instruction_words p i) ≡ Some (settings_used i.choice) }
+        → settings_in (instruction_words p i) ≡ Some (settings_used i.apply_schedule) }
 {}

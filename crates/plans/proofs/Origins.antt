@@ -2,12 +2,12 @@
 use Rattle.std.proofs.Common.{◌≡◌, ℕ, zero, suc, ◌+◌, Bool, true, false, if◌then◌else◌, inl, inr, List, [], ◌∷◌, ◌++◌, Option, Some, None, slice_get, sym, ◌∙◌, refl, subst}
 use Rattle.typed_tree.specs.BlockTree.{StatementKindTree, DeclareInteger, DeclareCondition, SetInteger, SetCondition, ReduceInteger, SetEntry, ReduceEntry, DeclareSet, AssignSet, AddVertex, PrintInteger, PrintCondition, ApplyVertex, ApplyEdges, If, IfElse, While, For, BlockTree, Empty, Then}
 use Rattle.typed_tree.specs.ProgramTree.{ProgramTree}
-use Rattle.apply_options.specs.ScheduleTree.{ScheduleTree, choice_at}
+use Rattle.apply_options.specs.ScheduleTree.{ScheduleTree, apply_schedule_at}
 use Rattle.algorithm_meaning.specs.declared.state.Depth.{Depth}
 use Rattle.plans.specs.Instruction.{OperationTree, ApplyEdgesTogether, ApplyVerticesTogether, Advance, Jump, End, InstructionTree}
 use Rattle.plans.specs.Fusing.{EdgeApplyTree, VertexApplyTree, edge_apply_of, vertex_apply_of, edges_fit, vertices_fit, edges_together, vertices_together, either, together, is_with, FusionRole, Alone, WithNext, WithPrevious, with_next, fusion_role_of, takes_next}
 use Rattle.plans.specs.Plan.{behind, behind_all, in_loop, main_depth, plain, loop_step, chosen, size_in, plan_in, size, size_all, plan, plan_all, plan_of}
-use Rattle.plans.specs.Choices.{StandsIn, StandsInside, first_apply, ComesFrom, GoBySchedule}
+use Rattle.plans.specs.ApplySchedules.{StandsIn, StandsInside, first_apply, ComesFrom, GoBySchedule}
 
 abbrev pub AllOf : (InstructionTree → Type 0) → List InstructionTree → Type 0
 AllOf P [] = Unit {0}
@@ -63,7 +63,7 @@ company_begins : (p : ProgramTree) (schedule : ScheduleTree) (d : Depth) (is_don
 company_begins p schedule d true label a rest = tt
 company_begins p schedule d false label a Empty = tt
 company_begins p schedule d false label a (Then number other b rest) =
-    fused_begins (edge_apply_of a) (is_with (choice_at label schedule).fused other) (together p d a b)
+    fused_begins (edge_apply_of a) (is_with (apply_schedule_at label schedule).fused other) (together p d a b)
     (either_begins (edge_apply_of a) (edges_together p d (edge_apply_of a) (edge_apply_of b)) (vertices_together p (vertex_apply_of a) (vertex_apply_of b))
     (edges_begin p d (edge_apply_of a) (edge_apply_of b)) (vertices_begin p (edge_apply_of a) (vertex_apply_of a) (vertex_apply_of b)))
 
@@ -71,7 +71,7 @@ module _ (p : ProgramTree) (schedule : ScheduleTree) (P : InstructionTree → Ty
   -- P holds of the instructions of a statement
   abbrev HoldsFor : (number : ℕ) → Option ℕ → StatementKindTree → Type 0
   HoldsFor number label action =
-      (i : InstructionTree) → i.number ≡ number → ((x : EdgeApplyTree) → first_apply i.operation ≡ Some x → (edge_apply_of action ≡ Some x) × (i.choice ≡ choice_at label schedule)) → P i
+      (i : InstructionTree) → i.number ≡ number → ((x : EdgeApplyTree) → first_apply i.operation ≡ Some x → (edge_apply_of action ≡ Some x) × (i.apply_schedule ≡ apply_schedule_at label schedule)) → P i
 
   in_company : (company : FusionRole) (number : ℕ) (label : Option ℕ) (d : Depth) (action : StatementKindTree) (is : List InstructionTree) → Begins (edge_apply_of action) company → HoldsFor number label action
       → AllOf P is → AllOf P (plan_in company schedule number label d is)

@@ -10,7 +10,7 @@ use Rattle.algorithm_meaning.specs.Value.{members_of}
 use Rattle.algorithm_meaning.specs.Statements.{with_vectors}
 use Rattle.algorithm_meaning.specs.Function.{steps_of}
 use Rattle.algorithm_meaning.specs.VertexSets.{after_vertices, after_apply_vertex}
-use Rattle.apply_options.specs.ScheduleTree.{ScheduleTree, choice_at}
+use Rattle.apply_options.specs.ScheduleTree.{ScheduleTree, apply_schedule_at}
 use Rattle.std.proofs.lemmas.Bool.{and_parts}
 use Rattle.algorithm_meaning.specs.declared.state.Depth.{Depth}
 use Rattle.plans.specs.Instruction.{OperationTree, ApplyEdgesTogether, ApplyVerticesTogether}
@@ -122,4 +122,4 @@ module _ (p : ProgramTree) (g : GraphValue) where
   pub company_is_good : (schedule : ScheduleTree) (d : Depth) (label : Option ℕ) (a : StatementKindTree) (rest : BlockTree) → IsGoodCompany p g (fusion_role_of p schedule d false label a rest) d a rest
   company_is_good schedule d label a Empty = tt
   company_is_good schedule d label a (Then number other b rest) =
-      good_if_fused (is_with (choice_at label schedule).fused other) (together p d a b) d a b number other rest (together_does_both d a b)
+      good_if_fused (is_with (apply_schedule_at label schedule).fused other) (together p d a b) d a b number other rest (together_does_both d a b)

@@ -95,12 +95,12 @@ module _ (p : ProgramTree) (g : GraphValue) (code : List InstructionTree) where
       by_step c (Ended t end) (Ended t end) (moves_on h (ap (λ (u : StateValue). Ended u end) (forgotten-all d t leaves))) here
 
   -- a statement without a block
-  pub alone_runs : (a : StatementKindTree) → HasNoBlock a → (index number : ℕ) (choice : ApplySchedule) (d : Depth) (turns : ℕ) (loops : List LoopCounter) (m s : StateValue)
-      → slice_get code index ≡ Some (record { number = number; keep = d; shown = d; choice = choice; operation = Do a })
+  pub alone_runs : (a : StatementKindTree) → HasNoBlock a → (index number : ℕ) (apply_schedule : ApplySchedule) (d : Depth) (turns : ℕ) (loops : List LoopCounter) (m s : StateValue)
+      → slice_get code index ≡ Some (record { number = number; keep = d; shown = d; apply_schedule = apply_schedule; operation = Do a })
       → forget_beyond d m ≡ s → IsProper d turns s → Follows (index + 1) loops (behind a d) turns (after p g number a s) (At index loops m)
-  alone_runs a alone index number choice d turns loops m s at same proper =
+  alone_runs a alone index number apply_schedule d turns loops m s at same proper =
       alone_stands (after p g number a s) (index + 1) loops d (behind a d) turns (At index loops m) (alone-leaves p g number d turns s proper a alone)
-      (takes index loops m (record { number = number; keep = d; shown = d; choice = choice; operation = Do a }) s at same)
+      (takes index loops m (record { number = number; keep = d; shown = d; apply_schedule = apply_schedule; operation = Do a }) s at same)
 
   -- a block is left
   pub leaving : (st : Stand) (to : ℕ) (loops : List LoopCounter) (d e : Depth) (turns : ℕ) (s : StateValue) (c : Configuration) → depth_of s ≡ d → IsWithin d e

@@ -7,7 +7,7 @@ use Rattle.algorithm_meaning.specs.State.{GraphValue, StateValue}
 use Rattle.algorithm_meaning.specs.Stand.{Stand, Live, Over, then_do, bool_value_in, with_value, choose}
 use Rattle.algorithm_meaning.specs.Loop.{inside, depth_of, leave, forget_beyond}
 use Rattle.algorithm_meaning.specs.Meaning.{after, after_all}
-use Rattle.apply_options.specs.ScheduleTree.{ScheduleTree, choice_at}
+use Rattle.apply_options.specs.ScheduleTree.{ScheduleTree, apply_schedule_at}
 use Rattle.algorithm_meaning.specs.declared.state.LoopCounter.{LoopCounter}
 use Rattle.algorithm_meaning.specs.declared.state.Depth.{Depth}
 use Rattle.plans.specs.Instruction.{OperationTree, Do, Unless, UnlessBelow, Turn, Jump, Advance, InstructionTree}
@@ -105,7 +105,7 @@ module _ (p : ProgramTree) (g : GraphValue) (schedule : ScheduleTree) (code : Li
   single : (a : StatementKindTree) → HasNoBlock a → (index number : ℕ) (label : Option ℕ) (d : Depth) (turns : ℕ) (loops : List LoopCounter) (m s : StateValue)
       → HasAt code index (chosen schedule number label d (Do a) ∷ []) → forget_beyond d m ≡ s → IsProper d turns s
       → Follows p g code (index + 1) loops (behind a d) turns (after p g number a s) (At index loops m)
-  single a alone index number label d turns loops m s at same q = alone_runs p g code a alone index number (choice_at label schedule) d turns loops m s at.0 same q
+  single a alone index number label d turns loops m s at same q = alone_runs p g code a alone index number (apply_schedule_at label schedule) d turns loops m s at.0 same q
 
   -- the instructions of a block after others
   abbrev HasBlock : (index : ℕ) → Depth → (is_done : Bool) → BlockTree → List InstructionTree → Type 0

@@ -14,7 +14,7 @@ use Rattle.typed_tree.specs.FunctionStatementTree.{FunctionTree}
 use Rattle.typed_tree.specs.BlockTree.{DeclareInteger, SetEntry, DeclareSet, AssignSet, AddVertex, PrintInteger, ApplyVertex, ApplyEdges, If, IfElse, While, For, BlockTree, Empty, Then}
 use Rattle.typed_tree.specs.ProgramTree.{ProgramTree}
 use Rattle.apply_options.specs.declared.apply_schedule.Fused.TheVariants.{With, Into}
-use Rattle.apply_options.specs.ScheduleTree.{ScheduleTree, fused_as, no_choice}
+use Rattle.apply_options.specs.ScheduleTree.{ScheduleTree, fused_as, no_apply_schedule}
 use Rattle.plans.specs.Instruction.{OperationTree, Do, ApplyEdgesTogether, ApplyVerticesTogether, Unless, Enter, UnlessBelow, Advance, Turn, Jump, End, InstructionTree, Dropped, Declared}
 use Rattle.plans.specs.Plan.{plan_of}
 
@@ -77,7 +77,7 @@ HasPlanOfLoop p s i first end c e f =
 
 -- labels 0 and 1 are fused
 abbrev pub fuses_two : ScheduleTree
-fuses_two = record { choices = (0, fused_as (With 1) no_choice) ∷ (1, fused_as (Into 0) no_choice) ∷ []; groups = [] }
+fuses_two = record { apply_schedules = (0, fused_as (With 1) no_apply_schedule) ∷ (1, fused_as (Into 0) no_apply_schedule) ∷ []; groups = [] }
 
 -- vertex functions that set the entry of their vertex in vector 0, and in vector 1 to that of vector 0
 abbrev pub sets_entries : List FunctionTree

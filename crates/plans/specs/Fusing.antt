@@ -2,7 +2,7 @@
 use Rattle.std.specs.Prelude.{ℕ, nat_eq, Bool, true, false, ◌&&◌, List, ◌∷◌, ◌++◌, if◌then◌else◌, Option, Some, None}
 use Rattle.apply_options.specs.declared.apply_schedule.Fused.{Fused}
 use Rattle.apply_options.specs.declared.apply_schedule.Fused.TheVariants.{With, Into}
-use Rattle.apply_options.specs.ScheduleTree.{ScheduleTree, choice_at}
+use Rattle.apply_options.specs.ScheduleTree.{ScheduleTree, apply_schedule_at}
 use Rattle.typed_tree.specs.declared.accesses.Access.{Access}
 use Rattle.typed_tree.specs.declared.accesses.Access.TheVariants.{ReadAtVertex, ReadAtIndex, ReadSet, Write}
 use Rattle.typed_tree.specs.declared.expression.VarRef.{VarRef}
@@ -165,7 +165,7 @@ abbrev pub fusion_role_of : ProgramTree → ScheduleTree → Depth → (is_done 
 fusion_role_of p s d true label action rest = WithPrevious
 fusion_role_of p s d false label action Empty = Alone
 fusion_role_of p s d false label action (Then number other next rest) =
-    if is_with (choice_at label s).fused other then with_next (together p d action next) else Alone
+    if is_with (apply_schedule_at label s).fused other then with_next (together p d action next) else Alone
 
 -- the next statement is done with it
 abbrev pub takes_next : FusionRole → Bool

@@ -45,5 +45,5 @@ pub record InstructionTree : Type 0 where
   pub number : ℕ
   pub keep : Depth
   pub shown : Depth
-  pub choice : ApplySchedule
+  pub apply_schedule : ApplySchedule
   pub operation : OperationTree

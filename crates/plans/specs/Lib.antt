@@ -4,7 +4,7 @@ pub mod Fusing
 pub mod Machine
 pub mod RunLaws
 pub mod Bound
-pub mod Choices
+pub mod ApplySchedules
 pub mod Fused
 pub mod Reducing
 pub mod Examples

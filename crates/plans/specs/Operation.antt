@@ -97,7 +97,7 @@ pub record IsInstruction (i : Instruction) (t : InstructionTree) : Type 0 where
   pub number : i.number ≡ t.number
   pub keep : i.keep ≡ t.keep
   pub shown : i.shown ≡ t.shown
-  pub choice : i.choice ≡ t.choice
+  pub apply_schedule : i.apply_schedule ≡ t.apply_schedule
   pub operation : IsOperation i.keep i.shown i.operation t.operation
 
 abbrev pub AreInstructions : List Instruction → List InstructionTree → Type 0

@@ -1,6 +1,6 @@
 -- The plan of a program.
 use Rattle.std.specs.Prelude.{ℕ, ◌+◌, Bool, false, List, ◌∷◌, ◌++◌, length, Option, ◌≡◌}
-use Rattle.apply_options.specs.ScheduleTree.{ScheduleTree, choice_at, no_choice}
+use Rattle.apply_options.specs.ScheduleTree.{ScheduleTree, apply_schedule_at, no_apply_schedule}
 use Rattle.typed_tree.specs.BlockTree.{StatementKindTree, DeclareInteger, DeclareCondition, DeclareSet, If, IfElse, While, For, BlockTree, Empty, Then}
 use Rattle.typed_tree.specs.ProgramTree.{ProgramTree, program_tree}
 use Rattle.typed_tree.specs.declared.program.Vector.{Vector}
@@ -46,15 +46,15 @@ behind_all (Then number label action rest) d = behind_all rest (behind action d)
 
 -- an instruction at what is visible
 abbrev pub plain : (number : ℕ) → Depth → OperationTree → InstructionTree
-plain number d operation = record { number = number; keep = d; shown = d; choice = no_choice; operation = operation }
+plain number d operation = record { number = number; keep = d; shown = d; apply_schedule = no_apply_schedule; operation = operation }
 
 -- an instruction of `for`, which keeps more than it shows
 abbrev pub loop_step : (number : ℕ) → (keep shown : Depth) → OperationTree → InstructionTree
-loop_step number keep shown operation = record { number = number; keep = keep; shown = shown; choice = no_choice; operation = operation }
+loop_step number keep shown operation = record { number = number; keep = keep; shown = shown; apply_schedule = no_apply_schedule; operation = operation }
 
 -- an instruction with what the schedule says of a label
 abbrev pub chosen : ScheduleTree → (number : ℕ) → Option ℕ → Depth → OperationTree → InstructionTree
-chosen s number label d operation = record { number = number; keep = d; shown = d; choice = choice_at label s; operation = operation }
+chosen s number label d operation = record { number = number; keep = d; shown = d; apply_schedule = apply_schedule_at label s; operation = operation }
 
 -- of a statement in such company: how many instructions there are, and which
 abbrev pub size_in : FusionRole → ℕ → ℕ

@@ -12,7 +12,7 @@ pub struct Instruction {
     /// What a run shows that ends here.
     pub shown: Depth,
     /// What the schedule says of it, which decides only how an edge apply is done.
-    pub choice: ApplySchedule,
+    pub apply_schedule: ApplySchedule,
     pub operation: PlanOperation,
     /// Its words, each with a space after it, without its number and without the index that it goes to.
     pub words: Vec<u8>,
@@ -24,7 +24,7 @@ impl Drop for Instruction {
             number: _,
             keep: _,
             shown: _,
-            choice: _,
+            apply_schedule: _,
             operation: _,
             words: _,
         } = self;

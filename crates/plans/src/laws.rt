@@ -7,7 +7,7 @@ ghost use Rattle.typed_tree.specs.IntExpressionTree.{IntExpressionTree};
 ghost use Rattle.typed_tree.specs.ProgramTree.{ProgramTree};
 ghost use Rattle.algorithm_meaning.specs.State.{GraphValue};
 ghost use Rattle.apply_options.specs.ScheduleTree.{ScheduleTree};
-ghost use Rattle.plans.specs.Choices.{GoBySchedule};
+ghost use Rattle.plans.specs.ApplySchedules.{GoBySchedule};
 ghost use Rattle.plans.specs.Examples.{HasPlanOfApartEdges, HasPlanOfEdgePair, HasPlanOfLoop, HasPlanOfModifyingPair, HasPlanOfSearch, HasPlanOfVertexPair};
 ghost use Rattle.plans.specs.Fused.{FusedFit};
 ghost use Rattle.plans.specs.RunLaws.{RunsAs, StepsLowerTheBound};

@@ -10,7 +10,7 @@
 //! always has a next step. `specs/Bound.antt` has a bound on the steps that are left, which each step lowers: the measure
 //! of a loop that runs a plan. The law needs no premise, neither that the program is checked nor that the schedule is accepted:
 //! two applies are done together only where they fit, a `for` keeps its value and its bound beside the variables, and
-//! what is outside a list reads as 0 or as nothing, as in the meaning. `specs/Choices.antt` says by what the edge applies of
+//! what is outside a list reads as 0 or as nothing, as in the meaning. `specs/ApplySchedules.antt` says by what the edge applies of
 //! a plan go, `specs/Fused.antt` what holds of two applies that are done together, and `specs/Examples.antt` has plans whole.
 //! `specs/Reducing.antt` says what an engine needs of edge applies: each vector gets numbers by one reduction.
 //!

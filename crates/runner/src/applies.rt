@@ -95,7 +95,7 @@ impl Memory {
         ensures groups { self.new.state.groups ≡ self.old.state.groups }
         ensures err { OnErr result (IsAsBefore self.old self.new) }
     {
-        let schedule = instruction.choice;
+        let schedule = instruction.apply_schedule;
         let EdgeApplies {
             graph,
             ends,
@@ -147,7 +147,7 @@ fn take_changes(
     alloc: Global,
     state: &mut State,
     changes: &Changes,
-    choice: ApplySchedule,
+    apply_schedule: ApplySchedule,
     first: PartResult,
     second: PartResult,
 ) -> Result<(), AllocError>
@@ -159,8 +159,8 @@ fn take_changes(
     ensures groups { state.new.groups ≡ state.old.groups }
     ensures err { OnErr result (state.new ≡ state.old) }
 {
-    let of_first = set_update(alloc, state, changes, choice, first)?;
-    let of_second = set_update(alloc, state, changes, choice, second)?;
+    let of_first = set_update(alloc, state, changes, apply_schedule, first)?;
+    let of_second = set_update(alloc, state, changes, apply_schedule, second)?;
     state.update_sets(of_first, of_second)?;
     state.write(changes);
     Ok(())
@@ -171,7 +171,7 @@ fn set_update(
     alloc: Global,
     state: &State,
     changes: &Changes,
-    choice: ApplySchedule,
+    apply_schedule: ApplySchedule,
     asked: PartResult,
 ) -> Result<SetUpdate, AllocError>
     ensures of { IfOk result (λ t. IsUpdateOf state.now.vertices t) }
@@ -181,12 +181,12 @@ fn set_update(
     match asked {
         PartResult::Dropped => Ok(SetUpdate::Nothing),
         PartResult::Declared { name, vector } => {
-            let set = modified(alloc, state, changes, choice, vector)?;
+            let set = modified(alloc, state, changes, apply_schedule, vector)?;
             Ok(SetUpdate::New { name, set })
         }
         PartResult::Assigned { set, vector } => {
             let index = set.index;
-            let set = modified(alloc, state, changes, choice, vector)?;
+            let set = modified(alloc, state, changes, apply_schedule, vector)?;
             Ok(SetUpdate::Other { index, set })
         }
     }
@@ -197,7 +197,7 @@ fn modified(
     alloc: Global,
     state: &State,
     changes: &Changes,
-    choice: ApplySchedule,
+    apply_schedule: ApplySchedule,
     vector: usize,
 ) -> Result<VertexSet, AllocError>
     ensures vertices { IfOk result (λ s. s.vertices ≡ state.now.vertices) }
@@ -205,7 +205,7 @@ fn modified(
         → s.members ≡ modified_in state.now.vertices vector state.now.state.vectors after) }
 {
     if vector < state.vector_count() {
-        changed_vertices(alloc, changes, vector, state.vertices(), choice)
+        changed_vertices(alloc, changes, vector, state.vertices(), apply_schedule)
     } else {
         VertexSet::empty(alloc, state.vertices(), Form::List)
     }

@@ -10,7 +10,7 @@ use Rattle.std.proofs.lemmas.Map.Views.{Contains-from_any, list_any-from_Contain
 use Rattle.apply_options.specs.declared.apply_schedule.ApplySchedule.{ApplySchedule}
 use Rattle.apply_options.specs.declared.setting.Setting.{Setting}
 use Rattle.apply_options.specs.declared.setting.Setting.TheVariants as setting
-use Rattle.apply_options.specs.ScheduleTree.{ScheduleTree, choice_of}
+use Rattle.apply_options.specs.ScheduleTree.{ScheduleTree, apply_schedule_of}
 use Rattle.typed_tree.specs.declared.apply.StatementApply.{StatementApply}
 use Rattle.typed_tree.specs.declared.apply.StatementApply.TheVariants.{Vertices, Edges}
 use Rattle.typed_tree.specs.Independence.{are_independent, have_same_sets}
@@ -21,7 +21,7 @@ use Rattle.schedule.specs.BrokenRules.{AppliesNoEdges, BreakNoRule, BreaksConfig
 use Rattle.schedule.specs.Calls.{after_call, and_then, apply_at, first_given, fuse_at, fuse_or, fusing_fault_of, fusing_of_two, given, grown, grown_by, is_followed_by, schedule_of, two_of, value_at, value_of_two, value_on, with_call, with_call_of, with_calls, with_group}
 use Rattle.schedule.specs.Schedule.{label_index, vector_index}
 use Rattle.schedule.specs.Refusal.{number_of_rule}
-use Rattle.schedule.specs.Schedule.{empty_schedule, is_fused, with_choice}
+use Rattle.schedule.specs.Schedule.{empty_schedule, is_fused, with_apply_schedule}
 use Rattle.schedule.specs.Schedule.{dense_vertex_set_of, direction_of, parallelization_of}
 use Rattle.schedule.proofs.CallSteps.{ok_is}
 
@@ -87,11 +87,11 @@ record OnEdges (p : ProgramTree) (s : ScheduleTree) (which : Setting) (name text
   edges : AppliesNoEdges (apply_at p label) → ⊥
 
 config_breaks_none : (p : ProgramTree) (s : ScheduleTree) (which : Setting) (name text : List ℕ) (label : ℕ) → OnEdges p s which name text label
-    → (IsNoValue which text → ⊥) → (HasValueOf which (choice_of label s) → ⊥) → (r : ScheduleRule) → BreaksConfigRule p s which name text r → ⊥
+    → (IsNoValue which text → ⊥) → (HasValueOf which (apply_schedule_of label s) → ⊥) → (r : ScheduleRule) → BreaksConfigRule p s which name text r → ⊥
 config_breaks_none p s which name text label on value before rule.UnknownLabel breaks = nowhere (label_index p name) label breaks on.named
 config_breaks_none p s which name text label on value before rule.NoApply breaks = on.edges (label_is p name label (λ label. AppliesNoEdges (apply_at p label)) on.named breaks)
 config_breaks_none p s which name text label on value before rule.BadArgument breaks = value breaks
-config_breaks_none p s which name text label on value before rule.GivenTwice breaks = before (label_is p name label (λ label. HasValueOf which (choice_of label s)) on.named breaks)
+config_breaks_none p s which name text label on value before rule.GivenTwice breaks = before (label_is p name label (λ label. HasValueOf which (apply_schedule_of label s)) on.named breaks)
 config_breaks_none p s which name text label on value before rule.NotAdjacent breaks = breaks
 config_breaks_none p s which name text label on value before rule.DifferentSets breaks = breaks
 config_breaks_none p s which name text label on value before rule.NotIndependent breaks = breaks
@@ -125,8 +125,8 @@ not_some (Some x) is some = cc
 
 -- the value of the call, and the one that the label had before
 value_tells : {X : Type 0} (p : ProgramTree) (s : ScheduleTree) (which : Setting) (name text : List ℕ) (label : ℕ) (f : Option X → ApplySchedule) (before value : Option X)
-    → OnEdges p s which name text label → (IsNoValue which text ↔ (value ≡ None)) → (HasValueOf which (choice_of label s) ↔ IsSome before)
-    → Tells (BreaksConfigRule p s which name text) (and_then (and_then (first_given before value) f) (λ c. with_choice label c s))
+    → OnEdges p s which name text label → (IsNoValue which text ↔ (value ≡ None)) → (HasValueOf which (apply_schedule_of label s) ↔ IsSome before)
+    → Tells (BreaksConfigRule p s which name text) (and_then (and_then (first_given before value) f) (λ c. with_apply_schedule label c s))
 value_tells p s which name text label f before None on no_value has = record {
   broken = no_value.1 refl;
   least = bad_value_least p s which name text label on;
@@ -152,16 +152,16 @@ IsConfigSetting setting.FuseFunctions = ⊥
 IsConfigSetting setting.FuseFields = ⊥
 
 given_tells : (p : ProgramTree) (s : ScheduleTree) (which : Setting) (name text : List ℕ) (label : ℕ) → IsConfigSetting which → OnEdges p s which name text label
-    → Tells (BreaksConfigRule p s which name text) (and_then (given which text (choice_of label s)) (λ c. with_choice label c s))
+    → Tells (BreaksConfigRule p s which name text) (and_then (given which text (apply_schedule_of label s)) (λ c. with_apply_schedule label c s))
 given_tells p s setting.Direction name text label config on =
-    let c = choice_of label s in
+    let c = apply_schedule_of label s in
     value_tells p s setting.Direction name text label (λ value. record c { direction = value }) c.direction (direction_of text) on (same_none (direction_of text)) (same_some c.direction)
 given_tells p s setting.Parallelization name text label config on =
-    let c = choice_of label s in
+    let c = apply_schedule_of label s in
     value_tells p s setting.Parallelization name text label (λ value. record c { parallelization = value }) c.parallelization (parallelization_of text) on
     (same_none (parallelization_of text)) (same_some c.parallelization)
 given_tells p s setting.DenseVertexSet name text label config on =
-    let c = choice_of label s in
+    let c = apply_schedule_of label s in
     value_tells p s setting.DenseVertexSet name text label (λ value. record c { dense_vertex_set = value }) c.dense_vertex_set (dense_vertex_set_of text) on
     (same_none (dense_vertex_set_of text)) (same_some c.dense_vertex_set)
 given_tells p s setting.FuseFunctions name text label config on = absurd config

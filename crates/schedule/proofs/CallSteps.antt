@@ -13,12 +13,12 @@ use Rattle.typed_tree.specs.declared.apply.StatementApply.{StatementApply}
 use Rattle.typed_tree.specs.declared.apply.StatementApply.TheVariants.{Vertices, Edges}
 use Rattle.schedule.specs.Calls.{after_call, and_then, apply_at, fuse_at, fuse_or, fusing_fault, fusing_of_two, given, grown, two_of, value_at, value_of_two, value_on, with_call, with_call_of, with_calls, with_fields, with_group}
 use Rattle.schedule.specs.Schedule.{label_index}
-use Rattle.apply_options.specs.ScheduleTree.{ScheduleTree, choice_of}
-use Rattle.schedule.specs.Schedule.{with_choice, with_fused, with_one_group}
+use Rattle.apply_options.specs.ScheduleTree.{ScheduleTree, apply_schedule_of}
+use Rattle.schedule.specs.Schedule.{with_apply_schedule, with_fused, with_one_group}
 
 -- the three things that a call may do
 pub data Step (p : ProgramTree) (s new : ScheduleTree) : Type 0 where
-  GivesValue : (setting : Setting) (text : List ℕ) (label : ℕ) (c : ApplySchedule) → given setting text (choice_of label s) ≡ Ok c → with_choice label c s ≡ new → Step p s new
+  GivesValue : (setting : Setting) (text : List ℕ) (label : ℕ) (c : ApplySchedule) → given setting text (apply_schedule_of label s) ≡ Ok c → with_apply_schedule label c s ≡ new → Step p s new
   Fuses : (first second : ℕ) → fusing_fault p s first second ≡ None → with_fused second (Into first) (with_fused first (With second) s) ≡ new → Step p s new
   PutsGroup : (names : List (List ℕ)) (group : List ℕ) → grown p (concat s.groups) [] names ≡ Some group → with_one_group group s ≡ new → Step p s new
 
@@ -26,7 +26,7 @@ pub ok_is : {A B : Type 0} (r : Result A B) (a b : A) → r ≡ Ok a → r ≡ O
 ok_is r a b is e = cc
 
 value_step : (p : ProgramTree) (setting : Setting) (text : List ℕ) (s new : ScheduleTree) (label : ℕ) (r : Result ApplySchedule ScheduleRule)
-    → given setting text (choice_of label s) ≡ r → and_then r (λ c. with_choice label c s) ≡ Ok new → Step p s new
+    → given setting text (apply_schedule_of label s) ≡ r → and_then r (λ c. with_apply_schedule label c s) ≡ Ok new → Step p s new
 value_step p setting text s new label (Ok c) is e = GivesValue setting text label c is (ok_is _ _ _ refl e)
 value_step p setting text s new label (Err r) is e = cc
 

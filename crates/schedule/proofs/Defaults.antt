@@ -16,10 +16,10 @@ use Rattle.typed_tree.specs.declared.apply.StatementApply.TheVariants.{Vertices,
 use Rattle.schedule.specs.Calls.{after_call, apply_at, fuse_at, fuse_or, fusing_fault, fusing_of_two, given, grown, schedule_of, two_of, value_at, value_of_two, value_on, with_call, with_call_of, with_calls, with_fields, with_group}
 use Rattle.schedule.specs.Laws.{AreOnceOnLabels, HasDefault, HasDefaults, IsConfig, IsGiven, IsGivenByTwo, IsGivenTo, IsOnLabel, NoneIsOnLabel}
 use Rattle.schedule.specs.Schedule.{label_index}
-use Rattle.apply_options.specs.ScheduleTree.{ScheduleTree, choice_of, fused_as}
-use Rattle.schedule.specs.Schedule.{empty_schedule, with_choice, with_fused}
+use Rattle.apply_options.specs.ScheduleTree.{ScheduleTree, apply_schedule_of, fused_as}
+use Rattle.schedule.specs.Schedule.{empty_schedule, with_apply_schedule, with_fused}
 use Rattle.schedule.proofs.CallSteps.{call_step, ok_is}
-use Rattle.schedule.proofs.Choices.{choice_elsewhere, choice_here}
+use Rattle.schedule.proofs.ApplySchedules.{apply_schedule_elsewhere, apply_schedule_here}
 use Rattle.schedule.proofs.Values.{and_then_from, given_is_new, made, step_keeps_value}
 
 -- a value of one kind leaves those of the others
@@ -39,26 +39,26 @@ given_leaves k setting.FuseFunctions text c d e other none = tt
 given_leaves k setting.FuseFields text c d e other none = tt
 
 -- where a label had none of a kind it has none after a call that is not of that kind on it
-put_leaves : (which : Setting) (q label : ℕ) (c : ApplySchedule) (s : ScheduleTree) → (q ≡ label → HasDefault which c) → HasDefault which (choice_of q s)
-    → HasDefault which (choice_of q (with_choice label c s))
+put_leaves : (which : Setting) (q label : ℕ) (c : ApplySchedule) (s : ScheduleTree) → (q ≡ label → HasDefault which c) → HasDefault which (apply_schedule_of q s)
+    → HasDefault which (apply_schedule_of q (with_apply_schedule label c s))
 put_leaves which q label c s here none = go (nat_eq q label) refl
   where
-    go : (same : Bool) → nat_eq q label ≡ same → HasDefault which (choice_of q (with_choice label c s))
+    go : (same : Bool) → nat_eq q label ≡ same → HasDefault which (apply_schedule_of q (with_apply_schedule label c s))
     go true t =
         let is = eqb-true q label t in
-        subst (λ (l : ℕ). HasDefault which (choice_of l (with_choice label c s))) (sym is) (subst (HasDefault which) (sym (choice_here label c s)) (here is))
-    go false t = subst (HasDefault which) (sym (choice_elsewhere q label c s t)) none
+        subst (λ (l : ℕ). HasDefault which (apply_schedule_of l (with_apply_schedule label c s))) (sym is) (subst (HasDefault which) (sym (apply_schedule_here label c s)) (here is))
+    go false t = subst (HasDefault which) (sym (apply_schedule_elsewhere q label c s t)) none
 
 -- what a `config` call that breaks no rule is
 record IsValueOf (p : ProgramTree) (which : Setting) (two : Option (List ℕ × List ℕ)) (s new : ScheduleTree) : Type 0 where
   name : List ℕ
   text : List ℕ
   label : ℕ
-  choice : ApplySchedule
+  apply_schedule : ApplySchedule
   arguments : two ≡ Some (name, text)
   named : label_index p name ≡ Some label
-  gives : given which text (choice_of label s) ≡ Ok choice
-  after : with_choice label choice s ≡ new
+  gives : given which text (apply_schedule_of label s) ≡ Ok apply_schedule
+  after : with_apply_schedule label apply_schedule s ≡ new
 
 value_from : (p : ProgramTree) (which : Setting) (two : Option (List ℕ × List ℕ)) (s new : ScheduleTree) → value_of_two p which two s ≡ Ok new → IsValueOf p which two s new
 value_from p which None s new e = cc
@@ -67,7 +67,7 @@ value_from p which (Some (name, text)) s new e = at (label_index p name) refl e
     on : (label : ℕ) (apply : Option StatementApply) → label_index p name ≡ Some label → value_on which text s label apply ≡ Ok new → IsValueOf p which (Some (name, text)) s new
     on label (Some (Edges ends function r)) named e =
         let from = and_then_from _ _ new e in
-        record { name = name; text = text; label = label; choice = from.0; arguments = refl; named = named; gives = from.1; after = from.2 }
+        record { name = name; text = text; label = label; apply_schedule = from.0; arguments = refl; named = named; gives = from.1; after = from.2 }
     on label (Some (Vertices set function)) named e = cc
     on label None named e = cc
 
@@ -78,14 +78,14 @@ value_from p which (Some (name, text)) s new e = at (label_index p name) refl e
 -- a `config` call leaves the defaults of other labels and of other kinds
 value_leaves : (p : ProgramTree) (k which : Setting) (two : Option (List ℕ × List ℕ)) (q : ℕ) (s new : ScheduleTree)
     → ((name text : List ℕ) → k ≡ which → two ≡ Some (name, text) → label_index p name ≡ Some q → ⊥)
-    → HasDefault which (choice_of q s) → value_of_two p k two s ≡ Ok new → HasDefault which (choice_of q new)
+    → HasDefault which (apply_schedule_of q s) → value_of_two p k two s ≡ Ok new → HasDefault which (apply_schedule_of q new)
 value_leaves p k which two q s new other none e =
     let is = value_from p k two s new e in
-    subst (λ (t : ScheduleTree). HasDefault which (choice_of q t)) is.after
-    (put_leaves which q is.label is.choice s
-    (λ same. given_leaves k which is.text (choice_of is.label s) is.choice is.gives
+    subst (λ (t : ScheduleTree). HasDefault which (apply_schedule_of q t)) is.after
+    (put_leaves which q is.label is.apply_schedule s
+    (λ same. given_leaves k which is.text (apply_schedule_of is.label s) is.apply_schedule is.gives
     (λ kind. other is.name is.text kind is.arguments (is.named ∙ ap Some (sym same)))
-    (subst (λ l. HasDefault which (choice_of l s)) same none)) none)
+    (subst (λ l. HasDefault which (apply_schedule_of l s)) same none)) none)
 
 fused_leaves : (which : Setting) (fused : Fused) (c : ApplySchedule) → HasDefault which c → HasDefault which (fused_as fused c)
 fused_leaves setting.Direction fused c none = none
@@ -94,42 +94,42 @@ fused_leaves setting.DenseVertexSet fused c none = none
 fused_leaves setting.FuseFunctions fused c none = tt
 fused_leaves setting.FuseFields fused c none = tt
 
-with_fused_leaves : (which : Setting) (q label : ℕ) (fused : Fused) (s : ScheduleTree) → HasDefault which (choice_of q s) → HasDefault which (choice_of q (with_fused label fused s))
+with_fused_leaves : (which : Setting) (q label : ℕ) (fused : Fused) (s : ScheduleTree) → HasDefault which (apply_schedule_of q s) → HasDefault which (apply_schedule_of q (with_fused label fused s))
 with_fused_leaves which q label fused s none =
-    put_leaves which q label (fused_as fused (choice_of label s)) s
-    (λ same. fused_leaves which fused (choice_of label s) (subst (λ l. HasDefault which (choice_of l s)) same none)) none
+    put_leaves which q label (fused_as fused (apply_schedule_of label s)) s
+    (λ same. fused_leaves which fused (apply_schedule_of label s) (subst (λ l. HasDefault which (apply_schedule_of l s)) same none)) none
 
 fusing_leaves : (p : ProgramTree) (which : Setting) (two : Option (List ℕ × List ℕ)) (q : ℕ) (s new : ScheduleTree)
-    → HasDefault which (choice_of q s) → fusing_of_two p two s ≡ Ok new → HasDefault which (choice_of q new)
+    → HasDefault which (apply_schedule_of q s) → fusing_of_two p two s ≡ Ok new → HasDefault which (apply_schedule_of q new)
 fusing_leaves p which None q s new none e = cc
 fusing_leaves p which (Some (one, other)) q s new none e = at (label_index p one) (label_index p other) e
   where
-    or : (first second : ℕ) (fault : Option ScheduleRule) → fuse_or fault first second s ≡ Ok new → HasDefault which (choice_of q new)
+    or : (first second : ℕ) (fault : Option ScheduleRule) → fuse_or fault first second s ≡ Ok new → HasDefault which (apply_schedule_of q new)
     or first second (Some r) e = cc
     or first second None e =
-        subst (λ (t : ScheduleTree). HasDefault which (choice_of q t)) (ok_is _ _ _ refl e)
+        subst (λ (t : ScheduleTree). HasDefault which (apply_schedule_of q t)) (ok_is _ _ _ refl e)
         (with_fused_leaves which q second (Into first) (with_fused first (With second) s) (with_fused_leaves which q first (With second) s none))
 
-    at : (first second : Option ℕ) → fuse_at p s first second ≡ Ok new → HasDefault which (choice_of q new)
+    at : (first second : Option ℕ) → fuse_at p s first second ≡ Ok new → HasDefault which (apply_schedule_of q new)
     at (Some first) (Some second) e = or first second (fusing_fault p s first second) e
     at (Some first) None e = cc
     at None second e = cc
 
 fields_leave : (p : ProgramTree) (which : Setting) (names : List (List ℕ)) (q : ℕ) (s new : ScheduleTree)
-    → HasDefault which (choice_of q s) → with_fields p names s ≡ Ok new → HasDefault which (choice_of q new)
+    → HasDefault which (apply_schedule_of q s) → with_fields p names s ≡ Ok new → HasDefault which (apply_schedule_of q new)
 fields_leave p which names q s new none e = few (nat_lt (length names) 2) refl
   where
-    group : (g : Option (List ℕ)) → with_group g s ≡ Ok new → HasDefault which (choice_of q new)
+    group : (g : Option (List ℕ)) → with_group g s ≡ Ok new → HasDefault which (apply_schedule_of q new)
     group None e = cc
-    group (Some g) e = subst (λ (t : ScheduleTree). HasDefault which (choice_of q t)) (ok_is _ _ _ refl e) none
+    group (Some g) e = subst (λ (t : ScheduleTree). HasDefault which (apply_schedule_of q t)) (ok_is _ _ _ refl e) none
 
-    few : (is : Bool) → nat_lt (length names) 2 ≡ is → HasDefault which (choice_of q new)
+    few : (is : Bool) → nat_lt (length names) 2 ≡ is → HasDefault which (apply_schedule_of q new)
     few true is = let bad : Err rule.BadFields ≡ Ok new = rw is at e in cc
     few false is = group (grown p (concat s.groups) [] names) (rw is at e)
 
 call_leaves : (p : ProgramTree) (k which : Setting) (arguments : List (List ℕ)) (q : ℕ) (s new : ScheduleTree)
     → ((name text : List ℕ) → k ≡ which → two_of arguments ≡ Some (name, text) → label_index p name ≡ Some q → ⊥)
-    → HasDefault which (choice_of q s) → with_call_of p k arguments s ≡ Ok new → HasDefault which (choice_of q new)
+    → HasDefault which (apply_schedule_of q s) → with_call_of p k arguments s ≡ Ok new → HasDefault which (apply_schedule_of q new)
 call_leaves p setting.Direction which arguments q s new other none e = value_leaves p setting.Direction which (two_of arguments) q s new other none e
 call_leaves p setting.Parallelization which arguments q s new other none e = value_leaves p setting.Parallelization which (two_of arguments) q s new other none e
 call_leaves p setting.DenseVertexSet which arguments q s new other none e = value_leaves p setting.DenseVertexSet which (two_of arguments) q s new other none e
@@ -137,20 +137,20 @@ call_leaves p setting.FuseFunctions which arguments q s new other none e = fusin
 call_leaves p setting.FuseFields which arguments q s new other none e = fields_leave p which arguments q s new none e
 
 calls_leave : (p : ProgramTree) (which : Setting) (q : ℕ) (calls : List ScheduleCallTree) (s end : ScheduleTree) → NoneIsOnLabel p which q calls
-    → HasDefault which (choice_of q s) → with_calls p calls s ≡ Ok end → HasDefault which (choice_of q end)
-calls_leave p which q [] s end others none e = subst (λ (t : ScheduleTree). HasDefault which (choice_of q t)) (ok_is _ _ _ refl e) none
+    → HasDefault which (apply_schedule_of q s) → with_calls p calls s ≡ Ok end → HasDefault which (apply_schedule_of q end)
+calls_leave p which q [] s end others none e = subst (λ (t : ScheduleTree). HasDefault which (apply_schedule_of q t)) (ok_is _ _ _ refl e) none
 calls_leave p which q (call ∷ calls) s end (other, others) none e =
     go (with_call p call s) refl (λ new before. calls_leave p which q calls new end others before) e
   where
     go : (r : Result ScheduleTree ScheduleRule) → with_call p call s ≡ r
-        → ((new : ScheduleTree) → HasDefault which (choice_of q new) → with_calls p calls new ≡ Ok end → HasDefault which (choice_of q end))
-        → after_call call.at r (λ new. with_calls p calls new) ≡ Ok end → HasDefault which (choice_of q end)
+        → ((new : ScheduleTree) → HasDefault which (apply_schedule_of q new) → with_calls p calls new ≡ Ok end → HasDefault which (apply_schedule_of q end))
+        → after_call call.at r (λ new. with_calls p calls new) ≡ Ok end → HasDefault which (apply_schedule_of q end)
     go (Ok new) is rest e =
         rest new (call_leaves p call.setting which call.arguments q s new
         (λ name text kind arguments named. other (record { name = name; text = text; kind = kind; arguments = arguments; named = named })) none is) e
     go (Err r) is rest e = cc
 
-nothing_given : (which : Setting) (q : ℕ) → HasDefault which (choice_of q empty_schedule)
+nothing_given : (which : Setting) (q : ℕ) → HasDefault which (apply_schedule_of q empty_schedule)
 nothing_given setting.Direction q = refl
 nothing_given setting.Parallelization q = refl
 nothing_given setting.DenseVertexSet q = refl
@@ -192,28 +192,28 @@ some_is : {A : Type 0} (a b : A) → Some a ≡ Some b → a ≡ b
 some_is a b e = cc
 
 value_twice : (p : ProgramTree) (which : Setting) (text : List ℕ) (label : ℕ) (two : Option (List ℕ × List ℕ)) (s new : ScheduleTree) (name other : List ℕ) → IsConfig which
-    → IsGiven which text (choice_of label s) → two ≡ Some (name, other) → label_index p name ≡ Some label → IsValueOf p which two s new → ⊥
+    → IsGiven which text (apply_schedule_of label s) → two ≡ Some (name, other) → label_index p name ≡ Some label → IsValueOf p which two s new → ⊥
 value_twice p which text label two s new name other config has arguments named is =
     let names = first_is name is.name other is.text (sym arguments ∙ is.arguments) in
     let labels = some_is label is.label (sym named ∙ ap (label_index p) names ∙ is.named) in
-    given_twice which text is.text (choice_of is.label s) is.choice config (subst (λ l. IsGiven which text (choice_of l s)) labels has) is.gives
+    given_twice which text is.text (apply_schedule_of is.label s) is.apply_schedule config (subst (λ l. IsGiven which text (apply_schedule_of l s)) labels has) is.gives
 
 -- a call on a label that has a value of its kind is refused
 refused_again : (p : ProgramTree) (which : Setting) (text : List ℕ) (label : ℕ) (call : ScheduleCallTree) (s new : ScheduleTree) → IsConfig which
-    → IsGiven which text (choice_of label s) → with_call p call s ≡ Ok new → IsOnLabel p which label call → ⊥
+    → IsGiven which text (apply_schedule_of label s) → with_call p call s ≡ Ok new → IsOnLabel p which label call → ⊥
 refused_again p which text label call s new config has e on =
     let same : with_call_of p which call.arguments s ≡ Ok new = subst (λ k. with_call_of p k call.arguments s ≡ Ok new) on.kind e in
     value_twice p which text label (two_of call.arguments) s new on.name on.text config has on.arguments on.named
     (value_from p which (two_of call.arguments) s new (sym (by_two p which call.arguments s config) ∙ same))
 
 none_again : (p : ProgramTree) (which : Setting) (text : List ℕ) (label : ℕ) (calls : List ScheduleCallTree) (s end : ScheduleTree) → IsConfig which
-    → IsGiven which text (choice_of label s) → with_calls p calls s ≡ Ok end → NoneIsOnLabel p which label calls
+    → IsGiven which text (apply_schedule_of label s) → with_calls p calls s ≡ Ok end → NoneIsOnLabel p which label calls
 none_again p which text label [] s end config has e = tt
 none_again p which text label (call ∷ calls) s end config has e =
     go (with_call p call s) refl (λ new before. none_again p which text label calls new end config before) e
   where
     go : (r : Result ScheduleTree ScheduleRule) → with_call p call s ≡ r
-        → ((new : ScheduleTree) → IsGiven which text (choice_of label new) → with_calls p calls new ≡ Ok end → NoneIsOnLabel p which label calls)
+        → ((new : ScheduleTree) → IsGiven which text (apply_schedule_of label new) → with_calls p calls new ≡ Ok end → NoneIsOnLabel p which label calls)
         → after_call call.at r (λ new. with_calls p calls new) ≡ Ok end → NoneIsOnLabel p which label (call ∷ calls)
     go (Ok new) is rest e = (
       refused_again p which text label call s new config has is,
@@ -222,7 +222,7 @@ none_again p which text label (call ∷ calls) s end config has e =
     go (Err r) is rest e = cc
 
 given_to : (p : ProgramTree) (which : Setting) (label : ℕ) (call : ScheduleCallTree) (new : ScheduleTree) (on : IsOnLabel p which label call)
-    → IsGivenByTwo p new call.setting (two_of call.arguments) → IsGiven which on.text (choice_of label new)
+    → IsGivenByTwo p new call.setting (two_of call.arguments) → IsGiven which on.text (apply_schedule_of label new)
 given_to p which label call new on is =
     subst (IsGivenTo new which on.text) on.named
     (subst (IsGivenByTwo p new which) on.arguments (subst (λ k. IsGivenByTwo p new k (two_of call.arguments)) on.kind is))

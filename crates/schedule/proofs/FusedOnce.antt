@@ -8,10 +8,10 @@ use Rattle.apply_options.specs.declared.apply_schedule.Fused.TheVariants.{With, 
 use Rattle.typed_tree.specs.declared.apply.StatementApply.{StatementApply}
 use Rattle.schedule.specs.Calls.{apply_at, fusing_fault_of, schedule_of}
 use Rattle.schedule.specs.Laws.{FusesInPairs}
-use Rattle.apply_options.specs.ScheduleTree.{ScheduleTree, choice_of}
-use Rattle.schedule.specs.Schedule.{empty_schedule, is_fused, with_choice, with_fused}
+use Rattle.apply_options.specs.ScheduleTree.{ScheduleTree, apply_schedule_of}
+use Rattle.schedule.specs.Schedule.{empty_schedule, is_fused, with_apply_schedule, with_fused}
 use Rattle.schedule.proofs.CallSteps.{Step, GivesValue, Fuses, PutsGroup, kept_by_calls}
-use Rattle.schedule.proofs.Choices.{fused_after_value, given_fused}
+use Rattle.schedule.proofs.ApplySchedules.{fused_after_value, given_fused}
 use Rattle.schedule.proofs.FusedPairs.{fused_elsewhere, fused_here, no_fault}
 
 no_or : (a b : Bool) → a || b ≡ false → (a ≡ false) × (b ≡ false)
@@ -25,8 +25,8 @@ none_fused (Some fused) h = cc
 -- neither label is fused yet, and they are two
 pub record AreUnfused (s : ScheduleTree) (a b : ℕ) : Type 0 where
   pub are_two : nat_eq a b ≡ false
-  pub first : (choice_of a s).fused ≡ None
-  pub second : (choice_of b s).fused ≡ None
+  pub first : (apply_schedule_of a s).fused ≡ None
+  pub second : (apply_schedule_of b s).fused ≡ None
 
 unfused_from : (p : ProgramTree) (s : ScheduleTree) (a b : ℕ) (one other : Option StatementApply) → fusing_fault_of p s a b one other ≡ None → AreUnfused s a b
 unfused_from p s a b (Some x) (Some y) e =
@@ -38,7 +38,7 @@ unfused_from p s a b None other e = cc
 
 -- what a label is fused as after a and b are fused
 abbrev fused_after : ℕ → ℕ → ScheduleTree → ℕ → Option Fused
-fused_after a b s q = (choice_of q (with_fused b (Into a) (with_fused a (With b) s))).fused
+fused_after a b s q = (apply_schedule_of q (with_fused b (Into a) (with_fused a (With b) s))).fused
 
 after_second : (a b : ℕ) (s : ScheduleTree) → fused_after a b s b ≡ Some (Into a)
 after_second a b s = fused_here b (Into a) (with_fused a (With b) s)
@@ -46,17 +46,17 @@ after_second a b s = fused_here b (Into a) (with_fused a (With b) s)
 after_first : (a b : ℕ) (s : ScheduleTree) → nat_eq a b ≡ false → fused_after a b s a ≡ Some (With b)
 after_first a b s h = fused_elsewhere a b (Into a) (with_fused a (With b) s) h ∙ fused_here a (With b) s
 
-after_other : (a b q : ℕ) (s : ScheduleTree) → nat_eq q b ≡ false → nat_eq q a ≡ false → fused_after a b s q ≡ (choice_of q s).fused
+after_other : (a b q : ℕ) (s : ScheduleTree) → nat_eq q b ≡ false → nat_eq q a ≡ false → fused_after a b s q ≡ (apply_schedule_of q s).fused
 after_other a b q s not_b not_a = fused_elsewhere q b (Into a) (with_fused a (With b) s) not_b ∙ fused_elsewhere q a (With b) s not_a
 
 -- a label that was fused is neither
-is_other : (s : ScheduleTree) (a q : ℕ) (fused : Fused) → (choice_of a s).fused ≡ None → (choice_of q s).fused ≡ Some fused → nat_eq q a ≡ false
+is_other : (s : ScheduleTree) (a q : ℕ) (fused : Fused) → (apply_schedule_of a s).fused ≡ None → (apply_schedule_of q s).fused ≡ Some fused → nat_eq q a ≡ false
 is_other s a q fused unfused is = go (nat_eq q a) refl
   where
     go : (same : Bool) → nat_eq q a ≡ same → nat_eq q a ≡ false
     go false t = t
     go true t =
-        let bad : None ≡ Some fused = sym unfused ∙ subst (λ (l : ℕ). (choice_of l s).fused ≡ Some fused) (eqb-true q a t) is in
+        let bad : None ≡ Some fused = sym unfused ∙ subst (λ (l : ℕ). (apply_schedule_of l s).fused ≡ Some fused) (eqb-true q a t) is in
         cc
 
 with_then_into : (s : ScheduleTree) (a b : ℕ) → FusesInPairs s → AreUnfused s a b → (first second : ℕ)
@@ -70,7 +70,7 @@ with_then_into s a b old un first second e = at_b (nat_eq first b) refl
         let other : b ≡ second = cc in
         subst (λ (l : ℕ). fused_after a b s l ≡ Some (Into first)) other (after_second a b s ∙ ap (λ (l : ℕ). Some (Into l)) (sym is))
     at_a false t not_b =
-        let before : (choice_of second s).fused ≡ Some (Into first) = old.0 first second (sym (after_other a b first s not_b t) ∙ e) in
+        let before : (apply_schedule_of second s).fused ≡ Some (Into first) = old.0 first second (sym (after_other a b first s not_b t) ∙ e) in
         after_other a b second s (is_other s b second (Into first) un.second before) (is_other s a second (Into first) un.first before) ∙ before
 
     at_b : (same : Bool) → nat_eq first b ≡ same → fused_after a b s second ≡ Some (Into first)
@@ -88,7 +88,7 @@ into_then_with s a b old un first second e = at_b (nat_eq second b) refl
         let bad : Some (With b) ≡ Some (Into first) = sym (after_first a b s un.are_two) ∙ subst (λ (l : ℕ). fused_after a b s l ≡ Some (Into first)) (eqb-true second a t) e in
         cc
     at_a false t not_b =
-        let before : (choice_of first s).fused ≡ Some (With second) = old.1 first second (sym (after_other a b second s not_b t) ∙ e) in
+        let before : (apply_schedule_of first s).fused ≡ Some (With second) = old.1 first second (sym (after_other a b second s not_b t) ∙ e) in
         after_other a b first s (is_other s b first (With second) un.second before) (is_other s a first (With second) un.first before) ∙ before
 
     at_b : (same : Bool) → nat_eq second b ≡ same → fused_after a b s first ≡ Some (With second)
@@ -103,8 +103,8 @@ step_keeps_pairs : (p : ProgramTree) (s new : ScheduleTree) → FusesInPairs s �
 step_keeps_pairs p s new old (GivesValue setting text label c is after) = subst FusesInPairs after
     ((λ first second e. same second ∙ old.0 first second (sym (same first) ∙ e)), (λ first second e. same first ∙ old.1 first second (sym (same second) ∙ e)))
   where
-    same : (q : ℕ) → (choice_of q (with_choice label c s)).fused ≡ (choice_of q s).fused
-    same q = fused_after_value q label c s (given_fused setting text (choice_of label s) c is)
+    same : (q : ℕ) → (apply_schedule_of q (with_apply_schedule label c s)).fused ≡ (apply_schedule_of q s).fused
+    same q = fused_after_value q label c s (given_fused setting text (apply_schedule_of label s) c is)
 step_keeps_pairs p s new old (Fuses a b none after) =
     let un = unfused_from p s a b (apply_at p a) (apply_at p b) none in
     subst FusesInPairs after (with_then_into s a b old un, into_then_with s a b old un)

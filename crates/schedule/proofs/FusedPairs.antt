@@ -12,12 +12,12 @@ use Rattle.typed_tree.specs.declared.apply.StatementApply.TheVariants.{Vertices,
 use Rattle.schedule.specs.Calls.{apply_at, fusing_fault_of, is_followed_by, schedule_of}
 use Rattle.schedule.specs.Laws.{FusesWell, IsFusedWell, IsIndependent}
 use Rattle.typed_tree.specs.Independence.{are_independent, have_same_sets, is_end}
-use Rattle.apply_options.specs.ScheduleTree.{ScheduleTree, choice_of, fused_as}
+use Rattle.apply_options.specs.ScheduleTree.{ScheduleTree, apply_schedule_of, fused_as}
 use Rattle.schedule.specs.Schedule.{empty_schedule, with_fused}
 use Rattle.schedule.proofs.CallSteps.{Step, GivesValue, Fuses, PutsGroup, kept_by_calls}
 use Rattle.std.proofs.lemmas.Bool.{and_parts}
 use Rattle.schedule.proofs.Uses.{nothing_in_common}
-use Rattle.schedule.proofs.Choices.{choice_elsewhere, choice_here, fused_after_value, given_fused}
+use Rattle.schedule.proofs.ApplySchedules.{apply_schedule_elsewhere, apply_schedule_here, fused_after_value, given_fused}
 
 pub no_fault : (b : Bool) (r : ScheduleRule) (rest : Option ScheduleRule) → (if b then Some r else rest) ≡ None → (b ≡ false) × (rest ≡ None)
 no_fault true r rest e = cc
@@ -67,11 +67,11 @@ well_from p s first second (Some a) (Some b) is_one is_other e =
 well_from p s first second (Some a) None is_one is_other e = cc
 well_from p s first second None other is_one is_other e = cc
 
-pub fused_here : (label : ℕ) (fused : Fused) (s : ScheduleTree) → (choice_of label (with_fused label fused s)).fused ≡ Some fused
-fused_here label fused s = ap (λ (x : ApplySchedule). x.fused) (choice_here label (fused_as fused (choice_of label s)) s)
+pub fused_here : (label : ℕ) (fused : Fused) (s : ScheduleTree) → (apply_schedule_of label (with_fused label fused s)).fused ≡ Some fused
+fused_here label fused s = ap (λ (x : ApplySchedule). x.fused) (apply_schedule_here label (fused_as fused (apply_schedule_of label s)) s)
 
-pub fused_elsewhere : (q label : ℕ) (fused : Fused) (s : ScheduleTree) → nat_eq q label ≡ false → (choice_of q (with_fused label fused s)).fused ≡ (choice_of q s).fused
-fused_elsewhere q label fused s h = ap (λ (x : ApplySchedule). x.fused) (choice_elsewhere q label (fused_as fused (choice_of label s)) s h)
+pub fused_elsewhere : (q label : ℕ) (fused : Fused) (s : ScheduleTree) → nat_eq q label ≡ false → (apply_schedule_of q (with_fused label fused s)).fused ≡ (apply_schedule_of q s).fused
+fused_elsewhere q label fused s h = ap (λ (x : ApplySchedule). x.fused) (apply_schedule_elsewhere q label (fused_as fused (apply_schedule_of label s)) s h)
 
 -- after a and b are fused, a label that is fused with another is a, or was before
 fuses_step : (p : ProgramTree) (s : ScheduleTree) (a b : ℕ) → FusesWell p s → IsFusedWell p a b → FusesWell p (with_fused b (Into a) (with_fused a (With b) s))
@@ -80,10 +80,10 @@ fuses_step p s a b old well first second e = go (nat_eq first b) refl
     middle : ScheduleTree
     middle = with_fused a (With b) s
 
-    at_first : (is : Bool) → nat_eq first a ≡ is → (choice_of first middle).fused ≡ Some (With second) → IsFusedWell p first second
+    at_first : (is : Bool) → nat_eq first a ≡ is → (apply_schedule_of first middle).fused ≡ Some (With second) → IsFusedWell p first second
     at_first true t e =
         let same : first ≡ a = eqb-true first a t in
-        let is : Some (With b) ≡ Some (With second) = sym (fused_here a (With b) s) ∙ subst (λ (q : ℕ). (choice_of q middle).fused ≡ Some (With second)) same e in
+        let is : Some (With b) ≡ Some (With second) = sym (fused_here a (With b) s) ∙ subst (λ (q : ℕ). (apply_schedule_of q middle).fused ≡ Some (With second)) same e in
         let other : b ≡ second = cc in
         rw (same, ← other) well
     at_first false t e = old first second (sym (fused_elsewhere first a (With b) s t) ∙ e)
@@ -91,13 +91,13 @@ fuses_step p s a b old well first second e = go (nat_eq first b) refl
     go : (is : Bool) → nat_eq first b ≡ is → IsFusedWell p first second
     go true t =
         let same : first ≡ b = eqb-true first b t in
-        let bad : Some (Into a) ≡ Some (With second) = sym (fused_here b (Into a) middle) ∙ subst (λ (q : ℕ). (choice_of q (with_fused b (Into a) middle)).fused ≡ Some (With second)) same e in
+        let bad : Some (Into a) ≡ Some (With second) = sym (fused_here b (Into a) middle) ∙ subst (λ (q : ℕ). (apply_schedule_of q (with_fused b (Into a) middle)).fused ≡ Some (With second)) same e in
         cc
     go false t = at_first (nat_eq first a) refl (sym (fused_elsewhere first b (Into a) middle t) ∙ e)
 
 step_fuses_well : (p : ProgramTree) (s new : ScheduleTree) → FusesWell p s → Step p s new → FusesWell p new
 step_fuses_well p s new old (GivesValue setting text label c is after) =
-    rw (← after) λ first second e. old first second (sym (fused_after_value first label c s (given_fused setting text (choice_of label s) c is)) ∙ e)
+    rw (← after) λ first second e. old first second (sym (fused_after_value first label c s (given_fused setting text (apply_schedule_of label s) c is)) ∙ e)
 step_fuses_well p s new old (Fuses a b none after) = rw (← after) (fuses_step p s a b old (well_from p s a b _ _ refl refl none))
 step_fuses_well p s new old (PutsGroup names group is after) = rw (← after) old
 

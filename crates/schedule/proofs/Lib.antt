@@ -1,6 +1,6 @@
 pub mod BrokenRuleLaws
 pub mod CallSteps
-pub mod Choices
+pub mod ApplySchedules
 pub mod Defaults
 pub mod FusedOnce
 pub mod FusedPairs

@@ -13,10 +13,10 @@ use Rattle.typed_tree.specs.declared.apply.StatementApply.TheVariants.{Vertices,
 use Rattle.schedule.specs.Calls.{after_call, and_then, apply_at, first_given, given, schedule_of, two_of, value_at, value_of_two, value_on, with_call, with_call_of, with_calls}
 use Rattle.schedule.specs.Laws.{IsGiven, IsGivenByTwo, IsGivenTo, HasValues}
 use Rattle.schedule.specs.Schedule.{label_index}
-use Rattle.apply_options.specs.ScheduleTree.{ScheduleTree, choice_of, fused_as}
-use Rattle.schedule.specs.Schedule.{empty_schedule, with_choice, with_fused}
+use Rattle.apply_options.specs.ScheduleTree.{ScheduleTree, apply_schedule_of, fused_as}
+use Rattle.schedule.specs.Schedule.{empty_schedule, with_apply_schedule, with_fused}
 use Rattle.schedule.proofs.CallSteps.{Step, GivesValue, Fuses, PutsGroup, kept_by_calls, ok_is}
-use Rattle.schedule.proofs.Choices.{choice_elsewhere, choice_here}
+use Rattle.schedule.proofs.ApplySchedules.{apply_schedule_elsewhere, apply_schedule_here}
 
 -- what `and_then` gives comes from what was there
 pub and_then_from : {A B : Type 0} (r : Result A ScheduleRule) (f : A → B) (b : B) → and_then r f ≡ Ok b → (a : A) × (r ≡ Ok a) × (f a ≡ b)
@@ -34,7 +34,7 @@ given_stays before value after v e is =
     let bad : None ≡ Some v = sym new.3 ∙ is in
     cc
 
--- what one choice has, the other has too
+-- what one apply schedule has, the other has too
 record Extends (c d : ApplySchedule) : Type 0 where
   direction : (v : _) → c.direction ≡ Some v → d.direction ≡ Some v
   parallelization : (v : _) → c.parallelization ≡ Some v → d.parallelization ≡ Some v
@@ -56,14 +56,14 @@ given_extends setting.FuseFields text c d e = cc
 same_extends : (c : ApplySchedule) → Extends c c
 same_extends c = record { direction = λ v is. is; parallelization = λ v is. is; dense_vertex_set = λ v is. is }
 
-put_extends : (q label : ℕ) (c : ApplySchedule) (s : ScheduleTree) → Extends (choice_of label s) c → Extends (choice_of q s) (choice_of q (with_choice label c s))
+put_extends : (q label : ℕ) (c : ApplySchedule) (s : ScheduleTree) → Extends (apply_schedule_of label s) c → Extends (apply_schedule_of q s) (apply_schedule_of q (with_apply_schedule label c s))
 put_extends q label c s more = go (nat_eq q label) refl
   where
-    go : (same : Bool) → nat_eq q label ≡ same → Extends (choice_of q s) (choice_of q (with_choice label c s))
+    go : (same : Bool) → nat_eq q label ≡ same → Extends (apply_schedule_of q s) (apply_schedule_of q (with_apply_schedule label c s))
     go true t =
-        subst (λ (l : ℕ). Extends (choice_of l s) (choice_of l (with_choice label c s))) (sym (eqb-true q label t))
-        (subst (Extends (choice_of label s)) (sym (choice_here label c s)) more)
-    go false t = subst (Extends (choice_of q s)) (sym (choice_elsewhere q label c s t)) (same_extends (choice_of q s))
+        subst (λ (l : ℕ). Extends (apply_schedule_of l s) (apply_schedule_of l (with_apply_schedule label c s))) (sym (eqb-true q label t))
+        (subst (Extends (apply_schedule_of label s)) (sym (apply_schedule_here label c s)) more)
+    go false t = subst (Extends (apply_schedule_of q s)) (sym (apply_schedule_elsewhere q label c s t)) (same_extends (apply_schedule_of q s))
 
 extends_given : (which : Setting) (text : List ℕ) (c d : ApplySchedule) → Extends c d → IsGiven which text c → IsGiven which text d
 extends_given setting.Direction text c d more is = (is.0, is.1, more.direction is.0 is.2)
@@ -72,19 +72,19 @@ extends_given setting.DenseVertexSet text c d more is = (is.0, is.1, more.dense_
 extends_given setting.FuseFunctions text c d more is = is
 extends_given setting.FuseFields text c d more is = is
 
-fused_extends : (q label : ℕ) (fused : _) (s : ScheduleTree) → Extends (choice_of q s) (choice_of q (with_fused label fused s))
-fused_extends q label fused s = put_extends q label (fused_as fused (choice_of label s)) s (record { direction = λ v is. is; parallelization = λ v is. is; dense_vertex_set = λ v is. is })
+fused_extends : (q label : ℕ) (fused : _) (s : ScheduleTree) → Extends (apply_schedule_of q s) (apply_schedule_of q (with_fused label fused s))
+fused_extends q label fused s = put_extends q label (fused_as fused (apply_schedule_of label s)) s (record { direction = λ v is. is; parallelization = λ v is. is; dense_vertex_set = λ v is. is })
 
 -- a value that was given stays
 pub step_keeps_value : (p : ProgramTree) (which : Setting) (text : List ℕ) (q : ℕ) (s new : ScheduleTree)
-    → IsGiven which text (choice_of q s) → Step p s new → IsGiven which text (choice_of q new)
+    → IsGiven which text (apply_schedule_of q s) → Step p s new → IsGiven which text (apply_schedule_of q new)
 step_keeps_value p which text q s new is (GivesValue setting other label c given after) =
-    subst (λ (t : ScheduleTree). IsGiven which text (choice_of q t)) after
-    (extends_given which text _ _ (put_extends q label c s (given_extends setting other (choice_of label s) c given)) is)
+    subst (λ (t : ScheduleTree). IsGiven which text (apply_schedule_of q t)) after
+    (extends_given which text _ _ (put_extends q label c s (given_extends setting other (apply_schedule_of label s) c given)) is)
 step_keeps_value p which text q s new is (Fuses a b none after) =
-    subst (λ (t : ScheduleTree). IsGiven which text (choice_of q t)) after
+    subst (λ (t : ScheduleTree). IsGiven which text (apply_schedule_of q t)) after
     (extends_given which text _ _ (fused_extends q b _ (with_fused a (With b) s)) (extends_given which text _ _ (fused_extends q a _ s) is))
-step_keeps_value p which text q s new is (PutsGroup names group grown after) = subst (λ (t : ScheduleTree). IsGiven which text (choice_of q t)) after is
+step_keeps_value p which text q s new is (PutsGroup names group grown after) = subst (λ (t : ScheduleTree). IsGiven which text (apply_schedule_of q t)) after is
 
 given_has : (which : Setting) (text : List ℕ) (c d : ApplySchedule) → given which text c ≡ Ok d → IsGiven which text d
 given_has setting.Direction text c d e =
@@ -102,11 +102,11 @@ given_has setting.DenseVertexSet text c d e =
 given_has setting.FuseFunctions text c d e = cc
 given_has setting.FuseFields text c d e = cc
 
-on_has : (which : Setting) (text : List ℕ) (s new : ScheduleTree) (label : ℕ) (apply : Option StatementApply) → value_on which text s label apply ≡ Ok new → IsGiven which text (choice_of label new)
+on_has : (which : Setting) (text : List ℕ) (s new : ScheduleTree) (label : ℕ) (apply : Option StatementApply) → value_on which text s label apply ≡ Ok new → IsGiven which text (apply_schedule_of label new)
 on_has which text s new label (Some (Edges ends function name)) e =
     let from = and_then_from _ _ new e in
-    subst (λ (t : ScheduleTree). IsGiven which text (choice_of label t)) from.2
-    (subst (IsGiven which text) (sym (choice_here label from.0 s)) (given_has which text (choice_of label s) from.0 from.1))
+    subst (λ (t : ScheduleTree). IsGiven which text (apply_schedule_of label t)) from.2
+    (subst (IsGiven which text) (sym (apply_schedule_here label from.0 s)) (given_has which text (apply_schedule_of label s) from.0 from.1))
 on_has which text s new label (Some (Vertices set function)) e = cc
 on_has which text s new label None e = cc
 
@@ -119,7 +119,7 @@ two_has p which None s new e = cc
 two_has p which (Some (name, text)) s new e = at_has p which text s new (label_index p name) e
 
 call_has : (p : ProgramTree) (which : Setting) (two : Option (List ℕ × List ℕ)) (s end : ScheduleTree)
-    → ((text : List ℕ) (label : ℕ) → IsGiven which text (choice_of label s) → IsGiven which text (choice_of label end)) → IsGivenByTwo p s which two → IsGivenByTwo p end which two
+    → ((text : List ℕ) (label : ℕ) → IsGiven which text (apply_schedule_of label s) → IsGiven which text (apply_schedule_of label end)) → IsGivenByTwo p s which two → IsGivenByTwo p end which two
 call_has p which None s end stays is = is
 call_has p which (Some (name, text)) s end stays is = at (label_index p name) is
   where
@@ -128,9 +128,9 @@ call_has p which (Some (name, text)) s end stays is = at (label_index p name) is
     at (Some label) is = stays text label is
 
 kept_to_end : (p : ProgramTree) (calls : List ScheduleCallTree) (s end : ScheduleTree) → with_calls p calls s ≡ Ok end
-    → (which : Setting) (text : List ℕ) (label : ℕ) → IsGiven which text (choice_of label s) → IsGiven which text (choice_of label end)
+    → (which : Setting) (text : List ℕ) (label : ℕ) → IsGiven which text (apply_schedule_of label s) → IsGiven which text (apply_schedule_of label end)
 kept_to_end p calls s end e which text label is =
-    kept_by_calls p (λ t. IsGiven which text (choice_of label t)) (step_keeps_value p which text label) calls s end is e
+    kept_by_calls p (λ t. IsGiven which text (apply_schedule_of label t)) (step_keeps_value p which text label) calls s end is e
 
 nothing_to : (s : ScheduleTree) (text : List ℕ) (label : Option ℕ) → IsGivenTo s setting.FuseFunctions text label × IsGivenTo s setting.FuseFields text label
 nothing_to s text None = (tt, tt)

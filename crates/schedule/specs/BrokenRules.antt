@@ -4,7 +4,7 @@ use Rattle.std.specs.List.{concat, Contains}
 use Rattle.apply_options.specs.declared.apply_schedule.ApplySchedule.{ApplySchedule}
 use Rattle.apply_options.specs.declared.setting.Setting.{Setting}
 use Rattle.apply_options.specs.declared.setting.Setting.TheVariants as setting
-use Rattle.apply_options.specs.ScheduleTree.{ScheduleTree, choice_of}
+use Rattle.apply_options.specs.ScheduleTree.{ScheduleTree, apply_schedule_of}
 use Rattle.typed_tree.specs.declared.apply.StatementApply.{StatementApply}
 use Rattle.typed_tree.specs.declared.apply.StatementApply.TheVariants.{Vertices, Edges}
 use Rattle.typed_tree.specs.Independence.{are_independent, have_same_sets}
@@ -50,7 +50,7 @@ abbrev pub BreaksConfigRule : ProgramTree → ScheduleTree → Setting → (name
 BreaksConfigRule p s which name text rule.UnknownLabel = label_index p name ≡ None
 BreaksConfigRule p s which name text rule.NoApply = OnLabel p name (λ label. AppliesNoEdges (apply_at p label))
 BreaksConfigRule p s which name text rule.BadArgument = IsNoValue which text
-BreaksConfigRule p s which name text rule.GivenTwice = OnLabel p name (λ label. HasValueOf which (choice_of label s))
+BreaksConfigRule p s which name text rule.GivenTwice = OnLabel p name (λ label. HasValueOf which (apply_schedule_of label s))
 BreaksConfigRule p s which name text rule.NotAdjacent = ⊥
 BreaksConfigRule p s which name text rule.DifferentSets = ⊥
 BreaksConfigRule p s which name text rule.NotIndependent = ⊥

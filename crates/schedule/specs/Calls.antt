@@ -15,8 +15,8 @@ use Rattle.typed_tree.specs.declared.apply.StatementApply.TheVariants.{Vertices,
 use Rattle.schedule.specs.declared.site.Site.{Site}
 use Rattle.schedule.specs.Schedule.{label_index, vector_index}
 use Rattle.typed_tree.specs.Independence.{have_same_sets, are_independent}
-use Rattle.apply_options.specs.ScheduleTree.{ScheduleTree, choice_of}
-use Rattle.schedule.specs.Schedule.{with_choice, with_fused, with_one_group, is_fused, empty_schedule}
+use Rattle.apply_options.specs.ScheduleTree.{ScheduleTree, apply_schedule_of}
+use Rattle.schedule.specs.Schedule.{with_apply_schedule, with_fused, with_one_group, is_fused, empty_schedule}
 use Rattle.schedule.specs.Schedule.{site_of}
 use Rattle.schedule.specs.Schedule.{direction_of, parallelization_of, dense_vertex_set_of}
 
@@ -30,7 +30,7 @@ abbrev pub and_then : {A B : Type 0} → Result A ScheduleRule → (A → B) →
 and_then (Ok a) f = Ok (f a)
 and_then (Err r) f = Err r
 
--- a label's choice with the value of a `config` call, or the rule that is broken
+-- a label's apply schedule with the value of a `config` call, or the rule that is broken
 abbrev pub given : Setting → List ℕ → ApplySchedule → Result ApplySchedule ScheduleRule
 given setting.Direction text c =
     and_then (first_given c.direction (direction_of text)) λ value.
@@ -54,7 +54,7 @@ apply_at p label = apply_in (site_of label p.main)
 
 -- a `config` call on what a label stands before
 abbrev pub value_on : Setting → List ℕ → ScheduleTree → ℕ → Option StatementApply → Result ScheduleTree ScheduleRule
-value_on setting text s label (Some (Edges ends function name)) = and_then (given setting text (choice_of label s)) λ c. with_choice label c s
+value_on setting text s label (Some (Edges ends function name)) = and_then (given setting text (apply_schedule_of label s)) λ c. with_apply_schedule label c s
 value_on setting text s label (Some (Vertices set function)) = Err rule.NoApply
 value_on setting text s label None = Err rule.NoApply
 

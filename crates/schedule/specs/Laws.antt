@@ -16,7 +16,7 @@ use Rattle.schedule.specs.Calls.{apply_at, is_followed_by, two_of}
 use Rattle.schedule.specs.Schedule.{label_index}
 use Rattle.typed_tree.specs.Independence.{end_reads, function_uses, function_writes}
 use Rattle.typed_tree.specs.Independence.{have_same_sets, is_end}
-use Rattle.apply_options.specs.ScheduleTree.{ScheduleTree, choice_of}
+use Rattle.apply_options.specs.ScheduleTree.{ScheduleTree, apply_schedule_of}
 use Rattle.schedule.specs.Schedule.{direction_of, parallelization_of, dense_vertex_set_of}
 
 -- No vector that the first of two edge applies writes is read or written by the second, or read by a filter of its ends,
@@ -44,19 +44,19 @@ pub record IsFusedWell (p : ProgramTree) (first second : ℕ) : Type 0 where
   pub independent : IsIndependent p one other
 
 abbrev pub FusesWell : ProgramTree → ScheduleTree → Type 0
-FusesWell p s = (first second : ℕ) → (choice_of first s).fused ≡ Some (With second) → IsFusedWell p first second
+FusesWell p s = (first second : ℕ) → (apply_schedule_of first s).fused ≡ Some (With second) → IsFusedWell p first second
 
 -- the first label of a fusing has the second, and the second the first; so no label is in two
 abbrev pub FusesInPairs : ScheduleTree → Type 0
 FusesInPairs s =
-    ((first second : ℕ) → (choice_of first s).fused ≡ Some (With second) → (choice_of second s).fused ≡ Some (Into first))
-    × ((first second : ℕ) → (choice_of second s).fused ≡ Some (Into first) → (choice_of first s).fused ≡ Some (With second))
+    ((first second : ℕ) → (apply_schedule_of first s).fused ≡ Some (With second) → (apply_schedule_of second s).fused ≡ Some (Into first))
+    × ((first second : ℕ) → (apply_schedule_of second s).fused ≡ Some (Into first) → (apply_schedule_of first s).fused ≡ Some (With second))
 
 -- each vector is in one group at most, and there once
 abbrev pub GroupsAreDistinct : ScheduleTree → Type 0
 GroupsAreDistinct s = IsDistinct nat_eq (concat s.groups)
 
--- the choice has the value that the text names
+-- the apply schedule has the value that the text names
 abbrev pub IsGiven : Setting → List ℕ → ApplySchedule → Type 0
 IsGiven setting.Direction text c = (v : Direction) × (direction_of text ≡ Some v) × (c.direction ≡ Some v)
 IsGiven setting.Parallelization text c = (v : Parallelization) × (parallelization_of text ≡ Some v) × (c.parallelization ≡ Some v)
@@ -66,7 +66,7 @@ IsGiven setting.FuseFields text c = Unit {0}
 
 abbrev pub IsGivenTo : ScheduleTree → Setting → List ℕ → Option ℕ → Type 0
 IsGivenTo s which text None = Unit {0}
-IsGivenTo s which text (Some label) = IsGiven which text (choice_of label s)
+IsGivenTo s which text (Some label) = IsGiven which text (apply_schedule_of label s)
 
 abbrev pub IsGivenByTwo : ProgramTree → ScheduleTree → Setting → Option (List ℕ × List ℕ) → Type 0
 IsGivenByTwo p s which None = Unit {0}
@@ -100,7 +100,7 @@ HasDefault setting.FuseFields c = Unit {0}
 
 -- a label has the default of each kind of which no call is on it
 abbrev pub HasDefaults : ProgramTree → ScheduleTree → Type 0
-HasDefaults p s = (which : Setting) (label : ℕ) → NoneIsOnLabel p which label p.schedule → HasDefault which (choice_of label s)
+HasDefaults p s = (which : Setting) (label : ℕ) → NoneIsOnLabel p which label p.schedule → HasDefault which (apply_schedule_of label s)
 
 -- a `config` call, and not one of fusing
 abbrev pub IsConfig : Setting → Type 0

@@ -1,11 +1,11 @@
--- Accepted schedules: the choices of labels, and the groups of vectors.
+-- Accepted schedules: the apply schedules of labels, and the groups of vectors.
 use Rattle.std.specs.Prelude.{ℕ, Bool, is_some, List, [], ◌∷◌, ◌++◌, nat_eq, suc, Option, Some, None, if◌then◌else◌, map, codes}
 use Rattle.indexmap.specs.IndexMap.{insert_entry}
 use Rattle.std.specs.Str.{bytes_eq}
 use Rattle.std.specs.Map.{lookup}
 use Rattle.apply_options.specs.declared.apply_schedule.ApplySchedule.{ApplySchedule}
 use Rattle.apply_options.specs.declared.apply_schedule.Fused.{Fused}
-use Rattle.apply_options.specs.ScheduleTree.{ScheduleTree, choice_of, fused_as}
+use Rattle.apply_options.specs.ScheduleTree.{ScheduleTree, apply_schedule_of, fused_as}
 use Rattle.apply_options.specs.declared.apply_schedule.Direction.{Direction}
 use Rattle.apply_options.specs.declared.apply_schedule.Direction.TheVariants.{SparsePush, DensePush, DensePull, Hybrid}
 use Rattle.apply_options.specs.declared.apply_schedule.Parallelization.{Parallelization}
@@ -22,21 +22,21 @@ use Rattle.typed_tree.specs.BlockTree.{StatementKindTree, ApplyVertex, ApplyEdge
 use Rattle.typed_tree.specs.declared.statement.SetValue.TheVariants as value
 use Rattle.schedule.specs.declared.site.Site.{Site}
 
-abbrev pub with_choice : ℕ → ApplySchedule → ScheduleTree → ScheduleTree
-with_choice label c s = record { choices = insert_entry nat_eq s.choices label c; groups = s.groups }
+abbrev pub with_apply_schedule : ℕ → ApplySchedule → ScheduleTree → ScheduleTree
+with_apply_schedule label c s = record { apply_schedules = insert_entry nat_eq s.apply_schedules label c; groups = s.groups }
 
 abbrev pub with_fused : ℕ → Fused → ScheduleTree → ScheduleTree
-with_fused label fused s = with_choice label (fused_as fused (choice_of label s)) s
+with_fused label fused s = with_apply_schedule label (fused_as fused (apply_schedule_of label s)) s
 
 abbrev pub with_one_group : List ℕ → ScheduleTree → ScheduleTree
-with_one_group group s = record { choices = s.choices; groups = s.groups ++ group ∷ [] }
+with_one_group group s = record { apply_schedules = s.apply_schedules; groups = s.groups ++ group ∷ [] }
 
 abbrev pub is_fused : ℕ → ScheduleTree → Bool
-is_fused label s = is_some (choice_of label s).fused
+is_fused label s = is_some (apply_schedule_of label s).fused
 
 -- where no call was made
 abbrev pub empty_schedule : ScheduleTree
-empty_schedule = record { choices = []; groups = [] }
+empty_schedule = record { apply_schedules = []; groups = [] }
 
 -- where the first of these names is that is this one, counted from so many
 abbrev pub index_from : ℕ → List ℕ → List (List ℕ) → Option ℕ

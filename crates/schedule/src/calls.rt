@@ -142,9 +142,9 @@ impl Tables<'_> {
         let Some(StatementApply::Edges { .. }) = self.apply_at(label) else {
             return Ok(Some(ScheduleRule::NoApply));
         };
-        match with_value(schedule.choice(label), setting, text) {
-            Ok(choice) => {
-                schedule.put(label, choice)?;
+        match with_value(schedule.apply_schedule(label), setting, text) {
+            Ok(apply_schedule) => {
+                schedule.put(label, apply_schedule)?;
                 Ok(None)
             }
             Err(rule) => Ok(Some(rule)),

@@ -55,35 +55,35 @@ fn dense_vertex_set_named(text: &[u8]) -> Option<DenseVertexSet>
 
 /// What is said of a label, with a value of a `config` call, or the rule that the call breaks.
 pub(crate) fn with_value(
-    choice: ApplySchedule,
+    apply_schedule: ApplySchedule,
     setting: Setting,
     text: &[u8],
 ) -> Result<ApplySchedule, ScheduleRule>
-    ensures { result ≡ given_to setting text.now choice }
+    ensures { result ≡ given_to setting text.now apply_schedule }
 {
     match setting {
         Setting::Direction => {
-            let direction = first_given(choice.direction, direction_named(text))?;
+            let direction = first_given(apply_schedule.direction, direction_named(text))?;
             Ok(ApplySchedule {
                 direction,
-                ..choice
+                ..apply_schedule
             })
         }
         Setting::Parallelization => {
-            let parallelization = first_given(choice.parallelization, parallelization_named(text))?;
+            let parallelization = first_given(apply_schedule.parallelization, parallelization_named(text))?;
             Ok(ApplySchedule {
                 parallelization,
-                ..choice
+                ..apply_schedule
             })
         }
         Setting::DenseVertexSet => {
             let dense_vertex_set = first_given(
-                choice.dense_vertex_set,
+                apply_schedule.dense_vertex_set,
                 dense_vertex_set_named(text),
             )?;
             Ok(ApplySchedule {
                 dense_vertex_set,
-                ..choice
+                ..apply_schedule
             })
         }
         Setting::FuseFunctions | Setting::FuseFields => Err(ScheduleRule::BadArgument),

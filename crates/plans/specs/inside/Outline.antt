@@ -16,7 +16,7 @@ outline op.Turn = Turn
 outline _ = End
 
 abbrev pub outline_of : Instruction → InstructionTree
-outline_of i = record { number = i.number; keep = i.keep; shown = i.shown; choice = i.choice; operation = outline i.operation }
+outline_of i = record { number = i.number; keep = i.keep; shown = i.shown; apply_schedule = i.apply_schedule; operation = outline i.operation }
 
 -- the bound on the steps that are left, as `most_steps` of plans has it
 abbrev pub most_steps_of : List Instruction → Configuration → ℕ

@@ -9,5 +9,5 @@ abbrev pub dense_or_flags : Option DenseVertexSet → DenseVertexSet
 dense_or_flags None = BoolArray
 dense_or_flags (Some dense) = dense
 
-abbrev pub dense_choice : ApplySchedule → DenseVertexSet
-dense_choice choice = dense_or_flags choice.dense_vertex_set
+abbrev pub dense_vertex_set_or_flags : ApplySchedule → DenseVertexSet
+dense_vertex_set_or_flags apply_schedule = dense_or_flags apply_schedule.dense_vertex_set

@@ -16,7 +16,7 @@ use Rattle.lowering.specs.inside.Putting.{BeginsLoop, Fills, Puts}
 use Rattle.lowering.specs.inside.Visible.{depth_of}
 use Rattle.lowering.proofs.Measures.{action_size, block_size, inner_falls}
 use Rattle.lowering.proofs.Putting.{puts_nothing}
-use Rattle.lowering.proofs.Statements.{HasPut, behind_none, has_put_all, has_put_next, has_put_none, puts_if, puts_choice, puts_while, puts_for}
+use Rattle.lowering.proofs.Statements.{HasPut, behind_none, has_put_all, has_put_next, has_put_none, puts_if, puts_apply_schedule, puts_while, puts_for}
 use Rattle.lowering.proofs.blocks.Lowering.+lower.Goals as goal
 
 pub put_all-statements-preserved : goal.put_all-statements-preserved
@@ -59,7 +59,7 @@ put_statement-returns-in-If-clause-code t c =
 pub put_statement-returns-in-IfElse-clause-code : goal.put_statement-returns-in-IfElse-clause-code
 put_statement-returns-in-IfElse-clause-code t c =
     let tree = ap statement_kind_tree c.in-IfElse.is ∙ statement_kind_tree-IfElse c.in-IfElse.c c.in-IfElse.body c.in-IfElse.other in
-    rw (tree, ← c.deref-in-IfElse.ensures.value, ← c.deref-in-IfElse-2.ensures.value) (c.put_choice.ensures.code c.args.statement.now.label)
+    rw (tree, ← c.deref-in-IfElse.ensures.value, ← c.deref-in-IfElse-2.ensures.value) (c.put_apply_schedule.ensures.code c.args.statement.now.label)
 
 pub put_statement-returns-in-While-clause-code : goal.put_statement-returns-in-While-clause-code
 put_statement-returns-in-While-clause-code t c =
@@ -77,8 +77,8 @@ put_statement-put_if-requires t c =
     let falls = inner_falls _ (block_size (block_tree c.in-If.body.items)) _ (ap action_size tree) (ap (λ (ls : List MainStatement). block_size (block_tree ls)) c.deref.ensures.value) in
     (omega (arith, c.decreases, falls), tt)
 
-pub put_statement-put_choice-requires : goal.put_statement-put_choice-requires
-put_statement-put_choice-requires t c =
+pub put_statement-put_apply_schedule-requires : goal.put_statement-put_apply_schedule-requires
+put_statement-put_apply_schedule-requires t c =
     let tree = ap statement_kind_tree c.in-IfElse.is ∙ statement_kind_tree-IfElse c.in-IfElse.c c.in-IfElse.body c.in-IfElse.other in
     let body = ap (λ (ls : List MainStatement). block_size (block_tree ls)) c.deref-in-IfElse.ensures.value in
     let other = ap (λ (ls : List MainStatement). block_size (block_tree ls)) c.deref-in-IfElse-2.ensures.value in
@@ -117,8 +117,8 @@ put_if-returns-clause-code t c label =
 pub put_if-returns-clause-visible : goal.put_if-returns-clause-visible
 put_if-returns-clause-visible t c = on_ok_weaker c.fill_unless.result (λ fills. c.in_ok-put_inside.ensures.visible) c.fill_unless.ensures
 
-pub put_choice-returns-clause-code : goal.put_choice-returns-clause-code
-put_choice-returns-clause-code t c label =
+pub put_apply_schedule-returns-clause-code : goal.put_apply_schedule-returns-clause-code
+put_apply_schedule-returns-clause-code t c label =
     let p = program_tree c.args.self.program.now in
     let s = c.args.self.schedule.now in
     let a = c.args.code.now.items in
@@ -136,12 +136,12 @@ put_choice-returns-clause-code t c label =
     let otherwise = ap (λ n. n + 1) (c.len.ensures ∙ c.put_inside.new.code.ok.0) in
     on_ok_weaker c.fill_jump.result (λ fills.
     subst (λ x. Puts p a h (plan p s (length a) x c.args.number label (IfElse (bool_expression_tree c.args.c.now) body other))) c.depth-depth.ensures
-    (puts_choice p s a b k e m g h c.in_ok-test.test (c.len.result + 1) c.in_ok-jump.jump d c.args.number label (bool_expression_tree c.args.c.now) body other
+    (puts_apply_schedule p s a b k e m g h c.in_ok-test.test (c.len.result + 1) c.in_ok-jump.jump d c.args.number label (bool_expression_tree c.args.c.now) body other
     c.in_ok-test.ensures put otherwise c.in_ok-fill_unless.ensures c.in_ok-jump.ensures put_other fills))
     c.fill_jump.ensures
 
-pub put_choice-returns-clause-visible : goal.put_choice-returns-clause-visible
-put_choice-returns-clause-visible t c =
+pub put_apply_schedule-returns-clause-visible : goal.put_apply_schedule-returns-clause-visible
+put_apply_schedule-returns-clause-visible t c =
     on_ok_weaker c.fill_jump.result (λ fills. c.in_ok-put_inside-2.ensures.visible ∙ c.in_ok-put_inside.ensures.visible) c.fill_jump.ensures
 
 pub put_while-returns-clause-code : goal.put_while-returns-clause-code

@@ -33,8 +33,8 @@ decreases-put_statement l = 6 * action_size (statement_kind_tree l.statement.now
 abbrev pub decreases-put_if : goal.decreases-put_if
 decreases-put_if l = 6 * block_size (block_tree l.body.now) + 2
 
-abbrev pub decreases-put_choice : goal.decreases-put_choice
-decreases-put_choice l = 6 * (block_size (block_tree l.branches.body.now) + block_size (block_tree l.branches.other.now)) + 2
+abbrev pub decreases-put_apply_schedule : goal.decreases-put_apply_schedule
+decreases-put_apply_schedule l = 6 * (block_size (block_tree l.branches.body.now) + block_size (block_tree l.branches.other.now)) + 2
 
 abbrev pub decreases-put_while : goal.decreases-put_while
 decreases-put_while l = 6 * block_size (block_tree l.body.now) + 2

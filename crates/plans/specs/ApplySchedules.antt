@@ -1,7 +1,7 @@
 -- By what edge applies go.
 use Rattle.std.specs.Prelude.{◌≡◌, ℕ, List, Option, Some, None, slice_get, ◌⊎◌}
 use Rattle.typed_tree.specs.BlockTree.{StatementKindTree, If, IfElse, While, For, BlockTree, Empty, Then}
-use Rattle.apply_options.specs.ScheduleTree.{ScheduleTree, choice_at}
+use Rattle.apply_options.specs.ScheduleTree.{ScheduleTree, apply_schedule_at}
 use Rattle.plans.specs.Instruction.{OperationTree, Do, ApplyEdgesTogether, InstructionTree}
 use Rattle.plans.specs.Fusing.{EdgeApplyTree, edge_apply_of}
 
@@ -33,7 +33,7 @@ pub record ComesFrom (main : BlockTree) (s : ScheduleTree) (i : InstructionTree)
   pub stands : StandsIn main number label action
   pub applies : edge_apply_of action ≡ Some x
   pub numbered : i.number ≡ number
-  pub chosen : i.choice ≡ choice_at label s
+  pub chosen : i.apply_schedule ≡ apply_schedule_at label s
 
 -- so does each edge apply of a plan, and of two that are done together the first
 abbrev pub GoBySchedule : BlockTree → ScheduleTree → List InstructionTree → Type 0

@@ -9,8 +9,8 @@ use Rattle.apply_options.specs.declared.setting.Setting.TheVariants as setting
 use Rattle.apply_options.specs.declared.apply_schedule.ApplySchedule.{ApplySchedule}
 use Rattle.schedule.specs.declared.error.ScheduleRule.{ScheduleRule}
 use Rattle.schedule.specs.Calls.{and_then, given}
-use Rattle.apply_options.specs.ScheduleTree.{ScheduleTree, choice_of, or_no_choice}
-use Rattle.schedule.specs.Schedule.{with_choice}
+use Rattle.apply_options.specs.ScheduleTree.{ScheduleTree, apply_schedule_of, or_no_apply_schedule}
+use Rattle.schedule.specs.Schedule.{with_apply_schedule}
 
 put_here : (k : ℕ) (c : ApplySchedule) (es : List (ℕ × ApplySchedule)) → lookup (nat_eq k) (insert_entry nat_eq es k c) ≡ Some c
 put_here k c [] = rw (eq-eqb k k refl) refl
@@ -32,11 +32,11 @@ put_elsewhere q k c (e ∷ es) h = go (nat_eq k e.0) refl (put_elsewhere q k c e
         rw away refl
     go false t others = ap (cond (nat_eq q e.0) (Some e.1)) others
 
-pub choice_here : (label : ℕ) (c : ApplySchedule) (s : ScheduleTree) → choice_of label (with_choice label c s) ≡ c
-choice_here label c s = ap or_no_choice (put_here label c s.choices)
+pub apply_schedule_here : (label : ℕ) (c : ApplySchedule) (s : ScheduleTree) → apply_schedule_of label (with_apply_schedule label c s) ≡ c
+apply_schedule_here label c s = ap or_no_apply_schedule (put_here label c s.apply_schedules)
 
-pub choice_elsewhere : (q label : ℕ) (c : ApplySchedule) (s : ScheduleTree) → nat_eq q label ≡ false → choice_of q (with_choice label c s) ≡ choice_of q s
-choice_elsewhere q label c s h = ap or_no_choice (put_elsewhere q label c s.choices h)
+pub apply_schedule_elsewhere : (q label : ℕ) (c : ApplySchedule) (s : ScheduleTree) → nat_eq q label ≡ false → apply_schedule_of q (with_apply_schedule label c s) ≡ apply_schedule_of q s
+apply_schedule_elsewhere q label c s h = ap or_no_apply_schedule (put_elsewhere q label c s.apply_schedules h)
 
 and_then_ok : {A B : Type 0} (r : Result A ScheduleRule) (f : A → B) (b : B) → and_then r f ≡ Ok b → (a : A) × (b ≡ f a)
 and_then_ok (Ok a) f b e = (a, cc)
@@ -50,10 +50,10 @@ given_fused setting.DenseVertexSet text c d e = ap (λ (x : ApplySchedule). x.fu
 given_fused setting.FuseFunctions text c d e = cc
 given_fused setting.FuseFields text c d e = cc
 
-pub fused_after_value : (q label : ℕ) (c : ApplySchedule) (s : ScheduleTree) → c.fused ≡ (choice_of label s).fused
-    → (choice_of q (with_choice label c s)).fused ≡ (choice_of q s).fused
+pub fused_after_value : (q label : ℕ) (c : ApplySchedule) (s : ScheduleTree) → c.fused ≡ (apply_schedule_of label s).fused
+    → (apply_schedule_of q (with_apply_schedule label c s)).fused ≡ (apply_schedule_of q s).fused
 fused_after_value q label c s h = go (nat_eq q label) refl
   where
-    go : (b : Bool) → nat_eq q label ≡ b → (choice_of q (with_choice label c s)).fused ≡ (choice_of q s).fused
-    go true t = rw (eqb-true q label t) (ap (λ (x : ApplySchedule). x.fused) (choice_here label c s) ∙ h)
-    go false t = ap (λ (x : ApplySchedule). x.fused) (choice_elsewhere q label c s t)
+    go : (b : Bool) → nat_eq q label ≡ b → (apply_schedule_of q (with_apply_schedule label c s)).fused ≡ (apply_schedule_of q s).fused
+    go true t = rw (eqb-true q label t) (ap (λ (x : ApplySchedule). x.fused) (apply_schedule_here label c s) ∙ h)
+    go false t = ap (λ (x : ApplySchedule). x.fused) (apply_schedule_elsewhere q label c s t)
