@@ -78,6 +78,6 @@ three : (old one two new a b c : List ℕ) → one ≡ old ++ a → two ≡ one 
 three old one two new a b c is is' is'' =
     is'' ∙ ap (λ v. v ++ c) (is' ∙ ap (λ v. v ++ b) is) ∙ append_assoc (old ++ a) b c ∙ append_assoc old a (b ++ c)
 
-pub appended_behind : {T E : Type 0} (P Q : T → List ℕ → Type 0) (old one two a b : List ℕ) → one ≡ old ++ a → two ≡ one ++ b → (x : Result T E) (new : List ℕ) → IsAppended two x P new → ((t : T) (c : List ℕ) → P t c → Q t (a ++ (b ++ c))) → IsAppended old x Q new
-appended_behind P Q old one two a b is is' (Ok t) new last so = record { more = a ++ (b ++ last.more); behind = three old one two new a b last.more is is' last.behind; bytes = so t last.more last.bytes }
-appended_behind P Q old one two a b is is' (Err e) new last so = record { more = a ++ (b ++ last.more); behind = three old one two new a b last.more is is' last.behind; bytes = tt }
+pub appended_after : {T E : Type 0} (P Q : T → List ℕ → Type 0) (old one two a b : List ℕ) → one ≡ old ++ a → two ≡ one ++ b → (x : Result T E) (new : List ℕ) → IsAppended two x P new → ((t : T) (c : List ℕ) → P t c → Q t (a ++ (b ++ c))) → IsAppended old x Q new
+appended_after P Q old one two a b is is' (Ok t) new last so = record { more = a ++ (b ++ last.more); behind = three old one two new a b last.more is is' last.behind; bytes = so t last.more last.bytes }
+appended_after P Q old one two a b is is' (Err e) new last so = record { more = a ++ (b ++ last.more); behind = three old one two new a b last.more is is' last.behind; bytes = tt }

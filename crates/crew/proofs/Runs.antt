@@ -144,8 +144,8 @@ dynamic_are_ends w (suc c) some =
     subst (AreEnds 0 (suc c)) (sym (dynamic_is w (suc c))) (equal_are_ends (div_ceil (suc c) (4 * w)) (suc c) (part_is_some (suc c) (4 * w) (omega arith) (omega (arith, some))))
 
 -- the same in parts, after others
-parts_behind : (before first second both part after : List ℕ) → part ≡ before ++ first → after ≡ part ++ second → first ++ second ≡ both → after ≡ before ++ both
-parts_behind before first second both part after d e f = e ∙ ap (λ es. es ++ second) d ∙ append_assoc before first second ∙ ap (λ es. before ++ es) f
+parts_after : (before first second both part after : List ℕ) → part ≡ before ++ first → after ≡ part ++ second → first ++ second ≡ both → after ≡ before ++ both
+parts_after before first second both part after d e f = e ∙ ap (λ es. es ++ second) d ∙ append_assoc before first second ∙ ap (λ es. before ++ es) f
 
 shared_is : (p c : ℕ) → ends_from 0 (replicate (c % p) (c / p + 1) ++ replicate (p - c % p) (c / p)) ≡ shared_ends p c
 unfolding shared_ends
@@ -156,7 +156,7 @@ pub static_in_parts : (w c p middle : ℕ) (before part after : List ℕ) → p 
 static_in_parts w c p middle before part after least at d e =
     let a = c % p in
     let r = c / p in
-    parts_behind before (ends_from 0 (replicate a (r + 1))) (ends_from middle (replicate (p - a) r)) (static_ends w c) part after d e
+    parts_after before (ends_from 0 (replicate a (r + 1))) (ends_from middle (replicate (p - a) r)) (static_ends w c) part after d e
     (ap (λ k. ends_from 0 (replicate a (r + 1)) ++ ends_from k (replicate (p - a) r)) at
     ∙ sym (ends_of_runs-append 0 a (r + 1) (replicate (p - a) r))
     ∙ shared_is p c
@@ -170,7 +170,7 @@ equal_is r c = refl
 pub dynamic_in_parts : (w c r last : ℕ) (before part after : List ℕ) → r ≡ div_ceil c (4 * w) → last ≡ 0 + c / r * r
     → part ≡ before ++ ends_from 0 (replicate (c / r) r) → after ≡ part ++ ends_from last (rest_of (c % r)) → after ≡ before ++ dynamic_ends w c
 dynamic_in_parts w c r last before part after run at d e =
-    parts_behind before (ends_from 0 (replicate (c / r) r)) (ends_from last (rest_of (c % r))) (dynamic_ends w c) part after d e
+    parts_after before (ends_from 0 (replicate (c / r) r)) (ends_from last (rest_of (c % r))) (dynamic_ends w c) part after d e
     (ap (λ k. ends_from 0 (replicate (c / r) r) ++ ends_from k (rest_of (c % r))) at
     ∙ sym (ends_of_runs-append 0 (c / r) r (rest_of (c % r)))
     ∙ equal_is r c

@@ -58,12 +58,12 @@ joined_at r s v h gs hs true own all = subst (λ (t : Reduction). reduced_at t v
 joined_at r s v h gs hs false own all = refl
 
 -- to join what is sent is to join what the edges give
-pub together_given : (r : Reduction) (x d v : ℕ) (h : ℤ) (sent : SourceContribution) (g : Edge → List (ℕ × Reduction × ℤ)) (ss : List ℕ) (es : List (ℕ × ℤ)) → IsReducedContribution sent g ss → (sent.vector ≡ x → sent.reduction ≡ r) → firsts es ≡ ss
-    → reduced_at r v h (cond (sent.vector == x) (each_given sent.number (d ∷ [])) []) ≡ reduced_at r v h (given_on x g (column d es))
-together_given r x d v h sent g ss es is own keys =
-    joined_at r sent.reduction v h (each_given sent.number (d ∷ [])) (numbers_given is.number d ss) (sent.vector == x) (λ at. own (equal sent.vector x at)) (is.all d v h)
-    ∙ sym (ap (λ (gs : List (ℕ × ℤ)). reduced_at r v h gs) (given_by_column x sent.vector d sent.reduction is.number g is.each es
-    ∙ ap (λ (us : List ℕ). cond (sent.vector == x) (numbers_given is.number d us) []) keys))
+pub together_given : (r : Reduction) (x d v : ℕ) (h : ℤ) (contribution : SourceContribution) (g : Edge → List (ℕ × Reduction × ℤ)) (ss : List ℕ) (es : List (ℕ × ℤ)) → IsReducedContribution contribution g ss → (contribution.vector ≡ x → contribution.reduction ≡ r) → firsts es ≡ ss
+    → reduced_at r v h (cond (contribution.vector == x) (each_given contribution.number (d ∷ [])) []) ≡ reduced_at r v h (given_on x g (column d es))
+together_given r x d v h contribution g ss es is own keys =
+    joined_at r contribution.reduction v h (each_given contribution.number (d ∷ [])) (numbers_given is.number d ss) (contribution.vector == x) (λ at. own (equal contribution.vector x at)) (is.all d v h)
+    ∙ sym (ap (λ (gs : List (ℕ × ℤ)). reduced_at r v h gs) (given_by_column x contribution.vector d contribution.reduction is.number g is.each es
+    ∙ ap (λ (us : List ℕ). cond (contribution.vector == x) (numbers_given is.number d us) []) keys))
 
 -- a column in two parts
 pub column_parts : (d : ℕ) (first rest all : List (ℕ × ℤ)) (es : List Edge) → first ++ rest ≡ all → (es ++ column d first) ++ column d rest ≡ es ++ column d all

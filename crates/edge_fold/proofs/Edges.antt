@@ -90,12 +90,12 @@ nothing_either : (n : ℤ) (b : Bool) → [] ≡ cond b (each_given n []) []
 nothing_either n true = refl
 nothing_either n false = refl
 
-pub sent_row : (x y source : ℕ) (r : Reduction) (n : ℤ) (g : Edge → List (ℕ × Reduction × ℤ)) → ((d : ℕ) (w : ℤ) → g (source, d, w) ≡ (y, r, n) ∷ []) → (es : List (ℕ × ℤ))
+pub contribution_row : (x y source : ℕ) (r : Reduction) (n : ℤ) (g : Edge → List (ℕ × Reduction × ℤ)) → ((d : ℕ) (w : ℤ) → g (source, d, w) ≡ (y, r, n) ∷ []) → (es : List (ℕ × ℤ))
     → given_on x g (row source es) ≡ cond (y == x) (each_given n (firsts es)) []
-sent_row x y source r n g same [] = nothing_either n (y == x)
-sent_row x y source r n g same (e ∷ es) =
+contribution_row x y source r n g same [] = nothing_either n (y == x)
+contribution_row x y source r n g same (e ∷ es) =
     ap (λ (gs : List (ℕ × Reduction × ℤ)). for_vector x e.0 gs ++ given_on x g (row source es)) (same e.0 e.1)
-    ∙ one_for x y r n e.0 (firsts es) (y == x) (given_on x g (row source es)) (sent_row x y source r n g same es)
+    ∙ one_for x y r n e.0 (firsts es) (y == x) (given_on x g (row source es)) (contribution_row x y source r n g same es)
 
 -- one function, or two
 pub record IsOne (first : EdgeKernel) (steps : List FunctionStatementsTree) : Type 0 where

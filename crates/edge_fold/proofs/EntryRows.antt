@@ -54,8 +54,8 @@ weighed_column x y d r number g same (e ∷ es) =
     ∙ one_for y x d (number e.0 e.1) (y == x) (entry_numbers_given number d es) (given_on x g (column d es)) (weighed_column x y d r number g same es)
 
 -- to join what is sent is to join what the edges of a column give
-pub weighed_together : (r : Reduction) (x d v : ℕ) (h : ℤ) (sent : SourceContribution) (g : Edge → List (ℕ × Reduction × ℤ)) (es : List (ℕ × ℤ)) → IsEntryContribution sent g es → (sent.vector ≡ x → sent.reduction ≡ r)
-    → reduced_at r v h (cond (sent.vector == x) (each_given sent.number (d ∷ [])) []) ≡ reduced_at r v h (given_on x g (column d es))
-weighed_together r x d v h sent g es is own =
-    joined_at r sent.reduction v h (each_given sent.number (d ∷ [])) (entry_numbers_given is.number d es) (sent.vector == x) (λ at. own (equal sent.vector x at)) (is.all d v h)
-    ∙ sym (ap (λ (gs : List (ℕ × ℤ)). reduced_at r v h gs) (weighed_column x sent.vector d sent.reduction is.number g is.each es))
+pub weighed_together : (r : Reduction) (x d v : ℕ) (h : ℤ) (contribution : SourceContribution) (g : Edge → List (ℕ × Reduction × ℤ)) (es : List (ℕ × ℤ)) → IsEntryContribution contribution g es → (contribution.vector ≡ x → contribution.reduction ≡ r)
+    → reduced_at r v h (cond (contribution.vector == x) (each_given contribution.number (d ∷ [])) []) ≡ reduced_at r v h (given_on x g (column d es))
+weighed_together r x d v h contribution g es is own =
+    joined_at r contribution.reduction v h (each_given contribution.number (d ∷ [])) (entry_numbers_given is.number d es) (contribution.vector == x) (λ at. own (equal contribution.vector x at)) (is.all d v h)
+    ∙ sym (ap (λ (gs : List (ℕ × ℤ)). reduced_at r v h gs) (weighed_column x contribution.vector d contribution.reduction is.number g is.each es))

@@ -28,7 +28,7 @@ use Rattle.edge_fold.specs.Folded.{HasFolded, IsContextOf, waiting}
 use Rattle.edge_fold.specs.inside.ReducedContributions.{IsReducedContribution, numbers_given}
 use Rattle.edge_fold.specs.inside.Statements.{ArePairContributions, IsEntryOf}
 use Rattle.edge_fold.specs.inside.VectorAccumulators.{HaveJoined}
-use Rattle.edge_fold.proofs.Edges.{on_in_rounds, on_same, one_function, sent_row}
+use Rattle.edge_fold.proofs.Edges.{on_in_rounds, on_same, one_function, contribution_row}
 use Rattle.edge_fold.proofs.EntryRows.{weighed_row, weighed_together}
 use Rattle.edge_fold.proofs.Folds.{reduced_at-append}
 use Rattle.edge_fold.proofs.JoinedSlots.{folded_before, joined_alike, joined_more, joined_nothing}
@@ -51,14 +51,14 @@ one_given f m steps edge gs are alone gives =
     ap (λ (ss : List FunctionStatementsTree). all_given m ss edge) one.alone ∙ append-nil (given_in m one.a edge) ∙ gives one.a one.kernel
 
 -- what a statement gives along a row
-pub joined_sent : (f : ApplyContext) (x : ℕ) (r : Reduction) (a b : VectorAccumulators) (source : ℕ) (sent : SourceContribution) (gives : Edge → List (ℕ × Reduction × ℤ)) (es : List (ℕ × ℤ))
-    → ((d : ℕ) (w : ℤ) → gives (source, d, w) ≡ (sent.vector, sent.reduction, sent.number) ∷ []) → ((edge : Edge) → IsBy r x (gives edge))
-    → ((sent.vector ≡ x → sent.reduction ≡ r) → HaveJoined f x r a b (cond (sent.vector == x) (each_given sent.number (firsts es)) []))
+pub joined_contribution : (f : ApplyContext) (x : ℕ) (r : Reduction) (a b : VectorAccumulators) (source : ℕ) (contribution : SourceContribution) (gives : Edge → List (ℕ × Reduction × ℤ)) (es : List (ℕ × ℤ))
+    → ((d : ℕ) (w : ℤ) → gives (source, d, w) ≡ (contribution.vector, contribution.reduction, contribution.number) ∷ []) → ((edge : Edge) → IsBy r x (gives edge))
+    → ((contribution.vector ≡ x → contribution.reduction ≡ r) → HaveJoined f x r a b (cond (contribution.vector == x) (each_given contribution.number (firsts es)) []))
     → HaveJoined f x r a b (given_on x gives (row source es))
-joined_sent f x r a b source sent gives es each by joined =
-    let own : IsBy r x ((sent.vector, sent.reduction, sent.number) ∷ []) = subst (λ (gs : List (ℕ × Reduction × ℤ)). IsBy r x gs) (each 0 (pos 0)) (by (source, 0, pos 0)) in
-    joined_alike f x r a b (cond (sent.vector == x) (each_given sent.number (firsts es)) []) (given_on x gives (row source es))
-    (λ v n. sym (ap (λ gs. reduced_at r v n gs) (sent_row x sent.vector source sent.reduction sent.number gives each es)))
+joined_contribution f x r a b source contribution gives es each by joined =
+    let own : IsBy r x ((contribution.vector, contribution.reduction, contribution.number) ∷ []) = subst (λ (gs : List (ℕ × Reduction × ℤ)). IsBy r x gs) (each 0 (pos 0)) (by (source, 0, pos 0)) in
+    joined_alike f x r a b (cond (contribution.vector == x) (each_given contribution.number (firsts es)) []) (given_on x gives (row source es))
+    (λ v n. sym (ap (λ gs. reduced_at r v n gs) (contribution_row x contribution.vector source contribution.reduction contribution.number gives each es)))
     (joined own.0)
 
 pub joined_weighed : (f : ApplyContext) (m : StateValue) (x : ℕ) (r : Reduction) (a b : VectorAccumulators) (source : ℕ) (given : EntryContribution) (gives : Edge → List (ℕ × Reduction × ℤ)) (es : List (ℕ × ℤ))
@@ -74,14 +74,14 @@ joined_weighed f m x r a b source given gives es vectors is by joined =
     (joined own.0)
 
 -- what a statement gives along a column
-joined_together : (f : ApplyContext) (x : ℕ) (r : Reduction) (a b : VectorAccumulators) (d : ℕ) (sent : SourceContribution) (gives : Edge → List (ℕ × Reduction × ℤ)) (es : List (ℕ × ℤ))
-    → IsEntryContribution sent gives es → ((edge : Edge) → IsBy r x (gives edge))
-    → ((sent.vector ≡ x → sent.reduction ≡ r) → HaveJoined f x r a b (cond (sent.vector == x) (each_given sent.number (d ∷ [])) []))
+joined_together : (f : ApplyContext) (x : ℕ) (r : Reduction) (a b : VectorAccumulators) (d : ℕ) (contribution : SourceContribution) (gives : Edge → List (ℕ × Reduction × ℤ)) (es : List (ℕ × ℤ))
+    → IsEntryContribution contribution gives es → ((edge : Edge) → IsBy r x (gives edge))
+    → ((contribution.vector ≡ x → contribution.reduction ≡ r) → HaveJoined f x r a b (cond (contribution.vector == x) (each_given contribution.number (d ∷ [])) []))
     → HaveJoined f x r a b (given_on x gives (column d es))
-joined_together f x r a b d sent gives es is by joined =
-    let own : IsBy r x ((sent.vector, sent.reduction, is.number 0 (pos 0)) ∷ []) = subst (λ (gs : List (ℕ × Reduction × ℤ)). IsBy r x gs) (is.each 0 d (pos 0)) (by (0, d, pos 0)) in
-    joined_alike f x r a b (cond (sent.vector == x) (each_given sent.number (d ∷ [])) []) (given_on x gives (column d es))
-    (λ v n. weighed_together r x d v n sent gives es is own.0)
+joined_together f x r a b d contribution gives es is by joined =
+    let own : IsBy r x ((contribution.vector, contribution.reduction, is.number 0 (pos 0)) ∷ []) = subst (λ (gs : List (ℕ × Reduction × ℤ)). IsBy r x gs) (is.each 0 d (pos 0)) (by (0, d, pos 0)) in
+    joined_alike f x r a b (cond (contribution.vector == x) (each_given contribution.number (d ∷ [])) []) (given_on x gives (column d es))
+    (λ v n. weighed_together r x d v n contribution gives es is own.0)
     (joined own.0)
 
 -- one statement after the other
@@ -102,12 +102,12 @@ by_second : (r : Reduction) (x : ℕ) (all first second : Edge → List (ℕ × 
 by_second r x all first second each by edge = IsBy-right r x (first edge) (second edge) (subst (λ (gs : List (ℕ × Reduction × ℤ)). IsBy r x gs) (each edge) (by edge))
 
 -- what is sent was joined to slots, at a destination
-abbrev pub HasJoinedSent : ApplyContext → SourceContribution → (d : ℕ) → (before after : VectorAccumulators) → Type 0
-HasJoinedSent f sent d a b = (x : ℕ) (r : Reduction) → (sent.vector ≡ x → sent.reduction ≡ r) → HaveJoined f x r a b (cond (sent.vector == x) (each_given sent.number (d ∷ [])) [])
+abbrev pub HasJoinedContribution : ApplyContext → SourceContribution → (d : ℕ) → (before after : VectorAccumulators) → Type 0
+HasJoinedContribution f contribution d a b = (x : ℕ) (r : Reduction) → (contribution.vector ≡ x → contribution.reduction ≡ r) → HaveJoined f x r a b (cond (contribution.vector == x) (each_given contribution.number (d ∷ [])) [])
 
 pub folded_pair_into : (f : ApplyContext) (m : StateValue) (steps : List FunctionStatementsTree) (p : ContributionPair) (d : ℕ) (es : List (ℕ × ℤ)) (edges : List Edge) (a b : Scratch) (between : VectorAccumulators)
     → b.pairs ≡ a.pairs → ArePairContributions p (all_given m steps) es
-    → HasJoinedSent f p.first d a.slots between → HasJoinedSent f p.second d between b.slots
+    → HasJoinedContribution f p.first d a.slots between → HasJoinedContribution f p.second d between b.slots
     → HasFolded f m steps edges a → HasFolded f m steps (edges ++ column d es) b
 folded_pair_into f m steps p d es edges a b between same are one other has x r by =
     let all = all_given m steps in
@@ -123,9 +123,9 @@ any_weights number d [] ws = refl
 any_weights number d (s ∷ ss) [] = ap (λ (gs : List (ℕ × ℤ)). (d, number s) ∷ gs) (any_weights number d ss [])
 any_weights number d (s ∷ ss) (w ∷ ws) = ap (λ (gs : List (ℕ × ℤ)). (d, number s) ∷ gs) (any_weights number d ss ws)
 
-pub of_sources : (sent : SourceContribution) (gives : Edge → List (ℕ × Reduction × ℤ)) (ss : List ℕ) (ws : List ℤ) → IsReducedContribution sent gives ss → IsEntryContribution sent gives (entries_of ss ws)
-of_sources sent gives ss ws is = record {
+pub of_sources : (contribution : SourceContribution) (gives : Edge → List (ℕ × Reduction × ℤ)) (ss : List ℕ) (ws : List ℤ) → IsReducedContribution contribution gives ss → IsEntryContribution contribution gives (entries_of ss ws)
+of_sources contribution gives ss ws is = record {
   number = λ s w. is.number s;
   each = is.each;
-  all = λ d v h. is.all d v h ∙ sym (ap (λ (gs : List (ℕ × ℤ)). reduced_at sent.reduction v h gs) (any_weights is.number d ss ws));
+  all = λ d v h. is.all d v h ∙ sym (ap (λ (gs : List (ℕ × ℤ)). reduced_at contribution.reduction v h gs) (any_weights is.number d ss ws));
 }

@@ -50,15 +50,15 @@ none_here : (n m : ℕ) (b : Bool) → suc n ≤ cond b 0 (suc m) → b ≡ fals
 none_here n m true h = absurd (omega (arith, h))
 none_here n m false h = refl
 
-none_behind : (n m : ℕ) (b : Bool) → suc n ≤ cond b 0 (suc m) → n ≤ m
-none_behind n m true h = absurd (omega (arith, h))
-none_behind n m false h = omega (arith, h)
+none_after : (n m : ℕ) (b : Bool) → suc n ≤ cond b 0 (suc m) → n ≤ m
+none_after n m true h = absurd (omega (arith, h))
+none_after n m false h = omega (arith, h)
 
 pub index_in-append : (ss : List VectorAccumulator) (s : VectorAccumulator) (x : ℕ) → s.vector ≡ x → length ss ≤ index_in x ss → length ss ≡ index_in x (ss ++ s ∷ [])
 index_in-append [] s x e none = sym (ap (λ (k : ℕ). cond (k == x) 0 1) e ∙ ap (λ (b : Bool). cond b 0 1) (same_test x))
 index_in-append (t ∷ ts) s x e none =
     let off = none_here (length ts) (index_in x ts) (t.vector == x) none in
-    ap suc (index_in-append ts s x e (none_behind (length ts) (index_in x ts) (t.vector == x) none))
+    ap suc (index_in-append ts s x e (none_after (length ts) (index_in x ts) (t.vector == x) none))
     ∙ sym (ap (λ (b : Bool). cond b 0 (suc (index_in x (ts ++ s ∷ [])))) off)
 
 -- what a vector's slot has, after a change at the index of a slot

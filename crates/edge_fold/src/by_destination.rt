@@ -29,11 +29,11 @@ impl Scratch {
             → IsContextOf context.entry m steps
             → HasFolded context.entry m steps edges self.old → HasFolded context.entry m steps (edges ++ column destination entries) self.new) }
     {
-        if let Some(sent) = context.reduced_contribution(sources) {
+        if let Some(contribution) = context.reduced_contribution(sources) {
             let column = UnitColumn {
                 neighbours: &[destination],
             };
-            self.slots.join_number(alloc, context, sent, &column)?;
+            self.slots.join_number(alloc, context, contribution, &column)?;
             return Ok(());
         }
         let done = self.fold_pair_into(alloc, context, sources, &[], destination)?;

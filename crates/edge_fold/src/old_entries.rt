@@ -32,8 +32,8 @@ impl Scratch {
     {
         self.slots.used = 0;
         self.pairs.count = 0;
-        if let Some(sent) = context.sent(0) {
-            return self.slots.fill(alloc, context, sent.vector, sent.reduction);
+        if let Some(contribution) = context.source_contribution(0) {
+            return self.slots.fill(alloc, context, contribution.vector, contribution.reduction);
         }
         if let Some(given) = context.entry_contribution() {
             return self

@@ -21,13 +21,13 @@ impl ApplyContext<'_> {
         if self.second.is_some() {
             return None;
         }
-        let sent = self.together_by(self.first.shape(), sources)?;
-        Some(sent)
+        let contribution = self.reduced_contribution_by(self.first.shape(), sources)?;
+        Some(contribution)
     }
 
     /// What sources give each destination together by a statement of a shape, if each gives its own number.
     #[inline]
-    pub(crate) fn together_by(self, shape: Shape, sources: &[u32]) -> Option<SourceContribution>
+    pub(crate) fn reduced_contribution_by(self, shape: Shape, sources: &[u32]) -> Option<SourceContribution>
         ensures { IfSome result (λ s. (m : StateValue) → self.entry.vectors.now.vectors ≡ m.vectors
             → IsReducedContribution s (shape_given shape m) sources.now) }
     {

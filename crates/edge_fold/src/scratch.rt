@@ -71,8 +71,8 @@ impl Scratch {
             → HasFolded context.entry m steps (edges ++ row source (E.entries destinations.now)) self.new) }
         ensures unchanged { IfOk result (λ done. done ≡ false → self.new ≡ self.old) }
     {
-        if let Some(sent) = context.sent(source) {
-            self.slots.join_number(alloc, context, sent, destinations)?;
+        if let Some(contribution) = context.source_contribution(source) {
+            self.slots.join_number(alloc, context, contribution, destinations)?;
             return Ok(true);
         }
         if let Some(given) = context.entry_contribution() {

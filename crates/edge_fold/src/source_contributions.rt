@@ -14,19 +14,19 @@ use typed_tree::Operator;
 impl ApplyContext<'_> {
     /// What is given on every edge from a source, if it is the same on all.
     #[inline]
-    pub(crate) fn sent(self, source: u32) -> Option<SourceContribution>
+    pub(crate) fn source_contribution(self, source: u32) -> Option<SourceContribution>
         ensures { IfSome result (λ s. (m : StateValue) (steps : List FunctionStatementsTree) → IsContextOf self.entry m steps
             → (d : ℕ) (w : ℤ) → all_given m steps (source, d, w) ≡ (s.vector, s.reduction, s.number) ∷ []) }
     {
         if self.second.is_some() {
             return None;
         }
-        self.sent_by(self.first.shape(), source)
+        self.source_contribution_by(self.first.shape(), source)
     }
 
     /// What a statement of a shape gives on every edge from a source, if it is the same on all.
     #[inline(always)]
-    pub(crate) fn sent_by(self, shape: Shape, source: u32) -> Option<SourceContribution>
+    pub(crate) fn source_contribution_by(self, shape: Shape, source: u32) -> Option<SourceContribution>
         ensures { IfSome result (λ s. (m : StateValue) → self.entry.vectors.now.vectors ≡ m.vectors
             → (d : ℕ) (w : ℤ) → shape_given shape m (source, d, w) ≡ (s.vector, s.reduction, s.number) ∷ []) }
     {

@@ -62,8 +62,8 @@ impl ApplyContext<'_> {
         ensures { IfSome result (λ s. (m : StateValue) → self.entry.vectors.now.vectors ≡ m.vectors
             → IsEntryContribution s (shape_given shape m) (entries_of sources.now weights.now)) }
     {
-        if let Some(sent) = self.together_by(shape, sources) {
-            return Some(sent);
+        if let Some(contribution) = self.reduced_contribution_by(shape, sources) {
+            return Some(contribution);
         }
         if weights.len() != sources.len() {
             return None;

@@ -161,16 +161,16 @@ impl VectorAccumulators {
         &mut self,
         alloc: Global,
         context: ApplyContext<'_>,
-        sent: SourceContribution,
+        contribution: SourceContribution,
         destinations: &E,
     ) -> Result<(), AllocError>
-        ensures { OnOk result ((x : ℕ) (r : Reduction) → (sent.vector ≡ x → sent.reduction ≡ r)
-            → HaveJoined context.entry x r self.old self.new (if sent.vector == x then each_given sent.number (firsts (E.entries destinations.now)) else [])) }
+        ensures { OnOk result ((x : ℕ) (r : Reduction) → (contribution.vector ≡ x → contribution.reduction ≡ r)
+            → HaveJoined context.entry x r self.old self.new (if contribution.vector == x then each_given contribution.number (firsts (E.entries destinations.now)) else [])) }
     {
-        let position = self.position(alloc, sent.vector, sent.reduction, context.vertices)?;
-        let opening = context.opening(sent.vector);
+        let position = self.position(alloc, contribution.vector, contribution.reduction, context.vertices)?;
+        let opening = context.opening(contribution.vector);
         let entries = &mut self.slots[position].entries;
-        entries.join_number(sent.reduction, opening, sent.number, destinations)?;
+        entries.join_number(contribution.reduction, opening, contribution.number, destinations)?;
         Ok(())
     }
 

@@ -120,11 +120,11 @@ impl Scratch {
             → HasFolded context.entry m steps edges self.old
             → HasFolded context.entry m steps (edges ++ column destination (entries_of sources.now weights.now)) self.new) }
     {
-        if let Some(sent) = context.reduced_entries(sources, weights) {
+        if let Some(contribution) = context.reduced_entries(sources, weights) {
             let column = UnitColumn {
                 neighbours: &[destination],
             };
-            self.slots.join_number(alloc, context, sent, &column)?;
+            self.slots.join_number(alloc, context, contribution, &column)?;
             return Ok(());
         }
         let done = self.fold_pair_into(alloc, context, sources, weights, destination)?;

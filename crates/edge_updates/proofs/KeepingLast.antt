@@ -87,9 +87,9 @@ abbrev BeginAfter : EdgeUpdate → List EdgeUpdate → Type 0
 BeginAfter a [] = Unit {0}
 BeginAfter a (u ∷ us) = IsBefore a u
 
-in_order_behind : (u : EdgeUpdate) (us : List EdgeUpdate) → FollowInOrder u us → AreInOrder us
-in_order_behind u [] s = tt
-in_order_behind u (v ∷ vs) s = s.1
+in_order_after : (u : EdgeUpdate) (us : List EdgeUpdate) → FollowInOrder u us → AreInOrder us
+in_order_after u [] s = tt
+in_order_after u (v ∷ vs) s = s.1
 
 -- what has another key, and stands no earlier, stands after
 begin_after : (u : EdgeUpdate) (us : List EdgeUpdate) → FollowInOrder u us → begin_same u us ≡ false → BeginAfter u us
@@ -107,26 +107,26 @@ begin_after_same a u (v ∷ vs) s same =
 lasts_follow : (a : EdgeUpdate) (us : List EdgeUpdate) → AreInOrder us → BeginAfter a us → FollowAscending a (last_updates us)
 lasts_follow a [] order after = tt
 lasts_follow a (u ∷ us) order after = elim (cases_Bool (begin_same u us)) [
-  | inl same ↦ rw same (lasts_follow a us (in_order_behind u us order) (begin_after_same a u us after same))
-  | inr last ↦ rw last (after, lasts_follow u us (in_order_behind u us order) (begin_after u us order last))
+  | inl same ↦ rw same (lasts_follow a us (in_order_after u us order) (begin_after_same a u us after same))
+  | inr last ↦ rw last (after, lasts_follow u us (in_order_after u us order) (begin_after u us order last))
 ]
 
 -- the last updates of edges in order ascend
 pub lasts_ascend : (us : List EdgeUpdate) → AreInOrder us → Ascend (last_updates us)
 lasts_ascend [] order = tt
 lasts_ascend (u ∷ us) order = elim (cases_Bool (begin_same u us)) [
-  | inl same ↦ rw same (lasts_ascend us (in_order_behind u us order))
-  | inr last ↦ rw last (lasts_follow u us (in_order_behind u us order) (begin_after u us order last))
+  | inl same ↦ rw same (lasts_ascend us (in_order_after u us order))
+  | inr last ↦ rw last (lasts_follow u us (in_order_after u us order) (begin_after u us order last))
 ]
 
 -- an edge that stands no later than an update is not named after it
-none_behind : (a : EdgeUpdate) (us : List EdgeUpdate) (e : Edge) → FollowAscending a us → e.0 ≤ vertex_of a → (e.0 ≡ vertex_of a → e.1 ≤ neighbour_of a) → times e us ≡ 0
-none_behind a [] e s le no_later = refl
-none_behind a (u ∷ us) e s le no_later =
+none_after : (a : EdgeUpdate) (us : List EdgeUpdate) (e : Edge) → FollowAscending a us → e.0 ≤ vertex_of a → (e.0 ≡ vertex_of a → e.1 ≤ neighbour_of a) → times e us ≡ 0
+none_after a [] e s le no_later = refl
+none_after a (u ∷ us) e s le no_later =
     let other : names u e ≡ false = names_other u e (λ v n.
     let at : e.0 ≡ vertex_of a = omega (arith, v, le, s.0.0) in
     omega (arith, v, n, at, no_later at, s.0.1 (omega (arith, at, v)))) in
-    rw other (none_behind u us e s.1 (omega (arith, le, s.0.0)) (λ is.
+    rw other (none_after u us e s.1 (omega (arith, le, s.0.0)) (λ is.
     let at : e.0 ≡ vertex_of a = omega (arith, is, le, s.0.0) in
     omega (arith, no_later at, s.0.1 (omega (arith, at, is)))))
 
@@ -134,7 +134,7 @@ follow_once : (a : EdgeUpdate) (us : List EdgeUpdate) (e : Edge) → FollowAscen
 follow_once a us e s rest = elim (cases_Bool (names a e)) [
   | inl is ↦
       let parts = names_parts a e is in
-      let none : times e us ≡ 0 = none_behind a us e s (omega (arith, parts.0)) (λ same. omega (arith, parts.1)) in
+      let none : times e us ≡ 0 = none_after a us e s (omega (arith, parts.0)) (λ same. omega (arith, parts.1)) in
       rw is (omega (arith, none))
   | inr other ↦ rw other rest
 ]
@@ -142,11 +142,11 @@ follow_once a us e s rest = elim (cases_Bool (names a e)) [
 -- updates whose edges ascend name no edge twice
 pub ascend_once : (us : List EdgeUpdate) → Ascend us → NamesOnce us
 ascend_once [] s e = omega arith
-ascend_once (u ∷ us) s e = follow_once u us e s (ascend_once us (ascend_behind u us s) e)
+ascend_once (u ∷ us) s e = follow_once u us e s (ascend_once us (ascend_after u us s) e)
   where
-    ascend_behind : (a : EdgeUpdate) (xs : List EdgeUpdate) → FollowAscending a xs → Ascend xs
-    ascend_behind a [] t = tt
-    ascend_behind a (x ∷ xs) t = t.1
+    ascend_after : (a : EdgeUpdate) (xs : List EdgeUpdate) → FollowAscending a xs → Ascend xs
+    ascend_after a [] t = tt
+    ascend_after a (x ∷ xs) t = t.1
 
 -- a slice that is written back where it came from
 pub written : (n : ℕ) (s rest : List EdgeUpdate) → length s ≡ n → take n (s ++ rest) ≡ s

@@ -10,7 +10,7 @@ ghost use Rattle.expression_types.specs.ValueTree.{value_tree};
 use crate::bare_name::bare_name;
 use crate::fault::{Fault, TypeRule, note};
 use crate::operands::{Conditions, Integers};
-use crate::operators::{addition, behind_signs, entry, fault, multiplication, relate};
+use crate::operators::{addition, after_signs, entry, fault, multiplication, relate};
 use crate::scope::{Entity, Inside, Scope};
 use crate::value::{Value, has_value, set_named, value_named, vector_named};
 use std::alloc::{AllocError, Global};
@@ -138,7 +138,7 @@ fn unary(
     ensures { ReportsFaults value_tree first_fault.old first_fault.new result (unary_value scope.now at (unary_of unary.now)) }
 {
     let value = primary(alloc, scope, at, &unary.primary, first_fault)?;
-    behind_signs(alloc, &unary.signs, value, at, first_fault)
+    after_signs(alloc, &unary.signs, value, at, first_fault)
 }
 
 #[cycle(types)]

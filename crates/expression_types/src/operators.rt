@@ -134,7 +134,7 @@ fn relation(
 }
 
 /// A value after signs, of which the last is the closest. The fault is noted where they do not take it.
-pub(crate) fn behind_signs(
+pub(crate) fn after_signs(
     alloc: Global,
     signs: &[Prefix],
     value: Value,

@@ -78,10 +78,10 @@ none_above u a h (e ∷ es) s le =
 
 -- one more block after the others
 pub lists_more : (k : ℕ) (bs : List (Option Block)) (b : Option Block) → lists_in k (bs ++ b ∷ []) ≡ lists_in k bs ++ numbered (k + length bs) (vertices_at b)
-lists_more k [] b = nil_behind ∙ ap (λ j. numbered j (vertices_at b)) (omega arith)
+lists_more k [] b = nil_after ∙ ap (λ j. numbered j (vertices_at b)) (omega arith)
   where
-    nil_behind : numbered k (vertices_at b) ++ [] ≡ numbered k (vertices_at b)
-    nil_behind = append-nil (numbered k (vertices_at b))
+    nil_after : numbered k (vertices_at b) ++ [] ≡ numbered k (vertices_at b)
+    nil_after = append-nil (numbered k (vertices_at b))
 lists_more k (x ∷ bs) b =
     ap (λ r. numbered k (vertices_at x) ++ r) (lists_more (k + 1) bs b ∙ ap (λ j. lists_in (k + 1) bs ++ numbered j (vertices_at b)) (omega arith))
     ∙ sym (append_assoc (numbered k (vertices_at x)) (lists_in (k + 1) bs) (numbered (k + length (x ∷ bs)) (vertices_at b)))

@@ -109,9 +109,9 @@ module _ (p : ProgramTree) (s : ScheduleTree) where
       (subst (λ q. Fills p g e n (loop_step number (in_loop d) d (UnlessBelow name q))) to fills))
 
 -- nothing is declared where no statement is left
-pub behind_none : (left : List MainStatement) (d : Depth) → length left ≡ 0 → behind_all (block_tree left) d ≡ d
-behind_none [] d none = refl
-behind_none (first ∷ left) d none = absurd (omega (arith, none))
+pub after_none : (left : List MainStatement) (d : Depth) → length left ≡ 0 → behind_all (block_tree left) d ≡ d
+after_none [] d none = refl
+after_none (first ∷ left) d none = absurd (omega (arith, none))
 
 -- main, and the end
 pub whole_plan : (p : ProgramTree) (s : ScheduleTree) (a b k : List Instruction) (d : Depth) (i : Instruction)

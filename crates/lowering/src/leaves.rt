@@ -9,7 +9,7 @@ ghost use Rattle.plans.specs.Instruction.{Advance, Do, Enter, Jump, Turn, Unless
 ghost use Rattle.plans.specs.Plan.{chosen, in_loop, loop_step, plain as plain_tree, with_integer};
 ghost use Rattle.plan_text.specs.Expressions.{spaced};
 ghost use Rattle.plans.specs.Operation.{part_tree};
-ghost use Rattle.plans.specs.inside.Parts.{together_tree};
+ghost use Rattle.plans.specs.inside.Parts.{fused_pair_tree};
 ghost use Rattle.plans.specs.Operation.{IsOperation};
 ghost use Rattle.lowering.specs.inside.Kinds.{HasNoBlock};
 ghost use Rattle.lowering.specs.inside.Putting.{BeginsLoop, Fills, KeepsIndex, Puts};
@@ -407,7 +407,7 @@ impl Lowering<'_> {
         code: &mut Vec<Instruction>,
     ) -> Result<(), AllocError>
         ensures { OnOk result (Puts (program_tree self.entry.program.now) code.old.items code.new.items
-            (chosen self.entry.schedule.now statement.now.number statement.now.label depth (together_tree pair) ∷ [])) }
+            (chosen self.entry.schedule.now statement.now.number statement.now.label depth (fused_pair_tree pair) ∷ [])) }
     {
         let apply_schedule = self.schedule.apply_schedule_at(statement.label);
         let mut words = Vec::new(self.alloc);
@@ -430,7 +430,7 @@ impl Lowering<'_> {
         apply_schedule: ApplySchedule,
     ) -> Result<(), AllocError>
         ensures { OnOk result (words.new.items ≡ words.old.items
-            ++ spaced (operation_words (program_tree self.entry.program.now) apply_schedule (together_tree pair))) }
+            ++ spaced (operation_words (program_tree self.entry.program.now) apply_schedule (fused_pair_tree pair))) }
     {
         let lines = Lines {
             program: self.program,
@@ -450,7 +450,7 @@ impl Lowering<'_> {
 
 /// What two applies that are done together do.
 fn operation_of_pair(pair: FusedPair) -> PlanOperation
-    ensures { (keep shown : Depth) → IsOperation keep shown result (together_tree pair) }
+    ensures { (keep shown : Depth) → IsOperation keep shown result (fused_pair_tree pair) }
 {
     match pair {
         FusedPair::Edges {

@@ -23,10 +23,10 @@ listed_front position zero bytes es ok = tt
 listed_front position (suc i) bytes [] ok = tt
 listed_front position (suc i) bytes (e ∷ es) ok = (ok.0, ok.1, listed_front (position + size_of e) i bytes es ok.2)
 
-pub listed_behind : (position i : ℕ) (bytes : List ℕ) (es : List ListEntry) → AreListed position bytes es → AreListed (end_of position (take i es)) bytes (drop i es)
-listed_behind position zero bytes es ok = ok
-listed_behind position (suc i) bytes [] ok = tt
-listed_behind position (suc i) bytes (e ∷ es) ok = listed_behind (position + size_of e) i bytes es ok.2
+pub listed_after : (position i : ℕ) (bytes : List ℕ) (es : List ListEntry) → AreListed position bytes es → AreListed (end_of position (take i es)) bytes (drop i es)
+listed_after position zero bytes es ok = ok
+listed_after position (suc i) bytes [] ok = tt
+listed_after position (suc i) bytes (e ∷ es) ok = listed_after (position + size_of e) i bytes es ok.2
 
 pub start_at : (position i : ℕ) (bytes : List ℕ) (es : List ListEntry) (d : ListEntry) → AreListed position bytes es → i < length es → (get_or es i d).start ≡ end_of position (take i es)
 start_at position i bytes [] d ok lt = absurd (omega arith)

@@ -7,7 +7,7 @@ use Rattle.lexer.specs.Tokens.{HasTokens, slice_of}
 use Rattle.lexer.proofs.ReadingLaws.{reads_unique}
 use Rattle.syntax.specs.Terminals.{terminals_of, terminal_of}
 use Rattle.syntax.specs.SourceTrees.{SourceTree}
-use Rattle.syntax.specs.Nesting.{limit, StaysWithin, PassesAt, nesting_behind}
+use Rattle.syntax.specs.Nesting.{limit, StaysWithin, PassesAt, nesting_after}
 use Rattle.parser.specs.declared.error.ParseError.{ParseError}
 use Rattle.parser.specs.declared.error.ParseError.TheVariants.{BadByte, NumberTooLarge, UnfinishedText, Unexpected, TooDeep, NoMemory}
 use Rattle.parser.specs.Outcome.{Parses, without_place}
@@ -17,7 +17,7 @@ stays_or_passes : (text : List ℕ) (n : ℕ) (tokens : List Token) (at : ℕ) �
 stays_or_passes text n [] at stays passes = passes
 stays_or_passes text n (token ∷ tokens) at stays (inl passes) = let h = stays.0 in let k = passes.0 in absurd (omega arith)
 stays_or_passes text n (token ∷ tokens) at stays (inr passes) =
-    stays_or_passes text (nesting_behind (terminal_of token.kind (slice_of text token.span) token.span.start) n) tokens at stays.1 passes.1
+    stays_or_passes text (nesting_after (terminal_of token.kind (slice_of text token.span) token.span.start) n) tokens at stays.1 passes.1
 
 -- they pass it first at one offset
 passes_once : (text : List ℕ) (n : ℕ) (tokens : List Token) (x y : ℕ) → PassesAt text n tokens x → PassesAt text n tokens y → x ≡ y
@@ -26,7 +26,7 @@ passes_once text n (token ∷ tokens) x y (inl a) (inl b) = a.1 ∙ sym b.1
 passes_once text n (token ∷ tokens) x y (inl a) (inr b) = let h = a.0 in let k = b.0 in absurd (omega arith)
 passes_once text n (token ∷ tokens) x y (inr a) (inl b) = let h = a.0 in let k = b.0 in absurd (omega arith)
 passes_once text n (token ∷ tokens) x y (inr a) (inr b) =
-    passes_once text (nesting_behind (terminal_of token.kind (slice_of text token.span) token.span.start) n) tokens x y a.1 b.1
+    passes_once text (nesting_after (terminal_of token.kind (slice_of text token.span) token.span.start) n) tokens x y a.1 b.1
 
 same_tokens : (text : List ℕ) (tokens others : List Token) → HasTokens text tokens → HasTokens text others → tokens ≡ others
 same_tokens text tokens others a b = let e : ◌≡◌ {A = Result (List Token) LexError} (Ok tokens) (Ok others) = reads_unique text (Ok tokens) (Ok others) a b in cc

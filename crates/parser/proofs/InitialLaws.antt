@@ -52,8 +52,8 @@ call_is (Name n ∷ ws) name rest begins is = named_call n ws (method_at ws) beg
     same_pair m n ws rest is = cc is
 call_is _ name rest begins is = absurd (false≢true begins)
 
-pub method_behind : (ws rest : List Terminal) → after_terminal (OfSymbol symbol.Dot) ws ≡ Some rest → is_called (method_at ws) ≡ called_terminal rest
-method_behind ws rest is = ap (λ w. is_called (method_at w)) (after_terminal-sound (OfSymbol symbol.Dot) ws rest is) ∙ go rest
+pub method_after : (ws rest : List Terminal) → after_terminal (OfSymbol symbol.Dot) ws ≡ Some rest → is_called (method_at ws) ≡ called_terminal rest
+method_after ws rest is = ap (λ w. is_called (method_at w)) (after_terminal-sound (OfSymbol symbol.Dot) ws rest is) ∙ go rest
   where
     go : (rest : List Terminal) → is_called (method_at (OfSymbol symbol.Dot ∷ rest)) ≡ called_terminal rest
     go (OfKeyword terminal ∷ rest) = refl

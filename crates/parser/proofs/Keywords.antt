@@ -55,9 +55,9 @@ without terminal ws None is differs = is
 without terminal ws (Some rest) is differs = absurd (differs rest (after_terminal-sound terminal ws rest is))
 
 -- so nothing is after it
-pub none_behind : (found : TokenKind) (bytes : List ℕ) (at : ℕ) (word : Keyword) (ws left : List Terminal) → ws ≡ terminal_of found bytes at ∷ left
+pub none_after : (found : TokenKind) (bytes : List ℕ) (at : ℕ) (word : Keyword) (ws left : List Terminal) → ws ≡ terminal_of found bytes at ∷ left
     → found ≢ kind.Keyword word → after_terminal (OfKeyword word) ws ≡ None
-none_behind found bytes at word ws left is differs = without (OfKeyword word) ws (after_terminal (OfKeyword word) ws) refl (no_keyword found bytes at word ws left is differs)
+none_after found bytes at word ws left is differs = without (OfKeyword word) ws (after_terminal (OfKeyword word) ws) refl (no_keyword found bytes at word ws left is differs)
 
 -- a token of the keyword is its terminal
 pub is_keyword : (found : TokenKind) (bytes : List ℕ) (at : ℕ) (word : Keyword) (ws left : List Terminal) → ws ≡ terminal_of found bytes at ∷ left → found ≡ kind.Keyword word
@@ -68,8 +68,8 @@ same_terminal-same : (word : Keyword) → same_terminal (OfKeyword word) (OfKeyw
 same_terminal-same word = (bytes_eq-Decides (keyword_spelling word) (keyword_spelling word)).1 refl
 
 -- so what follows it is after it
-pub some_behind : (found : TokenKind) (bytes : List ℕ) (at : ℕ) (word : Keyword) (ws left : List Terminal) → ws ≡ terminal_of found bytes at ∷ left → found ≡ kind.Keyword word
+pub some_after : (found : TokenKind) (bytes : List ℕ) (at : ℕ) (word : Keyword) (ws left : List Terminal) → ws ≡ terminal_of found bytes at ∷ left → found ≡ kind.Keyword word
     → ((at : ℕ) → keyword_terminal word at ≡ OfKeyword word) → after_terminal (OfKeyword word) ws ≡ Some left
-some_behind found bytes at word ws left is same plain =
+some_after found bytes at word ws left is same plain =
     ap (λ l. after_terminal (OfKeyword word) l) (is_keyword found bytes at word ws left is same plain)
     ∙ ap (λ b. if b then Some left else None) (same_terminal-same word)

@@ -8,7 +8,7 @@ use Rattle.lexer.specs.declared.token.TokenKind.{TokenKind}
 use Rattle.lexer.specs.declared.token.TokenKind.TheVariants as kind
 use Rattle.lexer.specs.Tokens.{AreInOrder, FaultsAt, bytes_of}
 use Rattle.lexer.proofs.OrderLaws.{HasTokens-AreInOrder}
-use Rattle.syntax.specs.Nesting.{PassesAt, nesting_behind}
+use Rattle.syntax.specs.Nesting.{PassesAt, nesting_after}
 use Rattle.syntax.specs.Offsets.{StandWhere, StandsWhere}
 use Rattle.syntax.specs.SourceSpelling.{source_terminals}
 use Rattle.syntax.specs.SourceTrees.{SourceTree}
@@ -27,7 +27,7 @@ passes_within : (text : List ℕ) (n from : ℕ) (tokens : List Token) (at : ℕ
 passes_within text n from [] at order passes = absurd passes
 passes_within text n from (token ∷ tokens) at (follows, within, gaps, is, order) (inl passes) = omega (arith, passes.1, within.0, within.1)
 passes_within text n from (token ∷ tokens) at (follows, within, gaps, is, order) (inr passes) =
-    passes_within text (nesting_behind (terminal_of token.kind (slice_of text token.span) token.span.start) n) token.span.end tokens at order passes.1
+    passes_within text (nesting_after (terminal_of token.kind (slice_of text token.span) token.span.start) n) token.span.end tokens at order passes.1
 
 beginning_within : (text : List ℕ) (from before : ℕ) (tokens : List Token) → AreInOrder text from tokens → beginning_of text (drop before tokens) ≤ length text
 beginning_within text from zero [] order = le_refl (length text)

@@ -3,7 +3,7 @@ ghost use Rattle.std.specs.Prelude.{◌≡◌, ◌<◌, ◌≤◌, ℕ, length, 
 ghost use Rattle.parser.specs.inside.Readers.{terminals, Gives};
 ghost use Rattle.syntax.specs.SourceReading.{edgeset_at, type_at, typed_at};
 ghost use Rattle.syntax.specs.SourceViews.{parameter_tree};
-ghost use Rattle.parser.specs.inside.Fronts.{begun_type, type_behind};
+ghost use Rattle.parser.specs.inside.Fronts.{begun_type, type_after};
 
 use crate::cursor::Cursor;
 use crate::syntax_error::SyntaxError;
@@ -96,7 +96,7 @@ fn rest_of_type(
     declared: DeclaredType,
     cursor: Cursor<'_>,
 ) -> Result<(DeclaredType, Cursor<'_>), SyntaxError>
-    ensures reads { Gives (λ t. t) result (type_behind declared (terminals cursor.entry)) }
+    ensures reads { Gives (λ t. t) result (type_after declared (terminals cursor.entry)) }
     ensures shorter { IfOk result (λ x. length (terminals x.1) ≤ length (terminals cursor.entry)) }
 {
     match declared {

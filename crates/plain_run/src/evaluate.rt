@@ -67,7 +67,7 @@ fn total_of(
         IntExpression::SetSize(slot) => Total {
             number: (members_at(sets, slot.index).len() as u64).cast_signed(),
         },
-        IntExpression::Negative(signs, e) => behind_signs(
+        IntExpression::Negative(signs, e) => after_signs(
             *signs,
             total_of(e, vectors, sets, scope),
         ),
@@ -79,7 +79,7 @@ fn total_of(
 }
 
 /// The number with its sign changed so many times.
-fn behind_signs(signs: usize, total: Total) -> Total
+fn after_signs(signs: usize, total: Total) -> Total
     ensures { result.number ≡ negative_times signs total.number }
 {
     let mut now = total;

@@ -13,33 +13,33 @@ use Rattle.typed_tree.specs.declared.apply.StatementApply.TheVariants.{Vertices,
 use Rattle.typed_tree.specs.Independence.{function_writes}
 use Rattle.typed_tree.specs.BlockTree.{StatementKindTree, DeclareSet, AssignSet, ApplyVertex, ApplyEdges}
 use Rattle.typed_tree.specs.ProgramTree.{ProgramTree}
-use Rattle.typed_tree.specs.Resolved.{VisibleTree, ActionIsResolved, EndsAreResolved, behind_action}
+use Rattle.typed_tree.specs.Resolved.{VisibleTree, ActionIsResolved, EndsAreResolved, after_action}
 use Rattle.schedule.specs.Schedule.{apply_of, modifying_as}
 use Rattle.algorithm_meaning.specs.declared.state.Depth.{Depth}
 use Rattle.plans.specs.Instruction.{ResultTree, Dropped, Declared, Assigned, EdgePartTree}
 use Rattle.plans.specs.Fusing.{EdgeApplyTree, VertexApplyTree, apply_tree, edge_apply_of, vertex_apply_of}
 use Rattle.type_laws.specs.AskedVectors.{AsksForWritten}
-use Rattle.type_laws.specs.EachStatement.{SetNames, names_behind}
+use Rattle.type_laws.specs.EachStatement.{SetNames, names_after}
 use Rattle.type_laws.specs.VisibleSets.{EndIsVisible, EndsAreVisible, IsVisible, SetsAreVisible, ValueIsVisible}
 use Rattle.type_laws.proofs.ResolvedScopes.{get_before, get_last}
 
 -- what is visible stays so after a statement
-pub stays_visible : (a : StatementKindTree) (names : SetNames) (k : ℕ) (x : Option ℕ) → slice_get names k ≡ Some x → slice_get (names_behind a names) k ≡ Some x
+pub stays_visible : (a : StatementKindTree) (names : SetNames) (k : ℕ) (x : Option ℕ) → slice_get names k ≡ Some x → slice_get (names_after a names) k ≡ Some x
 stays_visible (DeclareSet name value) names k x is = get_before names (Some name ∷ []) k x is
 stays_visible _ names k x is = is
 
-end_stays : (a : StatementKindTree) (names : SetNames) (end : Option VertexFilter) → EndIsVisible names end → EndIsVisible (names_behind a names) end
+end_stays : (a : StatementKindTree) (names : SetNames) (end : Option VertexFilter) → EndIsVisible names end → EndIsVisible (names_after a names) end
 end_stays a names None visible = tt
 end_stays a names (Some (filter.Members slot)) visible = stays_visible a names slot.index (Some slot.name) visible
 end_stays a names (Some (filter.Function index)) visible = tt
 
-value_stays : (a : StatementKindTree) (names : SetNames) (value : SetValue) → ValueIsVisible names value → ValueIsVisible (names_behind a names) value
+value_stays : (a : StatementKindTree) (names : SetNames) (value : SetValue) → ValueIsVisible names value → ValueIsVisible (names_after a names) value
 value_stays a names (set.Filter slot index) visible = stays_visible a names slot.index (Some slot.name) visible
 value_stays a names (set.Modified ends function vector) visible = (end_stays a names ends.from visible.0, end_stays a names ends.to visible.1)
 value_stays a names _ visible = tt
 
 -- what a statement speaks of is visible after it too
-pub sets_stay : (p : ProgramTree) (a : StatementKindTree) (names : SetNames) → SetsAreVisible p names a → SetsAreVisible p (names_behind a names) a
+pub sets_stay : (p : ProgramTree) (a : StatementKindTree) (names : SetNames) → SetsAreVisible p names a → SetsAreVisible p (names_after a names) a
 sets_stay p (DeclareSet name value) names visible = value_stays (DeclareSet name value) names value visible
 sets_stay p _ names visible = visible
 
@@ -63,7 +63,7 @@ module _ (p : ProgramTree) where
     pub resolved : EndsAreResolved p v apply.ends
     pub visible : EndsAreVisible names apply.ends
     pub written : ResultIsWritten apply.part.function apply.part.result
-    pub stands : (d : Depth) → d.sets ≡ length v.sets → length p.sets ≤ d.sets → ResultStands (behind_action a v) d apply.part.result
+    pub stands : (d : Depth) → d.sets ≡ length v.sets → length p.sets ≤ d.sets → ResultStands (after_action a v) d apply.part.result
 
   pub record IsVertexApply (names : SetNames) (a : StatementKindTree) (x : StatementApply) : Type 0 where
     pub apply : VertexApplyTree

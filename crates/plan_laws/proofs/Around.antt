@@ -5,7 +5,7 @@ use Rattle.typed_tree.specs.ProgramTree.{ProgramTree}
 use Rattle.apply_options.specs.ScheduleTree.{ScheduleTree, apply_schedule_at}
 use Rattle.algorithm_meaning.specs.declared.state.Depth.{Depth}
 use Rattle.plans.specs.Instruction.{OperationTree, Do, ApplyEdgesTogether, ApplyVerticesTogether, Unless, Enter, UnlessBelow, Advance, Turn, Jump, End, InstructionTree}
-use Rattle.plans.specs.Fusing.{EdgeApplyTree, VertexApplyTree, edge_apply_of, vertex_apply_of, edges_fit, vertices_fit, edges_together, vertices_together, either, together, is_with, FusionRole, Alone, WithNext, WithPrevious, with_next, fusion_role_of, takes_next}
+use Rattle.plans.specs.Fusing.{EdgeApplyTree, VertexApplyTree, edge_apply_of, vertex_apply_of, edges_fit, vertices_fit, fused_edges, fused_vertices, either, together, is_with, FusionRole, Alone, WithNext, WithPrevious, with_next, fusion_role_of, takes_next}
 use Rattle.plans.specs.Plan.{behind}
 use Rattle.plans.proofs.Proper.{HasNoBlock}
 use Rattle.type_laws.specs.LoopVariables.{KeepsInside}
@@ -139,7 +139,7 @@ abbrev FitsBoth : (a b : StatementKindTree) → Option OperationTree → Type 0
 FitsBoth a b None = Unit {0}
 FitsBoth a b (Some operation) = IsForTwo operation × DeclaresNone a × DeclaresNone b
 
-edges_fit_both : (p : ProgramTree) (d : Depth) (a b : StatementKindTree) (x y : Option EdgeApplyTree) → edge_apply_of a ≡ x → edge_apply_of b ≡ y → FitsBoth a b (edges_together p d x y)
+edges_fit_both : (p : ProgramTree) (d : Depth) (a b : StatementKindTree) (x y : Option EdgeApplyTree) → edge_apply_of a ≡ x → edge_apply_of b ≡ y → FitsBoth a b (fused_edges p d x y)
 edges_fit_both p d a b None y e f = tt
 edges_fit_both p d a b (Some x) None e f = tt
 edges_fit_both p d a b (Some x) (Some y) e f = by_test (edges_fit p d x y)
@@ -148,7 +148,7 @@ edges_fit_both p d a b (Some x) (Some y) e f = by_test (edges_fit p d x y)
     by_test true = (tt, edge_declares_none a x e, edge_declares_none b y f)
     by_test false = tt
 
-vertices_fit_both : (p : ProgramTree) (a b : StatementKindTree) (x y : Option VertexApplyTree) → vertex_apply_of a ≡ x → vertex_apply_of b ≡ y → FitsBoth a b (vertices_together p x y)
+vertices_fit_both : (p : ProgramTree) (a b : StatementKindTree) (x y : Option VertexApplyTree) → vertex_apply_of a ≡ x → vertex_apply_of b ≡ y → FitsBoth a b (fused_vertices p x y)
 vertices_fit_both p a b None y e f = tt
 vertices_fit_both p a b (Some x) None e f = tt
 vertices_fit_both p a b (Some x) (Some y) e f = by_test (vertices_fit p x y)
@@ -173,7 +173,7 @@ company_fits p s d true number label a rest done = done
 company_fits p s d false number label a Empty done = tt
 company_fits p s d false number label a (Then second other b rest) done =
     fused_fits (is_with (apply_schedule_at label s).fused other) a b second other rest (together p d a b)
-    (either_fits_both a b (edges_together p d (edge_apply_of a) (edge_apply_of b)) (vertices_together p (vertex_apply_of a) (vertex_apply_of b))
+    (either_fits_both a b (fused_edges p d (edge_apply_of a) (edge_apply_of b)) (fused_vertices p (vertex_apply_of a) (vertex_apply_of b))
     (edges_fit_both p d a b (edge_apply_of a) (edge_apply_of b) refl refl) (vertices_fit_both p a b (vertex_apply_of a) (vertex_apply_of b) refl refl))
 
 pub next_done : (company : FusionRole) (a : StatementKindTree) (rest : BlockTree) → FitsCompany company a rest → IsDone (takes_next company) rest

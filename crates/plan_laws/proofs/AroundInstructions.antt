@@ -9,7 +9,7 @@ use Rattle.algorithm_meaning.specs.declared.state.Depth.{Depth}
 use Rattle.plans.specs.Instruction.{ApplyEdgesTogether, ApplyVerticesTogether, Unless, Enter, UnlessBelow, Advance, Turn, Jump, End, InstructionTree}
 use Rattle.plans.specs.Fusing.{FusionRole, Alone, WithNext, WithPrevious, fusion_role_of, takes_next}
 use Rattle.plans.specs.Plan.{behind, behind_all, in_loop, with_integer, main_depth, plan_of, plain, loop_step, size_in, plan_in, size, size_all, plan, plan_all}
-use Rattle.plans.proofs.Depths.{within_behind, within_behind_all}
+use Rattle.plans.proofs.Depths.{within_after, within_after_all}
 use Rattle.plans.proofs.Indices.{HasAt, has_front, has_behind, has_all, length_in, length-plan, length-plan_all}
 use Rattle.type_laws.specs.LoopVariables.{KeepsInside, KeepsLoops, KeepsLoopVariables, integers_behind}
 use Rattle.type_laws.proofs.LoopStatements.{AreBelow, below_more}
@@ -182,7 +182,7 @@ module _ (p : ProgramTree) (s : ScheduleTree) where
           let to = index + 1 + n in
           let same : index + (1 + n) ≡ to = omega arith in
           let there = entry_along code table (index + (1 + n)) to is d.integers same end in
-          let deep = entry_more code table to is d.integers (behind_all body d).integers (within_behind_all body d).integers there in (
+          let deep = entry_more code table to is d.integers (behind_all body d).integers (within_after_all body d).integers there in (
             (block_entry body false (index + 1) d is tt at.1 rows.1 deep, there, below),
             block_local body false (index + 1) d is tt at.1 rows.1 deep below keeps,
           )
@@ -204,8 +204,8 @@ module _ (p : ProgramTree) (s : ScheduleTree) where
           let at_back = has_behind code (index + 1) n back own (jump ∷ others) e refl at.1 in
           let rows_back = rows_behind table (index + 1) n back own_rows (is ∷ other_rows) f refl rows.1 in
           let at_jump = first_entry back is d jump at_back.0 rows_back.0 refl in
-          let body_end = entry_more code table back is d.integers (behind_all body d).integers (within_behind_all body d).integers at_jump in
-          let other_end = entry_more code table to is d.integers (behind_all other d).integers (within_behind_all other d).integers there in
+          let body_end = entry_more code table back is d.integers (behind_all body d).integers (within_after_all body d).integers at_jump in
+          let other_end = entry_more code table to is d.integers (behind_all other d).integers (within_after_all other d).integers there in
           let body_at = has_front code (index + 1) own (jump ∷ others) at.1 in
           let body_rows = rows_front table (index + 1) own_rows (is ∷ other_rows) rows.1 in (
             (block_entry body false (index + 1) d is tt body_at body_rows body_end, block_entry other false from d is tt at_back.1 rows_back.1 other_end, below),
@@ -226,7 +226,7 @@ module _ (p : ProgramTree) (s : ScheduleTree) where
           let at_back = has_behind code (index + 2) n back own (jump ∷ []) e refl inside in
           let rows_back = rows_behind table (index + 2) n back own_rows (is ∷ []) f refl inside_rows in
           let at_jump = first_entry back is d jump at_back.0 rows_back.0 refl in
-          let body_end = entry_more code table back is d.integers (behind_all body d).integers (within_behind_all body d).integers at_jump in
+          let body_end = entry_more code table back is d.integers (behind_all body d).integers (within_after_all body d).integers at_jump in
           let body_at = has_front code (index + 2) own (jump ∷ []) inside in
           let body_rows = rows_front table (index + 2) own_rows (is ∷ []) inside_rows in
           let same : index + (2 + n + 1) ≡ back + 1 = omega arith in
@@ -255,7 +255,7 @@ module _ (p : ProgramTree) (s : ScheduleTree) where
           let at_back = has_behind code (index + 4) n back own (advance ∷ jump ∷ []) e refl inside in
           let rows_back = rows_behind table (index + 4) n back own_rows (more ∷ more ∷ []) f refl inside_rows in
           let at_advance = first_entry back more d advance at_back.0 rows_back.0 refl in
-          let wide : d.integers ≤ (behind_all body deep).integers = (let l = (within_behind_all body deep).integers in omega (arith, l)) in
+          let wide : d.integers ≤ (behind_all body deep).integers = (let l = (within_after_all body deep).integers in omega (arith, l)) in
           let body_end = entry_more code table back more d.integers (behind_all body deep).integers wide at_advance in
           let body_at = has_front code (index + 4) own (advance ∷ jump ∷ []) inside in
           let body_rows = rows_front table (index + 4) own_rows (more ∷ more ∷ []) inside_rows in
@@ -307,7 +307,7 @@ module _ (p : ProgramTree) (s : ScheduleTree) where
           (company_local company action rest index number label d is own own_rows (size p s d action) fits below (has_front code index first others at) (rows_front table index first_rows other_rows rows)
           (λ here there next. action_local action index number label d is here there next below keeps.0) entry)
           (block_local rest (takes_next company) (index + n) (behind action d) is done_next at_rest rows_rest end_rest
-          (below_more is d.integers (behind action d).integers (within_behind action d).integers below) keeps_rest)
+          (below_more is d.integers (behind action d).integers (within_after action d).integers below) keeps_rest)
 
 pub rows_all : (ts pre : List (List ℕ)) → HasRows (pre ++ ts) (length pre) ts
 rows_all [] pre = tt

@@ -14,12 +14,12 @@ use Rattle.typed_tree.specs.Independence.{are_apart, function_uses, function_wri
 use Rattle.typed_tree.specs.BlockTree.{StatementKindTree}
 use Rattle.typed_tree.specs.Independence.{are_same, are_same_ends, have_same_sets, is_end, name_at}
 use Rattle.typed_tree.specs.ProgramTree.{ProgramTree}
-use Rattle.typed_tree.specs.Resolved.{VisibleTree, EndIsResolved, EndsAreResolved, IsResolved, behind_action}
+use Rattle.typed_tree.specs.Resolved.{VisibleTree, EndIsResolved, EndsAreResolved, IsResolved, after_action}
 use Rattle.schedule.specs.Laws.{IsIndependent}
 use Rattle.schedule.proofs.Uses.{nothing_in_common}
 use Rattle.algorithm_meaning.specs.declared.state.Depth.{Depth}
 use Rattle.plans.specs.Instruction.{OperationTree, ApplyEdgesTogether, ApplyVerticesTogether, ResultTree, Dropped, Declared, Assigned}
-use Rattle.plans.specs.Fusing.{EdgeApplyTree, VertexApplyTree, apply_tree, edge_apply_of, edges_fit, edges_together, either, end_sets, function_sizes, is_same_end, result_name, result_indices, result_vectors, sets_read, together, vertex_apply_of, vertices_fit, vertices_together}
+use Rattle.plans.specs.Fusing.{EdgeApplyTree, VertexApplyTree, apply_tree, edge_apply_of, edges_fit, fused_edges, either, end_sets, function_sizes, is_same_end, result_name, result_indices, result_vectors, sets_read, together, vertex_apply_of, vertices_fit, fused_vertices}
 use Rattle.type_laws.specs.EachStatement.{SetNames}
 use Rattle.type_laws.specs.VisibleSets.{AreApart, EndIsVisible, IsVisible}
 use Rattle.plan_laws.specs.OneInstruction.{AreTogether}
@@ -107,21 +107,21 @@ module _ (p : ProgramTree) (all : IsResolved p) where
 
   -- a statement that has what is known of the first, and one after it
   module _ (v : VisibleTree) (names : SetNames) (d : Depth) (deep : d.sets ≡ length v.sets) (low : length p.sets ≤ d.sets) (apart : AreApart p names) (a b : StatementKindTree) (one other : StatementApply) where
-    edges_fit_together : (x : IsEdgeApply p v names a one) (y : IsEdgeApply p (behind_action a v) names b other) → have_same_sets p.names (apply_tree x.apply) (apply_tree y.apply) ≡ true
+    fused_edges_do_fit : (x : IsEdgeApply p v names a one) (y : IsEdgeApply p (after_action a v) names b other) → have_same_sets p.names (apply_tree x.apply) (apply_tree y.apply) ≡ true
         → IsIndependent p (apply_tree x.apply) (apply_tree y.apply) → edges_fit p d x.apply y.apply ≡ true
-    edges_fit_together x y sets alone =
+    fused_edges_do_fit x y sets alone =
         let ends = and_parts _ _ sets in
         let f = x.apply.part.function in
         let g = y.apply.part.function in
         and_from _ _
         (and_from _ _ (same_end p names x.apply.ends.from y.apply.ends.from apart x.visible.0 y.visible.0 ends.0) (same_end p names x.apply.ends.to y.apply.ends.to apart x.visible.1 y.visible.1 ends.1))
         (and_from _ _ (independent p (apply_tree x.apply) (apply_tree y.apply) alone)
-        (and_from _ _ (result_apart (behind_action a v) d x.apply.part.result y.apply (x.stands d deep low) y.resolved alone.changes_of_sources alone.changes_of_destinations)
+        (and_from _ _ (result_apart (after_action a v) d x.apply.part.result y.apply (x.stands d deep low) y.resolved alone.changes_of_sources alone.changes_of_destinations)
         (and_from _ _ (first_apart f g alone.function x.apply.part.result x.written) (second_apart f g alone.function y.apply.part.result y.written))))
 
-    vertices_fit_together : (x : IsVertexApply p names a one) (y : IsVertexApply p names b other) → have_same_sets p.names (Vertices x.apply.set x.apply.function) (Vertices y.apply.set y.apply.function) ≡ true
+    fused_vertices_do_fit : (x : IsVertexApply p names a one) (y : IsVertexApply p names b other) → have_same_sets p.names (Vertices x.apply.set x.apply.function) (Vertices y.apply.set y.apply.function) ≡ true
         → vertices_fit p x.apply y.apply ≡ true
-    vertices_fit_together x y same =
+    fused_vertices_do_fit x y same =
         and_from _ _ (same_set p names x.apply.set y.apply.set apart x.visible y.visible same)
         (and_from _ _ (vertex_function_local p all.vertex_functions x.apply.function) (vertex_function_local p all.vertex_functions y.apply.function))
 
@@ -138,9 +138,9 @@ module _ (p : ProgramTree) (all : IsResolved p) where
         let o = ApplyEdgesTogether x.ends x.part y.part in
         record {
           operation = o;
-          is = ap (λ e. either (edges_together p d e (edge_apply_of b)) (vertices_together p (vertex_apply_of a) (vertex_apply_of b))) is_x
-              ∙ ap (λ e. either (edges_together p d (Some x) e) (vertices_together p (vertex_apply_of a) (vertex_apply_of b))) is_y
-              ∙ edges_if (edges_fit p d x y) o (vertices_together p (vertex_apply_of a) (vertex_apply_of b)) fit;
+          is = ap (λ e. either (fused_edges p d e (edge_apply_of b)) (fused_vertices p (vertex_apply_of a) (vertex_apply_of b))) is_x
+              ∙ ap (λ e. either (fused_edges p d (Some x) e) (fused_vertices p (vertex_apply_of a) (vertex_apply_of b))) is_y
+              ∙ edges_if (edges_fit p d x y) o (fused_vertices p (vertex_apply_of a) (vertex_apply_of b)) fit;
           does = inl (record {
             one = x;
             other = y;
@@ -157,8 +157,8 @@ module _ (p : ProgramTree) (all : IsResolved p) where
         let o = ApplyVerticesTogether x.set x.function y.function in
         record {
           operation = o;
-          is = ap (λ e. either (edges_together p d e (edge_apply_of b)) (vertices_together p (vertex_apply_of a) (vertex_apply_of b))) none
-              ∙ ap (λ e. vertices_together p e (vertex_apply_of b)) is_x ∙ ap (λ e. vertices_together p (Some x) e) is_y ∙ vertices_if (vertices_fit p x y) o fit;
+          is = ap (λ e. either (fused_edges p d e (edge_apply_of b)) (fused_vertices p (vertex_apply_of a) (vertex_apply_of b))) none
+              ∙ ap (λ e. fused_vertices p e (vertex_apply_of b)) is_x ∙ ap (λ e. fused_vertices p (Some x) e) is_y ∙ vertices_if (vertices_fit p x y) o fit;
           does = inr (record {
             one = x;
             other = y;
@@ -169,10 +169,10 @@ module _ (p : ProgramTree) (all : IsResolved p) where
           });
         }
 
-    pub fused_do : IsApply p v names a one → IsApply p (behind_action a v) names b other → have_same_sets p.names one other ≡ true → IsIndependent p one other → OneDoes p d a b
+    pub fused_do : IsApply p v names a one → IsApply p (after_action a v) names b other → have_same_sets p.names one other ≡ true → IsIndependent p one other → OneDoes p d a b
     fused_do (inl x) (inl y) same alone =
         edges_do x.apply y.apply x.is y.is
-        (edges_fit_together x y (subst (λ o. have_same_sets p.names (apply_tree x.apply) o ≡ true) y.tree (subst (λ o. have_same_sets p.names o other ≡ true) x.tree same))
+        (fused_edges_do_fit x y (subst (λ o. have_same_sets p.names (apply_tree x.apply) o ≡ true) y.tree (subst (λ o. have_same_sets p.names o other ≡ true) x.tree same))
         (subst (λ o. IsIndependent p (apply_tree x.apply) o) y.tree (subst (λ o. IsIndependent p o other) x.tree alone)))
     fused_do (inl x) (inr y) same alone =
         let bad : false ≡ true = subst (λ o. have_same_sets p.names (apply_tree x.apply) o ≡ true) y.tree (subst (λ o. have_same_sets p.names o other ≡ true) x.tree same) in cc
@@ -180,4 +180,4 @@ module _ (p : ProgramTree) (all : IsResolved p) where
         let bad : false ≡ true = subst (λ o. have_same_sets p.names (Vertices x.apply.set x.apply.function) o ≡ true) y.tree (subst (λ o. have_same_sets p.names o other ≡ true) x.tree same) in cc
     fused_do (inr x) (inr y) same alone =
         vertices_do x.apply y.apply x.no_edges x.is y.is
-        (vertices_fit_together x y (subst (λ o. have_same_sets p.names (Vertices x.apply.set x.apply.function) o ≡ true) y.tree (subst (λ o. have_same_sets p.names o other ≡ true) x.tree same)))
+        (fused_vertices_do_fit x y (subst (λ o. have_same_sets p.names (Vertices x.apply.set x.apply.function) o ≡ true) y.tree (subst (λ o. have_same_sets p.names o other ≡ true) x.tree same)))

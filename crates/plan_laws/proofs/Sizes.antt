@@ -26,27 +26,27 @@ at_index P Q none some [] index all = none
 at_index P Q none some (f ∷ fs) zero all = some f all.0
 at_index P Q none some (f ∷ fs) (suc index) all = at_index P Q none some fs index all.1
 
-behind_sets : (s : FunctionStatementTree) (v : VisibleTree) → (behind_step s v).sets ≡ v.sets
-behind_sets (step.DeclareInteger name e) v = refl
-behind_sets (step.DeclareCondition name c) v = refl
-behind_sets (step.SetInteger slot e) v = refl
-behind_sets (step.SetCondition slot c) v = refl
-behind_sets (step.ReduceInteger slot by e) v = refl
-behind_sets (step.SetEntry vector e) v = refl
-behind_sets (step.ReduceEntry vector by e) v = refl
-behind_sets (step.If c body) v = refl
-behind_sets (step.IfElse c body other) v = refl
+after_sets : (s : FunctionStatementTree) (v : VisibleTree) → (behind_step s v).sets ≡ v.sets
+after_sets (step.DeclareInteger name e) v = refl
+after_sets (step.DeclareCondition name c) v = refl
+after_sets (step.SetInteger slot e) v = refl
+after_sets (step.SetCondition slot c) v = refl
+after_sets (step.ReduceInteger slot by e) v = refl
+after_sets (step.SetEntry vector e) v = refl
+after_sets (step.ReduceEntry vector by e) v = refl
+after_sets (step.If c body) v = refl
+after_sets (step.IfElse c body other) v = refl
 
-behind_indexes : (s : FunctionStatementTree) (v : VisibleTree) → (behind_step s v).indexes ≡ v.indexes
-behind_indexes (step.DeclareInteger name e) v = refl
-behind_indexes (step.DeclareCondition name c) v = refl
-behind_indexes (step.SetInteger slot e) v = refl
-behind_indexes (step.SetCondition slot c) v = refl
-behind_indexes (step.ReduceInteger slot by e) v = refl
-behind_indexes (step.SetEntry vector e) v = refl
-behind_indexes (step.ReduceEntry vector by e) v = refl
-behind_indexes (step.If c body) v = refl
-behind_indexes (step.IfElse c body other) v = refl
+after_indexes : (s : FunctionStatementTree) (v : VisibleTree) → (behind_step s v).indexes ≡ v.indexes
+after_indexes (step.DeclareInteger name e) v = refl
+after_indexes (step.DeclareCondition name c) v = refl
+after_indexes (step.SetInteger slot e) v = refl
+after_indexes (step.SetCondition slot c) v = refl
+after_indexes (step.ReduceInteger slot by e) v = refl
+after_indexes (step.SetEntry vector e) v = refl
+after_indexes (step.ReduceEntry vector by e) v = refl
+after_indexes (step.If c body) v = refl
+after_indexes (step.IfElse c body other) v = refl
 
 module _ (p : ProgramTree) where
   -- the indices of constant sets
@@ -95,7 +95,7 @@ module _ (p : ProgramTree) where
     steps_constant v same step.NoStep is = tt
     steps_constant v same (step.StepThen s others) is =
         all_two (λ index. index < length p.sets) (step_sizes s) (steps_sizes others) (step_constant v same s is.0)
-        (steps_constant (behind_step s v) (behind_sets s v ∙ same) others is.1)
+        (steps_constant (behind_step s v) (after_sets s v ∙ same) others is.1)
 
   pub edge_function_constant : AllByRecursion (EdgeFunctionIsResolved p) p.edge_functions → (index : ℕ) → AreConstant (function_sizes p.edge_functions index)
   edge_function_constant all index =
@@ -143,7 +143,7 @@ module _ (p : ProgramTree) where
     steps_local : (v : VisibleTree) → v.indexes ≡ false → (ss : FunctionStatementsTree) → StepsAreResolved p v ss → steps_are_local ss ≡ true
     steps_local v none step.NoStep is = refl
     steps_local v none (step.StepThen s others) is =
-        and_from (step_is_local s) (steps_are_local others) (step_local v none s is.0) (steps_local (behind_step s v) (behind_indexes s v ∙ none) others is.1)
+        and_from (step_is_local s) (steps_are_local others) (step_local v none s is.0) (steps_local (behind_step s v) (after_indexes s v ∙ none) others is.1)
 
   pub vertex_function_local : AllByRecursion (VertexFunctionIsResolved p) p.vertex_functions → (index : ℕ) → function_is_local p.vertex_functions index ≡ true
   vertex_function_local all index =

@@ -7,14 +7,14 @@ use Rattle.std.proofs.lemmas.Option.{none-some}
 use Rattle.typed_tree.specs.BlockTree.{StatementKindTree, DeclareSet, If, IfElse, While, For, BlockTree, Empty, Then}
 use Rattle.typed_tree.specs.ProgramTree.{ProgramTree}
 use Rattle.typed_tree.specs.Resolved as resolved
-use Rattle.typed_tree.specs.Resolved.{VisibleTree, ActionIsResolved, BlockIsResolved, behind_action}
+use Rattle.typed_tree.specs.Resolved.{VisibleTree, ActionIsResolved, BlockIsResolved, after_action}
 use Rattle.apply_options.specs.declared.apply_schedule.Fused.{Fused}
 use Rattle.apply_options.specs.declared.apply_schedule.Fused.TheVariants.{With, Into}
 use Rattle.apply_options.specs.ScheduleTree.{ScheduleTree, apply_schedule_at, apply_schedule_of}
 use Rattle.schedule.specs.Laws.{FusesInPairs}
 use Rattle.algorithm_meaning.specs.declared.state.Depth.{Depth}
 use Rattle.plans.specs.Instruction.{OperationTree, InstructionTree, Jump, Advance}
-use Rattle.plans.specs.Fusing.{FusionRole, Alone, WithNext, EdgeApplyTree, VertexApplyTree, fusion_role_of, edge_apply_of, edges_together, either, is_with, takes_next, together, vertex_apply_of, vertices_together, with_next}
+use Rattle.plans.specs.Fusing.{FusionRole, Alone, WithNext, EdgeApplyTree, VertexApplyTree, fusion_role_of, edge_apply_of, fused_edges, either, is_with, takes_next, together, vertex_apply_of, fused_vertices, with_next}
 use Rattle.plans.specs.Plan.{behind, chosen, in_loop, loop_step, plain, plan, plan_all, plan_in, size, size_all, size_in}
 use Rattle.type_laws.specs.Numbers.{InOrder, inner_numbers, numbers}
 use Rattle.plan_laws.specs.Neighbours.{AreNeighbours, AreNeighboursInside, BeginsWith, StatementTree}
@@ -33,11 +33,11 @@ pub record Split (s : ScheduleTree) (one other : StatementTree) (is : List Instr
   pub apply_schedule : instruction.apply_schedule ≡ apply_schedule_at one.label s
   pub done : AreTogether one.action other.action instruction.operation
   pub others_before : AllByRecursion (IsOfNeither one other) before
-  pub others_behind : AllByRecursion (IsOfNeither one other) rest
+  pub others_after : AllByRecursion (IsOfNeither one other) rest
 
 -- after others, and before others
-pub split_behind : (s : ScheduleTree) (one other : StatementTree) (xs is : List InstructionTree) → AllByRecursion (IsOfNeither one other) xs → Split s one other is → Split s one other (xs ++ is)
-split_behind s one other xs is others x = record {
+pub split_after : (s : ScheduleTree) (one other : StatementTree) (xs is : List InstructionTree) → AllByRecursion (IsOfNeither one other) xs → Split s one other is → Split s one other (xs ++ is)
+split_after s one other xs is others x = record {
   before = xs ++ x.before;
   instruction = x.instruction;
   rest = x.rest;
@@ -46,7 +46,7 @@ split_behind s one other xs is others x = record {
   apply_schedule = x.apply_schedule;
   done = x.done;
   others_before = all_two (IsOfNeither one other) xs x.before others x.others_before;
-  others_behind = x.others_behind;
+  others_after = x.others_after;
 }
 
 pub split_before : (s : ScheduleTree) (one other : StatementTree) (is xs : List InstructionTree) → Split s one other is → AllByRecursion (IsOfNeither one other) xs → Split s one other (is ++ xs)
@@ -59,7 +59,7 @@ split_before s one other is xs x others = record {
   apply_schedule = x.apply_schedule;
   done = x.done;
   others_before = x.others_before;
-  others_behind = all_two (IsOfNeither one other) x.rest xs x.others_behind others;
+  others_after = all_two (IsOfNeither one other) x.rest xs x.others_after others;
 }
 
 -- what is known of two fused statements, wherever they stand
@@ -69,7 +69,7 @@ pub record IsPair (p : ProgramTree) (s : ScheduleTree) (one other : StatementTre
   pub first_has : one.label ≡ Some first
   pub second_has : other.label ≡ Some second
   pub fused : (apply_schedule_of first s).fused ≡ Some (With second)
-  pub fit : (v : VisibleTree) (d : Depth) → d.sets ≡ length v.sets → length p.sets ≤ d.sets → ActionIsResolved p v one.action → ActionIsResolved p (behind_action one.action v) other.action
+  pub fit : (v : VisibleTree) (d : Depth) → d.sets ≡ length v.sets → length p.sets ≤ d.sets → ActionIsResolved p v one.action → ActionIsResolved p (after_action one.action v) other.action
       → OneDoes p d one.action other.action
 
 -- no block is in the statement
@@ -88,7 +88,7 @@ IsDone s true (Then number label action rest) = IsPlain action × ((first : ℕ)
 
 module _ (p : ProgramTree) (s : ScheduleTree) (pairs : FusesInPairs s) where
   -- a statement with a block is done with no other
-  no_second : (d : Depth) (x : Option EdgeApplyTree) (y : Option VertexApplyTree) → either (edges_together p d x None) (vertices_together p y None) ≡ None
+  no_second : (d : Depth) (x : Option EdgeApplyTree) (y : Option VertexApplyTree) → either (fused_edges p d x None) (fused_vertices p y None) ≡ None
   no_second d None None = refl
   no_second d None (Some y) = refl
   no_second d (Some x) None = refl
@@ -134,8 +134,8 @@ module _ (p : ProgramTree) (s : ScheduleTree) (pairs : FusesInPairs s) where
   is_alone d label a Empty no_edges no_vertices = refl
   is_alone d label a (Then number other b rest) no_edges no_vertices =
       let test = is_with (apply_schedule_at label s).fused other in
-      ap (λ e. if test then with_next (either (edges_together p d e (edge_apply_of b)) (vertices_together p (vertex_apply_of a) (vertex_apply_of b))) else Alone) no_edges
-      ∙ ap (λ e. if test then with_next (either (edges_together p d None (edge_apply_of b)) (vertices_together p e (vertex_apply_of b))) else Alone) no_vertices
+      ap (λ e. if test then with_next (either (fused_edges p d e (edge_apply_of b)) (fused_vertices p (vertex_apply_of a) (vertex_apply_of b))) else Alone) no_edges
+      ∙ ap (λ e. if test then with_next (either (fused_edges p d None (edge_apply_of b)) (fused_vertices p e (vertex_apply_of b))) else Alone) no_vertices
       ∙ none_taken test
 
   block_alone : (d : Depth) (is_done : Bool) (number : ℕ) (label : Option ℕ) (a : StatementKindTree) (rest : BlockTree) → (IsPlain a → ⊥) → edge_apply_of a ≡ None → vertex_apply_of a ≡ None
@@ -173,13 +173,13 @@ module _ (p : ProgramTree) (s : ScheduleTree) (pairs : FusesInPairs s) where
       ∙ ap (λ l. if is_with (Some (With second)) l then with_next (Some o) else Alone) has
       ∙ taken (nat_eq second second) o (eq-eqb second second refl)
 
-  deep_behind : (a : StatementKindTree) (d : Depth) (v : VisibleTree) → d.sets ≡ length v.sets → (behind a d).sets ≡ length (behind_action a v).sets
-  deep_behind (DeclareSet name value) d v deep = omega (arith, deep, length-append v.sets (name ∷ []))
-  deep_behind _ d v deep = deep
+  deep_after : (a : StatementKindTree) (d : Depth) (v : VisibleTree) → d.sets ≡ length v.sets → (behind a d).sets ≡ length (after_action a v).sets
+  deep_after (DeclareSet name value) d v deep = omega (arith, deep, length-append v.sets (name ∷ []))
+  deep_after _ d v deep = deep
 
-  low_behind : (a : StatementKindTree) (d : Depth) → length p.sets ≤ d.sets → length p.sets ≤ (behind a d).sets
-  low_behind (DeclareSet name value) d low = omega (arith, low)
-  low_behind _ d low = low
+  low_after : (a : StatementKindTree) (d : Depth) → length p.sets ≤ d.sets → length p.sets ≤ (behind a d).sets
+  low_after (DeclareSet name value) d low = omega (arith, low)
+  low_after _ d low = low
 
   -- as the first two statements of a block
   module _ (index : ℕ) (d : Depth) (n number other_number : ℕ) (label other_label : Option ℕ) (a b : StatementKindTree) (rest : BlockTree) where
@@ -210,11 +210,11 @@ module _ (p : ProgramTree) (s : ScheduleTree) (pairs : FusesInPairs s) where
       apply_schedule = refl;
       done = does;
       others_before = tt;
-      others_behind = neither;
+      others_after = neither;
     }
 
     both_here : (v : VisibleTree) (is_done : Bool) → IsPair p s first_statement second_statement → d.sets ≡ length v.sets → length p.sets ≤ d.sets → ActionIsResolved p v a
-        → ActionIsResolved p (behind_action a v) b → InOrder n (numbers (Then number label a others)) → IsDone s is_done (Then number label a others)
+        → ActionIsResolved p (after_action a v) b → InOrder n (numbers (Then number label a others)) → IsDone s is_done (Then number label a others)
         → Split s first_statement second_statement (plan_all p s index d is_done (Then number label a others))
     both_here v is_done pair deep low first second order done =
         let does = pair.fit v d deep low first second in
@@ -240,7 +240,7 @@ module _ (p : ProgramTree) (s : ScheduleTree) (pairs : FusesInPairs s) where
 
     -- one instruction before the rest, which has another number
     one_before : (i : InstructionTree) (is : List InstructionTree) → i.number < one.number → one.number < other.number → Splits is → Splits (i ∷ is)
-    one_before i is first second x = split_behind s one other (i ∷ []) is ((((λ same. absurd (omega (arith, same))), (λ same. absurd (omega (arith, same)))), tt)) x
+    one_before i is first second x = split_after s one other (i ∷ []) is ((((λ same. absurd (omega (arith, same))), (λ same. absurd (omega (arith, same)))), tt)) x
 
     neither_of : (i : InstructionTree) → i.number < one.number → one.number < other.number → IsOfNeither one other i
     neither_of i first second = ((λ same. absurd (omega (arith, same))), (λ same. absurd (omega (arith, same))))
@@ -287,7 +287,7 @@ module _ (p : ProgramTree) (s : ScheduleTree) (pairs : FusesInPairs s) where
           let start = plan_all p s (index + 1) d false body in
           let from : m ≤ one.number = up.from in
           one_before _ _ first up.two
-          (split_behind s one other start (plain number d (Jump (to + size_all p s d false others)) ∷ plan_all p s to d false others)
+          (split_after s one other start (plain number d (Jump (to + size_all p s d false others)) ∷ plan_all p s to d false others)
           (neither_below n m one other start (block_between p s n m body (index + 1) d false n two.0 (omega arith) (omega arith)) from up.two)
           (one_before _ _ first up.two (split_block others to d v false m are deep low known.2 two.1 tt)))
       split_inside (While c body) index d v number label n are deep low known above order =
@@ -335,7 +335,7 @@ module _ (p : ProgramTree) (s : ScheduleTree) (pairs : FusesInPairs s) where
           let up = neighbours_ascend rest one other m two.1 are in
           let from : m ≤ one.number = up.from in
           let here : (n ≤ number) × (number < m) = (omega arith, omega arith) in
-          split_behind s one other (plan_in company s number label d own) (plan_all p s index_behind (behind a d) (takes_next company) rest)
+          split_after s one other (plan_in company s number label d own) (plan_all p s index_behind (behind a d) (takes_next company) rest)
           (neither_below n m one other (plan_in company s number label d own)
           (company_between p s n m company number label d own here (action_between p s n m a index d number label (suc n) here two.0 (omega arith) (omega arith))) from up.two)
-          (split_block rest index_behind (behind a d) (behind_action a v) (takes_next company) m are (deep_behind a d v deep) (low_behind a d low) known.2 two.1 (rest_done d is_done label a rest))
+          (split_block rest index_behind (behind a d) (after_action a v) (takes_next company) m are (deep_after a d v deep) (low_after a d low) known.2 two.1 (rest_done d is_done label a rest))

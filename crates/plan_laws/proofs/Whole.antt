@@ -3,7 +3,7 @@ use Rattle.std.proofs.Common.{◌≡◌, refl, ap, subst, ◌∙◌, inl, inr, �
 use Rattle.std.specs.Prelude.{Ok}
 use Rattle.typed_tree.specs.BlockTree.{StatementKindTree, If, IfElse, While, For, BlockTree, Empty, Then}
 use Rattle.typed_tree.specs.ProgramTree.{ProgramTree}
-use Rattle.typed_tree.specs.Resolved.{IsResolved, behind_action, in_main}
+use Rattle.typed_tree.specs.Resolved.{IsResolved, after_action, in_main}
 use Rattle.apply_options.specs.declared.apply_schedule.Fused.TheVariants.{With}
 use Rattle.apply_options.specs.ScheduleTree.{ScheduleTree, apply_schedule_at, apply_schedule_of}
 use Rattle.schedule.specs.Calls.{schedule_of}
@@ -13,7 +13,7 @@ use Rattle.schedule.proofs.FusedPairs.{accepted_fuses_well}
 use Rattle.plans.specs.Instruction.{End}
 use Rattle.plans.specs.Plan.{behind_all, main_depth, plain, plan_all}
 use Rattle.type_laws.specs.AskedVectors.{AskForWritten, AsksForWritten}
-use Rattle.type_laws.specs.EachStatement.{HoldsInside, HoldsOfEach, SetNames, names_before, names_behind}
+use Rattle.type_laws.specs.EachStatement.{HoldsInside, HoldsOfEach, SetNames, names_before, names_after}
 use Rattle.type_laws.specs.LabelIndices.{LabelsAreInOrder}
 use Rattle.type_laws.specs.Numbers.{InOrder, numbers}
 use Rattle.type_laws.specs.VisibleSets.{NamesSets, NamesSetsApart}
@@ -30,7 +30,7 @@ module _ (P : SetNames → StatementKindTree → Type 0) (one other : StatementT
   record HoldsOfBoth : Type 0 where
     pub names : SetNames
     pub first : P names one.action
-    pub second : P (names_behind one.action names) other.action
+    pub second : P (names_after one.action names) other.action
 
   at_both : (names : SetNames) (number : ℕ) (label : Option ℕ) (a : StatementKindTree) (rest : BlockTree) → BeginsWith one (Then number label a rest) → BeginsWith other rest
       → HoldsOfEach P names (Then number label a rest) → HoldsOfBoth
@@ -41,7 +41,7 @@ module _ (P : SetNames → StatementKindTree → Type 0) (one other : StatementT
       record {
         names = names;
         first = subst (λ x. P names x) is all.0;
-        second = subst (λ x. P (names_behind x names) other.action) is (subst (λ x. P (names_behind a names) x) is_other all.2.0);
+        second = subst (λ x. P (names_after x names) other.action) is (subst (λ x. P (names_after a names) x) is_other all.2.0);
       }
 
   mutual
@@ -57,14 +57,14 @@ module _ (P : SetNames → StatementKindTree → Type 0) (one other : StatementT
     both_of Empty names are all = absurd are
     both_of (Then number label a rest) names (inl are) all = at_both names number label a rest are.0 are.1 all
     both_of (Then number label a rest) names (inr (inl are)) all = both_inside a names are all.1
-    both_of (Then number label a rest) names (inr (inr are)) all = both_of rest (names_behind a names) are all.2
+    both_of (Then number label a rest) names (inr (inr are)) all = both_of rest (names_after a names) are all.2
 
 module _ (p : ProgramTree) (s : ScheduleTree) (all : IsResolved p) (named : NamesSetsApart p) (asked : AskForWritten p) (first second : ℕ) (fused : (apply_schedule_of first s).fused ≡ Some (With second)) (well : IsFusedWell p first second) (both : AreFused p.main first second well.one well.other) where
   pair : IsPair p s both.one both.other
   pair =
       let sets = both_of (NamesSets p) both.one both.other p.main (names_before named.constants_before p.sets) both.neighbours named.each in
       let vectors = both_of (λ names a. AsksForWritten p a) both.one both.other p.main asked.names both.neighbours asked.each in
-      let names = names_behind both.one.action sets.names in
+      let names = names_after both.one.action sets.names in
       record {
         first = first;
         second = second;
@@ -74,7 +74,7 @@ module _ (p : ProgramTree) (s : ScheduleTree) (all : IsResolved p) (named : Name
         fit = λ v d deep low one other.
             fused_do p all v names d deep low sets.second.0 both.one.action both.other.action well.one well.other
             (statement_apply p v names both.one.action well.one both.first_applies one (sets_stay p both.one.action sets.names sets.first.1) vectors.first)
-            (statement_apply p (behind_action both.one.action v) names both.other.action well.other both.second_applies other sets.second.1 vectors.second)
+            (statement_apply p (after_action both.one.action v) names both.other.action well.other both.second_applies other sets.second.1 vectors.second)
             well.same_sets well.independent;
       }
 
@@ -100,7 +100,7 @@ module _ (p : ProgramTree) (s : ScheduleTree) (all : IsResolved p) (named : Name
         apply_schedule = y.apply_schedule ∙ ap (λ l. apply_schedule_at l s) both.first_has;
         together = y.done;
         others_before = y.others_before;
-        others_behind = y.others_behind;
+        others_after = y.others_after;
       }
 
 pub fused_are_one : (p : ProgramTree) (s : ScheduleTree) → IsResolved p → NamesSetsApart p → AskForWritten p → LabelsAreInOrder p → InOrder 1 (numbers p.main) → schedule_of p ≡ Ok s

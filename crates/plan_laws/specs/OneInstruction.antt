@@ -53,4 +53,4 @@ pub record IsOneInstruction (p : ProgramTree) (s : ScheduleTree) (first_label se
   pub apply_schedule : instruction.apply_schedule ≡ apply_schedule_of first_label s
   pub together : AreTogether first.action second.action instruction.operation
   pub others_before : AllByRecursion (IsOfNeither first second) before
-  pub others_behind : AllByRecursion (IsOfNeither first second) behind
+  pub others_after : AllByRecursion (IsOfNeither first second) behind

@@ -18,7 +18,7 @@ use Rattle.typed_tree.specs.declared.expression.BoolExpression.TheViews as condi
 use Rattle.typed_tree.specs.declared.expression.BoolExpression.TheViews.{the_lemmas as the_condition_lemmas}
 use Rattle.plan_text.specs.Expressions.{integer_words, condition_words, operator_word, connective_word, entry_word, comparison_word}
 use Rattle.plan_text.specs.inside.Rows.{operand_words, connected_words, times}
-use Rattle.plan_text.proofs.Spaces.{absurd_cons, behind_some, times_suc}
+use Rattle.plan_text.proofs.Spaces.{absurd_cons, after_some, times_suc}
 
 pub words_negated : (p : ProgramTree) (signs : ℕ) (e : IntExpressionTree) → integer_words p (negated signs e) ≡ integer_words p e ++ times signs (codes "neg")
 words_negated p zero e = sym (append-nil (integer_words p e))
@@ -57,18 +57,18 @@ integer_words_some p (integer.Variable slot) = absurd_cons _ []
 integer_words_some p (integer.Parameter at) = absurd_cons _ []
 integer_words_some p integer.Weight = absurd_cons _ []
 integer_words_some p (integer.EntryAt vector at) = absurd_cons _ []
-integer_words_some p (integer.Entry vector index) = behind_some (integer_words p index) (entry_word p vector) []
+integer_words_some p (integer.Entry vector index) = after_some (integer_words p index) (entry_word p vector) []
 integer_words_some p (integer.SetSize slot) = absurd_cons _ []
-integer_words_some p (integer.Negative e) = behind_some (integer_words p e) (codes "neg") []
-integer_words_some p (integer.Arithmetic operator a b) = behind_some (integer_words p a ++ integer_words p b) (operator_word operator) []
+integer_words_some p (integer.Negative e) = after_some (integer_words p e) (codes "neg") []
+integer_words_some p (integer.Arithmetic operator a b) = after_some (integer_words p a ++ integer_words p b) (operator_word operator) []
 
 pub condition_words_some : (p : ProgramTree) (c : BoolExpressionTree) → condition_words p c ≢ []
 condition_words_some p (condition.Literal b) = absurd_cons _ []
 condition_words_some p (condition.Constant name b) = absurd_cons _ []
 condition_words_some p (condition.Variable slot) = absurd_cons _ []
-condition_words_some p (condition.Not c) = behind_some (condition_words p c) (codes "not") []
-condition_words_some p (condition.Compare comparison a b) = behind_some (integer_words p a ++ integer_words p b) (comparison_word comparison) []
-condition_words_some p (condition.Connect connective a b) = behind_some (condition_words p a ++ condition_words p b) (connective_word connective) []
+condition_words_some p (condition.Not c) = after_some (condition_words p c) (codes "not") []
+condition_words_some p (condition.Compare comparison a b) = after_some (integer_words p a ++ integer_words p b) (comparison_word comparison) []
+condition_words_some p (condition.Connect connective a b) = after_some (condition_words p a ++ condition_words p b) (connective_word connective) []
 
 -- the trees of expressions
 pub int_expression_tree-Entry : (vector : ℕ) (index : Box IntExpression) → int_expression_tree (integer_views.Entry vector index) ≡ integer.Entry vector (int_expression_tree index.value)

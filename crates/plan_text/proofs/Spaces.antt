@@ -40,13 +40,13 @@ is_some_list (x ∷ xs) = true
 pub absurd_cons : {A : Type 0} (x : A) (xs : List A) → x ∷ xs ≢ []
 absurd_cons x xs none = absurd (true≢false (ap is_some_list none))
 
-pub behind_some : {A : Type 0} (xs : List A) (y : A) (ys : List A) → xs ++ y ∷ ys ≢ []
-behind_some [] y ys none = absurd_cons y ys none
-behind_some (x ∷ xs) y ys none = absurd_cons x (xs ++ y ∷ ys) none
+pub after_some : {A : Type 0} (xs : List A) (y : A) (ys : List A) → xs ++ y ∷ ys ≢ []
+after_some [] y ys none = absurd_cons y ys none
+after_some (x ∷ xs) y ys none = absurd_cons x (xs ++ y ∷ ys) none
 
 -- words after words that are there
-pub put_behind : (old middle new : List ℕ) (vs ws : List (List ℕ)) → middle ≡ old ++ spaced vs → new ≡ middle ++ spaced ws → new ≡ old ++ spaced (vs ++ ws)
-put_behind old middle new vs ws first second =
+pub put_after : (old middle new : List ℕ) (vs ws : List (List ℕ)) → middle ≡ old ++ spaced vs → new ≡ middle ++ spaced ws → new ≡ old ++ spaced (vs ++ ws)
+put_after old middle new vs ws first second =
     second ∙ ap (λ t. t ++ spaced ws) first ∙ append_assoc old (spaced vs) (spaced ws) ∙ ap (λ t. old ++ t) (sym (spaced_append vs ws))
 
 -- an expression in brackets
@@ -65,7 +65,7 @@ popped xs y size old new all is pops =
 pub still_left : (old middle new whole : List ℕ) (vs ws rest : List (List ℕ)) → middle ≡ old ++ spaced vs → new ≡ middle ++ spaced ws
     → old ++ spaced (vs ++ (ws ++ rest)) ≡ whole → new ++ spaced rest ≡ whole
 still_left old middle new whole vs ws rest first second left =
-    ap (λ t. t ++ spaced rest) (put_behind old middle new vs ws first second)
+    ap (λ t. t ++ spaced rest) (put_after old middle new vs ws first second)
     ∙ append_assoc old (spaced (vs ++ ws)) (spaced rest)
     ∙ ap (λ t. old ++ t) (sym (spaced_append (vs ++ ws) rest) ∙ ap spaced (append_assoc vs ws rest))
     ∙ left

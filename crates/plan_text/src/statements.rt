@@ -72,7 +72,7 @@ impl Lines<'_> {
             }
             StatementKind::AddVertex(slot, e) => self.put_add_vertex(out, slot.name, e),
             StatementKind::PrintInteger(e) => self.put_print(out, e),
-            StatementKind::PrintCondition(c) => self.put_condition_behind(out, b"print", c),
+            StatementKind::PrintCondition(c) => self.put_condition_after(out, b"print", c),
             _ => unreachable!(),
         }
     }
@@ -81,7 +81,7 @@ impl Lines<'_> {
     pub fn put_unless(self, out: &mut Vec<u8>, c: &BoolExpression) -> Result<(), AllocError>
         ensures { OnOk result (out.new.items ≡ out.old.items ++ spaced (unless_words (program_tree self.entry.program.now) (bool_expression_tree c.now))) }
     {
-        self.put_condition_behind(out, b"unless", c)
+        self.put_condition_after(out, b"unless", c)
     }
 
     /// Puts that the bound of a `for` gets its value.
@@ -297,7 +297,7 @@ impl Lines<'_> {
     }
 
     /// A word and a test.
-    fn put_condition_behind(
+    fn put_condition_after(
         self,
         out: &mut Vec<u8>,
         word: &[u8],

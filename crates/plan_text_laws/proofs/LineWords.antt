@@ -25,22 +25,22 @@ use Rattle.plan_text.specs.Lines.{changed_words, dense_word, direction_word, edg
 use Rattle.lowering.specs.Text.{group_lines, instruction_lines, line_of, operation_words, shown_part, target_words, text_of}
 use Rattle.plan_text_laws.specs.Brackets.{put_byte}
 use Rattle.plan_text_laws.specs.Kinds.{instruction_words}
-use Rattle.plan_text_laws.specs.Lines.{HasBareNames, IsBare, inside_behind, is_bare, lines_in, numbered_words, words_of_line, words_of_lines, words_of_plan}
+use Rattle.plan_text_laws.specs.Lines.{HasBareNames, IsBare, inside_after, is_bare, lines_in, numbered_words, words_of_line, words_of_lines, words_of_plan}
 use Rattle.plan_text_laws.proofs.Bare.{AreBare, bare, bare_and, condition_bare, decimal_is_bare, dense_is_bare, direction_is_bare, function_is_bare, integer_bare, marked_is_bare, name_is_bare, parallelization_is_bare, reducing_is_bare, reduction_is_bare, vector_is_bare}
 use Rattle.plan_text_laws.proofs.CutWords.{all_both}
 
 -- no cut is in the word, and it ends outside brackets
 abbrev IsUncut : (inside : Bool) → List ℕ → Type 0
 IsUncut inside [] = inside ≡ false
-IsUncut inside (b ∷ bytes) = (b == 32 && not inside ≡ false) × IsUncut (inside_behind inside b) bytes
+IsUncut inside (b ∷ bytes) = (b == 32 && not inside ≡ false) × IsUncut (inside_after inside b) bytes
 
 cut_alone : (word : List ℕ) (inside : Bool) → IsUncut inside word → words_of_line inside word ≡ word ∷ []
 cut_alone [] inside is = refl
-cut_alone (b ∷ word) inside is = rw (is.0) (ap (put_byte b) (cut_alone word (inside_behind inside b) is.1))
+cut_alone (b ∷ word) inside is = rw (is.0) (ap (put_byte b) (cut_alone word (inside_after inside b) is.1))
 
 cut_more : (word rest : List ℕ) (inside : Bool) → IsUncut inside word → words_of_line inside (word ++ 32 ∷ rest) ≡ word ∷ words_of_line false rest
 cut_more [] rest inside is = ap (λ (i : Bool). words_of_line i (32 ∷ rest)) is
-cut_more (b ∷ word) rest inside is = rw (is.0) (ap (put_byte b) (cut_more word rest (inside_behind inside b) is.1))
+cut_more (b ∷ word) rest inside is = rw (is.0) (ap (put_byte b) (cut_more word rest (inside_after inside b) is.1))
 
 -- a word without spaces and brackets, and one in brackets
 tests : (x y z w : Bool) → not x && not y && not z && not w ≡ true → (x ≡ false) × (y ≡ false) × (z ≡ false) × (w ≡ false)
@@ -60,7 +60,7 @@ uncut_bare (b ∷ word) is =
     let space : b == 32 ≡ false = no.0 in
     let opens : b == 91 ≡ false = no.2 in
     let closes : b == 93 ≡ false = no.3 in
-    let stays : inside_behind false b ≡ false = rw (opens, closes) refl in
+    let stays : inside_after false b ≡ false = rw (opens, closes) refl in
     (rw (space) refl, subst (λ (i : Bool). IsUncut i word) (sym stays) (uncut_bare word is.1))
 
 -- no bracket stands in the text
@@ -86,7 +86,7 @@ uncut_inside [] is = (refl, refl)
 uncut_inside (b ∷ text) is =
     let opens : b == 91 ≡ false = is.0.0 in
     let closes : b == 93 ≡ false = is.0.1 in
-    let stays : inside_behind true b ≡ true = rw (opens, closes) refl in
+    let stays : inside_after true b ≡ true = rw (opens, closes) refl in
     (no_cut (b == 32), subst (λ (i : Bool). IsUncut i (text ++ 93 ∷ [])) (sym stays) (uncut_inside text is.1))
 
 -- no line feed stands in the text

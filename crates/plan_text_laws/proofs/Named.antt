@@ -24,20 +24,20 @@ use Rattle.plan_text.specs.Expressions.{name_at, vector_at}
 use Rattle.plan_text.specs.Lines.{changed_words, dense_word, direction_word, edges_words, end_word, function_at, function_name, one_part, parallelization_word, part_words, reduction_word, second_words, set_line, statement_words}
 use Rattle.lowering.specs.Text.{changed_set, operation_words, shown_part, target_words}
 use Rattle.plan_text_laws.specs.Kinds.{InstructionKind, ApplyEdges, instruction_words, kind_of, kind_of_action, kind_of_set}
-use Rattle.plan_text_laws.specs.Names.{EdgeApplyNames, HasNoMarks, IsNoMark, PartNames, apply_names, changed_names, edges_behind, edges_in, edges_of, end_in, end_names, entry_reductions, names_behind, names_in, names_of, names_of_action, names_of_set, part_in, part_names, reduction_behind, reduction_in, reduction_of, second_in}
+use Rattle.plan_text_laws.specs.Names.{EdgeApplyNames, HasNoMarks, IsNoMark, PartNames, apply_names, changed_names, edges_behind, edges_in, edges_of, end_in, end_names, entry_reductions, names_after, names_in, names_of, names_of_action, names_of_set, part_in, part_names, reduction_after, reduction_in, reduction_of, second_in}
 use Rattle.plan_text_laws.proofs.CutWords.{all_at}
 use Rattle.plan_text_laws.proofs.Machine.{bytes_differ}
 use Rattle.plan_text_laws.proofs.Words.{kind_is}
 
 -- names by kind
-set_names : (p : ProgramTree) (name : ℕ) (value : SetValue) (apply_schedule : ApplySchedule) → names_behind (Some (kind_of_set value)) (set_line p name value apply_schedule ++ []) ≡ names_of_set p name value
+set_names : (p : ProgramTree) (name : ℕ) (value : SetValue) (apply_schedule : ApplySchedule) → names_after (Some (kind_of_set value)) (set_line p name value apply_schedule ++ []) ≡ names_of_set p name value
 set_names p name set.Empty apply_schedule = refl
 set_names p name set.All apply_schedule = refl
 set_names p name (set.Copy slot) apply_schedule = refl
 set_names p name (set.Filter slot function) apply_schedule = refl
 set_names p name (set.Modified ends function vector) apply_schedule = refl
 
-action_names : (p : ProgramTree) (action : StatementKindTree) (apply_schedule : ApplySchedule) → names_behind (kind_of_action action) (statement_words p action apply_schedule ++ []) ≡ names_of_action p action
+action_names : (p : ProgramTree) (action : StatementKindTree) (apply_schedule : ApplySchedule) → names_after (kind_of_action action) (statement_words p action apply_schedule ++ []) ≡ names_of_action p action
 action_names p (action.DeclareInteger name e) apply_schedule = refl
 action_names p (action.DeclareCondition name c) apply_schedule = refl
 action_names p (action.SetInteger slot e) apply_schedule = refl
@@ -57,7 +57,7 @@ action_names p (action.IfElse c body other) apply_schedule = refl
 action_names p (action.While c body) apply_schedule = refl
 action_names p (action.For name first last body) apply_schedule = refl
 
-names_at : (p : ProgramTree) (apply_schedule : ApplySchedule) (o : OperationTree) → names_behind (kind_of o) (operation_words p apply_schedule o ++ target_words o) ≡ names_of p o
+names_at : (p : ProgramTree) (apply_schedule : ApplySchedule) (o : OperationTree) → names_after (kind_of o) (operation_words p apply_schedule o ++ target_words o) ≡ names_of p o
 names_at p apply_schedule (operation.Do action) = action_names p action apply_schedule
 names_at p apply_schedule (operation.ApplyEdgesTogether ends first second) = refl
 names_at p apply_schedule (operation.ApplyVerticesTogether slot first second) = refl
@@ -70,7 +70,7 @@ names_at p apply_schedule (operation.Jump to) = refl
 names_at p apply_schedule operation.End = refl
 
 pub names_are : (p : ProgramTree) (i : InstructionTree) → names_in (instruction_words p i) ≡ names_of p i.operation
-names_are p i = ap (λ (k : Option InstructionKind). names_behind k (instruction_words p i)) (kind_is p i) ∙ names_at p i.apply_schedule i.operation
+names_are p i = ap (λ (k : Option InstructionKind). names_after k (instruction_words p i)) (kind_is p i) ∙ names_at p i.apply_schedule i.operation
 
 -- reductions of entries
 entry_reduction : (r : Reduction) → lookup (bytes_eq (reduction_word r)) entry_reductions ≡ Some (Some r)
@@ -78,7 +78,7 @@ entry_reduction reduction.Min = refl
 entry_reduction reduction.Max = refl
 entry_reduction reduction.Plus = refl
 
-no_reduction_of_set : (value : SetValue) (words : List (List ℕ)) → reduction_behind (Some (kind_of_set value)) words ≡ None
+no_reduction_of_set : (value : SetValue) (words : List (List ℕ)) → reduction_after (Some (kind_of_set value)) words ≡ None
 no_reduction_of_set set.Empty words = refl
 no_reduction_of_set set.All words = refl
 no_reduction_of_set (set.Copy slot) words = refl
@@ -86,7 +86,7 @@ no_reduction_of_set (set.Filter slot function) words = refl
 no_reduction_of_set (set.Modified ends function vector) words = refl
 
 action_reduction : (p : ProgramTree) (action : StatementKindTree) (apply_schedule : ApplySchedule)
-    → reduction_behind (kind_of_action action) (statement_words p action apply_schedule ++ []) ≡ reduction_of (operation.Do action)
+    → reduction_after (kind_of_action action) (statement_words p action apply_schedule ++ []) ≡ reduction_of (operation.Do action)
 action_reduction p (action.DeclareInteger name e) apply_schedule = refl
 action_reduction p (action.DeclareCondition name c) apply_schedule = refl
 action_reduction p (action.SetInteger slot e) apply_schedule = refl
@@ -106,7 +106,7 @@ action_reduction p (action.IfElse c body other) apply_schedule = refl
 action_reduction p (action.While c body) apply_schedule = refl
 action_reduction p (action.For name first last body) apply_schedule = refl
 
-reduction_at : (p : ProgramTree) (apply_schedule : ApplySchedule) (o : OperationTree) → reduction_behind (kind_of o) (operation_words p apply_schedule o ++ target_words o) ≡ reduction_of o
+reduction_at : (p : ProgramTree) (apply_schedule : ApplySchedule) (o : OperationTree) → reduction_after (kind_of o) (operation_words p apply_schedule o ++ target_words o) ≡ reduction_of o
 reduction_at p apply_schedule (operation.Do action) = action_reduction p action apply_schedule
 reduction_at p apply_schedule (operation.ApplyEdgesTogether ends first second) = refl
 reduction_at p apply_schedule (operation.ApplyVerticesTogether slot first second) = refl
@@ -119,7 +119,7 @@ reduction_at p apply_schedule (operation.Jump to) = refl
 reduction_at p apply_schedule operation.End = refl
 
 pub reduction_is : (p : ProgramTree) (i : InstructionTree) → reduction_in (instruction_words p i) ≡ reduction_of i.operation
-reduction_is p i = ap (λ (k : Option InstructionKind). reduction_behind k (instruction_words p i)) (kind_is p i) ∙ reduction_at p i.apply_schedule i.operation
+reduction_is p i = ap (λ (k : Option InstructionKind). reduction_after k (instruction_words p i)) (kind_is p i) ∙ reduction_at p i.apply_schedule i.operation
 
 -- no name of an edge apply is one of its marks
 empty_is_no_mark : IsNoMark []

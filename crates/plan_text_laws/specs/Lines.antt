@@ -15,14 +15,14 @@ lines_in [] = []
 lines_in (b ∷ bytes) = if b == 10 then [] ∷ lines_in bytes else put_byte b (lines_in bytes)
 
 -- whether what comes after a byte stands in brackets, which are the bytes 91 and 93
-abbrev pub inside_behind : (inside : Bool) → ℕ → Bool
-inside_behind inside b = if b == 91 then true else if b == 93 then false else inside
+abbrev pub inside_after : (inside : Bool) → ℕ → Bool
+inside_after inside b = if b == 91 then true else if b == 93 then false else inside
 
 -- the words of a line, which is cut at each space (32) that stands in no brackets
 abbrev pub words_of_line : (inside : Bool) → List ℕ → List (List ℕ)
 words_of_line inside [] = [] ∷ []
 words_of_line inside (b ∷ bytes) =
-    if b == 32 && not inside then [] ∷ words_of_line inside bytes else put_byte b (words_of_line (inside_behind inside b) bytes)
+    if b == 32 && not inside then [] ∷ words_of_line inside bytes else put_byte b (words_of_line (inside_after inside b) bytes)
 
 -- the words of each line
 abbrev pub words_of_lines : List ℕ → List (List (List ℕ))

@@ -22,19 +22,19 @@ use Rattle.plan_text.specs.Lines.{end_name, function_at}
 use Rattle.plan_text_laws.specs.Kinds.{InstructionKind, Set, Put, AddVertex, NewSet, AllSet, CopySet, Filter, ApplyVertices, ApplyEdges, kind_in}
 
 -- what stands after the first word: of an instruction with an expression one name, and of one on sets all words
-abbrev pub names_behind : Option InstructionKind → List (List ℕ) → List (List ℕ)
-names_behind (Some Set) words = slice_index_or words 1 [] ∷ []
-names_behind (Some Put) words = slice_index_or words 1 [] ∷ []
-names_behind (Some AddVertex) words = slice_index_or words 1 [] ∷ []
-names_behind (Some NewSet) (word ∷ words) = words
-names_behind (Some AllSet) (word ∷ words) = words
-names_behind (Some CopySet) (word ∷ words) = words
-names_behind (Some Filter) (word ∷ words) = words
-names_behind (Some ApplyVertices) (word ∷ words) = words
-names_behind _ words = []
+abbrev pub names_after : Option InstructionKind → List (List ℕ) → List (List ℕ)
+names_after (Some Set) words = slice_index_or words 1 [] ∷ []
+names_after (Some Put) words = slice_index_or words 1 [] ∷ []
+names_after (Some AddVertex) words = slice_index_or words 1 [] ∷ []
+names_after (Some NewSet) (word ∷ words) = words
+names_after (Some AllSet) (word ∷ words) = words
+names_after (Some CopySet) (word ∷ words) = words
+names_after (Some Filter) (word ∷ words) = words
+names_after (Some ApplyVertices) (word ∷ words) = words
+names_after _ words = []
 
 abbrev pub names_in : List (List ℕ) → List (List ℕ)
-names_in words = names_behind (kind_in words) words
+names_in words = names_after (kind_in words) words
 
 -- the set that gets a value, and what it gets it from
 abbrev pub names_of_set : ProgramTree → (name : ℕ) → SetValue → List (List ℕ)
@@ -71,12 +71,12 @@ names_of p _ = []
 abbrev pub entry_reductions : List (List ℕ × Option Reduction)
 entry_reductions = (codes "=", None) ∷ (codes "min=", Some reduction.Min) ∷ (codes "max=", Some reduction.Max) ∷ (codes "+=", Some reduction.Plus) ∷ []
 
-abbrev pub reduction_behind : Option InstructionKind → List (List ℕ) → Option (Option Reduction)
-reduction_behind (Some Put) words = lookup (bytes_eq (slice_index_or words 3 [])) entry_reductions
-reduction_behind _ words = None
+abbrev pub reduction_after : Option InstructionKind → List (List ℕ) → Option (Option Reduction)
+reduction_after (Some Put) words = lookup (bytes_eq (slice_index_or words 3 [])) entry_reductions
+reduction_after _ words = None
 
 abbrev pub reduction_in : List (List ℕ) → Option (Option Reduction)
-reduction_in words = reduction_behind (kind_in words) words
+reduction_in words = reduction_after (kind_in words) words
 
 abbrev pub reduction_of : OperationTree → Option (Option Reduction)
 reduction_of (operation.Do (action.SetEntry vector index e)) = Some None

@@ -22,30 +22,30 @@ within_both d e f h k = record {
 pub within_loop : (d : Depth) → IsWithin d (in_loop d)
 within_loop d = record { integers = omega arith; conditions = omega arith; sets = omega arith }
 
-pub within_behind : (a : StatementKindTree) (d : Depth) → IsWithin d (behind a d)
-within_behind (DeclareInteger name e) d = record { integers = omega arith; conditions = omega arith; sets = omega arith }
-within_behind (DeclareCondition name c) d = record { integers = omega arith; conditions = omega arith; sets = omega arith }
-within_behind (DeclareSet name set) d = record { integers = omega arith; conditions = omega arith; sets = omega arith }
-within_behind (SetInteger slot e) d = within_itself d
-within_behind (SetCondition slot c) d = within_itself d
-within_behind (ReduceInteger slot reduction e) d = within_itself d
-within_behind (SetEntry vector index e) d = within_itself d
-within_behind (ReduceEntry vector index reduction e) d = within_itself d
-within_behind (AssignSet slot set) d = within_itself d
-within_behind (AddVertex slot e) d = within_itself d
-within_behind (PrintInteger e) d = within_itself d
-within_behind (PrintCondition c) d = within_itself d
-within_behind (ApplyVertex set function) d = within_itself d
-within_behind (ApplyEdges ends function) d = within_itself d
-within_behind (If c body) d = within_itself d
-within_behind (IfElse c body other) d = within_itself d
-within_behind (While c body) d = within_itself d
-within_behind (For name first end body) d = within_itself d
+pub within_after : (a : StatementKindTree) (d : Depth) → IsWithin d (behind a d)
+within_after (DeclareInteger name e) d = record { integers = omega arith; conditions = omega arith; sets = omega arith }
+within_after (DeclareCondition name c) d = record { integers = omega arith; conditions = omega arith; sets = omega arith }
+within_after (DeclareSet name set) d = record { integers = omega arith; conditions = omega arith; sets = omega arith }
+within_after (SetInteger slot e) d = within_itself d
+within_after (SetCondition slot c) d = within_itself d
+within_after (ReduceInteger slot reduction e) d = within_itself d
+within_after (SetEntry vector index e) d = within_itself d
+within_after (ReduceEntry vector index reduction e) d = within_itself d
+within_after (AssignSet slot set) d = within_itself d
+within_after (AddVertex slot e) d = within_itself d
+within_after (PrintInteger e) d = within_itself d
+within_after (PrintCondition c) d = within_itself d
+within_after (ApplyVertex set function) d = within_itself d
+within_after (ApplyEdges ends function) d = within_itself d
+within_after (If c body) d = within_itself d
+within_after (IfElse c body other) d = within_itself d
+within_after (While c body) d = within_itself d
+within_after (For name first end body) d = within_itself d
 
-pub within_behind_all : (b : BlockTree) (d : Depth) → IsWithin d (behind_all b d)
-within_behind_all Empty d = within_itself d
-within_behind_all (Then number label action rest) d =
-    within_both d (behind action d) (behind_all rest (behind action d)) (within_behind action d) (within_behind_all rest (behind action d))
+pub within_after_all : (b : BlockTree) (d : Depth) → IsWithin d (behind_all b d)
+within_after_all Empty d = within_itself d
+within_after_all (Then number label action rest) d =
+    within_both d (behind action d) (behind_all rest (behind action d)) (within_after action d) (within_after_all rest (behind action d))
 
 take_less : {A : Type 0} (m n : ℕ) (xs : List A) → m ≤ n → take m (take n xs) ≡ take m xs
 take_less zero n xs h = refl

@@ -7,7 +7,7 @@ use Rattle.apply_options.specs.ScheduleTree.{ScheduleTree, apply_schedule_at}
 use Rattle.std.proofs.lemmas.Bool.{and_parts}
 use Rattle.algorithm_meaning.specs.declared.state.Depth.{Depth}
 use Rattle.plans.specs.Instruction.{OperationTree, ApplyEdgesTogether, ApplyVerticesTogether, Advance, Jump, End, InstructionTree}
-use Rattle.plans.specs.Fusing.{EdgeApplyTree, VertexApplyTree, edge_apply_of, vertex_apply_of, function_is_local, edges_fit, vertices_fit, edges_together, vertices_together, either, together, is_with, FusionRole, Alone, WithNext, WithPrevious, with_next, fusion_role_of, takes_next}
+use Rattle.plans.specs.Fusing.{EdgeApplyTree, VertexApplyTree, edge_apply_of, vertex_apply_of, function_is_local, edges_fit, vertices_fit, fused_edges, fused_vertices, either, together, is_with, FusionRole, Alone, WithNext, WithPrevious, with_next, fusion_role_of, takes_next}
 use Rattle.plans.specs.Plan.{behind, behind_all, in_loop, main_depth, plain, loop_step, size_in, plan_in, size, size_all, plan, plan_all, plan_of}
 use Rattle.plans.specs.Fused.{FitTogether, FusedFit}
 use Rattle.plans.proofs.Ascending.{ascends_increasing}
@@ -42,15 +42,15 @@ module _ (p : ProgramTree) where
   vertices_if x y true e = vertices_apart x y e
   vertices_if x y false e = tt
 
-  edges_together_fit : (d : Depth) (a b : Option EdgeApplyTree) → FitsIf (edges_together p d a b)
-  edges_together_fit d None b = tt
-  edges_together_fit d (Some x) None = tt
-  edges_together_fit d (Some x) (Some y) = edges_if d x y (edges_fit p d x y) refl
+  fused_edges_fit : (d : Depth) (a b : Option EdgeApplyTree) → FitsIf (fused_edges p d a b)
+  fused_edges_fit d None b = tt
+  fused_edges_fit d (Some x) None = tt
+  fused_edges_fit d (Some x) (Some y) = edges_if d x y (edges_fit p d x y) refl
 
-  vertices_together_fit : (a b : Option VertexApplyTree) → FitsIf (vertices_together p a b)
-  vertices_together_fit None b = tt
-  vertices_together_fit (Some x) None = tt
-  vertices_together_fit (Some x) (Some y) = vertices_if x y (vertices_fit p x y) refl
+  fused_vertices_fit : (a b : Option VertexApplyTree) → FitsIf (fused_vertices p a b)
+  fused_vertices_fit None b = tt
+  fused_vertices_fit (Some x) None = tt
+  fused_vertices_fit (Some x) (Some y) = vertices_if x y (vertices_fit p x y) refl
 
   either_fits : (a b : Option OperationTree) → FitsIf a → FitsIf b → FitsIf (either a b)
   either_fits None b h k = k
@@ -66,8 +66,8 @@ module _ (p : ProgramTree) where
   company_fits s d false label a Empty = tt
   company_fits s d false label a (Then number other b rest) =
       fused_fits (is_with (apply_schedule_at label s).fused other) (together p d a b)
-      (either_fits (edges_together p d (edge_apply_of a) (edge_apply_of b)) (vertices_together p (vertex_apply_of a) (vertex_apply_of b))
-      (edges_together_fit d (edge_apply_of a) (edge_apply_of b)) (vertices_together_fit (vertex_apply_of a) (vertex_apply_of b)))
+      (either_fits (fused_edges p d (edge_apply_of a) (edge_apply_of b)) (fused_vertices p (vertex_apply_of a) (vertex_apply_of b))
+      (fused_edges_fit d (edge_apply_of a) (edge_apply_of b)) (fused_vertices_fit (vertex_apply_of a) (vertex_apply_of b)))
 
 module _ (p : ProgramTree) (s : ScheduleTree) where
   abbrev Fits : InstructionTree → Type 0

@@ -43,21 +43,21 @@ numbers_swap : (u v : ℕ) (c d : Contribution) (xs : List (List ℤ)) → (c.ve
 numbers_swap u v c d xs h = rows_change xs c.vector d.vector (row_after u c) (row_after v d) h
 
 -- a number goes after others that are for vectors other than its own
-goes_behind : (u v : ℕ) (d : Contribution) (cs : List Contribution) (xs : List (List ℤ)) → AreFor (λ x. not (x == d.vector)) cs
+goes_after : (u v : ℕ) (d : Contribution) (cs : List Contribution) (xs : List (List ℤ)) → AreFor (λ x. not (x == d.vector)) cs
     → with_given u cs (after_number v d xs) ≡ after_number v d (with_given u cs xs)
-goes_behind u v d [] xs h = refl
-goes_behind u v d (c ∷ cs) xs h =
-    ap (with_given u cs) (sym (numbers_swap u v c d xs (differs c.vector d.vector h.0))) ∙ goes_behind u v d cs (after_number u c xs) h.1
+goes_after u v d [] xs h = refl
+goes_after u v d (c ∷ cs) xs h =
+    ap (with_given u cs) (sym (numbers_swap u v c d xs (differs c.vector d.vector h.0))) ∙ goes_after u v d cs (after_number u c xs) h.1
 
 -- none of the first numbers is for a vector of the second
 abbrev pub AreForOthers : (cs ds : List Contribution) → Type 0
 AreForOthers cs [] = Unit {0}
 AreForOthers cs (d ∷ ds) = AreFor (λ x. not (x == d.vector)) cs × AreForOthers cs ds
 
-all_go_behind : (u v : ℕ) (cs ds : List Contribution) (xs : List (List ℤ)) → AreForOthers cs ds → with_given u cs (with_given v ds xs) ≡ with_given v ds (with_given u cs xs)
-all_go_behind u v cs [] xs h = refl
-all_go_behind u v cs (d ∷ ds) xs h =
-    all_go_behind u v cs ds (after_number v d xs) h.1 ∙ ap (with_given v ds) (goes_behind u v d cs xs h.0)
+all_go_after : (u v : ℕ) (cs ds : List Contribution) (xs : List (List ℤ)) → AreForOthers cs ds → with_given u cs (with_given v ds xs) ≡ with_given v ds (with_given u cs xs)
+all_go_after u v cs [] xs h = refl
+all_go_after u v cs (d ∷ ds) xs h =
+    all_go_after u v cs ds (after_number v d xs) h.1 ∙ ap (with_given v ds) (goes_after u v d cs xs h.0)
 
 with_given-append : (v : ℕ) (cs ds : List Contribution) (xs : List (List ℤ)) → with_given v (cs ++ ds) xs ≡ with_given v ds (with_given v cs xs)
 with_given-append v [] ds xs = refl
@@ -74,11 +74,11 @@ edges_give functions sets before [] xs = refl
 edges_give functions sets before (edge ∷ edges) xs = edges_give functions sets before edges (with_given edge.1 (all_give functions sets before edge) xs)
 
 module _ (F G : Edge → List Contribution) (apart : (e e' : Edge) → AreForOthers (F e) (G e')) where
-  edge_goes_behind : (edges : List Edge) (edge : Edge) (xs : List (List ℤ))
+  edge_goes_after : (edges : List Edge) (edge : Edge) (xs : List (List ℤ))
       → given_along F edges (with_given edge.1 (G edge) xs) ≡ with_given edge.1 (G edge) (given_along F edges xs)
-  edge_goes_behind [] edge xs = refl
-  edge_goes_behind (e ∷ edges) edge xs =
-      ap (given_along F edges) (all_go_behind e.1 edge.1 (F e) (G edge) xs (apart e edge)) ∙ edge_goes_behind edges edge (with_given e.1 (F e) xs)
+  edge_goes_after [] edge xs = refl
+  edge_goes_after (e ∷ edges) edge xs =
+      ap (given_along F edges) (all_go_after e.1 edge.1 (F e) (G edge) xs (apart e edge)) ∙ edge_goes_after edges edge (with_given e.1 (F e) xs)
 
   -- both along each edge, or one after the other
   pub both_along : (edges : List Edge) (xs : List (List ℤ)) → given_along (λ e. F e ++ G e) edges xs ≡ given_along G edges (given_along F edges xs)
@@ -86,7 +86,7 @@ module _ (F G : Edge → List Contribution) (apart : (e e' : Edge) → AreForOth
   both_along (e ∷ edges) xs =
       both_along edges (with_given e.1 (F e ++ G e) xs)
       ∙ ap (λ (ys : List (List ℤ)). given_along G edges (given_along F edges ys)) (with_given-append e.1 (F e) (G e) xs)
-      ∙ ap (given_along G edges) (edge_goes_behind edges e (with_given e.1 (F e) xs))
+      ∙ ap (given_along G edges) (edge_goes_after edges e (with_given e.1 (F e) xs))
 
 row_stays : (vector v : ℕ) (cs : List Contribution) (xs : List (List ℤ)) → AreFor (λ x. not (x == vector)) cs → slice_index_or (with_given v cs xs) vector [] ≡ slice_index_or xs vector []
 row_stays vector v [] xs h = refl

@@ -5,7 +5,7 @@ use Rattle.typed_tree.specs.ProgramTree.{ProgramTree}
 use Rattle.apply_options.specs.ScheduleTree.{ScheduleTree, apply_schedule_at}
 use Rattle.algorithm_meaning.specs.declared.state.Depth.{Depth}
 use Rattle.plans.specs.Instruction.{OperationTree, ApplyEdgesTogether, ApplyVerticesTogether, Advance, Jump, End, InstructionTree}
-use Rattle.plans.specs.Fusing.{EdgeApplyTree, VertexApplyTree, edge_apply_of, vertex_apply_of, edges_fit, vertices_fit, edges_together, vertices_together, either, together, is_with, FusionRole, Alone, WithNext, WithPrevious, with_next, fusion_role_of, takes_next}
+use Rattle.plans.specs.Fusing.{EdgeApplyTree, VertexApplyTree, edge_apply_of, vertex_apply_of, edges_fit, vertices_fit, fused_edges, fused_vertices, either, together, is_with, FusionRole, Alone, WithNext, WithPrevious, with_next, fusion_role_of, takes_next}
 use Rattle.plans.specs.Plan.{behind, behind_all, in_loop, main_depth, plain, loop_step, chosen, size_in, plan_in, size, size_all, plan, plan_all, plan_of}
 use Rattle.plans.specs.ApplySchedules.{StandsIn, StandsInside, first_apply, ComesFrom, GoBySchedule}
 
@@ -32,7 +32,7 @@ Begins a Alone = Unit {0}
 Begins a (WithNext operation) = (x : EdgeApplyTree) → first_apply operation ≡ Some x → a ≡ Some x
 Begins a WithPrevious = Unit {0}
 
-edges_begin : (p : ProgramTree) (d : Depth) (a b : Option EdgeApplyTree) → BeginsIf a (edges_together p d a b)
+edges_begin : (p : ProgramTree) (d : Depth) (a b : Option EdgeApplyTree) → BeginsIf a (fused_edges p d a b)
 edges_begin p d None b = tt
 edges_begin p d (Some x) None = tt
 edges_begin p d (Some x) (Some y) = by_test (edges_fit p d x y)
@@ -41,7 +41,7 @@ edges_begin p d (Some x) (Some y) = by_test (edges_fit p d x y)
     by_test true = λ z e. e
     by_test false = tt
 
-vertices_begin : (p : ProgramTree) (c : Option EdgeApplyTree) (a b : Option VertexApplyTree) → BeginsIf c (vertices_together p a b)
+vertices_begin : (p : ProgramTree) (c : Option EdgeApplyTree) (a b : Option VertexApplyTree) → BeginsIf c (fused_vertices p a b)
 vertices_begin p c None b = tt
 vertices_begin p c (Some x) None = tt
 vertices_begin p c (Some x) (Some y) = by_test (vertices_fit p x y)
@@ -64,7 +64,7 @@ company_begins p schedule d true label a rest = tt
 company_begins p schedule d false label a Empty = tt
 company_begins p schedule d false label a (Then number other b rest) =
     fused_begins (edge_apply_of a) (is_with (apply_schedule_at label schedule).fused other) (together p d a b)
-    (either_begins (edge_apply_of a) (edges_together p d (edge_apply_of a) (edge_apply_of b)) (vertices_together p (vertex_apply_of a) (vertex_apply_of b))
+    (either_begins (edge_apply_of a) (fused_edges p d (edge_apply_of a) (edge_apply_of b)) (fused_vertices p (vertex_apply_of a) (vertex_apply_of b))
     (edges_begin p d (edge_apply_of a) (edge_apply_of b)) (vertices_begin p (edge_apply_of a) (vertex_apply_of a) (vertex_apply_of b)))
 
 module _ (p : ProgramTree) (schedule : ScheduleTree) (P : InstructionTree → Type 0) where

@@ -14,7 +14,7 @@ use Rattle.apply_options.specs.ScheduleTree.{ScheduleTree, apply_schedule_at}
 use Rattle.std.proofs.lemmas.Bool.{and_parts}
 use Rattle.algorithm_meaning.specs.declared.state.Depth.{Depth}
 use Rattle.plans.specs.Instruction.{OperationTree, ApplyEdgesTogether, ApplyVerticesTogether}
-use Rattle.plans.specs.Fusing.{EdgeApplyTree, VertexApplyTree, edge_apply_of, vertex_apply_of, function_is_local, edges_fit, vertices_fit, edges_together, vertices_together, either, together, is_with, Alone, with_next, fusion_role_of}
+use Rattle.plans.specs.Fusing.{EdgeApplyTree, VertexApplyTree, edge_apply_of, vertex_apply_of, function_is_local, edges_fit, vertices_fit, fused_edges, fused_vertices, either, together, is_with, Alone, with_next, fusion_role_of}
 use Rattle.plans.specs.inside.Fusing.{steps_are_local, steps_are_local_where}
 use Rattle.plans.specs.Machine.{At, after_apply_both}
 use Rattle.plans.proofs.Proper.{IsProper}
@@ -88,12 +88,12 @@ module _ (p : ProgramTree) (g : GraphValue) where
     acts = λ number shown index loops turns s q. ap (At (index + 1) loops) (vertices_at_once x y d turns s e q);
   }
 
-  edges_do_both : (d : Depth) (a b : StatementKindTree) (x y : Option EdgeApplyTree) → IsEdgeApply a x → IsEdgeApply b y → DoesBothIf (edges_together p d x y) d a b
+  edges_do_both : (d : Depth) (a b : StatementKindTree) (x y : Option EdgeApplyTree) → IsEdgeApply a x → IsEdgeApply b y → DoesBothIf (fused_edges p d x y) d a b
   edges_do_both d a b None y h k = tt
   edges_do_both d a b (Some x) None h k = tt
   edges_do_both d a b (Some x) (Some y) h k = edges_if d a b x y (edges_fit p d x y) refl h k
 
-  vertices_do_both : (d : Depth) (a b : StatementKindTree) (x y : Option VertexApplyTree) → IsVertexApply a x → IsVertexApply b y → DoesBothIf (vertices_together p x y) d a b
+  vertices_do_both : (d : Depth) (a b : StatementKindTree) (x y : Option VertexApplyTree) → IsVertexApply a x → IsVertexApply b y → DoesBothIf (fused_vertices p x y) d a b
   vertices_do_both d a b None y h k = tt
   vertices_do_both d a b (Some x) None h k = tt
   vertices_do_both d a b (Some x) (Some y) h k = vertices_if d a b x y (vertices_fit p x y) refl h k
@@ -104,7 +104,7 @@ module _ (p : ProgramTree) (g : GraphValue) where
 
   together_does_both : (d : Depth) (a b : StatementKindTree) → DoesBothIf (together p d a b) d a b
   together_does_both d a b =
-      either_does_both (edges_together p d (edge_apply_of a) (edge_apply_of b)) (vertices_together p (vertex_apply_of a) (vertex_apply_of b)) d a b
+      either_does_both (fused_edges p d (edge_apply_of a) (edge_apply_of b)) (fused_vertices p (vertex_apply_of a) (vertex_apply_of b)) d a b
       (edges_do_both d a b (edge_apply_of a) (edge_apply_of b) (is_edge_apply a) (is_edge_apply b))
       (vertices_do_both d a b (vertex_apply_of a) (vertex_apply_of b) (is_vertex_apply a) (is_vertex_apply b))
 

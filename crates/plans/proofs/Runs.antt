@@ -14,7 +14,7 @@ use Rattle.plans.specs.Instruction.{OperationTree, Do, Unless, UnlessBelow, Turn
 use Rattle.plans.specs.Fusing.{FusionRole, Alone, WithNext, WithPrevious, fusion_role_of, takes_next}
 use Rattle.plans.specs.Plan.{behind, behind_all, in_loop, plain, loop_step, chosen, size_in, plan_in, size, size_all, plan, plan_all}
 use Rattle.plans.specs.Machine.{Configuration, At}
-use Rattle.plans.proofs.Depths.{within_loop, within_behind_all, within_both, forgotten-all}
+use Rattle.plans.proofs.Depths.{within_loop, within_after_all, within_both, forgotten-all}
 use Rattle.plans.proofs.Proper.{IsProper, HasNoBlock}
 use Rattle.plans.proofs.Indices.{HasAt, has_front, has_behind, length-plan, length-plan_all}
 use Rattle.plans.proofs.Reaching.{here, by_step, Moves, moves_on, Lands, Follows, follows_from, takes, alone_runs, leaving, jumps, lands_at}
@@ -48,7 +48,7 @@ module _ (p : ProgramTree) (g : GraphValue) (schedule : ScheduleTree) (code : Li
       → Moves p g code c c' → Follows p g code to loops (behind_all b d) turns st c' → Follows p g code to loops d turns (leave (depth_of s) st) c
   block_inside st to loops b d turns s c c' q e f =
       follows_from p g code (leave (depth_of s) st) to loops d turns c c' (by_step p g code c c' c' e here)
-      (leaving p g code st to loops d (behind_all b d) turns s c' q.deep (within_behind_all b d) f)
+      (leaving p g code st to loops d (behind_all b d) turns s c' q.deep (within_after_all b d) f)
 
   if_runs : (c : BoolExpressionTree) (body : BlockTree) (index number to : ℕ) (d : Depth) (turns : ℕ) (loops : List LoopCounter) (m s : StateValue) (o : Option Bool)
       → slice_get code index ≡ Some (plain number d (Unless c to)) → forget_beyond d m ≡ s → IsProper d turns s → bool_value_in g.vertices c s ≡ o
@@ -197,7 +197,7 @@ module _ (p : ProgramTree) (g : GraphValue) (schedule : ScheduleTree) (code : Li
           let jump = plain number d (Jump index) ∷ [] in
           let inner : HasBlock (index + 2) d false body jump = subst (λ (x : ℕ). HasAt code x (plan_all p schedule (index + 2) d false body ++ jump)) (omega arith) at.1.1 in
           lands_at p g code (after p g number (While c body) s) to (index + size p schedule d (While c body)) loops d turns (At index loops m) (omega arith)
-          (while_runs p g code c (after_all p g body) index number back to d (behind_all body d) turns loops m s at.0 at.1.0 (behind_block (index + 2) back d body jump refl inner).0 (within_behind_all body d)
+          (while_runs p g code c (after_all p g body) index number back to d (behind_all body d) turns loops m s at.0 at.1.0 (behind_block (index + 2) back d body jump refl inner).0 (within_after_all body d)
           (λ n t proper. block_runs body false (index + 2) d n loops t t (has_front code (index + 2) (plan_all p schedule (index + 2) d false body) jump inner) (forgotten-all d t proper.deep) proper)
           same q)
       action_runs (For name first end body) index number label d turns loops m s at same q =
@@ -217,7 +217,7 @@ module _ (p : ProgramTree) (g : GraphValue) (schedule : ScheduleTree) (code : Li
           } in
           lands_at p g code (after p g number (For name first end body) s) to (index + size p schedule d (For name first end body)) loops d turns (At index loops m) (omega arith)
           (for_runs p g code index number name back to first end d (behind_all body deep) loops stands (after_all p g body) turns s m
-          (within_both d deep (behind_all body deep) (within_loop d) (within_behind_all body deep))
+          (within_both d deep (behind_all body deep) (within_loop d) (within_after_all body deep))
           (λ r n t proper. block_runs body false (index + 4) deep n (r ∷ loops) t t (has_front code (index + 4) (plan_all p schedule (index + 4) deep false body) last inner) (forgotten-all deep t proper.deep) proper)
           same q)
 

@@ -5,7 +5,7 @@ use Rattle.typed_tree.specs.ProgramTree.{ProgramTree}
 use Rattle.apply_options.specs.ScheduleTree.{ScheduleTree, apply_schedule_at}
 use Rattle.algorithm_meaning.specs.declared.state.Depth.{Depth}
 use Rattle.plans.specs.Instruction.{OperationTree, Do, ApplyEdgesTogether, ApplyVerticesTogether, Unless, UnlessBelow, Advance, Turn, Jump, End, InstructionTree}
-use Rattle.plans.specs.Fusing.{EdgeApplyTree, VertexApplyTree, edge_apply_of, vertex_apply_of, edges_fit, vertices_fit, edges_together, vertices_together, either, together, is_with, FusionRole, Alone, WithNext, WithPrevious, with_next, fusion_role_of, takes_next}
+use Rattle.plans.specs.Fusing.{EdgeApplyTree, VertexApplyTree, edge_apply_of, vertex_apply_of, edges_fit, vertices_fit, fused_edges, fused_vertices, either, together, is_with, FusionRole, Alone, WithNext, WithPrevious, with_next, fusion_role_of, takes_next}
 use Rattle.plans.specs.Plan.{behind, behind_all, in_loop, main_depth, plan_of, plain, loop_step, size_in, plan_in, size, size_all, plan, plan_all}
 use Rattle.plans.specs.Bound.{is_turn}
 use Rattle.plans.proofs.Proper.{HasNoBlock}
@@ -59,7 +59,7 @@ IsCompanyOfTwo Alone = Unit {0}
 IsCompanyOfTwo (WithNext operation) = IsForTwo operation
 IsCompanyOfTwo WithPrevious = Unit {0}
 
-edges_for_two : (p : ProgramTree) (d : Depth) (a b : Option EdgeApplyTree) → IsForTwoIf (edges_together p d a b)
+edges_for_two : (p : ProgramTree) (d : Depth) (a b : Option EdgeApplyTree) → IsForTwoIf (fused_edges p d a b)
 edges_for_two p d None b = tt
 edges_for_two p d (Some x) None = tt
 edges_for_two p d (Some x) (Some y) = by_test (edges_fit p d x y)
@@ -68,7 +68,7 @@ edges_for_two p d (Some x) (Some y) = by_test (edges_fit p d x y)
     by_test true = tt
     by_test false = tt
 
-vertices_for_two : (p : ProgramTree) (a b : Option VertexApplyTree) → IsForTwoIf (vertices_together p a b)
+vertices_for_two : (p : ProgramTree) (a b : Option VertexApplyTree) → IsForTwoIf (fused_vertices p a b)
 vertices_for_two p None b = tt
 vertices_for_two p (Some x) None = tt
 vertices_for_two p (Some x) (Some y) = by_test (vertices_fit p x y)
@@ -91,7 +91,7 @@ company_of_two p schedule d true label a rest = tt
 company_of_two p schedule d false label a Empty = tt
 company_of_two p schedule d false label a (Then number other b rest) =
     fused_for_two (is_with (apply_schedule_at label schedule).fused other) (together p d a b)
-    (either_for_two (edges_together p d (edge_apply_of a) (edge_apply_of b)) (vertices_together p (vertex_apply_of a) (vertex_apply_of b))
+    (either_for_two (fused_edges p d (edge_apply_of a) (edge_apply_of b)) (fused_vertices p (vertex_apply_of a) (vertex_apply_of b))
     (edges_for_two p d (edge_apply_of a) (edge_apply_of b)) (vertices_for_two p (vertex_apply_of a) (vertex_apply_of b)))
 
 module _ (p : ProgramTree) (schedule : ScheduleTree) (code : List InstructionTree) where
@@ -133,12 +133,12 @@ module _ (p : ProgramTree) (schedule : ScheduleTree) (code : List InstructionTre
         let from = back + 1 in
         let to = from + size_all p schedule d false other in
         let own = plan_all p schedule (index + 1) d false body in
-        let behind_own = plain number d (Jump to) ∷ plan_all p schedule from d false other in
-        let others = has_behind code (index + 1) n back own behind_own (length-plan_all p schedule body (index + 1) d false) refl at.1 in
+        let after_own = plain number d (Jump to) ∷ plan_all p schedule from d false other in
+        let others = has_behind code (index + 1) n back own after_own (length-plan_all p schedule body (index + 1) d false) refl at.1 in
         let on : back < to = omega arith in (
           omega arith,
-          inner (index + 1) n back own behind_own (length-plan_all p schedule body (index + 1) d false) refl
-              (block_leads body false (index + 1) d (has_front code (index + 1) own behind_own at.1))
+          inner (index + 1) n back own after_own (length-plan_all p schedule body (index + 1) d false) refl
+              (block_leads body false (index + 1) d (has_front code (index + 1) own after_own at.1))
               (inl on, block_leads other false from d others.1),
         )
     action_leads (While c body) index number label d at =

@@ -126,22 +126,22 @@ vertices_fit p x y =
     && (function_is_local p.vertex_functions x.function && function_is_local p.vertex_functions y.function)
 
 -- two applies together, where they fit
-abbrev pub edges_together : ProgramTree → Depth → Option EdgeApplyTree → Option EdgeApplyTree → Option OperationTree
-edges_together p d None b = None
-edges_together p d (Some x) None = None
-edges_together p d (Some x) (Some y) = if edges_fit p d x y then Some (ApplyEdgesTogether x.ends x.part y.part) else None
+abbrev pub fused_edges : ProgramTree → Depth → Option EdgeApplyTree → Option EdgeApplyTree → Option OperationTree
+fused_edges p d None b = None
+fused_edges p d (Some x) None = None
+fused_edges p d (Some x) (Some y) = if edges_fit p d x y then Some (ApplyEdgesTogether x.ends x.part y.part) else None
 
-abbrev pub vertices_together : ProgramTree → Option VertexApplyTree → Option VertexApplyTree → Option OperationTree
-vertices_together p None b = None
-vertices_together p (Some x) None = None
-vertices_together p (Some x) (Some y) = if vertices_fit p x y then Some (ApplyVerticesTogether x.set x.function y.function) else None
+abbrev pub fused_vertices : ProgramTree → Option VertexApplyTree → Option VertexApplyTree → Option OperationTree
+fused_vertices p None b = None
+fused_vertices p (Some x) None = None
+fused_vertices p (Some x) (Some y) = if vertices_fit p x y then Some (ApplyVerticesTogether x.set x.function y.function) else None
 
 abbrev pub either : Option OperationTree → Option OperationTree → Option OperationTree
 either (Some o) other = Some o
 either None other = other
 
 abbrev pub together : ProgramTree → Depth → StatementKindTree → StatementKindTree → Option OperationTree
-together p d a b = either (edges_together p d (edge_apply_of a) (edge_apply_of b)) (vertices_together p (vertex_apply_of a) (vertex_apply_of b))
+together p d a b = either (fused_edges p d (edge_apply_of a) (edge_apply_of b)) (fused_vertices p (vertex_apply_of a) (vertex_apply_of b))
 
 -- the schedule fuses a statement with the one of a label
 abbrev pub is_with : Option Fused → Option ℕ → Bool

@@ -49,7 +49,7 @@ inside_more P xs k i n false at it room counts stays =
     subst (λ (front : List ℕ). All P front) (sym (ap (λ (m : ℕ). take m (set xs k i)) (stays refl) ∙ take-set xs k i)) at
 
 -- what is left after one index, seen from another
-pub rest_behind : {X : Type 0} (xs : List X) (low high : ℕ) → low ≤ high → drop high xs ≡ drop (high - low) (drop low xs)
-rest_behind xs low high order =
+pub rest_after : {X : Type 0} (xs : List X) (low high : ℕ) → low ≤ high → drop high xs ≡ drop (high - low) (drop low xs)
+rest_after xs low high order =
     let same : low + (high - low) ≡ high = omega (arith, order) in
     sym (drop-drop (high - low) low xs ∙ ap (λ (m : ℕ). drop m xs) same)

@@ -88,9 +88,9 @@ pub keys_behind : (n : ℕ) (all rest : List (ℕ × ℤ)) → rest ≡ drop n a
 keys_behind n all rest is = ap (λ (es : List (ℕ × ℤ)). keys_of es) is ∙ sym (drop-map (λ (e : ℕ × ℤ). e.0) n all)
 
 -- what comes before does not matter where one passes after it
-pub last_behind : (o : Option ℕ) (xs ys : List ℕ) → last_or o (xs ++ ys) ≡ last_or (last_or o xs) ys
-last_behind o [] ys = refl
-last_behind o (x ∷ xs) ys = last_behind (Some x) xs ys
+pub last_after : (o : Option ℕ) (xs ys : List ℕ) → last_or o (xs ++ ys) ≡ last_or (last_or o xs) ys
+last_after o [] ys = refl
+last_after o (x ∷ xs) ys = last_after (Some x) xs ys
 
 pub last_at : (o : Option ℕ) (xs : List ℕ) (k : ℕ) → k + 1 ≡ length xs → last_or o xs ≡ Some (get_or xs k 0)
 last_at o [] k e = absurd (omega (arith, e))
@@ -104,7 +104,7 @@ round_parts : (p : ℕ → Bool) (o : Option ℕ) (all first second : List ℕ) 
 round_parts p o all first second count kept filled keeps =
     ap (λ xs. last_or o (filter p xs)) (sym (take-append-drop count all))
     ∙ ap (last_or o) (filter-append p (take count all) (drop count all))
-    ∙ last_behind o (filter p (take count all)) (filter p (drop count all))
+    ∙ last_after o (filter p (take count all)) (filter p (drop count all))
     ∙ ap (λ xs. last_or (last_or o xs) (filter p (drop count all))) (sym (keeps ∙ ap (filter p) filled))
 
 pub last_of_round : (p : ℕ → Bool) (o : Option ℕ) (all first second : List ℕ) (count kept : ℕ) → take count first ≡ take count all → take kept second ≡ filter p (take count first) → 0 < kept → kept ≤ length second

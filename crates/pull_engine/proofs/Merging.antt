@@ -111,7 +111,7 @@ gathers_pieces w (f ∷ fs) none answers = (subst (λ (o : Option ℕ). AnswersF
 pub pulled_parts : (w : PullWork) (fs : List (Found Gathered)) (y : ℕ) → shape_vector w.shape ≡ Some y → AreAnswers (Answers w) fs
     → (m : StateValue) (steps : List FunctionStatementsTree) (from to : ℕ → Bool) → w.apply.vectors.now.vectors ≡ m.vectors → HasSizes w.apply.sizes.now m → AreKernels w.apply.first.now w.apply.second steps → IsEndTest w.apply.from m from → IsEndTest w.apply.to m to
     → (r : Reduction) → IsReducedBy r y m steps
-    → ListParts (told_in_piece (entry m.vectors y) (entry_after m steps y r (edges_between from to w.apply.flat.now.edges)) w.cuts) fs
+    → ListParts (told_in_piece (entry m.vectors y) (entry_after m steps y r (edges_between from to w.apply.flat.now.edges)) w.partition) fs
 pulled_parts w [] y at answers m steps from to vectors sizes kernels is_from is_to r by = tt
 pulled_parts w (f ∷ fs) y at answers m steps from to vectors sizes kernels is_from is_to r by = (
   subst (λ (o : Option ℕ). AnswersFor o w f.piece f.out) at answers.0.0 m steps from to vectors sizes kernels is_from is_to r by,

@@ -20,7 +20,7 @@ use Rattle.pull_engine.specs.Ranges.{AreChangesFrom, all_listed, shape_reduction
 
 -- the edges of an apply into the vertices of a piece, where these tests are those of its ends
 abbrev pub edges_into_piece : PullWork → (from to : ℕ → Bool) → (piece : ℕ) → List Edge
-edges_into_piece w from to k = columns from w.apply.flat.now.edges (filter to (piece_of w.cuts (range_with_len 0 w.apply.flat.now.vertices) k))
+edges_into_piece w from to k = columns from w.apply.flat.now.edges (filter to (piece_of w.partition (range_with_len 0 w.apply.flat.now.vertices) k))
 
 -- a piece of an apply by any functions answers what its edges give
 abbrev pub GathersPiece : PullWork → (piece : ℕ) → Gathered → Type 0
@@ -32,7 +32,7 @@ GathersPiece w k g = (m : StateValue) (steps : List FunctionStatementsTree) (fro
 abbrev pub IsPiecePulled : (vector : ℕ) → PullWork → (piece : ℕ) → List EntryChange → Type 0
 IsPiecePulled x w k cs = (m : StateValue) (steps : List FunctionStatementsTree) (from to : ℕ → Bool) → w.apply.vectors.now.vectors ≡ m.vectors → HasSizes w.apply.sizes.now m
     → AreKernels w.apply.first.now w.apply.second steps → IsEndTest w.apply.from m from → IsEndTest w.apply.to m to
-    → AreChangesFrom x (end_of w.cuts (k - 1)) (end_of w.cuts k - end_of w.cuts (k - 1)) (edges_between from to w.apply.flat.now.edges) m steps cs
+    → AreChangesFrom x (end_of w.partition (k - 1)) (end_of w.partition k - end_of w.partition (k - 1)) (edges_between from to w.apply.flat.now.edges) m steps cs
 
 -- what the edges of a piece give where there is no such vector, and else what changes in it
 abbrev pub AnswersFor : Option ℕ → PullWork → (piece : ℕ) → Gathered → Type 0

@@ -17,7 +17,7 @@ use std::alloc::{AllocError, Global};
 use vertex_sets::{Form, VertexSet};
 
 /// Where a schedule cuts the vertices of a graph for n workers. The only error is out of memory.
-pub(crate) fn cut_vertices(
+pub(crate) fn partition_vertices(
     alloc: Global,
     parallelization: Parallelization,
     workers: WorkerCount,

@@ -28,9 +28,9 @@ use vectors::{Changes, EntryChange};
 impl PullWork<'_> {
     /// How many pieces there are, at least one.
     pub fn pieces(&self) -> usize
-        ensures { result ≡ length self.now.cuts }
+        ensures { result ≡ length self.now.partition }
     {
-        self.cuts.pieces()
+        self.partition.pieces()
     }
 
     /// What the whole apply changes, from what was found of all its pieces, in whatever order. It is what a pull says:
@@ -46,12 +46,12 @@ impl PullWork<'_> {
     ) -> Result<Changes, AllocError>
         ensures once { IfOk result (λ c. AreApart c.vectors.items) }
         ensures changes { IfOk result (λ c. AreAnswers (Answers self.now) found.now
-            → IsPermutation (pieces_of found.now) (range_with_len 1 (length self.now.cuts))
+            → IsPermutation (pieces_of found.now) (range_with_len 1 (length self.now.partition))
             → AreChangesOf self.now.apply c.vectors.items) }
     {
         match shape_target(self.shape) {
             Some(target) => {
-                let changes = append_pieces(alloc, self.cuts.pieces(), found)?;
+                let changes = append_pieces(alloc, self.partition.pieces(), found)?;
                 changes_in(alloc, target.vector, changes)
             }
             None => self.merge_gathered(alloc, found, scratch),
@@ -67,7 +67,7 @@ impl PullWork<'_> {
     ) -> Result<Changes, AllocError>
         ensures once { IfOk result (λ c. AreApart c.vectors.items) }
         ensures changes { IfOk result (λ c. AreAnswers (GathersPiece self.now) found.now
-            → IsPermutation (pieces_of found.now) (range_with_len 1 (length self.now.cuts))
+            → IsPermutation (pieces_of found.now) (range_with_len 1 (length self.now.partition))
             → AreChangesOf self.now.apply c.vectors.items) }
     {
         let context = self.apply.context(FoldStart::OldEntry);
@@ -80,14 +80,14 @@ impl PullWork<'_> {
     /// The first vertex of a piece, and the one behind its last.
     fn vertices_of(&self, piece: usize) -> (u32, u32)
         requires some { 0 < piece }
-        requires inside { piece ≤ length self.now.cuts }
-        ensures low { result.0 ≡ end_of self.now.cuts (piece - 1) }
-        ensures high { result.1 ≡ end_of self.now.cuts piece }
+        requires inside { piece ≤ length self.now.partition }
+        ensures low { result.0 ≡ end_of self.now.partition (piece - 1) }
+        ensures high { result.1 ≡ end_of self.now.partition piece }
         ensures order { result.0 ≤ result.1 }
         ensures within { result.1 ≤ self.now.apply.flat.now.vertices }
     {
         self.apply.flat.vertices();
-        let indices = self.cuts.piece(piece);
+        let indices = self.partition.piece(piece);
         (indices.start as u32, indices.end as u32)
     }
 
@@ -104,7 +104,7 @@ impl PullWork<'_> {
     /// The range of a piece.
     fn range(&self, start: FoldStart, piece: usize) -> PullRange<'_>
         requires some { 0 < piece }
-        requires inside { piece ≤ length self.now.cuts }
+        requires inside { piece ≤ length self.now.partition }
         ensures { IsRangeOfPiece self.now start piece result }
     {
         let (low, high) = self.vertices_of(piece);
@@ -127,7 +127,7 @@ impl PullWork<'_> {
         piece: usize,
     ) -> Result<Gathered, AllocError>
         requires some { 0 < piece }
-        requires inside { piece ≤ length self.now.cuts }
+        requires inside { piece ≤ length self.now.partition }
         ensures { IfOk result (GathersPiece self.now piece) }
     {
         let range = self.range(FoldStart::Unit, piece);
@@ -144,7 +144,7 @@ impl PullWork<'_> {
         piece: usize,
     ) -> Result<Vec<EntryChange>, AllocError>
         requires some { 0 < piece }
-        requires inside { piece ≤ length self.now.cuts }
+        requires inside { piece ≤ length self.now.partition }
         ensures { IfOk result (λ cs. IfSome (vector_of self.now.shape) (λ vector. IsPiecePulled vector self.now piece cs.items)) }
     {
         let range = self.range(FoldStart::OldEntry, piece);
@@ -157,7 +157,7 @@ impl<'a> Work for PullWork<'a> {
 
     type State = Scratch;
 
-    ghost pieces = { λ w. length w.cuts };
+    ghost pieces = { λ w. length w.partition };
 
     ghost keeps = { λ _ _. Unit {0} };
 

@@ -19,7 +19,7 @@ ghost use Rattle.pull_engine.specs.inside.Masked.{IsMaskOf};
 ghost use Rattle.kernels.specs.inside.Propositions.{HasShape-prop};
 ghost use Rattle.pull_engine.specs.inside.Ranges.{IsShapeOfApply};
 
-use crate::listed::{cut_vertices, member_bits};
+use crate::listed::{partition_vertices, member_bits};
 use crate::masks::mask_of;
 use crate::shapes::apply_shape;
 use crate::source_words::SourceWords;
@@ -36,11 +36,11 @@ pub struct PullWork<'a> {
     pub(crate) apply: Apply<'a>,
     pub(crate) sources: SourceWords<'a>,
     pub(crate) members: Option<VertexSet>,
-    pub(crate) cuts: Partition,
+    pub(crate) partition: Partition,
     pub(crate) shape: Shape,
     /// What sources give by the shape, or nothing.
     pub(crate) masked: Vec<i64>,
-    ghost whole: { AreEnds 0 apply.flat.now.vertices cuts } by { AreEnds-prop 0 apply.flat.now.vertices cuts },
+    ghost whole: { AreEnds 0 apply.flat.now.vertices partition } by { AreEnds-prop 0 apply.flat.now.vertices partition },
     ghost form: { AreInBits sources } by { AreInBits-prop sources },
     ghost passing: { (m : StateValue) (from : ℕ → Bool) → apply.vectors.now.vectors ≡ m.vectors → HasSizes apply.sizes.now m → IsEndTest apply.from m from
         → (v : ℕ) → v < apply.flat.now.vertices → is_source sources v ≡ from v } by { Prim.hlevel (props) },
@@ -56,7 +56,7 @@ impl Drop for PullWork<'_> {
             apply: _,
             sources: _,
             members: _,
-            cuts: _,
+            partition: _,
             shape: _,
             masked: _,
         } = self;
@@ -82,7 +82,7 @@ impl<'a> PullWork<'a> {
         ensures refused { result ≡ Err BadWorkers → ¬ AreWorkers workers }
         ensures memory { result ≡ Err NoMemory → AreWorkers workers }
         ensures apply { IfOk result (λ w. w.apply ≡ apply.now) }
-        ensures cuts { IfOk result (λ w. w.cuts ≡ boundaries apply.now.parallelization workers apply.now.flat.now.vertices
+        ensures partition { IfOk result (λ w. w.partition ≡ boundaries apply.now.parallelization workers apply.now.flat.now.vertices
             (map (λ v. length (sources_of v apply.now.flat.now.edges)) (range_with_len 0 apply.now.flat.now.vertices))) }
     {
         let Some(count) = WorkerCount::new(workers) else {
@@ -100,20 +100,20 @@ impl<'a> PullWork<'a> {
         scratch: &mut Scratch,
     ) -> Result<PullWork<'a>, AllocError>
         ensures apply { IfOk result (λ w. w.apply ≡ apply.now) }
-        ensures cuts { IfOk result (λ w. w.cuts ≡ boundaries apply.now.parallelization count apply.now.flat.now.vertices
+        ensures partition { IfOk result (λ w. w.partition ≡ boundaries apply.now.parallelization count apply.now.flat.now.vertices
             (map (λ v. length (sources_of v apply.now.flat.now.edges)) (range_with_len 0 apply.now.flat.now.vertices))) }
     {
         let context = apply.context(FoldStart::Unit);
         let sources = SourceWords::of(alloc, apply.from, context, scratch)?;
         let members = member_bits(alloc, apply.to)?;
-        let cuts = cut_vertices(alloc, apply.parallelization, count, apply.flat)?;
+        let partition = partition_vertices(alloc, apply.parallelization, count, apply.flat)?;
         let shape = apply_shape(apply.first, apply.second);
         let masked = mask_of(alloc, shape, apply, sources.words())?;
         Ok(PullWork {
             apply: *apply,
             sources,
             members,
-            cuts,
+            partition,
             shape,
             masked,
         })

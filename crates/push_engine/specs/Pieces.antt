@@ -16,7 +16,7 @@ use Rattle.push_engine.specs.Sources.{passing_in}
 
 -- the edges of an apply from the sources of a piece, where these tests are those of its ends
 abbrev pub edges_of_piece : PushWork → (from to : ℕ → Bool) → (piece : ℕ) → List Edge
-edges_of_piece w from to k = filter (λ e. to e.1) (rows w.apply.flat.now.edges (passing_in w.tested from (piece_of w.cuts w.sources.items k)))
+edges_of_piece w from to k = filter (λ e. to e.1) (rows w.apply.flat.now.edges (passing_in w.tested from (piece_of w.partition w.sources.items k)))
 
 -- what is gathered is what the edges of a piece give
 abbrev pub GivesPiece : PushWork → (piece : ℕ) → Gathered → Type 0

@@ -135,7 +135,7 @@ fn members_of(alloc: Global, set: &VertexSet) -> Result<Vec<u32>, AllocError>
 }
 
 /// Where a schedule cuts sources for n workers. The only error is out of memory.
-pub(crate) fn cut_sources(
+pub(crate) fn partition_sources(
     alloc: Global,
     apply: &Apply<'_>,
     workers: WorkerCount,

@@ -33,9 +33,9 @@ use vectors::Changes;
 impl PushWork<'_> {
     /// How many pieces there are: none where the list that is cut is empty.
     pub fn pieces(&self) -> usize
-        ensures { result ≡ length self.now.cuts }
+        ensures { result ≡ length self.now.partition }
     {
-        self.cuts.pieces()
+        self.partition.pieces()
     }
 
     /// What the whole apply changes, from what was found of all its pieces, in whatever order. It is what a push says:
@@ -51,7 +51,7 @@ impl PushWork<'_> {
     ) -> Result<Changes, AllocError>
         ensures once { IfOk result (λ c. AreApart c.vectors.items) }
         ensures changes { IfOk result (λ c. AreAnswers (Answers self.now) found.now
-            → IsPermutation (pieces_of found.now) (range_with_len 1 (length self.now.cuts))
+            → IsPermutation (pieces_of found.now) (range_with_len 1 (length self.now.partition))
             → AreChangesOf self.now.apply c.vectors.items) }
     {
         let context = self.apply.context(FoldStart::OldEntry);
@@ -73,7 +73,7 @@ impl PushWork<'_> {
     ) -> Result<Changes, AllocError>
         ensures once { IfOk result (λ c. AreApart c.vectors.items) }
         ensures changes { IfOk result (λ c. AreAnswers (Answers self.now) found.now
-            → IsPermutation (pieces_of found.now) (range_with_len 1 (length self.now.cuts))
+            → IsPermutation (pieces_of found.now) (range_with_len 1 (length self.now.partition))
             → AreChangesOf self.now.apply c.vectors.items) }
     {
         if workers.count.get() > 1 && is_worth_workers(found) {
@@ -105,17 +105,17 @@ impl PushWork<'_> {
         state: &mut Scratch,
     ) -> Result<Gathered, AllocError>
         requires some { 0 < piece }
-        requires inside { piece ≤ length self.now.cuts }
+        requires inside { piece ≤ length self.now.partition }
         ensures ascending { IfOk result (λ g. AreAscending g.vectors.items) }
         ensures given { IfOk result (λ g. (m : StateValue) (steps : List FunctionStatementsTree) (from test : ℕ → Bool)
             → self.now.apply.vectors.now.vectors ≡ m.vectors → HasSizes self.now.apply.sizes.now m
             → AreKernels self.now.apply.first.now self.now.apply.second steps → IsEndTest self.now.apply.from m from → IsEndTest to.entry m test
             → AreGathered self.now.apply.flat.now.vertices m steps
             (filter (λ e. test e.1) (rows_to (passes_words words.entry) self.now.apply.flat.now.edges
-            (passing_in self.now.tested from (piece_of self.now.cuts self.now.sources.items piece)))) g) }
+            (passing_in self.now.tested from (piece_of self.now.partition self.now.sources.items piece)))) g) }
     {
         let context = self.apply.context(FoldStart::Unit);
-        let indices = self.cuts.piece(piece);
+        let indices = self.partition.piece(piece);
         let part = part_between(&self.sources, indices.start, indices.end);
         state.begin();
         self.fold_part(alloc, context, part, words, state)?;
@@ -155,7 +155,7 @@ impl<'a> Work for PushWork<'a> {
 
     type State = Scratch;
 
-    ghost pieces = { λ w. length w.cuts };
+    ghost pieces = { λ w. length w.partition };
 
     ghost keeps = { λ _ _. Unit {0} };
 

@@ -17,7 +17,7 @@ ghost use Rattle.push_engine.specs.inside.Sources.{AreSources};
 ghost use Rattle.push_engine.specs.Sources.{cut_list};
 ghost use Rattle.push_engine.specs.Work.{makes_bits};
 
-use crate::listed::{cut_sources, destination_bits, list_sources};
+use crate::listed::{partition_sources, destination_bits, list_sources};
 use crew::{CrewError, Partition, WorkerCount};
 use edge_apply::Apply;
 use edge_fold::Scratch;
@@ -31,9 +31,9 @@ pub struct PushWork<'a> {
     pub(crate) apply: Apply<'a>,
     pub(crate) sources: Vec<u32>,
     pub(crate) tested: bool,
-    pub(crate) cuts: Partition,
+    pub(crate) partition: Partition,
     pub(crate) bits: Option<VertexSet>,
-    ghost whole: { AreEnds 0 (length sources.items) cuts } by { AreEnds-prop 0 (length sources.items) cuts },
+    ghost whole: { AreEnds 0 (length sources.items) partition } by { AreEnds-prop 0 (length sources.items) partition },
     ghost passing: { (m : StateValue) (from : ℕ → Bool) → apply.vectors.now.vectors ≡ m.vectors → HasSizes apply.sizes.now m → IsEndTest apply.from m from
         → AreSources apply.flat.now.edges from tested sources.items } by { Prim.hlevel (AscendsFrom-prop, props) },
     ghost form: { IfSome bits (λ s. s.form ≡ Form.Bits) } by { Prim.hlevel (props) },
@@ -48,7 +48,7 @@ impl Drop for PushWork<'_> {
             apply: _,
             sources: _,
             tested: _,
-            cuts: _,
+            partition: _,
             bits: _,
         } = self;
     }
@@ -75,7 +75,7 @@ impl<'a> PushWork<'a> {
         ensures list { IfOk result (λ w. (m : StateValue) (from : ℕ → Bool) → apply.now.vectors.now.vectors ≡ m.vectors
             → HasSizes apply.now.sizes.now m → IsEndTest apply.now.from m from
             → IsEndOf apply.now.flat.now.vertices apply.now.from → w.sources.items ≡ cut_list apply.now.direction apply.now.flat.now.vertices from) }
-        ensures cuts { IfOk result (λ w. w.cuts ≡ boundaries apply.now.parallelization workers (vec_len w.sources)
+        ensures partition { IfOk result (λ w. w.partition ≡ boundaries apply.now.parallelization workers (vec_len w.sources)
             (map (λ u. length (destinations_of u apply.now.flat.now.edges)) w.sources.items)) }
         ensures bits { IfOk result (λ w. IsSome w.bits ↔ (makes_bits apply.now.flat.now apply.now.from apply.now.to ≡ true)) }
     {
@@ -97,18 +97,18 @@ impl<'a> PushWork<'a> {
         ensures list { IfOk result (λ w. (m : StateValue) (from : ℕ → Bool) → apply.now.vectors.now.vectors ≡ m.vectors
             → HasSizes apply.now.sizes.now m → IsEndTest apply.now.from m from
             → IsEndOf apply.now.flat.now.vertices apply.now.from → w.sources.items ≡ cut_list apply.now.direction apply.now.flat.now.vertices from) }
-        ensures cuts { IfOk result (λ w. w.cuts ≡ boundaries apply.now.parallelization count (vec_len w.sources)
+        ensures partition { IfOk result (λ w. w.partition ≡ boundaries apply.now.parallelization count (vec_len w.sources)
             (map (λ u. length (destinations_of u apply.now.flat.now.edges)) w.sources.items)) }
         ensures bits { IfOk result (λ w. IsSome w.bits ↔ (makes_bits apply.now.flat.now apply.now.from apply.now.to ≡ true)) }
     {
         let listed = list_sources(alloc, apply, scratch)?;
-        let cuts = cut_sources(alloc, apply, count, &listed.sources)?;
+        let partition = partition_sources(alloc, apply, count, &listed.sources)?;
         let bits = destination_bits(alloc, apply, scratch)?;
         Ok(PushWork {
             apply: *apply,
             sources: listed.sources,
             tested: listed.tested,
-            cuts,
+            partition,
             bits,
         })
     }

@@ -54,7 +54,7 @@ fn declared_type(text: &[u8]) -> &[u8] {
 
 // The rule of a statement that begins with a name, by the first sign after the name.
 fn of_name(text: &[u8]) -> &'static str {
-    match sign_behind_name(text) {
+    match sign_after_name(text) {
         [b'.', ..] =>
             "edges are applied as `e.from(s).to(t).apply(f)` by an edge function, one with a weight on an edgeset with `int` alone, a set as `s.apply(f)` by a vertex function, both in `main`; `addVertex` takes an int",
         [b'[', ..] =>
@@ -71,7 +71,7 @@ fn of_name(text: &[u8]) -> &'static str {
 }
 
 // What stands after the name that a text begins with, and spaces.
-fn sign_behind_name(text: &[u8]) -> &[u8] {
+fn sign_after_name(text: &[u8]) -> &[u8] {
     'bytes: for i in 0..text.len() {
         if !text[i].is_ascii_alphanumeric() && text[i] != b'_' && text[i] != b' ' {
             return &text[i..];

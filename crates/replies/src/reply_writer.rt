@@ -95,14 +95,14 @@ impl<'a, W: Drain> ReplyWriter<'a, W> {
         ensures { Emits self.old self.new bytes.now result }
     {
         if bytes.len() > BLOCK.saturating_sub(self.kept.len()) {
-            return self.write_behind(bytes);
+            return self.write_after(bytes);
         }
         self.kept.extend_from_slice(bytes)?;
         Ok(())
     }
 
     /// Writes what is kept, and then these bytes.
-    fn write_behind(&mut self, bytes: &[u8]) -> Result<(), SendError>
+    fn write_after(&mut self, bytes: &[u8]) -> Result<(), SendError>
         ensures { Emits self.old self.new bytes.now result }
     {
         self.flush()?;

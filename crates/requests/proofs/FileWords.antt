@@ -85,9 +85,9 @@ second_is_fault name file word words other e =
     let value = is_value rules only_help idle takes_values (pending_file (Some file)) word (long_of word) (first_is_quiet _ _ (first_is_quiet _ _ faults)) in
     step_is_fault _ _ UnknownArgument [] (rw value at faults)
 
-second_is_fault_behind : (name file word : Text) (words : List Text) → walk_fault (taker name) [] (at_file (Some file) true) (word ∷ words) ≡ [] → ⊥
+second_is_fault_after : (name file word : Text) (words : List Text) → walk_fault (taker name) [] (at_file (Some file) true) (word ∷ words) ≡ [] → ⊥
 unfolding walk_fault
-second_is_fault_behind name file word words e =
+second_is_fault_after name file word words e =
     let bad : UnknownArgument ∷ [] ≡ [] = e in
     cc
 
@@ -105,19 +105,19 @@ one_step file next behind further word words step named rest = record {
   names = named ∙ rest.names;
 }
 
-all_behind : (name : Text) (file : Option Text) (words : List Text) → walk_fault (taker name) [] (at_file file true) words ≡ [] → Ends file true words
+all_after : (name : Text) (file : Option Text) (words : List Text) → walk_fault (taker name) [] (at_file file true) words ≡ [] → Ends file true words
 unfolding walk_fault walked
-all_behind name None [] e = record { last = None; is_behind = true; is = refl; names = refl }
-all_behind name (Some file) [] e = record { last = Some file; is_behind = true; is = refl; names = refl }
-all_behind name None (word ∷ words) e = one_step None (Some word) true true word words refl refl (all_behind name (Some word) words e)
-all_behind name (Some file) (word ∷ words) e = absurd (second_is_fault_behind name file word words e)
+all_after name None [] e = record { last = None; is_behind = true; is = refl; names = refl }
+all_after name (Some file) [] e = record { last = Some file; is_behind = true; is = refl; names = refl }
+all_after name None (word ∷ words) e = one_step None (Some word) true true word words refl refl (all_after name (Some word) words e)
+all_after name (Some file) (word ∷ words) e = absurd (second_is_fault_after name file word words e)
 
 past_dashes : (name : Text) (file : Option Text) (word : Text) (words : List Text) → bytes_eq word dashes ≡ true
     → walk_fault (taker name) [] (at_file file false) (word ∷ words) ≡ [] → Ends file false (word ∷ words)
 unfolding walk_fault
 past_dashes name file word words is e =
     let step = walked_dashes file word is in
-    let rest = all_behind name file words (subst (λ w. walk_fault (taker name) [] w words ≡ []) step (second_is_quiet _ _ e)) in
+    let rest = all_after name file words (subst (λ w. walk_fault (taker name) [] w words ≡ []) step (second_is_quiet _ _ e)) in
     one_step file file false true word words step (rw is refl) rest
 
 past_file : (name file : Text) (words : List Text) → walk_fault (taker name) [] (at_file (Some file) false) words ≡ [] → Ends (Some file) false words
@@ -169,6 +169,6 @@ pub file_quiet : (name file : Text) → HasNoHyphen file → level_fault (taker 
 unfolding walk_fault walked defaults_fault
 file_quiet name file no_hyphen = simp (no_hyphen, no_dashes file no_hyphen)
 
-pub file_quiet_behind : (name file : Text) → level_fault (taker name) [] (held None) (dashes ∷ file ∷ []) false [] ≡ []
+pub file_quiet_after : (name file : Text) → level_fault (taker name) [] (held None) (dashes ∷ file ∷ []) false [] ≡ []
 unfolding walk_fault walked defaults_fault
-file_quiet_behind name file = refl
+file_quiet_after name file = refl

@@ -16,9 +16,9 @@ use Rattle.clap.specs.declared.error.kind.ErrorKind.TheVariants.{UnknownArgument
 use Rattle.requests.specs.Asked.{command_line}
 use Rattle.requests.specs.Asked.{file_of, request_of, script_with}
 use Rattle.requests.specs.Forms.{HasOperands, IsCommand, no_words, check_word, check_after_dashes, plan_word, plan_after_dashes, script_words, script_after_dashes, operands}
-use Rattle.requests.proofs.FileWords.{NamesOne, file_quiet, file_quiet_behind, file_read, taker}
+use Rattle.requests.proofs.FileWords.{NamesOne, file_quiet, file_quiet_after, file_read, taker}
 use Rattle.requests.proofs.Flags.{HasOnlyAnswers, dashes, first_is_quiet, held, is_value, none_or_answer, second_is_quiet, step_is_fault}
-use Rattle.requests.proofs.ScriptWords.{NamesFiles, files_in, files_quiet, files_quiet_behind, files_read, script}
+use Rattle.requests.proofs.ScriptWords.{NamesFiles, files_in, files_quiet, files_quiet_after, files_read, script}
 
 -- what is asked for has these words' operands
 abbrev IsRead : List Text → Type 0
@@ -162,9 +162,9 @@ pub is_quiet : (words : List Text) → length words ≤ usize_max → IsCommand 
 unfolding walk_fault walked defaults_fault
 is_quiet words few no_words = refl
 is_quiet words few (check_word file no_hyphen) = rw (file_quiet (codes "check") file no_hyphen) refl
-is_quiet words few (check_after_dashes file) = rw (file_quiet_behind (codes "check") file) refl
+is_quiet words few (check_after_dashes file) = rw (file_quiet_after (codes "check") file) refl
 is_quiet words few (plan_word file no_hyphen) = rw (file_quiet (codes "plan") file no_hyphen) refl
-is_quiet words few (plan_after_dashes file) = rw (file_quiet_behind (codes "plan") file) refl
+is_quiet words few (plan_after_dashes file) = rw (file_quiet_after (codes "plan") file) refl
 is_quiet words few (script_words file others all) =
     rw (
       gathers top.rules names (at_start false) (codes "script") [] (file ∷ others),
@@ -175,5 +175,5 @@ is_quiet words few (script_after_dashes file others) =
     rw (
       gathers top.rules names (at_start false) (codes "script") [] (dashes ∷ file ∷ others),
       stopped_fault top names (at_start false) (codes "script", []) (dashes ∷ file ∷ others),
-      files_quiet_behind file others (omega (arith, few)),
+      files_quiet_after file others (omega (arith, few)),
     ) refl

@@ -64,10 +64,10 @@ unfolding walked
 walked_dashes [] word is = rw is refl
 walked_dashes (f ∷ fs) word is = rw is refl
 
-walked_behind : (fs : List Text) (word : Text) → walked script.rules [] (at_files fs true) word ≡ at_files (fs ++ word ∷ []) true
+walked_after : (fs : List Text) (word : Text) → walked script.rules [] (at_files fs true) word ≡ at_files (fs ++ word ∷ []) true
 unfolding walked
-walked_behind [] word = refl
-walked_behind (f ∷ fs) word = refl
+walked_after [] word = refl
+walked_after (f ∷ fs) word = refl
 
 -- ---- all the words
 
@@ -75,10 +75,10 @@ walked_behind (f ∷ fs) word = refl
 abbrev pub after_words : List Text → Bool → List Text → Walk
 after_words fs behind words = fold (walked script.rules []) (at_files fs behind) words
 
-all_behind : (fs words : List Text) → after_words fs true words ≡ at_files (fs ++ words) true
-all_behind fs [] = ap (λ gs. at_files gs true) (sym (append-nil fs))
-all_behind fs (word ∷ words) =
-    ap (λ w. fold (walked script.rules []) w words) (walked_behind fs word) ∙ all_behind (fs ++ word ∷ []) words
+all_after : (fs words : List Text) → after_words fs true words ≡ at_files (fs ++ words) true
+all_after fs [] = ap (λ gs. at_files gs true) (sym (append-nil fs))
+all_after fs (word ∷ words) =
+    ap (λ w. fold (walked script.rules []) w words) (walked_after fs word) ∙ all_after (fs ++ word ∷ []) words
     ∙ ap (λ gs. at_files gs true) (append_assoc fs (word ∷ []) words)
 
 -- the walk ends after the files, after a `--` or not
@@ -104,7 +104,7 @@ all_words fs (word ∷ words) e = go (λ gs quiet. all_words gs words quiet) (by
     }
 
     go : ((gs : List Text) → walk_fault script [] (at_files gs false) words ≡ [] → Ends gs words) → (b : Bool) → bytes_eq word dashes ≡ b → Ends fs (word ∷ words)
-    go later true is = record { behind = true; is = ap (λ w. fold (walked script.rules []) w words) (walked_dashes fs word is) ∙ rw is (all_behind fs words) }
+    go later true is = record { behind = true; is = ap (λ w. fold (walked script.rules []) w words) (walked_dashes fs word is) ∙ rw is (all_after fs words) }
     go later false other =
         let step = walked_value fs word other (word_is_quiet fs word words other e) in
         let rest : walk_fault script [] (at_files (fs ++ word ∷ []) false) words ≡ [] = subst (λ w. walk_fault script [] w words ≡ []) step (second_is_quiet _ _ e) in
@@ -127,12 +127,12 @@ files_read words e =
 
 -- ---- words without a fault
 
-quiet_behind : (fs words : List Text) → walk_fault script [] (at_files fs true) words ≡ []
+quiet_after : (fs words : List Text) → walk_fault script [] (at_files fs true) words ≡ []
 unfolding walk_fault
-quiet_behind [] [] = refl
-quiet_behind (f ∷ fs) [] = refl
-quiet_behind [] (word ∷ words) = rw (walked_behind [] word) (quiet_behind (word ∷ []) words)
-quiet_behind (f ∷ fs) (word ∷ words) = rw (walked_behind (f ∷ fs) word) (quiet_behind (f ∷ (fs ++ word ∷ [])) words)
+quiet_after [] [] = refl
+quiet_after (f ∷ fs) [] = refl
+quiet_after [] (word ∷ words) = rw (walked_after [] word) (quiet_after (word ∷ []) words)
+quiet_after (f ∷ fs) (word ∷ words) = rw (walked_after (f ∷ fs) word) (quiet_after (f ∷ (fs ++ word ∷ [])) words)
 
 -- a word that no hyphen begins is one more file
 walked_file : (fs : List Text) (word : Text) → HasNoHyphen word → walked script.rules [] (at_files fs false) word ≡ at_files (fs ++ word ∷ []) false
@@ -199,8 +199,8 @@ pub files_quiet : (file : Text) (others : List Text) → AllByRecursion HasNoHyp
 files_quiet file others all few =
     all_quiet (file ∷ others) (at_files (file ∷ others) false) (quiet_files [] (file ∷ others) all) (walked_files [] (file ∷ others) all) (end_quiet file others false few)
 
-pub files_quiet_behind : (file : Text) (others : List Text) → length (file ∷ others) ≤ usize_max
+pub files_quiet_after : (file : Text) (others : List Text) → length (file ∷ others) ≤ usize_max
     → level_fault script [] (held None) (dashes ∷ file ∷ others) false [] ≡ []
 unfolding walk_fault walked
-files_quiet_behind file others few =
-    all_quiet (dashes ∷ file ∷ others) (at_files (file ∷ others) true) (quiet_behind [] (file ∷ others)) (all_behind [] (file ∷ others)) (end_quiet file others true few)
+files_quiet_after file others few =
+    all_quiet (dashes ∷ file ∷ others) (at_files (file ∷ others) true) (quiet_after [] (file ∷ others)) (all_after [] (file ∷ others)) (end_quiet file others true few)

@@ -70,10 +70,10 @@ none_modified n vector before after cs each past are =
     sym (unmodified vector before after past behind (range_with_len 0 n))
 
 -- to write changes after what was taken is to take it after the changes
-pub written_behind : (n : ℕ) (first second : PartResult) (s : StateValue) (a b : SetUpdate) (cs : List VectorChanges) (after : List (List ℤ))
+pub written_after : (n : ℕ) (first second : PartResult) (s : StateValue) (a b : SetUpdate) (cs : List VectorChanges) (after : List (List ℤ))
     → IsUpdateFor n s.vectors after (result_tree first) a → IsUpdateFor n s.vectors after (result_tree second) b → with_all_changes cs s.vectors ≡ after
     → with_vectors (with_update (with_update s a) b) (with_all_changes cs (with_update (with_update s a) b).vectors) ≡ with_both n first second after s
-written_behind n first second s a b cs after of_first of_second written =
+written_after n first second s a b cs after of_first of_second written =
     let one = with_result n s.vectors after (result_tree first) s in
     let two = with_result n s.vectors after (result_tree second) one in
     ap (λ (u : StateValue). with_vectors u (with_all_changes cs u.vectors)) (ap (λ (u : StateValue). with_update u b) (of_first s) ∙ of_second one)

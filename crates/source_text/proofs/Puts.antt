@@ -5,11 +5,11 @@ use Rattle.syntax.specs.Terminals.{Terminal}
 use Rattle.syntax.specs.declared.statement.Statement.{Statement}
 use Rattle.syntax.specs.SourceSpelling.{each_before, label_terminals, action_before, block_before}
 use Rattle.syntax.specs.SourceViews.{statement_kind_tree, block_tree}
-use Rattle.source_text.specs.Text.{terminal_bytes, gap_behind, text_of}
+use Rattle.source_text.specs.Text.{terminal_bytes, gap_after, text_of}
 use Rattle.source_text.specs.inside.Written.{Completes, Puts, PutsUpTo}
 
 -- the bytes of a terminal and what stands after it
-pub put_terminal : (w : Terminal) (bytes : List ℕ) (gap : ℕ) (old new : List ℕ) → bytes ≡ terminal_bytes w → gap ≡ gap_behind w → new ≡ old ++ (bytes ++ gap ∷ [])
+pub put_terminal : (w : Terminal) (bytes : List ℕ) (gap : ℕ) (old new : List ℕ) → bytes ≡ terminal_bytes w → gap ≡ gap_after w → new ≡ old ++ (bytes ++ gap ∷ [])
     → Puts (λ rest. w ∷ rest) old new
 unfolding Completes
 put_terminal w bytes gap old new spelled behind is rest whole h =

@@ -1,7 +1,7 @@
 -- What is written of a source is read as that source.
 use Rattle.std.proofs.Common.{◌≡◌, ℕ, ◌≤◌, List, [], ◌∷◌, map, Result, Ok, Err, refl, sym, ◌∙◌, ap, subst}
 use Rattle.syntax.specs.Terminals.{Terminal, Name, Number, Label, Text, Opening, OfKeyword, OfSymbol, terminals_of}
-use Rattle.syntax.specs.Nesting.{limit, nesting_behind, StaysWithin}
+use Rattle.syntax.specs.Nesting.{limit, nesting_after, StaysWithin}
 use Rattle.syntax.specs.SourceSpelling.{source_terminals}
 use Rattle.syntax.specs.SourceTrees.{SourceTree}
 use Rattle.syntax.proofs.SourcesExact.{one_source}
@@ -18,7 +18,7 @@ use Rattle.source_text.proofs.Reading.{text_of-HasTerminals}
 use Rattle.source_text.proofs.Spelled.{terminals_of-AreSpelled}
 
 -- offsets do not change the nesting
-bare_nesting : (w : Terminal) (n : ℕ) → nesting_behind (bare w) n ≡ nesting_behind w n
+bare_nesting : (w : Terminal) (n : ℕ) → nesting_after (bare w) n ≡ nesting_after w n
 bare_nesting (Name name) n = refl
 bare_nesting (Number m) n = refl
 bare_nesting (Label label) n = refl
@@ -30,14 +30,14 @@ bare_nesting (OfSymbol symbol) n = refl
 bare_within : (n : ℕ) (ws : List Terminal) → StaysWithin limit n ws → StaysWithin limit n (map bare ws)
 bare_within n [] within = tt
 bare_within n (w ∷ ws) within =
-    subst (λ m. (m ≤ limit) × StaysWithin limit m (map bare ws)) (sym (bare_nesting w n)) (within.0, bare_within (nesting_behind w n) ws within.1)
+    subst (λ m. (m ≤ limit) × StaysWithin limit m (map bare ws)) (sym (bare_nesting w n)) (within.0, bare_within (nesting_after w n) ws within.1)
 
 within_bare : (n : ℕ) (ws : List Terminal) → StaysWithin limit n (map bare ws) → StaysWithin limit n ws
 within_bare n [] within = tt
 within_bare n (w ∷ ws) within =
-    let moved : (nesting_behind w n ≤ limit) × StaysWithin limit (nesting_behind w n) (map bare ws) =
+    let moved : (nesting_after w n ≤ limit) × StaysWithin limit (nesting_after w n) (map bare ws) =
     subst (λ m. (m ≤ limit) × StaysWithin limit m (map bare ws)) (bare_nesting w n) within in
-    (moved.0, within_bare (nesting_behind w n) ws moved.1)
+    (moved.0, within_bare (nesting_after w n) ws moved.1)
 
 alike_within : (ws vs : List Terminal) → AreAlike ws vs → StaysWithin limit 0 vs → StaysWithin limit 0 ws
 alike_within ws vs same within = within_bare 0 ws (subst (StaysWithin limit 0) (sym same) (bare_within 0 vs within))

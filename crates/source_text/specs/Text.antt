@@ -31,16 +31,16 @@ abbrev pub symbol_gap : Symbol → ℕ
 symbol_gap symbol.Semicolon = 10
 symbol_gap _ = 32
 
-abbrev pub gap_behind : Terminal → ℕ
-gap_behind (Opening terminal at) = keyword_gap terminal
-gap_behind (OfKeyword terminal) = keyword_gap terminal
-gap_behind (OfSymbol symbol) = symbol_gap symbol
-gap_behind _ = 32
+abbrev pub gap_after : Terminal → ℕ
+gap_after (Opening terminal at) = keyword_gap terminal
+gap_after (OfKeyword terminal) = keyword_gap terminal
+gap_after (OfSymbol symbol) = symbol_gap symbol
+gap_after _ = 32
 
 -- each terminal, and a white byte after it
 abbrev pub text_of : List Terminal → List ℕ
 text_of [] = []
-text_of (terminal ∷ terminals) = terminal_bytes terminal ++ gap_behind terminal ∷ text_of terminals
+text_of (terminal ∷ terminals) = terminal_bytes terminal ++ gap_after terminal ∷ text_of terminals
 
 -- The terminal is one that some token is: names are no keywords, numbers have no sign and are at most 9223372036854775807, labels and
 -- texts are whole, and of a keyword it is known whether its offset is kept.

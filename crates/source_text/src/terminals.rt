@@ -51,14 +51,14 @@ pub(crate) fn put_keyword(out: &mut Vec<u8>, keyword: Keyword) -> Result<(), All
     ensures opening { OnOk result ((at : ℕ) → Puts (λ rest. Opening keyword at ∷ rest) out.old.items out.new.items) }
     ensures reserved { OnOk result (Puts (λ rest. OfKeyword keyword ∷ rest) out.old.items out.new.items) }
 {
-    put(out, keyword.spelling(), gap_behind_keyword(keyword))
+    put(out, keyword.spelling(), gap_after_keyword(keyword))
 }
 
 /// Puts a symbol down.
 pub(crate) fn put_symbol(out: &mut Vec<u8>, symbol: Symbol) -> Result<(), AllocError>
     ensures { OnOk result (Puts (λ rest. OfSymbol symbol ∷ rest) out.old.items out.new.items) }
 {
-    put(out, spelling(symbol), gap_behind_symbol(symbol))
+    put(out, spelling(symbol), gap_after_symbol(symbol))
 }
 
 /// Puts the bytes of a terminal down, and a byte after them.
@@ -71,7 +71,7 @@ fn put(out: &mut Vec<u8>, bytes: &[u8], gap: u8) -> Result<(), AllocError>
 }
 
 /// What stands after a keyword: the end of a line after `end`.
-fn gap_behind_keyword(keyword: Keyword) -> u8
+fn gap_after_keyword(keyword: Keyword) -> u8
     ensures { result ≡ keyword_gap keyword }
 {
     match keyword {
@@ -81,7 +81,7 @@ fn gap_behind_keyword(keyword: Keyword) -> u8
 }
 
 /// What stands after a symbol: the end of a line after `;`.
-fn gap_behind_symbol(symbol: Symbol) -> u8
+fn gap_after_symbol(symbol: Symbol) -> u8
     ensures { result ≡ symbol_gap symbol }
 {
     match symbol {

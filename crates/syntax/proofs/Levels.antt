@@ -12,8 +12,8 @@ use Rattle.syntax.specs.ExpressionEnds.{EndsExpression, EndsConjunction, EndsCom
 use Rattle.syntax.specs.ExpressionBeginnings.{IsReading}
 use Rattle.syntax.specs.ExpressionViews.{term_from, sum_from, conjunction_from, expression_from}
 use Rattle.syntax.specs.Nesting.{◌>>=◌}
-use Rattle.syntax.specs.ExpressionReading.{Reader, addition, multiplication, relation, after_or, after_and, operand_by, behind_by, term_by, sum_by, compared_by, comparison_by, conjunction_by, expression_by}
-use Rattle.syntax.proofs.Loops.{operand_found, behind_found}
+use Rattle.syntax.specs.ExpressionReading.{Reader, addition, multiplication, relation, after_or, after_and, operand_by, after_by, term_by, sum_by, compared_by, comparison_by, conjunction_by, expression_by}
+use Rattle.syntax.proofs.Loops.{operand_found, after_found}
 use Rattle.syntax.proofs.FirstTerminals.{FrontAt, TerminalAt, addition_at, multiplication_at, relation_at, or_at, and_at, addition_found, multiplication_found, relation_found, multiplication_ends, addition_ends, relation_ends, and_ends, or_ends, joined, parted}
 use Rattle.syntax.proofs.ExpressionsExact.{At, Sound, Complete, then_at, Lasts, Steps, chain_sound, Parts, last_part, more_parts, parts_read}
 
@@ -63,7 +63,7 @@ module _ {A : Type 0} (Is : List Terminal → A → List Terminal → Type 0) (i
   behind_is ws after is None reads = tt
   behind_is ws after is (Some x) reads = (after, is, reads)
 
-  pub behind_at : Sound Is item → (ws : List Terminal) (m : Option (List Terminal)) → TerminalAt terminal ws m → BehindAt ws (behind_by item m)
+  pub behind_at : Sound Is item → (ws : List Terminal) (m : Option (List Terminal)) → TerminalAt terminal ws m → BehindAt ws (after_by item m)
   behind_at sound ws None is = tt
   behind_at sound ws (Some after) is = behind_is ws after is (item after) (sound after)
 
@@ -211,9 +211,9 @@ module _ (depth : ℕ) (s : Reader SumTree) where
 
 module _ (depth : ℕ) (c : Reader ComparisonTree) where
   abbrev comparison_link : List Terminal → Option (Option (ComparisonTree × List Terminal))
-  comparison_link ws = behind_by c (after_and ws)
+  comparison_link ws = after_by c (after_and ws)
 
-  no_and : (m : Option (List Terminal)) → behind_by c m ≡ None → m ≡ None
+  no_and : (m : Option (List Terminal)) → after_by c m ≡ None → m ≡ None
   no_and None is = refl
   no_and (Some after) is = cc
 
@@ -243,7 +243,7 @@ module _ (depth : ℕ) (c : Reader ComparisonTree) where
       last_part (ComparisonIs depth) (ConjunctionIs depth) c comparison_link conjunction_from ws a rest
       (complete ws a rest (record { whole = is.whole; within = is.within; ends = is.ends.0 }))
       (rest_within ws (comparison_terminals a) rest is.whole)
-      (ap (behind_by c) is.ends.1)
+      (ap (after_by c) is.ends.1)
   conjunction_parts complete (ComparisonThen a others) ws rest is =
       let ws' = conjunction_terminals others ++ rest in
       let mid = OfKeyword keyword.And ∷ ws' in
@@ -253,7 +253,7 @@ module _ (depth : ℕ) (c : Reader ComparisonTree) where
       (complete ws a mid (record { whole = whole; within = omega arith; ends = and_ends a ws' }))
       (rest_within ws (comparison_terminals a) mid whole)
       (behind_within (OfKeyword keyword.And) ws')
-      (λ b r begins. behind_found c ws' r b (after_and mid) refl begins)
+      (λ b r begins. after_found c ws' r b (after_and mid) refl begins)
       (λ b xs. refl)
       (conjunction_parts complete others ws' rest (record { whole = refl; within = omega arith; ends = is.ends }))
 
@@ -263,9 +263,9 @@ module _ (depth : ℕ) (c : Reader ComparisonTree) where
 
 module _ (depth : ℕ) (c : Reader ConjunctionTree) where
   abbrev conjunction_link : List Terminal → Option (Option (ConjunctionTree × List Terminal))
-  conjunction_link ws = behind_by c (after_or ws)
+  conjunction_link ws = after_by c (after_or ws)
 
-  no_or : (m : Option (List Terminal)) → behind_by c m ≡ None → m ≡ None
+  no_or : (m : Option (List Terminal)) → after_by c m ≡ None → m ≡ None
   no_or None is = refl
   no_or (Some after) is = cc
 
@@ -295,7 +295,7 @@ module _ (depth : ℕ) (c : Reader ConjunctionTree) where
       last_part (ConjunctionIs depth) (ExpressionIs depth) c conjunction_link expression_from ws a rest
       (complete ws a rest (record { whole = is.whole; within = is.within; ends = is.ends.0 }))
       (rest_within ws (conjunction_terminals a) rest is.whole)
-      (ap (behind_by c) is.ends.1)
+      (ap (after_by c) is.ends.1)
   expression_parts complete (ConjunctionThen a others) ws rest is =
       let ws' = expression_terminals others ++ rest in
       let mid = OfKeyword keyword.Or ∷ ws' in
@@ -305,7 +305,7 @@ module _ (depth : ℕ) (c : Reader ConjunctionTree) where
       (complete ws a mid (record { whole = whole; within = omega arith; ends = or_ends a ws' }))
       (rest_within ws (conjunction_terminals a) mid whole)
       (behind_within (OfKeyword keyword.Or) ws')
-      (λ b r begins. behind_found c ws' r b (after_or mid) refl begins)
+      (λ b r begins. after_found c ws' r b (after_or mid) refl begins)
       (λ b xs. refl)
       (expression_parts complete others ws' rest (record { whole = refl; within = omega arith; ends = is.ends }))
 

@@ -6,7 +6,7 @@ use Rattle.syntax.specs.Terminals.{Terminal}
 use Rattle.syntax.specs.SourceTrees.{UnaryTree, PrimaryTree, Bare, Signed}
 use Rattle.syntax.specs.ExpressionViews.{behind}
 use Rattle.syntax.specs.Nesting.{◌>>=◌}
-use Rattle.syntax.specs.ExpressionReading.{Reader, links_by, linked, chain_by, operand_by, behind_by, signs_by, signed_by, prefix}
+use Rattle.syntax.specs.ExpressionReading.{Reader, links_by, linked, chain_by, operand_by, after_by, signs_by, signed_by, prefix}
 
 module _ {L : Type 0} where
   -- what was read before, and then what was read after
@@ -133,17 +133,17 @@ operand_fails {A = A} {O = O} item o after m is found =
     let f : Option (A × List Terminal) → Option (Option ((O × A) × List Terminal)) = λ r. Some (r >>= λ y. Some ((o, y.0), y.1)) in
     sym (ap (operand_by item) is) ∙ ap f found
 
-pub behind_found : {A : Type 0} (item : Reader A) (after rest : List Terminal) (x : A) (m : Option (List Terminal))
-    → m ≡ Some after → item after ≡ Some (x, rest) → behind_by item m ≡ Some (Some (x, rest))
-behind_found {A = A} item after rest x m is found =
+pub after_found : {A : Type 0} (item : Reader A) (after rest : List Terminal) (x : A) (m : Option (List Terminal))
+    → m ≡ Some after → item after ≡ Some (x, rest) → after_by item m ≡ Some (Some (x, rest))
+after_found {A = A} item after rest x m is found =
     let f : Option (A × List Terminal) → Option (Option (A × List Terminal)) = λ r. Some r in
-    ap (behind_by item) is ∙ ap f found
+    ap (after_by item) is ∙ ap f found
 
-pub behind_fails : {A : Type 0} (item : Reader A) (after : List Terminal) (m : Option (List Terminal))
-    → m ≡ Some after → item after ≡ None → behind_by item m ≡ Some None
-behind_fails {A = A} item after m is found =
+pub after_fails : {A : Type 0} (item : Reader A) (after : List Terminal) (m : Option (List Terminal))
+    → m ≡ Some after → item after ≡ None → after_by item m ≡ Some None
+after_fails {A = A} item after m is found =
     let f : Option (A × List Terminal) → Option (Option (A × List Terminal)) = λ r. Some r in
-    ap (behind_by item) is ∙ ap f found
+    ap (after_by item) is ∙ ap f found
 
 -- what was read after signs, and the signs before it
 abbrev pub with_signs : List Prefix → Option (UnaryTree × List Terminal) → Option (UnaryTree × List Terminal)

@@ -15,39 +15,39 @@ use Rattle.syntax.specs.SourceTrees.{ExpressionTree, ConjunctionTree, Comparison
 use Rattle.syntax.specs.ExpressionDepth.{expression_depth, conjunction_depth, comparison_depth, sum_depth, term_depth, unary_depth, primary_depth}
 use Rattle.syntax.specs.ExpressionSpelling.{expression_terminals, conjunction_terminals, comparison_terminals, sum_terminals, term_terminals, unary_terminals, primary_terminals, addition_terminal, multiplication_terminal, relation_terminal, prefix_terminal}
 use Rattle.syntax.specs.inside.Nesting.{nesting}
-use Rattle.syntax.specs.Nesting.{nesting_behind, StaysWithin}
+use Rattle.syntax.specs.Nesting.{nesting_after, StaysWithin}
 
 nesting-append : (n : ℕ) (ws rest : List Terminal) → nesting n (ws ++ rest) ≡ nesting (nesting n ws) rest
 nesting-append n [] rest = refl
-nesting-append n (w ∷ ws) rest = nesting-append (nesting_behind w n) ws rest
+nesting-append n (w ∷ ws) rest = nesting-append (nesting_after w n) ws rest
 
 pub within-front : (most n : ℕ) (ws rest : List Terminal) → StaysWithin most n (ws ++ rest) → StaysWithin most n ws
 within-front most n [] rest within = tt
-within-front most n (w ∷ ws) rest within = (within.0, within-front most (nesting_behind w n) ws rest within.1)
+within-front most n (w ∷ ws) rest within = (within.0, within-front most (nesting_after w n) ws rest within.1)
 
 pub within-behind : (most n : ℕ) (ws rest : List Terminal) → StaysWithin most n (ws ++ rest) → StaysWithin most (nesting n ws) rest
 within-behind most n [] rest within = within
-within-behind most n (w ∷ ws) rest within = within-behind most (nesting_behind w n) ws rest within.1
+within-behind most n (w ∷ ws) rest within = within-behind most (nesting_after w n) ws rest within.1
 
 -- operators do not nest
-relation_flat : (r : Relation) (n : ℕ) → nesting_behind (relation_terminal r) n ≡ n
+relation_flat : (r : Relation) (n : ℕ) → nesting_after (relation_terminal r) n ≡ n
 relation_flat relation.Equal n = refl
 relation_flat _ n = refl
 
-addition_flat : (a : Addition) (n : ℕ) → nesting_behind (addition_terminal a) n ≡ n
+addition_flat : (a : Addition) (n : ℕ) → nesting_after (addition_terminal a) n ≡ n
 addition_flat addition.Plus n = refl
 addition_flat _ n = refl
 
-multiplication_flat : (m : Multiplication) (n : ℕ) → nesting_behind (multiplication_terminal m) n ≡ n
+multiplication_flat : (m : Multiplication) (n : ℕ) → nesting_after (multiplication_terminal m) n ≡ n
 multiplication_flat multiplication.Times n = refl
 multiplication_flat _ n = refl
 
-prefix_flat : (p : Prefix) (n : ℕ) → nesting_behind (prefix_terminal p) n ≡ n
+prefix_flat : (p : Prefix) (n : ℕ) → nesting_after (prefix_terminal p) n ≡ n
 prefix_flat prefix.Minus n = refl
 prefix_flat _ n = refl
 
 -- after two parts of which each closes what it opens, with a flat terminal between them
-balanced-two : (front back : List Terminal) (w : Terminal) (n : ℕ) → ((m : ℕ) → nesting m front ≡ m) → ((m : ℕ) → nesting m back ≡ m) → nesting_behind w n ≡ n
+balanced-two : (front back : List Terminal) (w : Terminal) (n : ℕ) → ((m : ℕ) → nesting m front ≡ m) → ((m : ℕ) → nesting m back ≡ m) → nesting_after w n ≡ n
     → nesting n (front ++ w ∷ back) ≡ n
 balanced-two front back w n one two flat =
     nesting-append n front (w ∷ back) ∙ ap (λ m. nesting m (w ∷ back)) (one n) ∙ ap (λ m. nesting m back) flat ∙ two n
@@ -95,7 +95,7 @@ mutual
 
 module _ (most : ℕ) where
   -- two parts stay within the limit where both do together
-  within-two : (front back : List Terminal) (w : Terminal) (n : ℕ) → ((m : ℕ) → nesting m front ≡ m) → nesting_behind w n ≡ n → StaysWithin most n (front ++ w ∷ back)
+  within-two : (front back : List Terminal) (w : Terminal) (n : ℕ) → ((m : ℕ) → nesting m front ≡ m) → nesting_after w n ≡ n → StaysWithin most n (front ++ w ∷ back)
       → StaysWithin most n front × StaysWithin most n back
   within-two front back w n one flat within =
       let behind = subst (λ m. StaysWithin most m (w ∷ back)) (one n) (within-behind most n front (w ∷ back) within) in

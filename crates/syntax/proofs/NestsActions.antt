@@ -13,7 +13,7 @@ use Rattle.apply_options.specs.declared.reduction.Reduction.TheVariants as reduc
 use Rattle.syntax.specs.SourceTrees.{ParameterTree, InitialTree, NewSet, Load, Vertices, OutDegrees, Filter, ApplyModified, Value, StatementKindTree, Declare, While, For, If, IfElse, Print, Assign, Reduce, SetEntry, ReduceEntry, AddVertex, Apply, BlockTree, Empty, Then, DeclarationTree, Constant, Function, SourceTree}
 use Rattle.syntax.specs.SourceSpelling.{type_terminals, initial_before, assigned_before, ended_before, end_terminals, reduction_terminal, label_terminals, action_before, block_before, each_before, typed_before, argument_terminals, parameters_before, next_parameter_before, result_before, declaration_before, schedule_before, source_terminals}
 use Rattle.syntax.specs.inside.Fits.{Fits, FitsInitial, FitsAction, FitsBlock, FitsDeclaration, FitDeclarations, FitsSource}
-use Rattle.syntax.specs.Nesting.{limit, nesting_behind, StaysWithin}
+use Rattle.syntax.specs.Nesting.{limit, nesting_after, StaysWithin}
 use Rattle.syntax.proofs.Nests.{expression_balanced, expression_deep, within-front, within-behind}
 
 -- the nesting stays within the limit
@@ -63,7 +63,7 @@ assigned_fits i n rest small within = let x = initial_fits i n (OfSymbol symbol.
 ended_fits : (e : ExpressionTree) (n : ℕ) (rest : List Terminal) → n ≤ limit → Within n (ended_before e rest) → Fits e × Within n rest
 ended_fits e n rest small within = let x = expression_fits e n (OfSymbol symbol.Semicolon ∷ rest) small within in (x.0, x.1.1)
 
-reduction_flat : (r : Reduction) (n : ℕ) → nesting_behind (reduction_terminal r) n ≡ n
+reduction_flat : (r : Reduction) (n : ℕ) → nesting_after (reduction_terminal r) n ≡ n
 reduction_flat reduction.Min n = refl
 reduction_flat _ n = refl
 

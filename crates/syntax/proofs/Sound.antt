@@ -3,7 +3,7 @@ use Rattle.std.proofs.Common.{◌≡◌, refl, ◌∙◌, ap, List, [], ◌∷�
 use Rattle.lexer.specs.declared.keyword.Keyword.TheVariants as keyword
 use Rattle.lexer.specs.declared.symbol.Symbol.TheVariants as symbol
 use Rattle.syntax.specs.Terminals.{Terminal, Name, Number, Text, Opening, OfKeyword, OfSymbol}
-use Rattle.syntax.specs.ExpressionReading.{Reader, links_by, linked, behind_by}
+use Rattle.syntax.specs.ExpressionReading.{Reader, links_by, linked, after_by}
 use Rattle.syntax.specs.declared.declaration.DeclaredType.{DeclaredType}
 use Rattle.syntax.specs.declared.declaration.DeclaredType.TheVariants as type
 use Rattle.apply_options.specs.declared.setting.Setting.TheVariants as setting
@@ -106,7 +106,7 @@ module _ {A : Type 0} (next : List Terminal → Option (Option (A × List Termin
 
 -- what stands after a terminal
 behind-sound : {A : Type 0} (item : Reader A) (before : A → List Terminal → List Terminal) → IsSound item before → (terminal : Terminal) (ws : List Terminal) (found : Option (List Terminal))
-    → after_terminal terminal ws ≡ found → (x : A) (rest : List Terminal) → behind_by item found ≡ Some (Some (x, rest)) → ws ≡ terminal ∷ before x rest
+    → after_terminal terminal ws ≡ found → (x : A) (rest : List Terminal) → after_by item found ≡ Some (Some (x, rest)) → ws ≡ terminal ∷ before x rest
 behind-sound item before sound terminal ws None there x rest is = cc is
 behind-sound item before sound terminal ws (Some after) there x rest is =
     after_terminal-sound terminal ws after there ∙ ap (λ r. terminal ∷ r) (sound after x rest (same_found is))

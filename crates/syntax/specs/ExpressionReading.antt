@@ -106,9 +106,9 @@ operand_by item None = None
 operand_by item (Some o) = Some (item o.1 >>= λ x. Some ((o.0, x.0), x.1))
 
 -- the operand after a terminal
-abbrev pub behind_by : {A : Type 0} → Reader A → Option (List Terminal) → Option (Option (A × List Terminal))
-behind_by item None = None
-behind_by item (Some after) = Some (item after)
+abbrev pub after_by : {A : Type 0} → Reader A → Option (List Terminal) → Option (Option (A × List Terminal))
+after_by item None = None
+after_by item (Some after) = Some (item after)
 
 -- signs and then a primary; the fuel bounds how many signs there are
 abbrev pub signed_by : Reader PrimaryTree → Reader UnaryTree → List Terminal → Option (Prefix × List Terminal) → Option (UnaryTree × List Terminal)
@@ -136,10 +136,10 @@ abbrev pub comparison_by : Reader SumTree → Reader ComparisonTree
 comparison_by s ws = s ws >>= λ x. compared_by s x.0 x.1 (relation x.1)
 
 abbrev pub conjunction_by : Reader ComparisonTree → Reader ConjunctionTree
-conjunction_by c = chain_by c (λ ws. behind_by c (after_and ws)) conjunction_from
+conjunction_by c = chain_by c (λ ws. after_by c (after_and ws)) conjunction_from
 
 abbrev pub expression_by : Reader ConjunctionTree → Reader ExpressionTree
-expression_by c = chain_by c (λ ws. behind_by c (after_or ws)) expression_from
+expression_by c = chain_by c (λ ws. after_by c (after_or ws)) expression_from
 
 -- the terminals after the call of a size
 abbrev pub after_size_call : List Terminal → Option (List Terminal)

@@ -46,19 +46,19 @@ changed Closes n = one_less n
 changed Keeps n = n
 
 -- how much is open after a terminal
-abbrev pub nesting_behind : Terminal → ℕ → ℕ
-nesting_behind terminal n = changed (terminal_change terminal) n
+abbrev pub nesting_after : Terminal → ℕ → ℕ
+nesting_after terminal n = changed (terminal_change terminal) n
 
 -- after no terminal is more open than this
 abbrev pub StaysWithin : ℕ → ℕ → List Terminal → Type 0
 StaysWithin most n [] = Unit {0}
-StaysWithin most n (terminal ∷ terminals) = (nesting_behind terminal n ≤ most) × StaysWithin most (nesting_behind terminal n) terminals
+StaysWithin most n (terminal ∷ terminals) = (nesting_after terminal n ≤ most) × StaysWithin most (nesting_after terminal n) terminals
 
 -- The first of these tokens of a text after which more is open than the limit stands at this offset; n are open before them.
 abbrev pub PassesAt : List ℕ → ℕ → List Token → ℕ → Type 0
 PassesAt text n [] at = ⊥
 PassesAt text n (token ∷ tokens) at =
-    let behind = nesting_behind (terminal_of token.kind (slice_of text token.span) token.span.start) n in
+    let behind = nesting_after (terminal_of token.kind (slice_of text token.span) token.span.start) n in
     ((limit < behind) × (at ≡ token.span.start)) ⊎ ((behind ≤ limit) × PassesAt text behind tokens at)
 
 infixl 10 ◌>>=◌

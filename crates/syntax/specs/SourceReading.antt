@@ -7,7 +7,7 @@ use Rattle.lexer.specs.declared.symbol.Symbol.TheVariants as symbol
 use Rattle.lexer.specs.Spelling.{keyword_spelling, symbol_spelling}
 use Rattle.syntax.specs.Terminals.{Terminal, Identifier, Name, Number, Label, Text, Opening, OfKeyword, OfSymbol}
 use Rattle.syntax.specs.SourceTrees.{ExpressionTree}
-use Rattle.syntax.specs.ExpressionReading.{Reader, links_by, behind_by, expression_at}
+use Rattle.syntax.specs.ExpressionReading.{Reader, links_by, after_by, expression_at}
 use Rattle.syntax.specs.Nesting.{◌>>=◌}
 use Rattle.syntax.specs.declared.declaration.DeclaredType.{DeclaredType}
 use Rattle.syntax.specs.declared.declaration.DeclaredType.TheVariants as type
@@ -275,7 +275,7 @@ block = block_at limit
 
 -- the parameter after a comma
 abbrev pub next_parameter : List Terminal → Option (Option (ParameterTree × List Terminal))
-next_parameter ws = behind_by typed_at (after_terminal (OfSymbol symbol.Comma) ws)
+next_parameter ws = after_by typed_at (after_terminal (OfSymbol symbol.Comma) ws)
 
 abbrev pub parameters_by : List Terminal → Option (List Terminal) → Option (List ParameterTree × List Terminal)
 parameters_by ws (Some after) = Some ([], after)
@@ -316,7 +316,7 @@ setting_at _ = None
 
 -- the text after a comma
 abbrev pub next_text : List Terminal → Option (Option (List ℕ × List Terminal))
-next_text ws = behind_by text_at (after_terminal (OfSymbol symbol.Comma) ws)
+next_text ws = after_by text_at (after_terminal (OfSymbol symbol.Comma) ws)
 
 abbrev pub call_at : Reader CallTree
 call_at ws =
@@ -325,7 +325,7 @@ call_at ws =
 
 -- the call after an arrow
 abbrev pub next_call : List Terminal → Option (Option (CallTree × List Terminal))
-next_call ws = behind_by call_at (after_terminal (OfSymbol symbol.Arrow) ws)
+next_call ws = after_by call_at (after_terminal (OfSymbol symbol.Arrow) ws)
 
 -- the calls after `program`
 abbrev pub chain_at : Reader ChainTree
@@ -335,7 +335,7 @@ chain_at ws =
 
 -- the chain that begins with `program`
 abbrev pub next_chain : List Terminal → Option (Option (ChainTree × List Terminal))
-next_chain ws = behind_by chain_at (after_terminal (OfKeyword keyword.Program) ws)
+next_chain ws = after_by chain_at (after_terminal (OfKeyword keyword.Program) ws)
 
 abbrev pub schedule_by : List Terminal → Option (List Terminal) → Option (Option (List ChainTree) × List Terminal)
 schedule_by ws None = Some (None, ws)

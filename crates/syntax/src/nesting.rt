@@ -1,6 +1,6 @@
 //! How deep the tokens of a text stand in what is opened and not closed yet.
 ghost use Rattle.std.specs.Prelude.{◌≡◌, ◌≤◌, ℕ, List, MatchOption};
-ghost use Rattle.syntax.specs.Nesting.{keyword_change as change_of_keyword, symbol_change as change_of_symbol, nesting_behind as behind};
+ghost use Rattle.syntax.specs.Nesting.{keyword_change as change_of_keyword, symbol_change as change_of_symbol, nesting_after as behind};
 ghost use Rattle.syntax.specs.Nesting.{terminal_change, limit, StaysWithin, PassesAt};
 ghost use Rattle.syntax.specs.Terminals.{terminal_of, terminals_of};
 
@@ -30,7 +30,7 @@ pub fn first_too_deep(tokens: &[Token]) -> Option<usize>
     let mut left = tokens;
     let mut depth = 0;
     'tokens: while let Some((token, after)) = left.split_first() {
-        depth = nesting_behind(token.kind, depth);
+        depth = nesting_after(token.kind, depth);
         if depth > NESTING_LIMIT {
             return Some(token.span.start);
         }
@@ -40,7 +40,7 @@ pub fn first_too_deep(tokens: &[Token]) -> Option<usize>
 }
 
 /// How much is open after a token, where so much is open before it.
-fn nesting_behind(kind: TokenKind, depth: u32) -> u32
+fn nesting_after(kind: TokenKind, depth: u32) -> u32
     requires { depth ≤ limit }
     ensures { (bytes : List ℕ) (at : ℕ) → result ≡ behind (terminal_of kind bytes at) depth }
 {

@@ -21,7 +21,7 @@ use Rattle.expression_types.specs.ScopeTree.{found}
 use Rattle.expression_types.specs.ValueTree.{ValueTree, Integer, Condition, Vertex, Set, ErrorValue}
 use Rattle.types.specs.Checker.{CheckerTree, labelled, new_label}
 use Rattle.types.specs.Initial.{InitializerTree, initializer_of}
-use Rattle.types.specs.Step.{at_own, declare_step_as, may_reduce, one_reduction, own_vertex, reduce_entry_step, reduced_as, reduction_step, same_endpoint, same_reduction, step_behind, step_typed, steps_behind, steps_typed, written_at, written_with}
+use Rattle.types.specs.Step.{at_own, declare_step_as, may_reduce, one_reduction, own_vertex, reduce_entry_step, reduced_as, reduction_step, same_endpoint, same_reduction, step_after, step_typed, steps_after, steps_typed, written_at, written_with}
 use Rattle.types.specs.Checker.{condition_in, integer_in}
 use Rattle.type_laws.proofs.ClearValues.{IsClear}
 use Rattle.type_laws.proofs.EntryAccess.{Body}
@@ -107,15 +107,15 @@ declare_adds c at name initializer declared.WeightedEdgeSet = refl
 same_adds : (old new : Writes) (vectors : List ℕ) → new ≡ old → Adds old new vectors
 same_adds old new vectors same vector is = inl (subst (λ writes. is_written writes vector ≡ true) same is)
 
-behind_writes : (so_far : FunctionStatementsTree) (step : FunctionStatementTree) (vector : ℕ) → Contains (steps_write so_far) vector ⊎ Contains (step_writes step) vector → Contains (steps_write (step_behind so_far step)) vector
-behind_writes NoStep step vector (inl (k, within, is)) = absurd (omega (arith, within))
-behind_writes NoStep step vector (inr is) = Contains-append_left (step_writes step) [] vector is
-behind_writes (StepThen s others) step vector (inl is) =
+after_writes : (so_far : FunctionStatementsTree) (step : FunctionStatementTree) (vector : ℕ) → Contains (steps_write so_far) vector ⊎ Contains (step_writes step) vector → Contains (steps_write (step_after so_far step)) vector
+after_writes NoStep step vector (inl (k, within, is)) = absurd (omega (arith, within))
+after_writes NoStep step vector (inr is) = Contains-append_left (step_writes step) [] vector is
+after_writes (StepThen s others) step vector (inl is) =
     elim (Contains-append_cases (step_writes s) (steps_write others) vector is) [
-      | inl first ↦ Contains-append_left (step_writes s) (steps_write (step_behind others step)) vector first
-      | inr second ↦ Contains-append_right (step_writes s) (steps_write (step_behind others step)) vector (behind_writes others step vector (inl second))
+      | inl first ↦ Contains-append_left (step_writes s) (steps_write (step_after others step)) vector first
+      | inr second ↦ Contains-append_right (step_writes s) (steps_write (step_after others step)) vector (after_writes others step vector (inl second))
     ]
-behind_writes (StepThen s others) step vector (inr is) = Contains-append_right (step_writes s) (steps_write (step_behind others step)) vector (behind_writes others step vector (inr is))
+after_writes (StepThen s others) step vector (inr is) = Contains-append_right (step_writes s) (steps_write (step_after others step)) vector (after_writes others step vector (inr is))
 
 module _ {At : Vertices} {Read Write : ExpressionTree → Type 0} (body : Body At inside.EdgeFunction Read Write) where
   entry_adds : (c : CheckerTree) (vector : Identifier) (subscript : ExpressionTree) (by : Reduction) (e : ExpressionTree) → IsKnown At inside.EdgeFunction c.scope
@@ -128,13 +128,13 @@ module _ {At : Vertices} {Read Write : ExpressionTree → Type 0} (body : Body A
       let v = index_value c.scope at subscript in
       let w = written_at at (own_vertex c.scope.inside) v.value in
       let x = (integer_in c.scope at e).value in
-      let behind_vector = no_right index.faults _ none in
-      let behind_may = no_right may.faults _ behind_vector in
-      let behind_index = no_right v.faults _ behind_may in
-      let clear = index_clear c.scope subscript (value_of c.scope at subscript) (λ fine. (expression_reads c.scope at (body.reads c.scope at known) subscript fine).1) (no_left v.faults _ behind_may) in
+      let after_vector = no_right index.faults _ none in
+      let after_may = no_right may.faults _ after_vector in
+      let behind_index = no_right v.faults _ after_may in
+      let clear = index_clear c.scope subscript (value_of c.scope at subscript) (λ fine. (expression_reads c.scope at (body.reads c.scope at known) subscript fine).1) (no_left v.faults _ after_may) in
       let own = written_own at (own_vertex c.scope.inside) v.value clear (no_left w.faults _ behind_index) in
       subst (λ i. (may_reduce at i index.value by c.writes).faults ≡ [] → Adds c.writes (may_reduce at i index.value by c.writes).value.1 (step_writes (reduction_step (may_reduce at i index.value by c.writes).value.0 w.value index.value by x)))
-      (sym known.0) (one_adds at index.value by c.writes w.value x own) (no_left may.faults _ behind_vector)
+      (sym known.0) (one_adds at index.value by c.writes w.value x own) (no_left may.faults _ after_vector)
 
   mutual
     step_adds : (c : CheckerTree) (action : source.StatementKindTree) → IsKnown At inside.EdgeFunction c.scope → (step_typed c action).faults ≡ []
@@ -147,7 +147,7 @@ module _ {At : Vertices} {Read Write : ExpressionTree → Type 0} (body : Body A
         steps_add c.writes c NoStep inner known (no_left b.faults [] (no_right (condition_in c.scope at test).faults _ none)) (adds_none c.writes)
     step_adds c (source.IfElse at test inner otherwise) known none =
         let b = steps_typed c NoStep inner in
-        let d = steps_behind c b.value.1 in
+        let d = steps_after c b.value.1 in
         let o = steps_typed d NoStep otherwise in
         let both = no_right (condition_in c.scope at test).faults (b.faults ++ (o.faults ++ [])) none in
         let first = steps_add c.writes c NoStep inner known (no_left b.faults (o.faults ++ []) both) (adds_none c.writes) in
@@ -175,19 +175,19 @@ module _ {At : Vertices} {Read Write : ExpressionTree → Type 0} (body : Body A
     steps_add start c so_far (source.Then label action others) known none adds =
         let l = labelled c label in
         let s = step_typed l.value.1 action in
-        let rest = steps_typed s.value.1 (step_behind so_far s.value.0) others in
+        let rest = steps_typed s.value.1 (step_after so_far s.value.0) others in
         let both = no_right l.faults (s.faults ++ rest.faults) none in
         let here = subst (λ scope. IsKnown At inside.EdgeFunction scope) (sym (labelled_scope c label)) known in
         let clear = no_left s.faults rest.faults both in
         let one = step_adds l.value.1 action here clear in
-        let all : Adds start s.value.1.writes (steps_write (step_behind so_far s.value.0)) =
+        let all : Adds start s.value.1.writes (steps_write (step_after so_far s.value.0)) =
         (λ vector is.
         elim (one vector is) [
           | inl old ↦
               elim (adds vector (subst (λ writes. is_written writes vector ≡ true) (labelled_writes c label) old)) [
                 | inl older ↦ inl older
-                | inr has ↦ inr (behind_writes so_far s.value.0 vector (inl has))
+                | inr has ↦ inr (after_writes so_far s.value.0 vector (inl has))
               ]
-          | inr new ↦ inr (behind_writes so_far s.value.0 vector (inr new))
+          | inr new ↦ inr (after_writes so_far s.value.0 vector (inr new))
         ]) in
-        steps_add start s.value.1 (step_behind so_far s.value.0) others (step_known At inside.EdgeFunction l.value.1 action here clear) (no_right s.faults rest.faults both) all
+        steps_add start s.value.1 (step_after so_far s.value.0) others (step_known At inside.EdgeFunction l.value.1 action here clear) (no_right s.faults rest.faults both) all

@@ -26,7 +26,7 @@ use Rattle.type_laws.specs.EntryAccess.{AccessesEntriesWell, AccessesOwnVertices
 use Rattle.types.specs.Initial.{initializer_of}
 use Rattle.types.specs.Program.{opening, program_of, set_count}
 use Rattle.types.specs.Statement.{add_vertex, assign, print, reduce, reduce_entry, set_entry}
-use Rattle.types.specs.Step.{assign_step, at_own, may_reduce, may_set, own_vertex, reduce_step, same_endpoint, set_entry_step, step_behind, step_typed, steps_behind, steps_typed, written_at}
+use Rattle.types.specs.Step.{assign_step, at_own, may_reduce, may_set, own_vertex, reduce_step, same_endpoint, set_entry_step, step_after, step_typed, steps_after, steps_typed, written_at}
 use Rattle.types.specs.Checker.{as_index, condition_in, integer_in, no_index}
 use Rattle.type_laws.proofs.Booleans.{both_true}
 use Rattle.type_laws.proofs.ClearValues.{IsClear, condition_index_is_error}
@@ -80,7 +80,7 @@ mutual
   step_accesses body c (source.IfElse at test inner otherwise) known none =
       let t = condition_in c.scope at test in
       let b = steps_typed c NoStep inner in
-      let d = steps_behind c b.value.1 in
+      let d = steps_after c b.value.1 in
       let o = steps_typed d NoStep otherwise in
       let both = no_right t.faults (b.faults ++ (o.faults ++ [])) none in (
         condition_reads c.scope at (body.reads c.scope at known) test (no_left t.faults _ none),
@@ -99,18 +99,18 @@ mutual
       let v = index_value c.scope vector.at subscript in
       let w = written_at vector.at (own_vertex c.scope.inside) v.value in
       let all = no_right (may_set vector.at c.scope.inside).faults _ (no_left (set_entry_step c.scope vector.at vector subscript e).faults [] none) in
-      let behind_vector = no_right index.faults _ all in
-      let behind_index = no_right v.faults _ behind_vector in (
-        body.writes c.scope vector.at subscript known (no_left v.faults _ behind_vector) (no_left w.faults _ behind_index),
+      let after_vector = no_right index.faults _ all in
+      let behind_index = no_right v.faults _ after_vector in (
+        body.writes c.scope vector.at subscript known (no_left v.faults _ after_vector) (no_left w.faults _ behind_index),
         integer_reads c.scope vector.at (body.reads c.scope vector.at known) e (no_left (integer_in c.scope vector.at e).faults _ (no_right w.faults _ behind_index)),
       )
   step_accesses body c (source.ReduceEntry vector subscript by e) known none =
       let index = vector_index c.scope vector.at vector in
       let v = index_value c.scope vector.at subscript in
       let w = written_at vector.at (own_vertex c.scope.inside) v.value in
-      let behind_vector = no_right (may_reduce vector.at c.scope.inside index.value by c.writes).faults _ (no_right index.faults _ none) in
-      let behind_index = no_right v.faults _ behind_vector in (
-        body.writes c.scope vector.at subscript known (no_left v.faults _ behind_vector) (no_left w.faults _ behind_index),
+      let after_vector = no_right (may_reduce vector.at c.scope.inside index.value by c.writes).faults _ (no_right index.faults _ none) in
+      let behind_index = no_right v.faults _ after_vector in (
+        body.writes c.scope vector.at subscript known (no_left v.faults _ after_vector) (no_left w.faults _ behind_index),
         integer_reads c.scope vector.at (body.reads c.scope vector.at known) e (no_left (integer_in c.scope vector.at e).faults _ (no_right w.faults _ behind_index)),
       )
   step_accesses body c (source.AddVertex set e) known none = absurd (not_empty _ _ none)
@@ -122,12 +122,12 @@ mutual
   steps_access {At = At} {i = i} body c so_far (source.Then label action others) known none =
       let l = labelled c label in
       let s = step_typed l.value.1 action in
-      let rest = steps_typed s.value.1 (step_behind so_far s.value.0) others in
+      let rest = steps_typed s.value.1 (step_after so_far s.value.0) others in
       let both = no_right l.faults (s.faults ++ rest.faults) none in
       let here = subst (λ scope. IsKnown At i scope) (sym (labelled_scope c label)) known in
       let clear = no_left s.faults rest.faults both in (
         step_accesses body l.value.1 action here clear,
-        steps_access body s.value.1 (step_behind so_far s.value.0) others (step_known At i l.value.1 action here clear) (no_right s.faults rest.faults both),
+        steps_access body s.value.1 (step_after so_far s.value.0) others (step_known At i l.value.1 action here clear) (no_right s.faults rest.faults both),
       )
 
 -- an index of main
@@ -226,18 +226,18 @@ mutual
       let index = vector_index c.scope vector.at vector in
       let v = value_of c.scope vector.at subscript in
       let w = as_index vector.at v.value in
-      let behind_vector = no_right index.faults _ (no_left (set_entry c.scope vector.at vector subscript e).faults [] none) in
-      let behind_index = no_right v.faults _ behind_vector in (
-        main_writes c.scope vector.at subscript known (no_left v.faults _ behind_vector) (no_left w.faults _ behind_index),
+      let after_vector = no_right index.faults _ (no_left (set_entry c.scope vector.at vector subscript e).faults [] none) in
+      let behind_index = no_right v.faults _ after_vector in (
+        main_writes c.scope vector.at subscript known (no_left v.faults _ after_vector) (no_left w.faults _ behind_index),
         integer_reads c.scope vector.at (main_reads c.scope vector.at known) e (no_left (integer_in c.scope vector.at e).faults _ (no_right w.faults _ behind_index)),
       )
   action_accesses c (source.ReduceEntry vector subscript by e) known none =
       let index = vector_index c.scope vector.at vector in
       let v = value_of c.scope vector.at subscript in
       let w = as_index vector.at v.value in
-      let behind_vector = no_right index.faults _ (no_left (reduce_entry c.scope vector.at vector subscript by e).faults [] none) in
-      let behind_index = no_right v.faults _ behind_vector in (
-        main_writes c.scope vector.at subscript known (no_left v.faults _ behind_vector) (no_left w.faults _ behind_index),
+      let after_vector = no_right index.faults _ (no_left (reduce_entry c.scope vector.at vector subscript by e).faults [] none) in
+      let behind_index = no_right v.faults _ after_vector in (
+        main_writes c.scope vector.at subscript known (no_left v.faults _ after_vector) (no_left w.faults _ behind_index),
         integer_reads c.scope vector.at (main_reads c.scope vector.at known) e (no_left (integer_in c.scope vector.at e).faults _ (no_right w.faults _ behind_index)),
       )
   action_accesses c (source.AddVertex set e) known none =

@@ -35,7 +35,7 @@ use Rattle.types.specs.Literal.{literal_condition, literal_integer}
 use Rattle.types.specs.Program.{main_of, opening, program_of, set_count}
 use Rattle.types.specs.Step.{steps_typed}
 use Rattle.type_laws.specs.ExpressionTypes.{ExpressionType, Number, Set, Truth, Vertex}
-use Rattle.type_laws.specs.KeptRules.{ConstantKeeps, DeclarationKeeps, Declarations, DeclarationsKeep, FunctionKeeps, KeepsRules, MainKeeps, behind_declaration, behind_function, behind_main, constant_meaning, known_at_vertex, known_in_filter, known_in_main, known_on_edge, nothing_declared, known_on_weighted_edge, BlockKeeps}
+use Rattle.type_laws.specs.KeptRules.{ConstantKeeps, DeclarationKeeps, Declarations, DeclarationsKeep, FunctionKeeps, KeepsRules, MainKeeps, after_declaration, after_function, after_main, constant_meaning, known_at_vertex, known_in_filter, known_in_main, known_on_edge, nothing_declared, known_on_weighted_edge, BlockKeeps}
 use Rattle.type_laws.specs.Meanings as meaning
 use Rattle.type_laws.specs.Meanings.{IsNew, Known, closed_known, known_after, with_name}
 use Rattle.type_laws.proofs.Booleans.{false_is_not_true}
@@ -234,64 +234,64 @@ constant_keeps : (d : DeclaredTree) (k : Declarations) → SeesAll d k → (at :
 constant_keeps d k s at p initial declared.Int none =
     let g = initializer_of d.checker at initial in
     let given = no_left g.faults _ none in
-    let behind_g = no_right g.faults _ none in
+    let after_g = no_right g.faults _ none in
     let x = literal_or_fault at (is_sound g.value) (pos 0) (literal_integer initial) in
     let sound = given_sound d.checker (record k.known { reduced = d.checker.writes }) (checker_sees d.checker k.known s.agrees.checker s.some) at initial given in (
-      literal_is at (is_sound g.value) (pos 0) (literal_integer initial) sound (no_left x.faults _ behind_g),
-      constant_is_new d k s p.name (entity.IntegerConstant (next_name d) x.value) (no_right x.faults _ behind_g),
+      literal_is at (is_sound g.value) (pos 0) (literal_integer initial) sound (no_left x.faults _ after_g),
+      constant_is_new d k s p.name (entity.IntegerConstant (next_name d) x.value) (no_right x.faults _ after_g),
     )
 constant_keeps d k s at p initial declared.Bool none =
     let g = initializer_of d.checker at initial in
     let given = no_left g.faults _ none in
-    let behind_g = no_right g.faults _ none in
+    let after_g = no_right g.faults _ none in
     let x = literal_or_fault at (is_sound g.value) false (literal_condition initial) in
     let sound = given_sound d.checker (record k.known { reduced = d.checker.writes }) (checker_sees d.checker k.known s.agrees.checker s.some) at initial given in (
-      literal_is at (is_sound g.value) false (literal_condition initial) sound (no_left x.faults _ behind_g),
-      constant_is_new d k s p.name (entity.ConditionConstant (next_name d) x.value) (no_right x.faults _ behind_g),
+      literal_is at (is_sound g.value) false (literal_condition initial) sound (no_left x.faults _ after_g),
+      constant_is_new d k s p.name (entity.ConditionConstant (next_name d) x.value) (no_right x.faults _ after_g),
     )
 constant_keeps d k s at p initial declared.Vertex none = absurd (not_empty _ _ (no_right (initializer_of d.checker at initial).faults _ none))
 constant_keeps d k s at p initial declared.VertexSet none =
     let g = initializer_of d.checker at initial in
     let given = no_left g.faults _ none in
-    let behind_g = no_right g.faults _ none in
+    let after_g = no_right g.faults _ none in
     let x = has_all at g.value in
     let sound = given_sound d.checker (record k.known { reduced = d.checker.writes }) (checker_sees d.checker k.known s.agrees.checker s.some) at initial given in
     let e = entity.ConstantSet (record { index = length d.sets; name = next_name d }) in (
-      vertices_wanted d k s at initial given (wanted_is at (is_sound g.value) (is_all g.value) sound (no_left x.faults _ behind_g)),
-      constant_is_new d k s p.name e (no_left (declare_name d p.name e).faults [] (no_right x.faults _ behind_g)),
+      vertices_wanted d k s at initial given (wanted_is at (is_sound g.value) (is_all g.value) sound (no_left x.faults _ after_g)),
+      constant_is_new d k s p.name e (no_left (declare_name d p.name e).faults [] (no_right x.faults _ after_g)),
     )
 constant_keeps d k s at p initial declared.Vector none =
     let g = initializer_of d.checker at initial in
     let given = no_left g.faults _ none in
-    let behind_g = no_right g.faults _ none in
+    let after_g = no_right g.faults _ none in
     let x = begins at g.value initial in
     let e = entity.Vector (length d.vectors) in (
-      vector_wanted d k s at initial given (no_left x.faults _ behind_g),
-      constant_is_new d k s p.name e (no_left (declare_name d p.name e).faults [] (no_right x.faults _ behind_g)),
+      vector_wanted d k s at initial given (no_left x.faults _ after_g),
+      constant_is_new d k s p.name e (no_left (declare_name d p.name e).faults [] (no_right x.faults _ after_g)),
     )
 constant_keeps d k s at p initial declared.EdgeSet none =
     let g = initializer_of d.checker at initial in
     let given = no_left g.faults _ none in
-    let behind_g = no_right g.faults _ none in
+    let after_g = no_right g.faults _ none in
     let x = loads at g.value in
     let o = only_edges p.name (next_name d) d.edges in
     let sound = given_sound d.checker (record k.known { reduced = d.checker.writes }) (checker_sees d.checker k.known s.agrees.checker s.some) at initial given in
-    let behind_x = no_right x.faults _ behind_g in
-    let first = only_first p.name (next_name d) d.edges (no_left o.faults _ behind_x) in (
-      loads_edges k initial (loaded_wanted d k s at initial given (wanted_is at (is_sound g.value) (is_loaded g.value) sound (no_left x.faults _ behind_g)) (sym s.agrees.edges ∙ first)),
-      constant_is_new d k s p.name (entity.Edges false) (no_left (declare_name d p.name (entity.Edges false)).faults [] (no_right o.faults _ behind_x)),
+    let after_x = no_right x.faults _ after_g in
+    let first = only_first p.name (next_name d) d.edges (no_left o.faults _ after_x) in (
+      loads_edges k initial (loaded_wanted d k s at initial given (wanted_is at (is_sound g.value) (is_loaded g.value) sound (no_left x.faults _ after_g)) (sym s.agrees.edges ∙ first)),
+      constant_is_new d k s p.name (entity.Edges false) (no_left (declare_name d p.name (entity.Edges false)).faults [] (no_right o.faults _ after_x)),
     )
 constant_keeps d k s at p initial declared.WeightedEdgeSet none =
     let g = initializer_of d.checker at initial in
     let given = no_left g.faults _ none in
-    let behind_g = no_right g.faults _ none in
+    let after_g = no_right g.faults _ none in
     let x = loads at g.value in
     let o = only_edges p.name (next_name d) d.edges in
     let sound = given_sound d.checker (record k.known { reduced = d.checker.writes }) (checker_sees d.checker k.known s.agrees.checker s.some) at initial given in
-    let behind_x = no_right x.faults _ behind_g in
-    let first = only_first p.name (next_name d) d.edges (no_left o.faults _ behind_x) in (
-      loads_weighted_edges k initial (loaded_wanted d k s at initial given (wanted_is at (is_sound g.value) (is_loaded g.value) sound (no_left x.faults _ behind_g)) (sym s.agrees.edges ∙ first)),
-      constant_is_new d k s p.name (entity.Edges true) (no_left (declare_name d p.name (entity.Edges true)).faults [] (no_right o.faults _ behind_x)),
+    let after_x = no_right x.faults _ after_g in
+    let first = only_first p.name (next_name d) d.edges (no_left o.faults _ after_x) in (
+      loads_weighted_edges k initial (loaded_wanted d k s at initial given (wanted_is at (is_sound g.value) (is_loaded g.value) sound (no_left x.faults _ after_g)) (sym s.agrees.edges ∙ first)),
+      constant_is_new d k s p.name (entity.Edges true) (no_left (declare_name d p.name (entity.Edges true)).faults [] (no_right o.faults _ after_x)),
     )
 
 -- types of parameters
@@ -337,14 +337,14 @@ vertex_function_keeps d k s at name v body is none =
     let opens = vertex_opens d.checker k.known s.agrees.checker v is new in
     let within : Sees inside.VertexFunction o.value (known_at_vertex k.known v) = record { matches = opens.1; some = more_some k.known.names v.name.bytes (meaning.Parameter endpoint.Source) s.some tt } in
     let b = steps_typed o.value NoStep body in
-    let behind_o = no_right o.faults _ none in
-    let keeps = steps_keep inside.VertexFunction o.value (known_at_vertex k.known v) tt within NoStep body (no_left b.faults _ behind_o) in
+    let after_o = no_right o.faults _ none in
+    let keeps = steps_keep inside.VertexFunction o.value (known_at_vertex k.known v) tt within NoStep body (no_left b.faults _ after_o) in
     let after = steps_kept inside.VertexFunction o.value (known_at_vertex k.known v) tt within.matches NoStep body keeps in
     let f = entity.VertexFunction (length d.vertex_functions) in
     let e = declared_in (with_scope b.value.1 d.checker.scope) name f in (
       name_is_new (with_scope b.value.1 d.checker.scope) (closed_known k.known (known_after inside.VertexFunction (known_at_vertex k.known v) body))
           (left_agrees inside.VertexFunction d.checker b.value.1 k.known (known_after inside.VertexFunction (known_at_vertex k.known v) body) s.agrees.checker after.1) s.some name f
-          (no_left e.faults [] (no_left (e.faults ++ []) [] (no_right b.faults _ behind_o))),
+          (no_left e.faults [] (no_left (e.faults ++ []) [] (no_right b.faults _ after_o))),
       (is, new, keeps),
     )
 
@@ -364,14 +364,14 @@ filter_keeps d k s at name v test body is also none =
     let opens = filter_opens d.checker k.known s.agrees.checker v test is new result_new in
     let within : Sees inside.Filter o.value (known_in_filter k.known v test) = record { matches = opens.1; some = more_some (known_at_vertex k.known v).names test.name.bytes meaning.TruthVariable inner.some tt } in
     let b = steps_typed o.value NoStep body in
-    let behind_o = no_right o.faults _ none in
-    let keeps = steps_keep inside.Filter o.value (known_in_filter k.known v test) tt within NoStep body (no_left b.faults _ behind_o) in
+    let after_o = no_right o.faults _ none in
+    let keeps = steps_keep inside.Filter o.value (known_in_filter k.known v test) tt within NoStep body (no_left b.faults _ after_o) in
     let after = steps_kept inside.Filter o.value (known_in_filter k.known v test) tt within.matches NoStep body keeps in
     let f = entity.Filter (length d.filters) in
     let e = declared_in (with_scope b.value.1 d.checker.scope) name f in (
       name_is_new (with_scope b.value.1 d.checker.scope) (closed_known k.known (known_after inside.Filter (known_in_filter k.known v test) body))
           (left_agrees inside.Filter d.checker b.value.1 k.known (known_after inside.Filter (known_in_filter k.known v test) body) s.agrees.checker after.1) s.some name f
-          (no_left e.faults [] (no_left (e.faults ++ []) [] (no_right b.faults _ behind_o))),
+          (no_left e.faults [] (no_left (e.faults ++ []) [] (no_right b.faults _ after_o))),
       (is, also, new, result_new, keeps),
     )
 
@@ -383,14 +383,14 @@ edge_body_keeps d k s at name weighted parameters start body opens some none =
     let o = opened d.checker (EdgeKind weighted) parameters None in
     let within : Sees inside.EdgeFunction o.value start = record { matches = opens.1; some = some } in
     let b = steps_typed o.value NoStep body in
-    let behind_o = no_right o.faults _ none in
-    let keeps = steps_keep inside.EdgeFunction o.value start tt within NoStep body (no_left b.faults _ behind_o) in
+    let after_o = no_right o.faults _ none in
+    let keeps = steps_keep inside.EdgeFunction o.value start tt within NoStep body (no_left b.faults _ after_o) in
     let after = steps_kept inside.EdgeFunction o.value start tt within.matches NoStep body keeps in
     let f = entity.EdgeFunction (length d.edge_functions) weighted in
     let e = declared_in (with_scope b.value.1 d.checker.scope) name f in (
       name_is_new (with_scope b.value.1 d.checker.scope) (closed_known k.known (known_after inside.EdgeFunction start body))
           (left_agrees inside.EdgeFunction d.checker b.value.1 k.known (known_after inside.EdgeFunction start body) s.agrees.checker after.1) s.some name f
-          (no_left e.faults [] (no_left (e.faults ++ []) [] (no_right b.faults _ behind_o))),
+          (no_left e.faults [] (no_left (e.faults ++ []) [] (no_right b.faults _ after_o))),
       keeps,
     )
 
@@ -423,16 +423,16 @@ weighted_function_keeps d k s at name src dst w body is also int none =
     let r = declared_in q.value w.name (parameter true endpoint.Destination w.declared) in
     let first = begun_sees d.checker k.known inside.EdgeFunction s.agrees.checker s.some in
     let sound = no_left (p.faults ++ (q.faults ++ (r.faults ++ []))) [] (no_left o.faults _ none) in
-    let behind_p = no_right p.faults _ sound in
+    let after_p = no_right p.faults _ sound in
     let new = parameter_is_new true inside.EdgeFunction c (known_in_main k.known) first src endpoint.Source (no_left p.faults _ sound) in
     let one = parameter_opens true inside.EdgeFunction c (known_in_main k.known) first.matches endpoint.Source src is new in
     let at_vertex = known_at_vertex k.known src in
     let inner : Sees inside.EdgeFunction p.value at_vertex = record { matches = one.1; some = more_some k.known.names src.name.bytes (meaning.Parameter endpoint.Source) s.some tt } in
-    let second = parameter_is_new true inside.EdgeFunction p.value at_vertex inner dst endpoint.Destination (no_left q.faults _ behind_p) in
+    let second = parameter_is_new true inside.EdgeFunction p.value at_vertex inner dst endpoint.Destination (no_left q.faults _ after_p) in
     let two = parameter_opens true inside.EdgeFunction p.value at_vertex inner.matches endpoint.Destination dst also second in
     let on_edge = known_on_edge k.known src dst in
     let further : Sees inside.EdgeFunction q.value on_edge = record { matches = two.1; some = more_some at_vertex.names dst.name.bytes (meaning.Parameter endpoint.Destination) inner.some tt } in
-    let third = parameter_is_new true inside.EdgeFunction q.value on_edge further w endpoint.Destination (no_left r.faults [] (no_right q.faults _ behind_p)) in
+    let third = parameter_is_new true inside.EdgeFunction q.value on_edge further w endpoint.Destination (no_left r.faults [] (no_right q.faults _ after_p)) in
     let opens = weighted_edge_opens d.checker k.known s.agrees.checker src dst w is also int new second third in
     let all = edge_body_keeps d k s at name true (src ∷ dst ∷ w ∷ []) (known_on_weighted_edge k.known src dst w) body opens
     (more_some on_edge.names w.name.bytes meaning.Weight further.some tt) none in
@@ -529,25 +529,25 @@ constant_some k declared.Vector initial keeps = tt
 constant_some k declared.EdgeSet initial keeps = tt
 constant_some k declared.WeightedEdgeSet initial keeps = tt
 
-behind_user_some : (k : Declarations) → AreSome k.known.names → (name : Identifier) (parameters : List ParameterTree) (result : Option ParameterTree) (body : source.BlockTree)
-    → AreSome (behind_function k name parameters result body).known.names
-behind_user_some k some name [] result body = some
-behind_user_some k some name (v ∷ []) None body = more_some k.known.names name.bytes meaning.VertexFunction some tt
-behind_user_some k some name (v ∷ []) (Some test) body = more_some k.known.names name.bytes meaning.Filter some tt
-behind_user_some k some name (src ∷ dst ∷ []) None body = more_some k.known.names name.bytes (meaning.EdgeFunction (length k.known.written) false) some tt
-behind_user_some k some name (src ∷ dst ∷ []) (Some result) body = some
-behind_user_some k some name (src ∷ dst ∷ w ∷ []) None body = more_some k.known.names name.bytes (meaning.EdgeFunction (length k.known.written) true) some tt
-behind_user_some k some name (src ∷ dst ∷ w ∷ []) (Some result) body = some
-behind_user_some k some name (x ∷ y ∷ z ∷ u ∷ others) result body = some
+after_user_some : (k : Declarations) → AreSome k.known.names → (name : Identifier) (parameters : List ParameterTree) (result : Option ParameterTree) (body : source.BlockTree)
+    → AreSome (after_function k name parameters result body).known.names
+after_user_some k some name [] result body = some
+after_user_some k some name (v ∷ []) None body = more_some k.known.names name.bytes meaning.VertexFunction some tt
+after_user_some k some name (v ∷ []) (Some test) body = more_some k.known.names name.bytes meaning.Filter some tt
+after_user_some k some name (src ∷ dst ∷ []) None body = more_some k.known.names name.bytes (meaning.EdgeFunction (length k.known.written) false) some tt
+after_user_some k some name (src ∷ dst ∷ []) (Some result) body = some
+after_user_some k some name (src ∷ dst ∷ w ∷ []) None body = more_some k.known.names name.bytes (meaning.EdgeFunction (length k.known.written) true) some tt
+after_user_some k some name (src ∷ dst ∷ w ∷ []) (Some result) body = some
+after_user_some k some name (x ∷ y ∷ z ∷ u ∷ others) result body = some
 
-behind_function_some : (k : Declarations) → AreSome k.known.names → (name : Identifier) (parameters : List ParameterTree) (result : Option ParameterTree) (body : source.BlockTree) (b : Bool)
-    → AreSome (if b then behind_main k name body else behind_function k name parameters result body).known.names
-behind_function_some k some name parameters result body true = more_some k.known.names name.bytes meaning.Main some tt
-behind_function_some k some name parameters result body false = behind_user_some k some name parameters result body
+after_function_some : (k : Declarations) → AreSome k.known.names → (name : Identifier) (parameters : List ParameterTree) (result : Option ParameterTree) (body : source.BlockTree) (b : Bool)
+    → AreSome (if b then after_main k name body else after_function k name parameters result body).known.names
+after_function_some k some name parameters result body true = more_some k.known.names name.bytes meaning.Main some tt
+after_function_some k some name parameters result body false = after_user_some k some name parameters result body
 
-behind_some_declaration : (k : Declarations) → AreSome k.known.names → (x : DeclarationTree) → DeclarationKeeps k x → AreSome (behind_declaration k x).known.names
-behind_some_declaration k some (source.Constant at p initial) keeps = more_some k.known.names p.name.bytes (constant_meaning k.vectors p.declared) some (constant_some k p.declared initial keeps.0)
-behind_some_declaration k some (source.Function at name parameters result body) keeps = behind_function_some k some name parameters result body (bytes_eq name.bytes main_bytes)
+after_some_declaration : (k : Declarations) → AreSome k.known.names → (x : DeclarationTree) → DeclarationKeeps k x → AreSome (after_declaration k x).known.names
+after_some_declaration k some (source.Constant at p initial) keeps = more_some k.known.names p.name.bytes (constant_meaning k.vectors p.declared) some (constant_some k p.declared initial keeps.0)
+after_some_declaration k some (source.Function at name parameters result body) keeps = after_function_some k some name parameters result body (bytes_eq name.bytes main_bytes)
 
 declarations_keep : (d : DeclaredTree) (k : Declarations) → SeesAll d k → (xs : List DeclarationTree) → AllByRecursion MainTakesNothing xs → (declarations_typed d xs).faults ≡ []
     → is_some (declarations_typed d xs).value.main ≡ true → DeclarationsKeep k xs
@@ -555,8 +555,8 @@ declarations_keep d k s [] takes none main = sym s.agrees.main ∙ main
 declarations_keep d k s (x ∷ others) takes none main =
     let e = declaration_typed d x in
     let keeps = declaration_keeps d k s x takes.0 (no_left e.faults _ none) in
-    let next : SeesAll e.value (behind_declaration k x) = record { agrees = (declaration_kept d k s.agrees x keeps).1; some = behind_some_declaration k s.some x keeps } in
-    (keeps, declarations_keep e.value (behind_declaration k x) next others takes.1 (no_right e.faults _ none) main)
+    let next : SeesAll e.value (after_declaration k x) = record { agrees = (declaration_kept d k s.agrees x keeps).1; some = after_some_declaration k s.some x keeps } in
+    (keeps, declarations_keep e.value (after_declaration k x) next others takes.1 (no_right e.faults _ none) main)
 
 main_found : (length : ℕ) (main : Option BlockTree) → (main_of length main).faults ≡ [] → is_some main ≡ true
 main_found length None none = absurd (not_empty _ _ none)

@@ -358,16 +358,16 @@ initial_gives i c k s at (source.ApplyModified edges ends f v) none =
     let b = end_of c.scope ends.to in
     let g = used c.scope f in
     let w = used c.scope v in
-    let behind_e = no_right e.faults _ none in
-    let behind_a = no_right a.faults _ behind_e in
-    let behind_b = no_right b.faults _ behind_a in
-    let behind_g = no_right g.faults _ behind_b in
+    let after_e = no_right e.faults _ none in
+    let after_a = no_right a.faults _ after_e in
+    let after_b = no_right b.faults _ after_a in
+    let after_g = no_right g.faults _ after_b in
     let m = used_is i c k s edges (no_left e.faults _ none) in
-    let n = used_is i c k s f (no_left g.faults _ behind_b) in
-    let o = used_is i c k s v (no_left w.faults _ behind_g) in
-    let from = no_left a.faults _ behind_e in
-    let to = no_left b.faults _ behind_a in
-    let x = modified_is c at e.value g.value w.value a.value b.value m.clear n.clear o.clear (end_is_clear i c k s ends.from from) (end_is_clear i c k s ends.to to) (no_right w.faults _ behind_g) in (
+    let n = used_is i c k s f (no_left g.faults _ after_b) in
+    let o = used_is i c k s v (no_left w.faults _ after_g) in
+    let from = no_left a.faults _ after_e in
+    let to = no_left b.faults _ after_a in
+    let x = modified_is c at e.value g.value w.value a.value b.value m.clear n.clear o.clear (end_is_clear i c k s ends.from from) (end_is_clear i c k s ends.to to) (no_right w.faults _ after_g) in (
       (
         (end_fits i c k s ends.from from x.from, end_fits i c k s ends.to to x.to),
         record {
@@ -461,25 +461,25 @@ declare_keeps : (c : CheckerTree) (k : Known) → Sees inside.Main c k → (at :
 declare_keeps c k s at name initial declared.Int none =
     let g = initializer_of c at initial in
     let x = initializer_integer at g.value in
-    let behind_g = no_right g.faults _ none in
-    let d = no_right x.faults _ behind_g in (
-      gives_number inside.Main c k s at initial (no_left g.faults _ none) (no_left x.faults _ behind_g),
+    let after_g = no_right g.faults _ none in
+    let d = no_right x.faults _ after_g in (
+      gives_number inside.Main c k s at initial (no_left g.faults _ none) (no_left x.faults _ after_g),
       declares_new inside.Main c k s name (entity.IntegerVariable (integer_slot c)) (no_left (declared_in c name (entity.IntegerVariable (integer_slot c))).faults [] d),
     )
 declare_keeps c k s at name initial declared.Bool none =
     let g = initializer_of c at initial in
     let x = initializer_condition at g.value in
-    let behind_g = no_right g.faults _ none in
-    let d = no_right x.faults _ behind_g in (
-      gives_truth inside.Main c k s at initial (no_left g.faults _ none) (no_left x.faults _ behind_g),
+    let after_g = no_right g.faults _ none in
+    let d = no_right x.faults _ after_g in (
+      gives_truth inside.Main c k s at initial (no_left g.faults _ none) (no_left x.faults _ after_g),
       declares_new inside.Main c k s name (entity.ConditionVariable (condition_slot c)) (no_left (declared_in c name (entity.ConditionVariable (condition_slot c))).faults [] d),
     )
 declare_keeps c k s at name initial declared.VertexSet none =
     let g = initializer_of c at initial in
     let x = initializer_members at g.value in
-    let behind_g = no_right g.faults _ none in
-    let d = no_right x.faults _ behind_g in (
-      (tt, gives_members inside.Main c k s at initial (no_left g.faults _ none) (no_left x.faults _ behind_g)),
+    let after_g = no_right g.faults _ none in
+    let d = no_right x.faults _ after_g in (
+      (tt, gives_members inside.Main c k s at initial (no_left g.faults _ none) (no_left x.faults _ after_g)),
       declares_new inside.Main c k s name (entity.SetVariable (set_slot c)) (no_left (declared_in c name (entity.SetVariable (set_slot c))).faults [] d),
     )
 declare_keeps c k s at name initial declared.Vertex none = absurd (not_empty _ _ (no_right (initializer_of c at initial).faults _ none))
@@ -503,8 +503,8 @@ assign_keeps : (c : CheckerTree) (k : Known) → Sees inside.Main c k → (at : 
 assign_keeps c k s at name initial none =
     let u = used c.scope name in
     let g = initializer_of c at initial in
-    let behind_u = no_right u.faults _ none in
-    assigned_fits c k s at name initial (no_left g.faults _ behind_u) u.value (used_is inside.Main c k s name (no_left u.faults _ none)) (no_right g.faults _ behind_u)
+    let after_u = no_right u.faults _ none in
+    assigned_fits c k s at name initial (no_left g.faults _ after_u) u.value (used_is inside.Main c k s name (no_left u.faults _ none)) (no_right g.faults _ after_u)
 
 -- reductions, and vertices that are added
 reduced_is : (names : Meanings) (at : ℕ) (name : Identifier) (by : Reduction) (v : ValueTree) (e : Entity) → IsMeant names name e → (reduced at by v e).faults ≡ []
@@ -518,9 +518,9 @@ reduce_keeps : (c : CheckerTree) (k : Known) → Sees inside.Main c k → (at : 
 reduce_keeps c k s at name by e none =
     let u = used c.scope name in
     let v = value_of c.scope at e in
-    let behind_u = no_right u.faults _ none in
-    let x = reduced_is k.names at name by v.value u.value (used_is inside.Main c k s name (no_left u.faults _ none)) (no_right v.faults _ behind_u) in
-    (x.0, value_number inside.Main c k s at e (no_left v.faults _ behind_u) x.1)
+    let after_u = no_right u.faults _ none in
+    let x = reduced_is k.names at name by v.value u.value (used_is inside.Main c k s name (no_left u.faults _ none)) (no_right v.faults _ after_u) in
+    (x.0, value_number inside.Main c k s at e (no_left v.faults _ after_u) x.1)
 
 added_is : (names : Meanings) (at : ℕ) (name : Identifier) (v : ValueTree) (e : Entity) → IsMeant names name e → (added at v e).faults ≡ []
     → (found name.bytes names ≡ Some meaning.SetVariable) × ((as_integer at v).faults ≡ [])
@@ -533,9 +533,9 @@ add_keeps : (c : CheckerTree) (k : Known) → Sees inside.Main c k → (at : ℕ
 add_keeps c k s at name e none =
     let u = used c.scope name in
     let v = value_of c.scope at e in
-    let behind_u = no_right u.faults _ none in
-    let x = added_is k.names at name v.value u.value (used_is inside.Main c k s name (no_left u.faults _ none)) (no_right v.faults _ behind_u) in
-    (x.0, value_number inside.Main c k s at e (no_left v.faults _ behind_u) x.1)
+    let after_u = no_right u.faults _ none in
+    let x = added_is k.names at name v.value u.value (used_is inside.Main c k s name (no_left u.faults _ none)) (no_right v.faults _ after_u) in
+    (x.0, value_number inside.Main c k s at e (no_left v.faults _ after_u) x.1)
 
 -- entries
 if_plain_index : (at : ℕ) (e : IntExpressionTree) (b : Bool) → reads_entry e ≡ b → (if b then fault_at at rule.WrongIndex None else sure (Some e)).faults ≡ [] → reads_entry e ≡ false
@@ -568,18 +568,18 @@ entry_keeps c k s at name subscript e none =
     let v = value_of c.scope at subscript in
     let i = as_index at v.value in
     let x = integer_in c.scope at e in
-    let behind_vector = no_right index.faults _ none in
-    let behind_v = no_right v.faults _ behind_vector in
-    let behind_i = no_right i.faults _ behind_v in
+    let after_vector = no_right index.faults _ none in
+    let after_v = no_right v.faults _ after_vector in
+    let after_i = no_right i.faults _ after_v in
     let there = vector_is_found inside.Main c k s at name (no_left index.faults _ none) in
-    let t = value_typed inside.Main c k s at subscript (no_left v.faults _ behind_vector) in
-    let fits = index_is at t.type v.value t.is (no_left i.faults _ behind_v) in
+    let t = value_typed inside.Main c k s at subscript (no_left v.faults _ after_vector) in
+    let fits = index_is at t.type v.value t.is (no_left i.faults _ after_v) in
     record {
       vector = there.vector;
       means = there.means;
       number = as_number v (ExpressionHas k.names inside.Main subscript) t fits.0;
       plain = expression_plain c.scope at subscript fits.1;
-      value = integer_number inside.Main c k s at e (no_left x.faults [] behind_i);
+      value = integer_number inside.Main c k s at e (no_left x.faults [] after_i);
     }
 
 -- what is printed
@@ -643,16 +643,16 @@ apply_keeps c k s at target ends function none =
     let a = end_of c.scope ends.from in
     let b = end_of c.scope ends.to in
     let f = used c.scope function in
-    let behind_t = no_right t.faults _ none in
-    let behind_a = no_right a.faults _ behind_t in
-    let behind_b = no_right b.faults _ behind_a in
+    let after_t = no_right t.faults _ none in
+    let after_a = no_right a.faults _ after_t in
+    let after_b = no_right b.faults _ after_a in
     let m = used_is inside.Main c k s target (no_left t.faults _ none) in
-    let n = used_is inside.Main c k s function (no_left f.faults _ behind_b) in
+    let n = used_is inside.Main c k s function (no_left f.faults _ after_b) in
     let x = applied_where at t.value f.value a.value b.value (has_ends ends) (names_error t.value) (is_edges t.value) (is_wrong a.value || is_wrong b.value || lacks_weights t.value f.value)
-    (clear_no_error t.value m.clear) (clear_no_error f.value n.clear) refl refl (no_right f.faults _ behind_b) in
+    (clear_no_error t.value m.clear) (clear_no_error f.value n.clear) refl refl (no_right f.faults _ after_b) in
     elim x.edges [
       | inl edges ↦ let fit = edges.2.1 in AppliesEdges fit.weights edges.2.0 fit.weighted (means_as k.names target t.value (meaning.Edges fit.weights) m fit.edges)
-          (end_fits inside.Main c k s ends.from (no_left a.faults _ behind_t) edges.0, end_fits inside.Main c k s ends.to (no_left b.faults _ behind_a) edges.1)
+          (end_fits inside.Main c k s ends.from (no_left a.faults _ after_t) edges.0, end_fits inside.Main c k s ends.to (no_left b.faults _ after_a) edges.1)
           (means_as k.names function f.value (meaning.EdgeFunction edges.2.0 fit.weighted) n fit.function) fit.sees
       | inr vertices ↦ AppliesVertices (has_as k.names target t.value Set m vertices.0) (no_end ends.from ends.to vertices.1).0 (no_end ends.from ends.to vertices.1).1
           (means_as k.names function f.value meaning.VertexFunction n vertices.2)
@@ -698,19 +698,19 @@ reduced_some inside.EdgeFunction k vector by some = some
 reduced_some inside.VertexFunction k vector by some = some
 reduced_some inside.Filter k vector by some = some
 
-pub behind_some : (i : Inside) (k : Known) (action : source.StatementKindTree) → AreSome k.names → ActionKeeps i k action → AreSome (known_behind i k action).names
-behind_some i k (source.Declare at p initial) some keeps = more_some k.names p.name.bytes (variable_meaning p.declared) some (variable_some i k p.declared initial keeps.0)
-behind_some i k (source.While at test body) some keeps = some
-behind_some i k (source.For at name first limit body) some keeps = some
-behind_some i k (source.If at test body) some keeps = some
-behind_some i k (source.IfElse at test body otherwise) some keeps = some
-behind_some i k (source.Print at e) some keeps = some
-behind_some i k (source.Assign name initial) some keeps = some
-behind_some i k (source.Reduce name by e) some keeps = some
-behind_some i k (source.SetEntry vector index e) some keeps = some
-behind_some i k (source.ReduceEntry vector index by e) some keeps = reduced_some i k vector by some
-behind_some i k (source.AddVertex set e) some keeps = some
-behind_some i k (source.Apply target ends function) some keeps = some
+pub after_some : (i : Inside) (k : Known) (action : source.StatementKindTree) → AreSome k.names → ActionKeeps i k action → AreSome (known_behind i k action).names
+after_some i k (source.Declare at p initial) some keeps = more_some k.names p.name.bytes (variable_meaning p.declared) some (variable_some i k p.declared initial keeps.0)
+after_some i k (source.While at test body) some keeps = some
+after_some i k (source.For at name first limit body) some keeps = some
+after_some i k (source.If at test body) some keeps = some
+after_some i k (source.IfElse at test body otherwise) some keeps = some
+after_some i k (source.Print at e) some keeps = some
+after_some i k (source.Assign name initial) some keeps = some
+after_some i k (source.Reduce name by e) some keeps = some
+after_some i k (source.SetEntry vector index e) some keeps = some
+after_some i k (source.ReduceEntry vector index by e) some keeps = reduced_some i k vector by some
+after_some i k (source.AddVertex set e) some keeps = some
+after_some i k (source.Apply target ends function) some keeps = some
 
 label_some : (k : Known) (label : Option Identifier) → AreSome k.names → AreSome (labelled_known k label).names
 label_some k None some = some
@@ -734,15 +734,15 @@ mutual
       let e = entity.LoopVariable (integer_slot c) in
       let d = declared_in c name e in
       let b = statements_typed d.value Empty body in
-      let behind_a = no_right a.faults _ none in
-      let behind_z = no_right z.faults _ behind_a in
-      let new = declares_new inside.Main c k s name e (no_left d.faults _ behind_z) in
+      let after_a = no_right a.faults _ none in
+      let after_z = no_right z.faults _ after_a in
+      let new = declares_new inside.Main c k s name e (no_left d.faults _ after_z) in
       let inner : Sees inside.Main d.value (with_name k name meaning.LoopName) = record { matches = (declared_kept inside.Main c k s.matches name e meaning.LoopName refl new).1; some = more_some k.names name.bytes meaning.LoopName s.some tt } in (
         tt,
         integer_number inside.Main c k s at first (no_left a.faults _ none),
-        integer_number inside.Main c k s at limit (no_left z.faults _ behind_a),
+        integer_number inside.Main c k s at limit (no_left z.faults _ after_a),
         new,
-        statements_keep d.value (with_name k name meaning.LoopName) inner Empty body (no_left b.faults [] (no_right d.faults _ behind_z)),
+        statements_keep d.value (with_name k name meaning.LoopName) inner Empty body (no_left b.faults [] (no_right d.faults _ after_z)),
       )
   action_keeps c k s (source.If at test body) none =
       let t = condition_in c.scope at test in
@@ -753,12 +753,12 @@ mutual
       let b = statements_typed c Empty body in
       let d = closed c b.value.1 in
       let o = statements_typed d Empty otherwise in
-      let behind_t = no_right t.faults _ none in
-      let first = statements_keep c k s Empty body (no_left b.faults _ behind_t) in
+      let after_t = no_right t.faults _ none in
+      let first = statements_keep c k s Empty body (no_left b.faults _ after_t) in
       let inner : Sees inside.Main d (closed_known k (known_after inside.Main k body)) = record { matches = closed_kept inside.Main inside.Main c b.value.1 k (known_after inside.Main k body) s.matches (statements_kept c k s.matches Empty body first).1; some = s.some } in (
         condition_truth inside.Main c k s at test (no_left t.faults _ none),
         first,
-        statements_keep d (closed_known k (known_after inside.Main k body)) inner Empty otherwise (no_left o.faults [] (no_right b.faults _ behind_t)),
+        statements_keep d (closed_known k (known_after inside.Main k body)) inner Empty otherwise (no_left o.faults [] (no_right b.faults _ after_t)),
       )
   action_keeps c k s (source.Print at e) none = (tt, print_keeps c k s at e (no_left (print c.scope at e).faults [] none))
   action_keeps c k s (source.Assign name initial) none = assign_keeps c k s name.at name initial (no_left (assign c name.at name initial).faults [] none)
@@ -779,10 +779,10 @@ mutual
       let l = labelled c label in
       let d = counted l.value.1 in
       let a = action_typed d action in
-      let behind_l = no_right l.faults _ none in
+      let after_l = no_right l.faults _ none in
       let labels = labelled_sees inside.Main c k s label (no_left l.faults _ none) in
       let known = labelled_known k label in
       let here : Sees inside.Main d known = record { matches = counted_kept inside.Main l.value.1 known labels.1.matches; some = labels.1.some } in
-      let keeps = action_keeps d known here action (no_left a.faults _ behind_l) in
-      let next : Sees inside.Main a.value.1 (known_behind inside.Main known action) = record { matches = (action_kept d known here.matches action keeps).1; some = behind_some inside.Main known action here.some keeps } in
-      (labels.0, keeps, statements_keep a.value.1 (known_behind inside.Main known action) next (behind so_far (suc l.value.1.statements) l.value.0 a.value.0) others (no_right a.faults _ behind_l))
+      let keeps = action_keeps d known here action (no_left a.faults _ after_l) in
+      let next : Sees inside.Main a.value.1 (known_behind inside.Main known action) = record { matches = (action_kept d known here.matches action keeps).1; some = after_some inside.Main known action here.some keeps } in
+      (labels.0, keeps, statements_keep a.value.1 (known_behind inside.Main known action) next (behind so_far (suc l.value.1.statements) l.value.0 a.value.0) others (no_right a.faults _ after_l))

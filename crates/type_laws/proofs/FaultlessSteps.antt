@@ -23,7 +23,7 @@ use Rattle.expression_types.specs.ValueTree.{ValueTree}
 use Rattle.expression_types.specs.Faults.{WithFaults, sure}
 use Rattle.types.specs.Checker.{CheckerTree, condition_slot, declared_in, integer_slot, labelled}
 use Rattle.types.specs.Initial.{initializer_condition, initializer_integer, initializer_of}
-use Rattle.types.specs.Step.{assign_step, assigned_step, at_own, declare_step, may_reduce, may_set, own_vertex, reduce_entry_step, reduce_step, reduced_as, reduced_step, same_endpoint, same_reduction, set_entry_step, step_behind, step_typed, steps_behind, steps_typed, written_at, written_with}
+use Rattle.types.specs.Step.{assign_step, assigned_step, at_own, declare_step, may_reduce, may_set, own_vertex, reduce_entry_step, reduce_step, reduced_as, reduced_step, same_endpoint, same_reduction, set_entry_step, step_after, step_typed, steps_after, steps_typed, written_at, written_with}
 use Rattle.types.specs.Checker.{as_integer, condition_in, integer_in}
 use Rattle.type_laws.specs.ExpressionTypes.{ExpressionHas, ExpressionType, IsNumber, Number, Set, Truth, Vertex}
 use Rattle.type_laws.specs.KeptRules.{ActionKeeps, AgreesWith, AssignFits, AssignsNumber, AssignsTruth, BlockKeeps, MayReduce, MaySet, ReducesEntry, VariableFits, WrittenAt}
@@ -34,24 +34,24 @@ use Rattle.type_laws.proofs.TypedExpressions.{IsOf}
 use Rattle.type_laws.proofs.FaultlessExpressions.{IsMeant, Typed}
 use Rattle.type_laws.proofs.KeptNames.{closed_kept}
 use Rattle.type_laws.proofs.KeptSteps.{IsUser, step_kept, steps_kept}
-use Rattle.type_laws.proofs.FaultlessStatements.{Sees, behind_some, condition_truth, declares_new, gives_number, gives_truth, integer_number, labelled_sees, used_is, value_number, value_typed, vector_is_found}
+use Rattle.type_laws.proofs.FaultlessStatements.{Sees, after_some, condition_truth, declares_new, gives_number, gives_truth, integer_number, labelled_sees, used_is, value_number, value_typed, vector_is_found}
 
 declare_step_keeps : (i : Inside) (c : CheckerTree) (k : Known) → Sees i c k → (at : ℕ) (name : Identifier) (initial : InitialTree) (type : DeclaredType) → (declare_step c at name type initial).faults ≡ []
     → VariableFits i k type initial × IsNew k name
 declare_step_keeps i c k s at name initial declared.Int none =
     let g = initializer_of c at initial in
     let x = initializer_integer at g.value in
-    let behind_g = no_right g.faults _ none in
-    let d = no_right x.faults _ behind_g in (
-      gives_number i c k s at initial (no_left g.faults _ none) (no_left x.faults _ behind_g),
+    let after_g = no_right g.faults _ none in
+    let d = no_right x.faults _ after_g in (
+      gives_number i c k s at initial (no_left g.faults _ none) (no_left x.faults _ after_g),
       declares_new i c k s name (entity.IntegerVariable (integer_slot c)) (no_left (declared_in c name (entity.IntegerVariable (integer_slot c))).faults [] d),
     )
 declare_step_keeps i c k s at name initial declared.Bool none =
     let g = initializer_of c at initial in
     let x = initializer_condition at g.value in
-    let behind_g = no_right g.faults _ none in
-    let d = no_right x.faults _ behind_g in (
-      gives_truth i c k s at initial (no_left g.faults _ none) (no_left x.faults _ behind_g),
+    let after_g = no_right g.faults _ none in
+    let d = no_right x.faults _ after_g in (
+      gives_truth i c k s at initial (no_left g.faults _ none) (no_left x.faults _ after_g),
       declares_new i c k s name (entity.ConditionVariable (condition_slot c)) (no_left (declared_in c name (entity.ConditionVariable (condition_slot c))).faults [] d),
     )
 declare_step_keeps i c k s at name initial declared.VertexSet none = absurd (not_empty _ _ (no_right (initializer_of c at initial).faults _ none))
@@ -73,8 +73,8 @@ assign_step_keeps : (i : Inside) (c : CheckerTree) (k : Known) → Sees i c k �
 assign_step_keeps i c k s at name initial none =
     let u = used c.scope name in
     let g = initializer_of c at initial in
-    let behind_u = no_right u.faults _ none in
-    assigned_step_fits i c k s at name initial (no_left g.faults _ behind_u) u.value (used_is i c k s name (no_left u.faults _ none)) (no_right g.faults _ behind_u)
+    let after_u = no_right u.faults _ none in
+    assigned_step_fits i c k s at name initial (no_left g.faults _ after_u) u.value (used_is i c k s name (no_left u.faults _ none)) (no_right g.faults _ after_u)
 
 reduced_step_is : (names : Meanings) (at : ℕ) (name : Identifier) (by : Reduction) (v : ValueTree) (e : Entity) → IsMeant names name e → (reduced_step at by v e).faults ≡ []
     → (found name.bytes names ≡ Some meaning.NumberVariable) × ((as_integer at v).faults ≡ [])
@@ -87,9 +87,9 @@ reduce_step_keeps : (i : Inside) (c : CheckerTree) (k : Known) → Sees i c k �
 reduce_step_keeps i c k s at name by e none =
     let u = used c.scope name in
     let v = value_of c.scope at e in
-    let behind_u = no_right u.faults _ none in
-    let x = reduced_step_is k.names at name by v.value u.value (used_is i c k s name (no_left u.faults _ none)) (no_right v.faults _ behind_u) in
-    (x.0, value_number i c k s at e (no_left v.faults _ behind_u) x.1)
+    let after_u = no_right u.faults _ none in
+    let x = reduced_step_is k.names at name by v.value u.value (used_is i c k s name (no_left u.faults _ none)) (no_right v.faults _ after_u) in
+    (x.0, value_number i c k s at e (no_left v.faults _ after_u) x.1)
 
 -- an entry is written at the function's own vertex
 own_end_is : (at : ℕ) (p own : Endpoint) → (at_own at (same_endpoint p own)).faults ≡ [] → p ≡ own
@@ -179,9 +179,9 @@ index_and_value_keep : (i : Inside) (c : CheckerTree) (k : Known) → Sees i c k
 index_and_value_keep i c k s at index e none =
     let v = index_value c.scope at index in
     let w = written_at at (own_vertex c.scope.inside) v.value in
-    let behind_v = no_right v.faults _ none in (
-      index_keeps i c k s at index (no_left v.faults _ none) (no_left w.faults _ behind_v),
-      integer_number i c k s at e (no_left (integer_in c.scope at e).faults [] (no_right w.faults _ behind_v)),
+    let after_v = no_right v.faults _ none in (
+      index_keeps i c k s at index (no_left v.faults _ none) (no_left w.faults _ after_v),
+      integer_number i c k s at e (no_left (integer_in c.scope at e).faults [] (no_right w.faults _ after_v)),
     )
 
 reduce_entry_keeps : (i : Inside) (c : CheckerTree) (k : Known) → IsUser i → Sees i c k → (at : ℕ) (name : Identifier) (subscript : ExpressionTree) (by : Reduction) (e : ExpressionTree)
@@ -189,14 +189,14 @@ reduce_entry_keeps : (i : Inside) (c : CheckerTree) (k : Known) → IsUser i →
 reduce_entry_keeps i c k user s at name subscript by e none =
     let index = vector_index c.scope at name in
     let may = may_reduce at c.scope.inside index.value by c.writes in
-    let behind_vector = no_right index.faults _ none in
+    let after_vector = no_right index.faults _ none in
     let there = vector_is_found i c k s at name (no_left index.faults _ none) in
     let allowed : (may_reduce at i (Some there.vector) by k.reduced).faults ≡ [] =
     subst (λ w. (may_reduce at i (Some there.vector) by w).faults ≡ []) s.matches.reduced
     (subst (λ p. (may_reduce at i p by c.writes).faults ≡ []) there.index
-    (subst (λ j. (may_reduce at j index.value by c.writes).faults ≡ []) s.matches.inside (no_left may.faults _ behind_vector))) in
+    (subst (λ j. (may_reduce at j index.value by c.writes).faults ≡ []) s.matches.inside (no_left may.faults _ after_vector))) in
     let reduces = may_reduce_is i k at there.vector by allowed in
-    let both = index_and_value_keep i c k s at subscript e (no_right may.faults _ behind_vector) in
+    let both = index_and_value_keep i c k s at subscript e (no_right may.faults _ after_vector) in
     record { index = there.vector; means = there.means; may = reduces; at = reduced_at i k there.vector by subscript user reduces both.0; value = both.1 }
 
 mutual
@@ -211,14 +211,14 @@ mutual
   step_keeps i c k user s (source.IfElse at test body otherwise) none =
       let t = condition_in c.scope at test in
       let b = steps_typed c NoStep body in
-      let d = steps_behind c b.value.1 in
+      let d = steps_after c b.value.1 in
       let o = steps_typed d NoStep otherwise in
-      let behind_t = no_right t.faults _ none in
-      let first = steps_keep i c k user s NoStep body (no_left b.faults _ behind_t) in
+      let after_t = no_right t.faults _ none in
+      let first = steps_keep i c k user s NoStep body (no_left b.faults _ after_t) in
       let inner : Sees i d (closed_known k (known_after i k body)) = record { matches = closed_kept i i c b.value.1 k (known_after i k body) s.matches (steps_kept i c k user s.matches NoStep body first).1; some = s.some } in (
         condition_truth i c k s at test (no_left t.faults _ none),
         first,
-        steps_keep i d (closed_known k (known_after i k body)) user inner NoStep otherwise (no_left o.faults [] (no_right b.faults _ behind_t)),
+        steps_keep i d (closed_known k (known_after i k body)) user inner NoStep otherwise (no_left o.faults [] (no_right b.faults _ after_t)),
       )
   step_keeps i c k user s (source.Print at e) none = absurd (not_empty _ _ none)
   step_keeps i c k user s (source.Assign name initial) none = assign_step_keeps i c k s name.at name initial (no_left (assign_step c name.at name initial).faults [] none)
@@ -227,10 +227,10 @@ mutual
       let all = no_left (set_entry_step c.scope vector.at vector subscript e).faults [] none in
       let may = may_set vector.at c.scope.inside in
       let index = vector_index c.scope vector.at vector in
-      let behind_may = no_right may.faults _ all in
-      let there = vector_is_found i c k s vector.at vector (no_left index.faults _ behind_may) in
+      let after_may = no_right may.faults _ all in
+      let there = vector_is_found i c k s vector.at vector (no_left index.faults _ after_may) in
       let allowed = may_set_is vector.at i user (subst (λ j. (may_set vector.at j).faults ≡ []) s.matches.inside (no_left may.faults _ all)) in
-      let both = index_and_value_keep i c k s vector.at subscript e (no_right index.faults _ behind_may) in
+      let both = index_and_value_keep i c k s vector.at subscript e (no_right index.faults _ after_may) in
       (allowed, record { vector = there.vector; means = there.means }, set_at i k.names subscript user allowed both.0, both.1)
   step_keeps i c k user s (source.ReduceEntry vector subscript by e) none = reduce_entry_keeps i c k user s vector.at vector subscript by e none
   step_keeps i c k user s (source.AddVertex set e) none = absurd (not_empty _ _ none)
@@ -241,9 +241,9 @@ mutual
   steps_keep i c k user s so_far (source.Then label action others) none =
       let l = labelled c label in
       let a = step_typed l.value.1 action in
-      let behind_l = no_right l.faults _ none in
+      let after_l = no_right l.faults _ none in
       let labels = labelled_sees i c k s label (no_left l.faults _ none) in
       let known = labelled_known k label in
-      let keeps = step_keeps i l.value.1 known user labels.1 action (no_left a.faults _ behind_l) in
-      let next : Sees i a.value.1 (known_behind i known action) = record { matches = (step_kept i l.value.1 known user labels.1.matches action keeps).1; some = behind_some i known action labels.1.some keeps } in
-      (labels.0, keeps, steps_keep i a.value.1 (known_behind i known action) user next (step_behind so_far a.value.0) others (no_right a.faults _ behind_l))
+      let keeps = step_keeps i l.value.1 known user labels.1 action (no_left a.faults _ after_l) in
+      let next : Sees i a.value.1 (known_behind i known action) = record { matches = (step_kept i l.value.1 known user labels.1.matches action keeps).1; some = after_some i known action labels.1.some keeps } in
+      (labels.0, keeps, steps_keep i a.value.1 (known_behind i known action) user next (step_after so_far a.value.0) others (no_right a.faults _ after_l))

@@ -15,7 +15,7 @@ use Rattle.types.specs.Initial.{initializer_of, loaded, new_set}
 use Rattle.type_laws.specs.InitialValues.{ActionInitialsFit, BlockInitialsFit, DeclarationInitialsFit, InitialFits}
 use Rattle.types.specs.Program.{opening, program_of, set_count}
 use Rattle.types.specs.Statement.{assign}
-use Rattle.types.specs.Step.{assign_step, step_behind, step_typed, steps_behind, steps_typed}
+use Rattle.types.specs.Step.{assign_step, step_after, step_typed, steps_after, steps_typed}
 use Rattle.types.specs.Checker.{condition_in, integer_in}
 use Rattle.type_laws.proofs.EachDeclaration.{each_declaration}
 use Rattle.type_laws.proofs.Faultless.{no_left, no_right, not_empty}
@@ -51,7 +51,7 @@ mutual
       steps_initials_fit c NoStep body (no_left b.faults [] (no_right (condition_in c.scope at test).faults _ none))
   step_initials_fit c (source.IfElse at test body otherwise) none =
       let b = steps_typed c NoStep body in
-      let d = steps_behind c b.value.1 in
+      let d = steps_after c b.value.1 in
       let o = steps_typed d NoStep otherwise in
       let both = no_right (condition_in c.scope at test).faults (b.faults ++ (o.faults ++ [])) none in (
         steps_initials_fit c NoStep body (no_left b.faults (o.faults ++ []) both),
@@ -72,10 +72,10 @@ mutual
   steps_initials_fit c so_far (source.Then label action others) none =
       let l = labelled c label in
       let s = step_typed l.value.1 action in
-      let rest = steps_typed s.value.1 (step_behind so_far s.value.0) others in
+      let rest = steps_typed s.value.1 (step_after so_far s.value.0) others in
       let both = no_right l.faults (s.faults ++ rest.faults) none in (
         step_initials_fit l.value.1 action (no_left s.faults rest.faults both),
-        steps_initials_fit s.value.1 (step_behind so_far s.value.0) others (no_right s.faults rest.faults both),
+        steps_initials_fit s.value.1 (step_after so_far s.value.0) others (no_right s.faults rest.faults both),
       )
 
 -- statements of main

@@ -21,7 +21,7 @@ use Rattle.types.specs.Checker.{CheckerTree, declared_in}
 use Rattle.types.specs.Declaration.{DeclaredTree, begins, declare_constant_as, declare_name, literal_or_fault, next_name, only_edges, declare_edges}
 use Rattle.types.specs.Initial.{Degrees, InitializerTree, Loaded, Members, initializer_of, is_degrees, is_sound, loaded}
 use Rattle.types.specs.Literal.{expression_integer, expression_truth, literal_condition, literal_integer, primary_number, primary_truth, unary_number, unary_truth}
-use Rattle.type_laws.specs.KeptRules.{ConstantKeeps, Declarations, behind_constant}
+use Rattle.type_laws.specs.KeptRules.{ConstantKeeps, Declarations, after_constant}
 use Rattle.type_laws.specs.Meanings as meaning
 use Rattle.type_laws.specs.ScopeMeanings.{meaning_of, meanings_of}
 use Rattle.type_laws.specs.Meanings.{IsNew, Known, closed_known, known_after, known_behind, labelled_known, with_name}
@@ -137,32 +137,32 @@ constant_declared d k a name e n is new =
     let c = checker_declared d.checker k.known a.checker name e n is new in (both_none (declared_in d.checker name e).faults [] c.0 refl, c.1)
 
 number_constant : (d : DeclaredTree) (k : Declarations) → Agrees d k → (at : ℕ) (p : ParameterTree) (initial : InitialTree) (given : InitializerTree) → p.declared ≡ declared.Int
-    → IsSome (literal_integer initial) → IsNew k.known p.name → Fits (declare_constant_as d at p.name initial declared.Int given) (behind_constant k p)
+    → IsSome (literal_integer initial) → IsNew k.known p.name → Fits (declare_constant_as d at p.name initial declared.Int given) (after_constant k p)
 number_constant d k a at p initial given type is new =
     let x = literal_or_fault at (is_sound given) (pos 0) (literal_integer initial) in
     let c = constant_declared d k a p.name (entity.IntegerConstant (next_name d) x.value) meaning.NumberConstant refl new in (
       both_none x.faults _ (literal_there at (is_sound given) (pos 0) (literal_integer initial) is) c.0,
-      subst (λ t. Agrees (declare_name d p.name (entity.IntegerConstant (next_name d) x.value)).value (behind_constant k (record p { declared = t }))) (sym type)
+      subst (λ t. Agrees (declare_name d p.name (entity.IntegerConstant (next_name d) x.value)).value (after_constant k (record p { declared = t }))) (sym type)
           (record { checker = c.1; vectors = a.vectors; functions = a.functions; edges = a.edges; main = a.main }),
     )
 
 truth_constant : (d : DeclaredTree) (k : Declarations) → Agrees d k → (at : ℕ) (p : ParameterTree) (initial : InitialTree) (given : InitializerTree) → p.declared ≡ declared.Bool
-    → IsSome (literal_condition initial) → IsNew k.known p.name → Fits (declare_constant_as d at p.name initial declared.Bool given) (behind_constant k p)
+    → IsSome (literal_condition initial) → IsNew k.known p.name → Fits (declare_constant_as d at p.name initial declared.Bool given) (after_constant k p)
 truth_constant d k a at p initial given type is new =
     let x = literal_or_fault at (is_sound given) false (literal_condition initial) in
     let c = constant_declared d k a p.name (entity.ConditionConstant (next_name d) x.value) meaning.TruthConstant refl new in (
       both_none x.faults _ (literal_there at (is_sound given) false (literal_condition initial) is) c.0,
-      subst (λ t. Agrees (declare_name d p.name (entity.ConditionConstant (next_name d) x.value)).value (behind_constant k (record p { declared = t }))) (sym type)
+      subst (λ t. Agrees (declare_name d p.name (entity.ConditionConstant (next_name d) x.value)).value (after_constant k (record p { declared = t }))) (sym type)
           (record { checker = c.1; vectors = a.vectors; functions = a.functions; edges = a.edges; main = a.main }),
     )
 
 set_constant : (d : DeclaredTree) (k : Declarations) → Agrees d k → (at : ℕ) (p : ParameterTree) (initial : InitialTree) → p.declared ≡ declared.VertexSet → IsNew k.known p.name
-    → Fits (declare_constant_as d at p.name initial declared.VertexSet (Members set.All)) (behind_constant k p)
+    → Fits (declare_constant_as d at p.name initial declared.VertexSet (Members set.All)) (after_constant k p)
 set_constant d k a at p initial type new =
     let e = entity.ConstantSet (record { index = length d.sets; name = next_name d }) in
     let c = constant_declared d k a p.name e meaning.ConstantSet refl new in (
       both_none (declare_name d p.name e).faults [] c.0 refl,
-      subst (λ t. Agrees (declare_constant_as d at p.name initial declared.VertexSet (Members set.All)).value (behind_constant k (record p { declared = t }))) (sym type)
+      subst (λ t. Agrees (declare_constant_as d at p.name initial declared.VertexSet (Members set.All)).value (after_constant k (record p { declared = t }))) (sym type)
           (record { checker = c.1; vectors = a.vectors; functions = a.functions; edges = a.edges; main = a.main }),
     )
 
@@ -170,12 +170,12 @@ pub one_more : {A : Type 0} (xs : List A) (x : A) (n : ℕ) → length xs ≡ n 
 one_more xs x n is = omega (arith, length-append xs (x ∷ []), is)
 
 vector_constant : (d : DeclaredTree) (k : Declarations) → Agrees d k → (at : ℕ) (p : ParameterTree) (initial : InitialTree) (given : InitializerTree) → p.declared ≡ declared.Vector
-    → (begins at given initial).faults ≡ [] → IsNew k.known p.name → Fits (declare_constant_as d at p.name initial declared.Vector given) (behind_constant k p)
+    → (begins at given initial).faults ≡ [] → IsNew k.known p.name → Fits (declare_constant_as d at p.name initial declared.Vector given) (after_constant k p)
 vector_constant d k a at p initial given type none new =
     let e = entity.Vector (length d.vectors) in
     let c = constant_declared d k a p.name e (meaning.Vector k.vectors) (ap meaning.Vector a.vectors) new in (
       both_none (begins at given initial).faults _ none (both_none (declare_name d p.name e).faults [] c.0 refl),
-      subst (λ t. Agrees (declare_constant_as d at p.name initial declared.Vector given).value (behind_constant k (record p { declared = t }))) (sym type)
+      subst (λ t. Agrees (declare_constant_as d at p.name initial declared.Vector given).value (after_constant k (record p { declared = t }))) (sym type)
           (record { checker = c.1; vectors = one_more d.vectors _ k.vectors a.vectors; functions = a.functions; edges = a.edges; main = a.main }),
     )
 
@@ -205,13 +205,13 @@ loaded_first at n is = subst (λ z. ((loaded at z).faults ≡ []) × ((loaded at
 
 -- a constant whose initializer is known
 known_given : (d : DeclaredTree) (k : Declarations) (at : ℕ) (p : ParameterTree) (initial : InitialTree) (type : DeclaredType) (given : InitializerTree)
-    → (initializer_of d.checker at initial).faults ≡ [] → (initializer_of d.checker at initial).value ≡ given → Fits (declare_constant_as d at p.name initial type given) (behind_constant k p)
+    → (initializer_of d.checker at initial).faults ≡ [] → (initializer_of d.checker at initial).value ≡ given → Fits (declare_constant_as d at p.name initial type given) (after_constant k p)
     → Fits (record {
       faults = (initializer_of d.checker at initial).faults ++ (declare_constant_as d at p.name initial type (initializer_of d.checker at initial).value).faults;
       value = (declare_constant_as d at p.name initial type (initializer_of d.checker at initial).value).value;
-    }) (behind_constant k p)
+    }) (after_constant k p)
 known_given d k at p initial type given none is fits =
-    let here = subst (λ g. Fits (declare_constant_as d at p.name initial type g) (behind_constant k p)) (sym is) fits in
+    let here = subst (λ g. Fits (declare_constant_as d at p.name initial type g) (after_constant k p)) (sym is) fits in
     (both_none (initializer_of d.checker at initial).faults _ none here.0, here.1)
 
 -- what a vector begins with, where it is a literal
@@ -229,7 +229,7 @@ literal_vector : (d : DeclaredTree) (k : Declarations) → Agrees d k → (at : 
     → IsNew k.known p.name → Fits (record {
       faults = (initializer_of d.checker at initial).faults ++ (declare_constant_as d at p.name initial declared.Vector (initializer_of d.checker at initial).value).faults;
       value = (declare_constant_as d at p.name initial declared.Vector (initializer_of d.checker at initial).value).value;
-    }) (behind_constant k p)
+    }) (after_constant k p)
 literal_vector d k a at p initial type is new =
     let g = initializer_of d.checker at initial in
     known_given d k at p initial declared.Vector g.value (literal_number d.checker at initial is) refl (vector_constant d k a at p initial g.value type (begins_with at g.value initial is) new)
@@ -238,7 +238,7 @@ pub constant_kept : (d : DeclaredTree) (k : Declarations) → Agrees d k → (at
     → IsNew k.known p.name → Fits (record {
       faults = (initializer_of d.checker at initial).faults ++ (declare_constant_as d at p.name initial type (initializer_of d.checker at initial).value).faults;
       value = (declare_constant_as d at p.name initial type (initializer_of d.checker at initial).value).value;
-    }) (behind_constant k p)
+    }) (after_constant k p)
 constant_kept d k a at p declared.Int initial type keeps new =
     let g = (initializer_of d.checker at initial).value in
     known_given d k at p initial declared.Int g (literal_number d.checker at initial keeps) refl (number_constant d k a at p initial g type keeps new)
@@ -272,11 +272,11 @@ constant_kept d k a at p declared.Vector (source.Value e) type keeps new = liter
 constant_kept d k a at p declared.EdgeSet (source.Load argument) type keeps new =
     let x = loaded_first at argument keeps.0 in
     known_given d k at p (source.Load argument) declared.EdgeSet Loaded x.0 x.1
-    (subst (λ t. Fits (declare_edges false d at p.name Loaded) (behind_constant k (record p { declared = t }))) (sym type) (edges_constant d k a false at p keeps.1 new))
+    (subst (λ t. Fits (declare_edges false d at p.name Loaded) (after_constant k (record p { declared = t }))) (sym type) (edges_constant d k a false at p keeps.1 new))
 constant_kept d k a at p declared.WeightedEdgeSet (source.Load argument) type keeps new =
     let x = loaded_first at argument keeps.0 in
     known_given d k at p (source.Load argument) declared.WeightedEdgeSet Loaded x.0 x.1
-    (subst (λ t. Fits (declare_edges true d at p.name Loaded) (behind_constant k (record p { declared = t }))) (sym type) (edges_constant d k a true at p keeps.1 new))
+    (subst (λ t. Fits (declare_edges true d at p.name Loaded) (after_constant k (record p { declared = t }))) (sym type) (edges_constant d k a true at p keeps.1 new))
 constant_kept d k a at p declared.EdgeSet (source.NewSet size) type keeps new = absurd keeps
 constant_kept d k a at p declared.WeightedEdgeSet (source.NewSet size) type keeps new = absurd keeps
 constant_kept d k a at p declared.EdgeSet (source.Vertices edges) type keeps new = absurd keeps

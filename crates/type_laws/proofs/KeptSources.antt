@@ -23,7 +23,7 @@ use Rattle.types.specs.Checker.{CheckerTree, condition_slot, declared_in, restar
 use Rattle.types.specs.Declaration.{DeclaredTree, EdgeKind, FilterKind, MainKind, NoKind, VertexKind, declaration_typed, declarations_typed, declare_function, declare_name, is_bool, is_vertex, kind_of, main_bytes, main_declared, opened, parameter, steps_declared, takes_nothing, is_int}
 use Rattle.types.specs.Program.{main_of, opening, program_of, set_count}
 use Rattle.types.specs.Step.{steps_typed, with_writes}
-use Rattle.type_laws.specs.KeptRules.{BlockKeeps, DeclarationKeeps, Declarations, DeclarationsKeep, FunctionKeeps, KeepsRules, MainKeeps, behind_declaration, behind_function, behind_main, known_at_vertex, known_in_filter, known_in_main, known_on_edge, nothing_declared, known_on_weighted_edge, edge_function_behind}
+use Rattle.type_laws.specs.KeptRules.{BlockKeeps, DeclarationKeeps, Declarations, DeclarationsKeep, FunctionKeeps, KeepsRules, MainKeeps, after_declaration, after_function, after_main, known_at_vertex, known_in_filter, known_in_main, known_on_edge, nothing_declared, known_on_weighted_edge, edge_function_after}
 use Rattle.type_laws.specs.Meanings as meaning
 use Rattle.type_laws.specs.ScopeMeanings.{meaning_of}
 use Rattle.type_laws.specs.Meanings.{IsNew, Known, closed_known, known_after, known_behind, labelled_known, reduced_in, with_name}
@@ -134,7 +134,7 @@ name_declared : (d : DeclaredTree) (k : Known) → CheckerAgrees d.checker k →
 name_declared d k a name e n is new = let c = checker_declared d.checker k a name e n is new in (both_none (declared_in d.checker name e).faults [] c.0 refl, c.1)
 
 vertex_function_kept : (d : DeclaredTree) (k : Declarations) → Agrees d k → (at : ℕ) (name : Identifier) (v : ParameterTree) (body : source.BlockTree) → IsNew k.known name
-    → FunctionKeeps k.known (v ∷ []) None body → Fits (steps_declared d at VertexKind name (v ∷ []) None body) (behind_function k name (v ∷ []) None body)
+    → FunctionKeeps k.known (v ∷ []) None body → Fits (steps_declared d at VertexKind name (v ∷ []) None body) (after_function k name (v ∷ []) None body)
 vertex_function_kept d k a at name v body new keeps =
     let o = opened d.checker VertexKind (v ∷ []) None in
     let opens = vertex_opens d.checker k.known a.checker v keeps.0 keeps.1 in
@@ -149,7 +149,7 @@ vertex_function_kept d k a at name v body new keeps =
     )
 
 filter_kept : (d : DeclaredTree) (k : Declarations) → Agrees d k → (at : ℕ) (name : Identifier) (v test : ParameterTree) (body : source.BlockTree) → IsNew k.known name
-    → FunctionKeeps k.known (v ∷ []) (Some test) body → Fits (steps_declared d at FilterKind name (v ∷ []) (Some test) body) (behind_function k name (v ∷ []) (Some test) body)
+    → FunctionKeeps k.known (v ∷ []) (Some test) body → Fits (steps_declared d at FilterKind name (v ∷ []) (Some test) body) (after_function k name (v ∷ []) (Some test) body)
 filter_kept d k a at name v test body new keeps =
     let o = opened d.checker FilterKind (v ∷ []) (Some test) in
     let opens = filter_opens d.checker k.known a.checker v test keeps.0 keeps.2 keeps.3 in
@@ -166,7 +166,7 @@ filter_kept d k a at name v test body new keeps =
 -- an edge function, of which this is known at its first statement
 edge_function_fits : (d : DeclaredTree) (k : Declarations) → Agrees d k → (at : ℕ) (name : Identifier) (weighted : Bool) (parameters : List ParameterTree) (start : Known) (body : source.BlockTree)
     → Opens inside.EdgeFunction (opened d.checker (EdgeKind weighted) parameters None) start → start.written ≡ k.known.written → IsNew k.known name → BlockKeeps inside.EdgeFunction start body
-    → Fits (steps_declared d at (EdgeKind weighted) name parameters None body) (edge_function_behind k name weighted (known_after inside.EdgeFunction start body))
+    → Fits (steps_declared d at (EdgeKind weighted) name parameters None body) (edge_function_after k name weighted (known_after inside.EdgeFunction start body))
 edge_function_fits d k a at name weighted parameters start body opens written new keeps =
     let o = opened d.checker (EdgeKind weighted) parameters None in
     let b = steps_typed o.value NoStep body in
@@ -193,25 +193,25 @@ edge_function_fits d k a at name weighted parameters start body opens written ne
     )
 
 edge_function_kept : (d : DeclaredTree) (k : Declarations) → Agrees d k → (at : ℕ) (name : Identifier) (src dst : ParameterTree) (body : source.BlockTree) → IsNew k.known name
-    → FunctionKeeps k.known (src ∷ dst ∷ []) None body → Fits (steps_declared d at (EdgeKind false) name (src ∷ dst ∷ []) None body) (behind_function k name (src ∷ dst ∷ []) None body)
+    → FunctionKeeps k.known (src ∷ dst ∷ []) None body → Fits (steps_declared d at (EdgeKind false) name (src ∷ dst ∷ []) None body) (after_function k name (src ∷ dst ∷ []) None body)
 edge_function_kept d k a at name src dst body new keeps =
     edge_function_fits d k a at name false (src ∷ dst ∷ []) (known_on_edge k.known src dst) body
     (edge_opens d.checker k.known a.checker src dst keeps.0 keeps.1 keeps.2 keeps.3) refl new keeps.4
 
 weighted_function_kept : (d : DeclaredTree) (k : Declarations) → Agrees d k → (at : ℕ) (name : Identifier) (src dst w : ParameterTree) (body : source.BlockTree) → IsNew k.known name
     → FunctionKeeps k.known (src ∷ dst ∷ w ∷ []) None body
-    → Fits (steps_declared d at (EdgeKind true) name (src ∷ dst ∷ w ∷ []) None body) (behind_function k name (src ∷ dst ∷ w ∷ []) None body)
+    → Fits (steps_declared d at (EdgeKind true) name (src ∷ dst ∷ w ∷ []) None body) (after_function k name (src ∷ dst ∷ w ∷ []) None body)
 weighted_function_kept d k a at name src dst w body new keeps =
     edge_function_fits d k a at name true (src ∷ dst ∷ w ∷ []) (known_on_weighted_edge k.known src dst w) body
     (weighted_edge_opens d.checker k.known a.checker src dst w keeps.0 keeps.1 keeps.2 keeps.3 keeps.4 keeps.5) refl new keeps.6
 
 main_kept : (d : DeclaredTree) (k : Declarations) → Agrees d k → (name : Identifier) (parameters : List ParameterTree) (result : Option ParameterTree) (body : source.BlockTree) → IsNew k.known name
-    → MainKeeps k.known parameters result body → Fits (main_declared d (takes_nothing parameters result) name parameters result body) (behind_main k name body)
+    → MainKeeps k.known parameters result body → Fits (main_declared d (takes_nothing parameters result) name parameters result body) (after_main k name body)
 main_kept d k a name parameters result body new keeps =
-    subst (λ ps. Fits (main_declared d (takes_nothing ps result) name ps result body) (behind_main k name body)) (sym keeps.0)
-    (subst (λ r. Fits (main_declared d (takes_nothing [] r) name [] r body) (behind_main k name body)) (sym keeps.1) (plain_main keeps.2))
+    subst (λ ps. Fits (main_declared d (takes_nothing ps result) name ps result body) (after_main k name body)) (sym keeps.0)
+    (subst (λ r. Fits (main_declared d (takes_nothing [] r) name [] r body) (after_main k name body)) (sym keeps.1) (plain_main keeps.2))
   where
-    plain_main : BlockKeeps inside.Main (known_in_main k.known) body → Fits (main_declared d true name [] None body) (behind_main k name body)
+    plain_main : BlockKeeps inside.Main (known_in_main k.known) body → Fits (main_declared d true name [] None body) (after_main k name body)
     plain_main within =
         let s = begun (restarted d.checker) inside.Main in
         let b = statements_typed s Empty body in
@@ -244,19 +244,19 @@ weighted_kind src dst w is also int =
 
 user_function_kept : (d : DeclaredTree) (k : Declarations) → Agrees d k → (at : ℕ) (name : Identifier) (parameters : List ParameterTree) (result : Option ParameterTree) (body : source.BlockTree)
     → IsNew k.known name → FunctionKeeps k.known parameters result body
-    → Fits (declare_function d at name parameters result body (kind_of parameters result)) (behind_function k name parameters result body)
+    → Fits (declare_function d at name parameters result body (kind_of parameters result)) (after_function k name parameters result body)
 user_function_kept d k a at name [] result body new keeps = absurd keeps
 user_function_kept d k a at name (v ∷ []) None body new keeps =
-    subst (λ f. Fits (declare_function d at name (v ∷ []) None body f) (behind_function k name (v ∷ []) None body)) (sym (vertex_kind v.declared keeps.0)) (vertex_function_kept d k a at name v body new keeps)
+    subst (λ f. Fits (declare_function d at name (v ∷ []) None body f) (after_function k name (v ∷ []) None body)) (sym (vertex_kind v.declared keeps.0)) (vertex_function_kept d k a at name v body new keeps)
 user_function_kept d k a at name (v ∷ []) (Some test) body new keeps =
-    subst (λ f. Fits (declare_function d at name (v ∷ []) (Some test) body f) (behind_function k name (v ∷ []) (Some test) body)) (sym (filter_kind v.declared test.declared keeps.0 keeps.1))
+    subst (λ f. Fits (declare_function d at name (v ∷ []) (Some test) body f) (after_function k name (v ∷ []) (Some test) body)) (sym (filter_kind v.declared test.declared keeps.0 keeps.1))
     (filter_kept d k a at name v test body new keeps)
 user_function_kept d k a at name (src ∷ dst ∷ []) None body new keeps =
-    subst (λ f. Fits (declare_function d at name (src ∷ dst ∷ []) None body f) (behind_function k name (src ∷ dst ∷ []) None body)) (sym (edge_kind src.declared dst.declared keeps.0 keeps.1))
+    subst (λ f. Fits (declare_function d at name (src ∷ dst ∷ []) None body f) (after_function k name (src ∷ dst ∷ []) None body)) (sym (edge_kind src.declared dst.declared keeps.0 keeps.1))
     (edge_function_kept d k a at name src dst body new keeps)
 user_function_kept d k a at name (src ∷ dst ∷ []) (Some result) body new keeps = absurd keeps
 user_function_kept d k a at name (src ∷ dst ∷ w ∷ []) None body new keeps =
-    subst (λ f. Fits (declare_function d at name (src ∷ dst ∷ w ∷ []) None body f) (behind_function k name (src ∷ dst ∷ w ∷ []) None body))
+    subst (λ f. Fits (declare_function d at name (src ∷ dst ∷ w ∷ []) None body f) (after_function k name (src ∷ dst ∷ w ∷ []) None body))
     (sym (weighted_kind src.declared dst.declared w.declared keeps.0 keeps.1 keeps.2)) (weighted_function_kept d k a at name src dst w body new keeps)
 user_function_kept d k a at name (src ∷ dst ∷ w ∷ []) (Some result) body new keeps = absurd keeps
 user_function_kept d k a at name (x ∷ y ∷ z ∷ u ∷ others) result body new keeps = absurd keeps
@@ -264,7 +264,7 @@ user_function_kept d k a at name (x ∷ y ∷ z ∷ u ∷ others) result body ne
 function_kept : (d : DeclaredTree) (k : Declarations) → Agrees d k → (at : ℕ) (name : Identifier) (parameters : List ParameterTree) (result : Option ParameterTree) (body : source.BlockTree)
     → (b : Bool) → bytes_eq name.bytes main_bytes ≡ b → DeclarationKeeps k (source.Function at name parameters result body)
     → Fits (declare_function d at name parameters result body (if b then MainKind (takes_nothing parameters result) else kind_of parameters result))
-    (if b then behind_main k name body else behind_function k name parameters result body)
+    (if b then after_main k name body else after_function k name parameters result body)
 function_kept d k a at name parameters result body true is keeps = main_kept d k a name parameters result body keeps.0 (keeps.1 ((bytes_eq-Decides name.bytes main_bytes).0 is))
 function_kept d k a at name parameters result body false is keeps =
     user_function_kept d k a at name parameters result body keeps.0 (keeps.2 (λ same. differs ((bytes_eq-Decides name.bytes main_bytes).1 same)))
@@ -272,7 +272,7 @@ function_kept d k a at name parameters result body false is keeps =
     differs : bytes_eq name.bytes main_bytes ≡ true → ⊥
     differs same = cc
 
-pub declaration_kept : (d : DeclaredTree) (k : Declarations) → Agrees d k → (x : DeclarationTree) → DeclarationKeeps k x → Fits (declaration_typed d x) (behind_declaration k x)
+pub declaration_kept : (d : DeclaredTree) (k : Declarations) → Agrees d k → (x : DeclarationTree) → DeclarationKeeps k x → Fits (declaration_typed d x) (after_declaration k x)
 declaration_kept d k a (source.Constant at p initial) keeps = constant_kept d k a at p p.declared initial refl keeps.0 keeps.1
 declaration_kept d k a (source.Function at name parameters result body) keeps = function_kept d k a at name parameters result body (bytes_eq name.bytes main_bytes) refl keeps
 
@@ -281,7 +281,7 @@ declarations_kept : (d : DeclaredTree) (k : Declarations) → Agrees d k → (de
 declarations_kept d k a [] keeps = (refl, a.main ∙ keeps)
 declarations_kept d k a (x ∷ others) keeps =
     let here = declaration_kept d k a x keeps.0 in
-    let rest = declarations_kept (declaration_typed d x).value (behind_declaration k x) here.1 others keeps.1 in
+    let rest = declarations_kept (declaration_typed d x).value (after_declaration k x) here.1 others keeps.1 in
     (both_none (declaration_typed d x).faults _ here.0 rest.0, rest.1)
 
 main_there : (length : ℕ) (main : Option BlockTree) → is_some main ≡ true → (main_of length main).faults ≡ []

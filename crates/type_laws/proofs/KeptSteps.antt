@@ -22,7 +22,7 @@ use Rattle.expression_types.specs.ValueTree.{ValueTree}
 use Rattle.expression_types.specs.Faults.{WithFaults}
 use Rattle.types.specs.Checker.{CheckerTree, condition_slot, integer_slot, labelled}
 use Rattle.types.specs.Initial.{initializer_condition, initializer_integer, initializer_of}
-use Rattle.types.specs.Step.{assign_step, assigned_step, at_own, declare_step, may_reduce, may_set, one_reduction, own_vertex, reduce_entry_step, reduce_step, reduced_as, reduced_step, same_endpoint, same_reduction, set_entry_step, step_behind, step_in_place, step_typed, steps_behind, steps_typed, with_writes, written_at, written_with}
+use Rattle.types.specs.Step.{assign_step, assigned_step, at_own, declare_step, may_reduce, may_set, one_reduction, own_vertex, reduce_entry_step, reduce_step, reduced_as, reduced_step, same_endpoint, same_reduction, set_entry_step, step_after, step_in_place, step_typed, steps_after, steps_typed, with_writes, written_at, written_with}
 use Rattle.types.specs.Checker.{as_integer, condition_in, integer_in}
 use Rattle.type_laws.specs.ExpressionTypes.{ExpressionHas, IsNumber, Vertex}
 use Rattle.type_laws.specs.KeptRules.{ActionKeeps, AgreesWith, AssignFits, AssignsNumber, AssignsSet, AssignsTruth, BlockKeeps, IsMain, MayHoldSets, MayReduce, MaySet, ReducesEntry, VariableFits, WrittenAt}
@@ -211,7 +211,7 @@ mutual
   step_kept i c k user m (source.IfElse at test body otherwise) keeps =
       let b = steps_kept i c k user m NoStep body keeps.1 in
       let x = (steps_typed c NoStep body).value.1 in
-      let d = steps_behind c x in
+      let d = steps_after c x in
       let inner = closed_known k (known_after i k body) in
       let behind_first = closed_kept i i c x k (known_after i k body) m b.1 in
       let o = steps_kept i d inner user behind_first NoStep otherwise keeps.2 in (
@@ -236,5 +236,5 @@ mutual
       let d = (labelled c label).value.1 in
       let s = step_kept i d (labelled_known k label) user l.1 action keeps.1 in
       let x = (step_typed d action).value in
-      let rest = steps_kept i x.1 (known_behind i (labelled_known k label) action) user s.1 (step_behind so_far x.0) others keeps.2 in
+      let rest = steps_kept i x.1 (known_behind i (labelled_known k label) action) user s.1 (step_after so_far x.0) others keeps.2 in
       (both_none (labelled c label).faults _ l.0 (both_none (step_typed d action).faults _ s.0 rest.0), rest.1)

@@ -26,7 +26,7 @@ use Rattle.types.specs.Initial.{InitializerTree, initializer_of}
 use Rattle.type_laws.specs.Labels.{block_labels, inner_labels, labels_of, own_label}
 use Rattle.types.specs.Program.{opening, program_of, set_count}
 use Rattle.types.specs.Statement.{declare_as}
-use Rattle.types.specs.Step.{declare_step_as, step_behind, step_typed, steps_behind, steps_typed, with_writes}
+use Rattle.types.specs.Step.{declare_step_as, step_after, step_typed, steps_after, steps_typed, with_writes}
 use Rattle.types.specs.Checker.{condition_in, integer_in}
 use Rattle.type_laws.proofs.Faultless.{no_left, no_right, not_empty}
 use Rattle.type_laws.proofs.ResolvedScopes.{all_then}
@@ -77,9 +77,9 @@ meets_then c d e xs ys first second = record {
 -- the same, where the scopes differ
 meets_like : (c d b e : CheckerTree) (xs : List (List ℕ)) → b.labels ≡ c.labels → b.label_names ≡ c.label_names → e.labels ≡ d.labels → e.label_names ≡ d.label_names
     → Meets c d xs → Meets b e xs
-meets_like c d b e xs before before_names behind behind_names all = record {
+meets_like c d b e xs before before_names behind after_names all = record {
   all = ap (λ ls. map (λ x. x.0) ls) behind ∙ all.all ∙ ap (λ ls. map (λ x. x.0) ls ++ xs) (sym before);
-  names = behind_names ∙ all.names ∙ ap (λ ls. ls ++ map without_ends xs) (sym before_names);
+  names = after_names ∙ all.names ∙ ap (λ ls. ls ++ map without_ends xs) (sym before_names);
   distinct = λ distinct. subst (λ ls. IsDistinct bytes_eq (map (λ x. x.0) ls)) (sym behind)
       (all.distinct (subst (λ ls. IsDistinct bytes_eq (map (λ x. x.0) ls)) before distinct));
 }
@@ -134,12 +134,12 @@ mutual
       meets_inside c b.value.1 (block_labels body) (steps_meet c NoStep body (no_left b.faults [] (no_right (condition_in c.scope at test).faults _ none)))
   step_meets c (source.IfElse at test body otherwise) none =
       let b = steps_typed c NoStep body in
-      let d = steps_behind c b.value.1 in
+      let d = steps_after c b.value.1 in
       let o = steps_typed d NoStep otherwise in
       let both = no_right (condition_in c.scope at test).faults (b.faults ++ (o.faults ++ [])) none in
       let first = meets_inside c b.value.1 (block_labels body) (steps_meet c NoStep body (no_left b.faults (o.faults ++ []) both)) in
       let second = meets_inside d o.value.1 (block_labels otherwise) (steps_meet d NoStep otherwise (no_left o.faults [] (no_right b.faults (o.faults ++ []) both))) in
-      meets_then c d (steps_behind d o.value.1) (block_labels body) (block_labels otherwise) first second
+      meets_then c d (steps_after d o.value.1) (block_labels body) (block_labels otherwise) first second
   step_meets c (source.Print at e) none = meets_none c
   step_meets c (source.Assign name initial) none = meets_none c
   step_meets c (source.Reduce name by e) none = meets_none c
@@ -154,10 +154,10 @@ mutual
   steps_meet c so_far (source.Then label action others) none =
       let l = labelled c label in
       let s = step_typed l.value.1 action in
-      let rest = steps_typed s.value.1 (step_behind so_far s.value.0) others in
+      let rest = steps_typed s.value.1 (step_after so_far s.value.0) others in
       let both = no_right l.faults (s.faults ++ rest.faults) none in
       let last = meets_then l.value.1 s.value.1 rest.value.1 (inner_labels action) (block_labels others) (step_meets l.value.1 action (no_left s.faults rest.faults both))
-      (steps_meet s.value.1 (step_behind so_far s.value.0) others (no_right s.faults rest.faults both)) in
+      (steps_meet s.value.1 (step_after so_far s.value.0) others (no_right s.faults rest.faults both)) in
       meets_then c l.value.1 rest.value.1 (own_label label) (inner_labels action ++ block_labels others) (labelled_meets c label (no_left l.faults (s.faults ++ rest.faults) none)) last
 
 mutual

@@ -157,26 +157,26 @@ module _ (is : List ℕ) (n : ℕ) where
       (if_plain (is_wrong a || is_wrong b || lacks_weights t f) _ _ (tt, refl) (edges_plain at a b (names_error f) (edge_function f))) (set_applied_plain at ends f (named_set t)))
 
 -- a block with one statement more
-abbrev pub all_behind : BlockTree → ℕ → ℕ
-all_behind Empty n = n
-all_behind (Then number label action others) n = all_behind others (integers_behind action n)
+abbrev pub all_after : BlockTree → ℕ → ℕ
+all_after Empty n = n
+all_after (Then number label action others) n = all_after others (integers_behind action n)
 
-keeps_then : (is : List ℕ) (n : ℕ) (so_far : BlockTree) (number : ℕ) (label : Option ℕ) (action : StatementKindTree) → KeepsLoops n is so_far → KeepsInside (all_behind so_far n) is action
+keeps_then : (is : List ℕ) (n : ℕ) (so_far : BlockTree) (number : ℕ) (label : Option ℕ) (action : StatementKindTree) → KeepsLoops n is so_far → KeepsInside (all_after so_far n) is action
     → KeepsLoops n is (behind so_far number label action)
 keeps_then is n Empty number label action keeps own = (own, tt)
 keeps_then is n (Then m l a others) number label action keeps own = (keeps.0, keeps_then is (integers_behind a n) others number label action keeps.1 own)
 
-behind_then : (n : ℕ) (so_far : BlockTree) (number : ℕ) (label : Option ℕ) (action : StatementKindTree)
-    → all_behind (behind so_far number label action) n ≡ integers_behind action (all_behind so_far n)
-behind_then n Empty number label action = refl
-behind_then n (Then m l a others) number label action = behind_then (integers_behind a n) others number label action
+after_then : (n : ℕ) (so_far : BlockTree) (number : ℕ) (label : Option ℕ) (action : StatementKindTree)
+    → all_after (behind so_far number label action) n ≡ integers_behind action (all_after so_far n)
+after_then n Empty number label action = refl
+after_then n (Then m l a others) number label action = after_then (integers_behind a n) others number label action
 
 -- statements, and what is visible after them
 abbrev ActionFits : List ℕ → ℕ → StatementKindTree × CheckerTree → Type 0
 ActionFits is n r = KeepsInside n is r.0 × LoopsFit is (integers_behind r.0 n) r.1.scope
 
 abbrev pub BlockFits : List ℕ → ℕ → BlockTree × CheckerTree → Type 0
-BlockFits is n r = KeepsLoops n is r.0 × LoopsFit is (all_behind r.0 n) r.1.scope
+BlockFits is n r = KeepsLoops n is r.0 × LoopsFit is (all_after r.0 n) r.1.scope
 
 plain_fits : (is : List ℕ) (n : ℕ) (c : CheckerTree) (a : StatementKindTree) → LoopsFit is n c.scope → Plain is n a → ActionFits is n (a, c)
 plain_fits is n c a fits plain = (plain.0, subst (λ m. LoopsFit is m c.scope) (sym plain.1) fits)
@@ -241,7 +241,7 @@ mutual
       (applied_plain is n target.at (used c.scope target).value (end_of c.scope ends.from).value (end_of c.scope ends.to).value (has_ends ends) (used c.scope function).value)
 
   pub statements_fit : (is : List ℕ) (n : ℕ) (c : CheckerTree) (so_far : BlockTree) (block : source.BlockTree) → (statements_typed c so_far block).faults ≡ []
-      → KeepsLoops n is so_far → LoopsFit is (all_behind so_far n) c.scope → BlockFits is n (statements_typed c so_far block).value
+      → KeepsLoops n is so_far → LoopsFit is (all_after so_far n) c.scope → BlockFits is n (statements_typed c so_far block).value
   statements_fit is n c so_far source.Empty none keeps fits = (keeps, fits)
   statements_fit is n c so_far (source.Then label action others) none keeps fits =
       let l = labelled c label in
@@ -250,9 +250,9 @@ mutual
       let number = suc l.value.1.statements in
       let next = behind so_far number l.value.0 a.value.0 in
       let rest = statements_typed a.value.1 next others in
-      let here = all_behind so_far n in
+      let here = all_after so_far n in
       let both = no_right l.faults (a.faults ++ rest.faults) none in
       let labels : LoopsFit is here d.scope = subst (λ scope. LoopsFit is here scope) (sym (labelled_scope c label)) fits in
       let first = action_fits is here d action (no_left a.faults rest.faults both) labels in
       statements_fit is n a.value.1 next others (no_right a.faults rest.faults both) (keeps_then is n so_far number l.value.0 a.value.0 keeps first.0)
-      (subst (λ m. LoopsFit is m a.value.1.scope) (sym (behind_then n so_far number l.value.0 a.value.0)) first.1)
+      (subst (λ m. LoopsFit is m a.value.1.scope) (sym (after_then n so_far number l.value.0 a.value.0)) first.1)

@@ -46,11 +46,11 @@ then_labels a b c xs ys first second =
       count = omega (arith, h, k, length-append xs ys);
     }
 
-indices_behind : (so_far : BlockTree) (number : ℕ) (label : Option ℕ) (action : StatementKindTree)
+indices_after : (so_far : BlockTree) (number : ℕ) (label : Option ℕ) (action : StatementKindTree)
     → label_indices (behind so_far number label action) ≡ label_indices so_far ++ (own_index label ++ (inner_indices action ++ []))
-indices_behind Empty number label action = refl
-indices_behind (Then n l a others) number label action =
-    ap (λ ls. own_index l ++ (inner_indices a ++ ls)) (indices_behind others number label action)
+indices_after Empty number label action = refl
+indices_after (Then n l a others) number label action =
+    ap (λ ls. own_index l ++ (inner_indices a ++ ls)) (indices_after others number label action)
     ∙ ap (λ ls. own_index l ++ ls) (sym (append_assoc (inner_indices a) (label_indices others) (own_index label ++ (inner_indices action ++ []))))
     ∙ sym (append_assoc (own_index l) (inner_indices a ++ label_indices others) (own_index label ++ (inner_indices action ++ [])))
 
@@ -195,7 +195,7 @@ mutual
       let here = then_labels (met c) (met l.value.1) (met a.value.1) (own_index l.value.0) (inner_indices a.value.0 ++ []) own inside in
       let all = then_labels n (met c) (met a.value.1) (label_indices so_far) (own_index l.value.0 ++ (inner_indices a.value.0 ++ [])) follow here in
       statements_follow n a.value.1 next others (no_right a.faults rest.faults both)
-      (subst (λ ls. Follow n ls (met a.value.1)) (sym (indices_behind so_far number l.value.0 a.value.0)) all)
+      (subst (λ ls. Follow n ls (met a.value.1)) (sym (indices_after so_far number l.value.0 a.value.0)) all)
 
 -- the labels of what is main so far
 abbrev AreOrdered : BlockTree → Type 0

@@ -28,9 +28,9 @@ use Rattle.types.specs.Declaration.{DeclaredTree, FunctionKindTree, MainKind, Ed
 use Rattle.types.specs.Initial.{InitializerTree, initializer_of, is_sound, writes_vector}
 use Rattle.types.specs.Literal.{literal_condition, literal_integer}
 use Rattle.types.specs.Program.{main_of, opening, program_of, set_count}
-use Rattle.types.specs.Step.{declare_step_as, step_behind, step_typed, steps_behind, steps_typed, with_writes}
+use Rattle.types.specs.Step.{declare_step_as, step_after, step_typed, steps_after, steps_typed, with_writes}
 use Rattle.type_laws.specs.AskedVectors.{AskForWritten, AsksForWritten}
-use Rattle.type_laws.specs.EachStatement.{HoldsInside, HoldsOfEach, SetNames, names_before, names_behind}
+use Rattle.type_laws.specs.EachStatement.{HoldsInside, HoldsOfEach, SetNames, names_before, names_after}
 use Rattle.type_laws.specs.VisibleSets.{NamesSets, NamesSetsApart}
 use Rattle.type_laws.proofs.EdgeAdds.{Adds, adds_none, is_written, steps_add}
 use Rattle.type_laws.proofs.EntryAccess.{edge_body, named}
@@ -58,7 +58,7 @@ mutual
   step_written c (source.For at name first limit body) = steps_written (declared_in c name (entity.LoopVariable (integer_slot c))).value NoStep body
   step_written c (source.If at test body) = steps_written c NoStep body
   step_written c (source.IfElse at test body otherwise) =
-      let b = (steps_typed c NoStep body).value in steps_written (steps_behind c b.1) NoStep otherwise ∙ steps_written c NoStep body
+      let b = (steps_typed c NoStep body).value in steps_written (steps_after c b.1) NoStep otherwise ∙ steps_written c NoStep body
   step_written c (source.Print at e) = refl
   step_written c (source.Assign name initial) = refl
   step_written c (source.Reduce name by e) = refl
@@ -72,7 +72,7 @@ mutual
   steps_written c so_far (source.Then label action others) =
       let l = (labelled c label).value in
       let s = (step_typed l.1 action).value in
-      steps_written s.1 (step_behind so_far s.0) others ∙ step_written l.1 action ∙ labelled_written c label
+      steps_written s.1 (step_after so_far s.0) others ∙ step_written l.1 action ∙ labelled_written c label
 
 parameters_written : (w : Bool) (c : CheckerTree) (at : Endpoint) (parameters : List ParameterTree) → (parameters_declared w c at parameters).value.written ≡ c.written
 parameters_written w c at [] = refl
@@ -610,7 +610,7 @@ module _ (P : SetNames → StatementKindTree → Type 0) (Q : SetNames → State
 
     each_less : (b : BlockTree) (names : SetNames) → HoldsOfEach P names b → HoldsOfEach Q names b
     each_less Empty names all = tt
-    each_less (Then number label a others) names all = (less names a all.0, inside_less a names all.1, each_less others (names_behind a names) all.2)
+    each_less (Then number label a others) names all = (less names a all.0, inside_less a names all.1, each_less others (names_after a names) all.2)
 
 program_holds : (source : SourceTree) (length : ℕ) → (program_of source length).faults ≡ [] → MainHolds (program_of source length).value (Some (program_of source length).value.main)
 program_holds source length none =

@@ -33,7 +33,7 @@ use Rattle.types.specs.Initial.{ApplyEndTree, InitializerTree, Typed, Members, L
 use Rattle.types.specs.Statement.{add_vertex, added, applied, apply, assign, assigned, declare_as, edges_applied, entry_reduced, entry_set, has_ends, print, printed, reduce, reduce_entry, reduced, set_applied, set_entry, vertices_applied}
 use Rattle.types.specs.Checker.{as_index, as_members, condition_in, integer_in}
 use Rattle.type_laws.specs.AskedVectors.{AsksForWritten, ValueAsksForWritten}
-use Rattle.type_laws.specs.EachStatement.{HoldsInside, HoldsOfEach, SetNames, names_behind}
+use Rattle.type_laws.specs.EachStatement.{HoldsInside, HoldsOfEach, SetNames, names_after}
 use Rattle.type_laws.specs.VisibleSets.{EndIsVisible, EndsAreVisible, IsVisible, NamesSets, SetsAreVisible, ValueIsVisible}
 use Rattle.type_laws.proofs.Faultless.{no_left, no_right, not_empty}
 use Rattle.type_laws.proofs.KnownScopes.{labelled_scope}
@@ -194,9 +194,9 @@ module _ (p : ProgramTree) where
   Holds names a = NamesSets p names a × AsksForWritten p a
 
   -- what is visible after statements
-  abbrev all_behind : BlockTree → SetNames → SetNames
-  all_behind Empty names = names
-  all_behind (Then number label action others) names = all_behind others (names_behind action names)
+  abbrev all_after : BlockTree → SetNames → SetNames
+  all_after Empty names = names
+  all_after (Then number label action others) names = all_after others (names_after action names)
 
   abbrev Stands : SetNames → Entity → Type 0
   Stands names e = EntityStands (InNames names) e
@@ -302,7 +302,7 @@ module _ (p : ProgramTree) where
 
     -- a statement that declares nothing and has no block
     abbrev Plain : SetNames → StatementKindTree → Type 0
-    Plain names a = (SetsAreVisible p names a × AsksForWritten p a) × HoldsInside Holds names a × (names_behind a names ≡ names)
+    Plain names a = (SetsAreVisible p names a × AsksForWritten p a) × HoldsInside Holds names a × (names_after a names ≡ names)
 
     if_plain : (names : SetNames) (b : Bool) (x y : WithFaults StatementKindTree) → Plain names x.value → Plain names y.value → Plain names (if b then x else y).value
     if_plain names true x y first other = first
@@ -361,21 +361,21 @@ module _ (p : ProgramTree) where
         (if_plain names (is_wrong a || is_wrong b || lacks_weights t f) _ _ ((tt, tt), tt, refl) (edges_plain names at a b (names_error f) (edge_function f) from to))
         (set_applied_plain names at ends f (named_set t) (named_visible names t target)))
 
-    each_then : (names : SetNames) (so_far : BlockTree) (number : ℕ) (label : Option ℕ) (action : StatementKindTree) → HoldsOfEach Holds names so_far → Holds (all_behind so_far names) action
-        → HoldsInside Holds (all_behind so_far names) action → HoldsOfEach Holds names (behind so_far number label action)
+    each_then : (names : SetNames) (so_far : BlockTree) (number : ℕ) (label : Option ℕ) (action : StatementKindTree) → HoldsOfEach Holds names so_far → Holds (all_after so_far names) action
+        → HoldsInside Holds (all_after so_far names) action → HoldsOfEach Holds names (behind so_far number label action)
     each_then names Empty number label action all own inner = (own, inner, tt)
-    each_then names (Then n l a others) number label action all own inner = (all.0, all.1, each_then (names_behind a names) others number label action all.2 own inner)
+    each_then names (Then n l a others) number label action all own inner = (all.0, all.1, each_then (names_after a names) others number label action all.2 own inner)
 
-    behind_then : (names : SetNames) (so_far : BlockTree) (number : ℕ) (label : Option ℕ) (action : StatementKindTree)
-        → all_behind (behind so_far number label action) names ≡ names_behind action (all_behind so_far names)
-    behind_then names Empty number label action = refl
-    behind_then names (Then n l a others) number label action = behind_then (names_behind a names) others number label action
+    after_then : (names : SetNames) (so_far : BlockTree) (number : ℕ) (label : Option ℕ) (action : StatementKindTree)
+        → all_after (behind so_far number label action) names ≡ names_after action (all_after so_far names)
+    after_then names Empty number label action = refl
+    after_then names (Then n l a others) number label action = after_then (names_after a names) others number label action
 
     abbrev ActionFits : SetNames → StatementKindTree × CheckerTree → Type 0
-    ActionFits names r = Holds names r.0 × HoldsInside Holds names r.0 × MainFits functions (names_behind r.0 names) r.1
+    ActionFits names r = Holds names r.0 × HoldsInside Holds names r.0 × MainFits functions (names_after r.0 names) r.1
 
     abbrev pub BlockFits : SetNames → BlockTree × CheckerTree → Type 0
-    BlockFits names r = HoldsOfEach Holds names r.0 × MainFits functions (all_behind r.0 names) r.1
+    BlockFits names r = HoldsOfEach Holds names r.0 × MainFits functions (all_after r.0 names) r.1
 
     plain_fits : (names : SetNames) (c : CheckerTree) (a : StatementKindTree) → MainFits functions names c → Plain names a → ActionFits names (a, c)
     plain_fits names c a fits plain = (((fits.sets.apart, plain.0.0), plain.0.1), plain.1, subst (λ ns. MainFits functions ns c) (sym plain.2) fits)
@@ -464,7 +464,7 @@ module _ (p : ProgramTree) where
       action_fits names c (source.While at test body) none begins fits =
           let b = statements_typed c Empty body in
           let inner = statements_fit names c Empty body (no_left b.faults [] (no_right (condition_in c.scope at test).faults _ none)) begins tt fits in
-          (((fits.sets.apart, tt), tt), inner.0, left_again names (all_behind b.value.0 names) c b.value.1 fits inner.1)
+          (((fits.sets.apart, tt), tt), inner.0, left_again names (all_after b.value.0 names) c b.value.1 fits inner.1)
       action_fits names c (source.For at name first limit body) none begins fits =
           let e = entity.LoopVariable (integer_slot c) in
           let d = declared_in c name e in
@@ -473,11 +473,11 @@ module _ (p : ProgramTree) where
           let between : Begins d.value.names p.names = λ k x is. begins k x (statements_grow d.value Empty body k x is) in
           let declared_here = other_declared names c name e (no_left d.faults (b.faults ++ []) clear) between tt refl fits in
           let inner = statements_fit names d.value Empty body (no_left b.faults [] (no_right d.faults (b.faults ++ []) clear)) begins tt declared_here in
-          (((fits.sets.apart, tt), tt), inner.0, left_again names (all_behind b.value.0 names) c b.value.1 fits inner.1)
+          (((fits.sets.apart, tt), tt), inner.0, left_again names (all_after b.value.0 names) c b.value.1 fits inner.1)
       action_fits names c (source.If at test body) none begins fits =
           let b = statements_typed c Empty body in
           let inner = statements_fit names c Empty body (no_left b.faults [] (no_right (condition_in c.scope at test).faults _ none)) begins tt fits in
-          (((fits.sets.apart, tt), tt), inner.0, left_again names (all_behind b.value.0 names) c b.value.1 fits inner.1)
+          (((fits.sets.apart, tt), tt), inner.0, left_again names (all_after b.value.0 names) c b.value.1 fits inner.1)
       action_fits names c (source.IfElse at test body otherwise) none begins fits =
           let b = statements_typed c Empty body in
           let d = closed c b.value.1 in
@@ -485,9 +485,9 @@ module _ (p : ProgramTree) where
           let both = no_right (condition_in c.scope at test).faults (b.faults ++ (o.faults ++ [])) none in
           let between : Begins b.value.1.names p.names = λ k x is. begins k x (statements_grow d Empty otherwise k x is) in
           let inner = statements_fit names c Empty body (no_left b.faults (o.faults ++ []) both) between tt fits in
-          let again = left_again names (all_behind b.value.0 names) c b.value.1 fits inner.1 in
+          let again = left_again names (all_after b.value.0 names) c b.value.1 fits inner.1 in
           let other = statements_fit names d Empty otherwise (no_left o.faults [] (no_right b.faults (o.faults ++ []) both)) begins tt again in
-          (((fits.sets.apart, tt), tt), (inner.0, other.0), left_again names (all_behind o.value.0 names) d o.value.1 again other.1)
+          (((fits.sets.apart, tt), tt), (inner.0, other.0), left_again names (all_after o.value.0 names) d o.value.1 again other.1)
       action_fits names c (source.Print at e) none begins fits = plain_fits names c (print c.scope at e).value fits (printed_plain names at (value_of c.scope at e).value)
       action_fits names c (source.Assign name initial) none begins fits =
           plain_fits names c (assign c name.at name initial).value fits
@@ -508,7 +508,7 @@ module _ (p : ProgramTree) where
           (main_used names c target fits) (main_end names c ends.from fits) (main_end names c ends.to fits))
 
       pub statements_fit : (names : SetNames) (c : CheckerTree) (so_far : BlockTree) (block : source.BlockTree) → (statements_typed c so_far block).faults ≡ []
-          → Begins (statements_typed c so_far block).value.1.names p.names → HoldsOfEach Holds names so_far → MainFits functions (all_behind so_far names) c
+          → Begins (statements_typed c so_far block).value.1.names p.names → HoldsOfEach Holds names so_far → MainFits functions (all_after so_far names) c
           → BlockFits names (statements_typed c so_far block).value
       statements_fit names c so_far source.Empty none begins each fits = (each, fits)
       statements_fit names c so_far (source.Then label action others) none begins each fits =
@@ -518,7 +518,7 @@ module _ (p : ProgramTree) where
           let number = suc l.value.1.statements in
           let next = behind so_far number l.value.0 a.value.0 in
           let rest = statements_typed a.value.1 next others in
-          let here = all_behind so_far names in
+          let here = all_after so_far names in
           let both = no_right l.faults (a.faults ++ rest.faults) none in
           let between : Begins a.value.1.names p.names = λ k x is. begins k x (statements_grow a.value.1 next others k x is) in
           let labels = labelled_fits here c label fits in
@@ -526,4 +526,4 @@ module _ (p : ProgramTree) where
           let first = action_fits here d action (no_left a.faults rest.faults both) between again in
           statements_fit names a.value.1 next others (no_right a.faults rest.faults both) begins
           (each_then names so_far number l.value.0 a.value.0 each first.0 first.1)
-          (subst (λ ns. MainFits functions ns a.value.1) (sym (behind_then names so_far number l.value.0 a.value.0)) first.2)
+          (subst (λ ns. MainFits functions ns a.value.1) (sym (after_then names so_far number l.value.0 a.value.0)) first.2)

@@ -19,7 +19,7 @@ use Rattle.types.specs.Checker.{CheckerTree, counted, declared_in, integer_slot,
 use Rattle.types.specs.Declaration.{FunctionKindTree, inside_of, opened, parameter, parameters_declared, result_declared, result_entity, takes_weight}
 use Rattle.types.specs.Initial.{InitializerTree, initializer_of}
 use Rattle.types.specs.Statement.{declare_as}
-use Rattle.types.specs.Step.{declare_step_as, step_behind, step_typed, steps_behind, steps_typed, with_writes}
+use Rattle.types.specs.Step.{declare_step_as, step_after, step_typed, steps_after, steps_typed, with_writes}
 use Rattle.type_laws.proofs.ResolvedScopes.{get_before}
 
 -- each element of the first list stands at its index in the second
@@ -92,7 +92,7 @@ mutual
       let e = entity.LoopVariable (integer_slot c) in steps_grow (declared_in c name e).value NoStep body k x (declared_grow c name e k x is)
   step_grow c (source.If at test body) k x is = steps_grow c NoStep body k x is
   step_grow c (source.IfElse at test body otherwise) k x is =
-      let b = (steps_typed c NoStep body).value in steps_grow (steps_behind c b.1) NoStep otherwise k x (steps_grow c NoStep body k x is)
+      let b = (steps_typed c NoStep body).value in steps_grow (steps_after c b.1) NoStep otherwise k x (steps_grow c NoStep body k x is)
   step_grow c (source.Print at e) k x is = is
   step_grow c (source.Assign name initial) k x is = is
   step_grow c (source.Reduce name by e) k x is = is
@@ -106,7 +106,7 @@ mutual
   steps_grow c so_far (source.Then label action others) k x is =
       let l = (labelled c label).value in
       let s = (step_typed l.1 action).value in
-      steps_grow s.1 (step_behind so_far s.0) others k x (step_grow l.1 action k x (labelled_grow c label k x is))
+      steps_grow s.1 (step_after so_far s.0) others k x (step_grow l.1 action k x (labelled_grow c label k x is))
 
 -- parameters and a result
 parameters_grow : (w : Bool) (c : CheckerTree) (at : Endpoint) (parameters : List ParameterTree) → Grow c (parameters_declared w c at parameters).value

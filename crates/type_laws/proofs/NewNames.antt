@@ -24,10 +24,10 @@ use Rattle.types.specs.Checker.{CheckerTree, condition_slot, counted, declared_i
 use Rattle.types.specs.Declaration.{DeclaredTree, FunctionKindTree, MainKind, EdgeKind, VertexKind, FilterKind, NoKind, begins, declaration_typed, declarations_typed, declare_constant_as, declare_function, declare_name, function_declared, has_all, inside_of, kind, kind_fits, literal_or_fault, loads, main_declared, next_name, only_edges, opened, parameter, parameters_declared, result_declared, result_entity, steps_declared, with_main, takes_weight}
 use Rattle.types.specs.Initial.{InitializerTree, initializer_condition, initializer_of, initializer_integer, is_sound, initializer_members}
 use Rattle.types.specs.Literal.{literal_condition, literal_integer}
-use Rattle.type_laws.specs.NewNames.{ActionDeclaresNew, BlockDeclaresNew, DeclarationDeclaresNew, DeclarationsDeclareNew, FunctionDeclaresNew, IsNew, ParametersAreNew, ResultIsNew, edges_declared, edges_in, names_behind, names_inside, with_declaration, with_new, with_parameters, with_result}
+use Rattle.type_laws.specs.NewNames.{ActionDeclaresNew, BlockDeclaresNew, DeclarationDeclaresNew, DeclarationsDeclareNew, FunctionDeclaresNew, IsNew, ParametersAreNew, ResultIsNew, edges_declared, edges_in, names_after, names_inside, with_declaration, with_new, with_parameters, with_result}
 use Rattle.types.specs.Program.{opening, program_of, set_count}
 use Rattle.types.specs.Statement.{declare_as}
-use Rattle.types.specs.Step.{declare_step_as, step_behind, step_typed, steps_behind, steps_typed, with_writes}
+use Rattle.types.specs.Step.{declare_step_as, step_after, step_typed, steps_after, steps_typed, with_writes}
 use Rattle.types.specs.Checker.{condition_in, integer_in}
 use Rattle.type_laws.proofs.Faultless.{no_left, no_right, not_empty}
 
@@ -81,7 +81,7 @@ declare_step_new c at name initializer declared.WeightedEdgeSet none = absurd (n
 
 mutual
   pub step_new : (c : CheckerTree) (action : source.StatementKindTree) → (step_typed c action).faults ≡ []
-      → ActionDeclaresNew (names c) action × (names (step_typed c action).value.1 ≡ names_behind (names c) action)
+      → ActionDeclaresNew (names c) action × (names (step_typed c action).value.1 ≡ names_after (names c) action)
   step_new c (source.Declare at x initial) none =
       let initializer = initializer_of c at initial in declare_step_new c at x.name initializer.value x.declared (no_right initializer.faults _ none)
   step_new c (source.While at test body) none = absurd (not_empty _ _ none)
@@ -91,7 +91,7 @@ mutual
       (steps_new c NoStep body (no_left b.faults [] (no_right (condition_in c.scope at test).faults _ none)), refl)
   step_new c (source.IfElse at test body otherwise) none =
       let b = steps_typed c NoStep body in
-      let d = steps_behind c b.value.1 in
+      let d = steps_after c b.value.1 in
       let o = steps_typed d NoStep otherwise in
       let both = no_right (condition_in c.scope at test).faults (b.faults ++ (o.faults ++ [])) none in (
         (
@@ -113,11 +113,11 @@ mutual
   steps_new c so_far (source.Then label action others) none =
       let l = labelled c label in
       let s = step_typed l.value.1 action in
-      let rest = steps_typed s.value.1 (step_behind so_far s.value.0) others in
+      let rest = steps_typed s.value.1 (step_after so_far s.value.0) others in
       let both = no_right l.faults (s.faults ++ rest.faults) none in
       let first = step_new l.value.1 action (no_left s.faults rest.faults both) in
-      let rest_new = steps_new s.value.1 (step_behind so_far s.value.0) others (no_right s.faults rest.faults both) in
-      subst (λ visible. ActionDeclaresNew visible action × BlockDeclaresNew (names_behind visible action) others) (labelled_same c label)
+      let rest_new = steps_new s.value.1 (step_after so_far s.value.0) others (no_right s.faults rest.faults both) in
+      subst (λ visible. ActionDeclaresNew visible action × BlockDeclaresNew (names_after visible action) others) (labelled_same c label)
       (first.0, subst (λ visible. BlockDeclaresNew visible others) first.1 rest_new)
 
 -- statements of main
@@ -139,7 +139,7 @@ declare_new c at name initializer declared.WeightedEdgeSet none = absurd (not_em
 
 mutual
   pub action_new : (c : CheckerTree) (action : source.StatementKindTree) → (action_typed c action).faults ≡ []
-      → ActionDeclaresNew (names c) action × (names (action_typed c action).value.1 ≡ names_behind (names c) action)
+      → ActionDeclaresNew (names c) action × (names (action_typed c action).value.1 ≡ names_after (names c) action)
   action_new c (source.Declare at x initial) none =
       let initializer = initializer_of c at initial in declare_new c at x.name initializer.value x.declared (no_right initializer.faults _ none)
   action_new c (source.While at test body) none =
@@ -185,7 +185,7 @@ mutual
       let both = no_right l.faults (a.faults ++ rest.faults) none in
       let first = action_new (counted l.value.1) action (no_left a.faults rest.faults both) in
       let rest_new = statements_new a.value.1 more others (no_right a.faults rest.faults both) in
-      subst (λ visible. ActionDeclaresNew visible action × BlockDeclaresNew (names_behind visible action) others) (labelled_same c label)
+      subst (λ visible. ActionDeclaresNew visible action × BlockDeclaresNew (names_after visible action) others) (labelled_same c label)
       (first.0, subst (λ visible. BlockDeclaresNew visible others) first.1 rest_new)
 
 -- functions

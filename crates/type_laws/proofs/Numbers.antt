@@ -55,11 +55,11 @@ one_number a c xs rest =
     let k : c ≡ length xs + suc a = rest.count in
     record { ordered = (refl, rest.ordered); count = omega (arith, k) }
 
-numbers_behind : (so_far : BlockTree) (number : ℕ) (label : Option ℕ) (action : StatementKindTree)
+numbers_after : (so_far : BlockTree) (number : ℕ) (label : Option ℕ) (action : StatementKindTree)
     → numbers (behind so_far number label action) ≡ numbers so_far ++ (number ∷ (inner_numbers action ++ []))
-numbers_behind Empty number label action = refl
-numbers_behind (Then n l a others) number label action =
-    ap (λ ns. n ∷ (inner_numbers a ++ ns)) (numbers_behind others number label action)
+numbers_after Empty number label action = refl
+numbers_after (Then n l a others) number label action =
+    ap (λ ns. n ∷ (inner_numbers a ++ ns)) (numbers_after others number label action)
     ∙ ap (λ ns. n ∷ ns) (sym (append_assoc (inner_numbers a) (numbers others) (number ∷ (inner_numbers action ++ []))))
 
 -- no statement is in it
@@ -185,7 +185,7 @@ mutual
       let before = subst (λ m. Counts n (numbers so_far) m) (sym (labelled_same c label)) counts in
       let both = then_numbers n l.1.statements a.1.statements (numbers so_far) (suc l.1.statements ∷ (inner_numbers a.0 ++ [])) before first in
       statements_count n a.1 (behind so_far (suc l.1.statements) l.0 a.0) others
-      (subst (λ ns. Counts n ns a.1.statements) (sym (numbers_behind so_far (suc l.1.statements) l.0 a.0)) both)
+      (subst (λ ns. Counts n ns a.1.statements) (sym (numbers_after so_far (suc l.1.statements) l.0 a.0)) both)
 
 -- what is main so far is numbered in order
 abbrev MainInOrder : Option BlockTree → Type 0

@@ -27,7 +27,7 @@ use Rattle.types.specs.Initial.{InitializerTree, end_of, initializer_of, is_all,
 use Rattle.types.specs.Literal.{literal_condition, literal_integer}
 use Rattle.types.specs.Program.{main_of, opening, set_count}
 use Rattle.types.specs.Statement.{declare_as, has_ends}
-use Rattle.types.specs.Step.{declare_step_as, may_reduce, may_set, own_vertex, step_behind, step_typed, steps_typed, written_at}
+use Rattle.types.specs.Step.{declare_step_as, may_reduce, may_set, own_vertex, step_after, step_typed, steps_typed, written_at}
 use Rattle.types.specs.Checker.{as_index}
 use Rattle.type_laws.specs.BrokenRules.{begins_constant, declares_in_function, declares_in_main, is_edgeset, is_initial, is_kind}
 use Rattle.type_laws.specs.ExpressionParts as form
@@ -254,7 +254,7 @@ mutual
   steps_same c s t (source.Then label action others) =
       let l = labelled c label in
       let a = step_typed l.value.1 action in
-      ap (λ fs. l.faults ++ (a.faults ++ fs)) (steps_same a.value.1 (step_behind s a.value.0) (step_behind t a.value.0) others)
+      ap (λ fs. l.faults ++ (a.faults ++ fs)) (steps_same a.value.1 (step_after s a.value.0) (step_after t a.value.0) others)
 
 main_block_splits : (c : CheckerTree) (statements : BlockTree)
     → Splits (faults (MainBlock c statements)) (faults_of_parts (parts_of (MainBlock c statements))) (broken (MainBlock c statements) all_rules)
@@ -275,7 +275,7 @@ function_block_splits c (source.Then label action others) =
     let a = step_typed l.value.1 action in
     let rest = faults (FunctionBlock a.value.1 others) in
     same_faults _ (l.faults ++ (a.faults ++ (rest ++ []))) _ _
-    (ap (λ fs. l.faults ++ (a.faults ++ fs)) (steps_same a.value.1 (step_behind step.NoStep a.value.0) step.NoStep others ∙ sym (append-nil rest)))
+    (ap (λ fs. l.faults ++ (a.faults ++ fs)) (steps_same a.value.1 (step_after step.NoStep a.value.0) step.NoStep others ∙ sym (append-nil rest)))
     (nothing _ _ refl)
 
 label_splits : (c : CheckerTree) (label : Option Identifier) → Splits (faults (Label c label)) [] (broken (Label c label) all_rules)
@@ -349,9 +349,9 @@ constant_as_splits d at name initial declared_type.EdgeSet x = edges_split false
 constant_as_splits d at name initial declared_type.WeightedEdgeSet x = edges_split true d at name x
 
 -- the name of a function, after its statements
-name_behind : (d : DeclaredTree) (c : CheckerTree) (name : Identifier) (e : Entity) (ps body : List Fault)
+name_after : (d : DeclaredTree) (c : CheckerTree) (name : Identifier) (e : Entity) (ps body : List Fault)
     → ps ++ (body ++ ((declare_name (record d { checker = with_scope c d.checker.scope }) name e).faults ++ [])) ≡ ps ++ (body ++ (faults (NewName d.checker.scope name) ++ []))
-name_behind d c name e ps body =
+name_after d c name e ps body =
     ap (λ fs. ps ++ (body ++ fs)) (append-nil (declare_name (record d { checker = with_scope c d.checker.scope }) name e).faults ∙ ap (λ fs. fs ++ []) (declares (with_scope c d.checker.scope) name e))
 
 function_splits : (d : DeclaredTree) (at : ℕ) (name : Identifier) (ps : List ParameterTree) (result : Option ParameterTree) (body : BlockTree) (k : FunctionKindTree)
@@ -359,22 +359,22 @@ function_splits : (d : DeclaredTree) (at : ℕ) (name : Identifier) (ps : List P
 function_splits d at name ps result body (MainKind fits) =
     let o = opened (restarted d.checker) (MainKind fits) ps result in
     let b = statements_typed o.value block.Empty body in
-    same_faults _ (o.faults ++ (b.faults ++ (faults (NewName d.checker.scope name) ++ []))) _ _ (name_behind d b.value.1 name entity.Main o.faults b.faults) (nothing _ _ refl)
+    same_faults _ (o.faults ++ (b.faults ++ (faults (NewName d.checker.scope name) ++ []))) _ _ (name_after d b.value.1 name entity.Main o.faults b.faults) (nothing _ _ refl)
 function_splits d at name ps result body (EdgeKind weighted) =
     let o = opened d.checker (EdgeKind weighted) ps result in
     let b = steps_typed o.value step.NoStep body in
     same_faults _ (o.faults ++ (b.faults ++ (faults (NewName d.checker.scope name) ++ []))) _ _
-    (name_behind d b.value.1 name (entity.EdgeFunction (length d.edge_functions) weighted) o.faults b.faults) (nothing _ _ refl)
+    (name_after d b.value.1 name (entity.EdgeFunction (length d.edge_functions) weighted) o.faults b.faults) (nothing _ _ refl)
 function_splits d at name ps result body VertexKind =
     let o = opened d.checker VertexKind ps result in
     let b = steps_typed o.value step.NoStep body in
     same_faults _ (o.faults ++ (b.faults ++ (faults (NewName d.checker.scope name) ++ []))) _ _
-    (name_behind d b.value.1 name (entity.VertexFunction (length d.vertex_functions)) o.faults b.faults) (nothing _ _ refl)
+    (name_after d b.value.1 name (entity.VertexFunction (length d.vertex_functions)) o.faults b.faults) (nothing _ _ refl)
 function_splits d at name ps result body FilterKind =
     let o = opened d.checker FilterKind ps result in
     let b = steps_typed o.value step.NoStep body in
     same_faults _ (o.faults ++ (b.faults ++ (faults (NewName d.checker.scope name) ++ []))) _ _
-    (name_behind d b.value.1 name (entity.Filter (length d.filters)) o.faults b.faults) (nothing _ _ refl)
+    (name_after d b.value.1 name (entity.Filter (length d.filters)) o.faults b.faults) (nothing _ _ refl)
 function_splits d at name ps result body NoKind =
     let o = opened d.checker NoKind ps result in
     let b = steps_typed o.value step.NoStep body in

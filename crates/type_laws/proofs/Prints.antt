@@ -9,7 +9,7 @@ use Rattle.types.specs.Checker.{CheckerTree, labelled}
 use Rattle.types.specs.Declaration.{DeclaredTree, FunctionKindTree, declaration_typed, declarations_typed, kind_fits, kind_of, opened, steps_declared}
 use Rattle.type_laws.specs.Prints.{ActionPrintsNothing, BlockPrintsNothing, PrintsInMainAlone}
 use Rattle.types.specs.Program.{opening, program_of, set_count}
-use Rattle.types.specs.Step.{step_behind, step_typed, steps_behind, steps_typed}
+use Rattle.types.specs.Step.{step_after, step_typed, steps_after, steps_typed}
 use Rattle.types.specs.Checker.{condition_in}
 use Rattle.type_laws.proofs.EachDeclaration.{each_declaration, user_declared}
 use Rattle.type_laws.proofs.Faultless.{no_left, no_right, not_empty}
@@ -24,7 +24,7 @@ mutual
       steps_print_nothing c NoStep body (no_left b.faults [] (no_right (condition_in c.scope at test).faults _ none))
   step_prints_nothing c (source.IfElse at test body otherwise) none =
       let b = steps_typed c NoStep body in
-      let d = steps_behind c b.value.1 in
+      let d = steps_after c b.value.1 in
       let o = steps_typed d NoStep otherwise in
       let both = no_right (condition_in c.scope at test).faults (b.faults ++ (o.faults ++ [])) none in (
         steps_print_nothing c NoStep body (no_left b.faults (o.faults ++ []) both),
@@ -43,10 +43,10 @@ mutual
   steps_print_nothing c so_far (source.Then label action others) none =
       let l = labelled c label in
       let s = step_typed l.value.1 action in
-      let rest = steps_typed s.value.1 (step_behind so_far s.value.0) others in
+      let rest = steps_typed s.value.1 (step_after so_far s.value.0) others in
       let both = no_right l.faults (s.faults ++ rest.faults) none in (
         step_prints_nothing l.value.1 action (no_left s.faults rest.faults both),
-        steps_print_nothing s.value.1 (step_behind so_far s.value.0) others (no_right s.faults rest.faults both),
+        steps_print_nothing s.value.1 (step_after so_far s.value.0) others (no_right s.faults rest.faults both),
       )
 
 function_prints_nothing : (d : DeclaredTree) (at : ℕ) (kind : FunctionKindTree) (name : Identifier) (parameters : List ParameterTree) (result : Option ParameterTree) (body : source.BlockTree)

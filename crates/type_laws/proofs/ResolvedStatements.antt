@@ -10,7 +10,7 @@ use Rattle.typed_tree.specs.declared.expression.VarRef.{VarRef}
 use Rattle.typed_tree.specs.IntExpressionTree.{IntExpressionTree}
 use Rattle.typed_tree.specs.BlockTree.{StatementKindTree, BlockTree, Empty, Then}
 use Rattle.typed_tree.specs.ProgramTree.{ProgramTree}
-use Rattle.typed_tree.specs.Resolved.{VisibleTree, ActionIsResolved, BlockIsResolved, IntegerIsResolved, IsEdgeFunction, IsLabel, IsSet, IsVector, IsVertexFunction, behind_action, in_loop, with_set}
+use Rattle.typed_tree.specs.Resolved.{VisibleTree, ActionIsResolved, BlockIsResolved, IntegerIsResolved, IsEdgeFunction, IsLabel, IsSet, IsVector, IsVertexFunction, after_action, in_loop, with_set}
 use Rattle.expression_types.specs.declared.scope.Entity.{Entity}
 use Rattle.expression_types.specs.declared.scope.Entity.TheVariants as entity
 use Rattle.expression_types.specs.Expression.{used, value_of, vector_index}
@@ -103,22 +103,22 @@ mutual
 -- what is visible after statements
 abbrev pub behind_block : BlockTree → VisibleTree → VisibleTree
 behind_block Empty v = v
-behind_block (Then number label action others) v = behind_block others (behind_action action v)
+behind_block (Then number label action others) v = behind_block others (after_action action v)
 
 block_then : (p : ProgramTree) (v : VisibleTree) (so_far : BlockTree) (number : ℕ) (label : Option ℕ) (action : StatementKindTree) → BlockIsResolved p v so_far → IsLabel p label
     → ActionIsResolved p (behind_block so_far v) action → BlockIsResolved p v (behind so_far number label action)
 block_then p v Empty number label action resolved there last = (there, last, tt)
 block_then p v (Then n l a others) number label action resolved there last =
-    (resolved.0, resolved.1, block_then p (behind_action a v) others number label action resolved.2 there last)
+    (resolved.0, resolved.1, block_then p (after_action a v) others number label action resolved.2 there last)
 
-behind_then : (v : VisibleTree) (so_far : BlockTree) (number : ℕ) (label : Option ℕ) (action : StatementKindTree)
-    → behind_block (behind so_far number label action) v ≡ behind_action action (behind_block so_far v)
-behind_then v Empty number label action = refl
-behind_then v (Then n l a others) number label action = behind_then (behind_action a v) others number label action
+after_then : (v : VisibleTree) (so_far : BlockTree) (number : ℕ) (label : Option ℕ) (action : StatementKindTree)
+    → behind_block (behind so_far number label action) v ≡ after_action action (behind_block so_far v)
+after_then v Empty number label action = refl
+after_then v (Then n l a others) number label action = after_then (after_action a v) others number label action
 
 -- a statement that declares nothing
 abbrev PlainAction : ProgramTree → VisibleTree → StatementKindTree → Type 0
-PlainAction p v action = ActionIsResolved p v action × (behind_action action v ≡ v)
+PlainAction p v action = ActionIsResolved p v action × (after_action action v ≡ v)
 
 if_plain : (p : ProgramTree) (v : VisibleTree) (b : Bool) (x y : WithFaults StatementKindTree) → PlainAction p v x.value → PlainAction p v y.value
     → PlainAction p v (if b then x else y).value
@@ -189,7 +189,7 @@ applied_plain p v at t a b ends f target from to is =
 
 -- a statement, and what is known after it
 abbrev ActionFits : ProgramTree → VisibleTree → StatementKindTree × CheckerTree → Type 0
-ActionFits p v r = ActionIsResolved p v r.0 × CheckerFits p (behind_action r.0 v) r.1
+ActionFits p v r = ActionIsResolved p v r.0 × CheckerFits p (after_action r.0 v) r.1
 
 abbrev pub BlockFits : ProgramTree → VisibleTree → BlockTree × CheckerTree → Type 0
 BlockFits p v r = BlockIsResolved p v r.0 × CheckerFits p (behind_block r.0 v) r.1
@@ -299,4 +299,4 @@ mutual
       let first = action_fits p w d action (no_left a.faults rest.faults both) between labels.0 in
       statements_fit p v a.value.1 (behind so_far number l.value.0 a.value.0) others (no_right a.faults rest.faults both) within
       (block_then p v so_far number l.value.0 a.value.0 resolved labels.1 first.0)
-      (subst (λ x. CheckerFits p x a.value.1) (sym (behind_then v so_far number l.value.0 a.value.0)) first.1)
+      (subst (λ x. CheckerFits p x a.value.1) (sym (after_then v so_far number l.value.0 a.value.0)) first.1)

@@ -16,7 +16,7 @@ use Rattle.expression_types.specs.Expression.{index_value, used, value_of, vecto
 use Rattle.expression_types.specs.ValueTree.{ValueTree}
 use Rattle.types.specs.Checker.{CheckerTree, condition_slot, declared_in, integer_slot, labelled}
 use Rattle.types.specs.Initial.{InitializerTree, initializer_condition, initializer_of, initializer_integer}
-use Rattle.types.specs.Step.{assign_step, assigned_step, declare_step_as, entry_step, may_reduce, may_set, own_vertex, reduce_entry_step, reduce_step, reduced_step, reduction_step, set_entry_step, step_behind, step_typed, steps_behind, steps_typed, written_at}
+use Rattle.types.specs.Step.{assign_step, assigned_step, declare_step_as, entry_step, may_reduce, may_set, own_vertex, reduce_entry_step, reduce_step, reduced_step, reduction_step, set_entry_step, step_after, step_typed, steps_after, steps_typed, written_at}
 use Rattle.types.specs.Checker.{condition_in, integer_in}
 use Rattle.type_laws.proofs.Faultless.{no_left, no_right, not_empty}
 use Rattle.type_laws.proofs.ResolvedScopes.{CheckerFits, Grows, Within, declared_before, declared_fits, declared_name, get_before, get_last, labelled_before, labelled_fits, left_fits}
@@ -77,7 +77,7 @@ mutual
   step_before p c (source.If at test body) within = steps_before p c NoStep body within
   step_before p c (source.IfElse at test body otherwise) within =
       let b = (steps_typed c NoStep body).value in
-      steps_before p c NoStep body (steps_before p (steps_behind c b.1) NoStep otherwise within)
+      steps_before p c NoStep body (steps_before p (steps_after c b.1) NoStep otherwise within)
   step_before p c (source.Print at e) within = within
   step_before p c (source.Assign name initial) within = within
   step_before p c (source.Reduce name by e) within = within
@@ -91,7 +91,7 @@ mutual
   steps_before p c so_far (source.Then label action others) within =
       let l = (labelled c label).value in
       let s = (step_typed l.1 action).value in
-      labelled_before p c label (step_before p l.1 action (steps_before p s.1 (step_behind so_far s.0) others within))
+      labelled_before p c label (step_before p l.1 action (steps_before p s.1 (step_after so_far s.0) others within))
 
 -- what is visible after statements
 abbrev pub behind_steps : FunctionStatementsTree → VisibleTree → VisibleTree
@@ -99,13 +99,13 @@ behind_steps NoStep v = v
 behind_steps (StepThen step others) v = behind_steps others (behind_step step v)
 
 steps_then : (p : ProgramTree) (v : VisibleTree) (so_far : FunctionStatementsTree) (step : FunctionStatementTree) → StepsAreResolved p v so_far → StepIsResolved p (behind_steps so_far v) step
-    → StepsAreResolved p v (step_behind so_far step)
+    → StepsAreResolved p v (step_after so_far step)
 steps_then p v NoStep step resolved last = (last, tt)
 steps_then p v (StepThen s others) step resolved last = (resolved.0, steps_then p (behind_step s v) others step resolved.1 last)
 
-behind_then : (v : VisibleTree) (so_far : FunctionStatementsTree) (step : FunctionStatementTree) → behind_steps (step_behind so_far step) v ≡ behind_step step (behind_steps so_far v)
-behind_then v NoStep step = refl
-behind_then v (StepThen s others) step = behind_then (behind_step s v) others step
+after_then : (v : VisibleTree) (so_far : FunctionStatementsTree) (step : FunctionStatementTree) → behind_steps (step_after so_far step) v ≡ behind_step step (behind_steps so_far v)
+after_then v NoStep step = refl
+after_then v (StepThen s others) step = after_then (behind_step s v) others step
 
 -- a statement that declares nothing
 abbrev PlainStep : ProgramTree → VisibleTree → FunctionStatementTree → Type 0
@@ -178,7 +178,7 @@ mutual
       ((condition_in_resolved p v c.scope at fits.0.known test, inner.0), left_fits p v (behind_steps b.value.0 v) c b.value.1 fits inner.1)
   step_fits p v c (source.IfElse at test body otherwise) none within fits =
       let b = steps_typed c NoStep body in
-      let d = steps_behind c b.value.1 in
+      let d = steps_after c b.value.1 in
       let o = steps_typed d NoStep otherwise in
       let both = no_right (condition_in c.scope at test).faults (b.faults ++ (o.faults ++ [])) none in
       let inner = steps_fit p v c NoStep body (no_left b.faults (o.faults ++ []) both) (steps_before p d NoStep otherwise within) tt fits in
@@ -214,12 +214,12 @@ mutual
   steps_fit p v c so_far (source.Then label action others) none within resolved fits =
       let l = labelled c label in
       let s = step_typed l.value.1 action in
-      let rest = steps_typed s.value.1 (step_behind so_far s.value.0) others in
+      let rest = steps_typed s.value.1 (step_after so_far s.value.0) others in
       let w = behind_steps so_far v in
       let both = no_right l.faults (s.faults ++ rest.faults) none in
-      let between = steps_before p s.value.1 (step_behind so_far s.value.0) others within in
+      let between = steps_before p s.value.1 (step_after so_far s.value.0) others within in
       let labels = labelled_fits p w c label (no_left l.faults (s.faults ++ rest.faults) none) fits (step_before p l.value.1 action between) in
       let first = step_fits p w l.value.1 action (no_left s.faults rest.faults both) between labels.0 in
-      steps_fit p v s.value.1 (step_behind so_far s.value.0) others (no_right s.faults rest.faults both) within
+      steps_fit p v s.value.1 (step_after so_far s.value.0) others (no_right s.faults rest.faults both) within
       (steps_then p v so_far s.value.0 resolved first.0)
-      (subst (λ x. CheckerFits p x s.value.1) (sym (behind_then v so_far s.value.0)) first.1)
+      (subst (λ x. CheckerFits p x s.value.1) (sym (after_then v so_far s.value.0)) first.1)

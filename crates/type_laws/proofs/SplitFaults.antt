@@ -170,16 +170,16 @@ there_if : (part : Part) (r : TypeRule) (others : List Fault) (b : Bool) → b �
 there_if part r others true is = first_of_all (record { at = place part r; rule = r }) others
 there_if part r others false is = absurd cc
 
-behind_if : (x : Fault) (others : List Fault) (f : Fault) (b : Bool) → Contains others f → Contains (if b then x ∷ others else others) f
-behind_if x others f true there = one_of_others x others f there
-behind_if x others f false there = there
+after_if : (x : Fault) (others : List Fault) (f : Fault) (b : Bool) → Contains others f → Contains (if b then x ∷ others else others) f
+after_if x others f true there = one_of_others x others f there
+after_if x others f false there = there
 
 there_broken : (part : Part) (rules : List TypeRule) (r : TypeRule) → Contains rules r → breaks_itself part r ≡ true → Contains (broken part rules) (record { at = place part r; rule = r })
 there_broken part [] r (k, within, is) breaks = absurd (omega (arith, within))
 there_broken part (x ∷ others) r there breaks = elim (cons_cases x others r there) [
   | inl same ↦ subst (λ s. Contains (broken part (x ∷ others)) (record { at = place part s; rule = s })) same
       (there_if part x (broken part others) (breaks_itself part x) (subst (λ s. breaks_itself part s ≡ true) (sym same) breaks))
-  | inr behind ↦ behind_if (record { at = place part x; rule = x }) (broken part others) (record { at = place part r; rule = r }) (breaks_itself part x) (there_broken part others r behind breaks)
+  | inr behind ↦ after_if (record { at = place part x; rule = x }) (broken part others) (record { at = place part r; rule = r }) (breaks_itself part x) (there_broken part others r behind breaks)
 ]
 
 each_rule : (r : TypeRule) → Contains all_rules r

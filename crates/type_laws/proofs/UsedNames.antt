@@ -27,10 +27,10 @@ use Rattle.types.specs.Block.{action_typed, behind, closed, statements_typed}
 use Rattle.types.specs.Checker.{CheckerTree, counted, declared_in, integer_slot, labelled, restarted}
 use Rattle.types.specs.Declaration.{DeclaredTree, FunctionKindTree, MainKind, EdgeKind, VertexKind, FilterKind, NoKind, declaration_typed, declarations_typed, declare_function, kind, kind_fits, main_declared, opened, steps_declared}
 use Rattle.types.specs.Initial.{end_of, initializer_of}
-use Rattle.type_laws.specs.NewNames.{names_behind, names_inside}
+use Rattle.type_laws.specs.NewNames.{names_after, names_inside}
 use Rattle.types.specs.Program.{opening, program_of, set_count}
 use Rattle.types.specs.Statement.{add_vertex, apply, assign, print, reduce, reduce_entry, set_entry}
-use Rattle.types.specs.Step.{assign_step, may_reduce, may_set, own_vertex, reduce_step, set_entry_step, step_behind, step_typed, steps_behind, steps_typed, written_at}
+use Rattle.types.specs.Step.{assign_step, may_reduce, may_set, own_vertex, reduce_step, set_entry_step, step_after, step_typed, steps_after, steps_typed, written_at}
 use Rattle.type_laws.specs.UsedNames.{ActionUsesVisible, BlockUsesVisible, ComparisonUsesVisible, ConjunctionUsesVisible, DeclarationUsesVisible, DeclarationsUseVisible, EndIsVisible, ExpressionUsesVisible, InitialUsesVisible, IsVisible, PrimaryUsesVisible, SumUsesVisible, TermUsesVisible, UnaryUsesVisible}
 use Rattle.types.specs.Checker.{as_index, condition_in, integer_in}
 use Rattle.type_laws.proofs.Booleans.{false_is_not_true}
@@ -218,15 +218,15 @@ initializer_visible c at (source.Filter s f) none = (
 )
 initializer_visible c at (source.ApplyModified edges ends f x) none =
     let behind_edges = no_right (used c.scope edges).faults _ none in
-    let behind_from = no_right (end_of c.scope ends.from).faults _ behind_edges in
-    let behind_to = no_right (end_of c.scope ends.to).faults _ behind_from in (
+    let after_from = no_right (end_of c.scope ends.from).faults _ behind_edges in
+    let after_to = no_right (end_of c.scope ends.to).faults _ after_from in (
       used_visible c.scope edges (no_left (used c.scope edges).faults _ none),
       (
         end_visible c.scope ends.from (no_left (end_of c.scope ends.from).faults _ behind_edges),
-        end_visible c.scope ends.to (no_left (end_of c.scope ends.to).faults _ behind_from),
+        end_visible c.scope ends.to (no_left (end_of c.scope ends.to).faults _ after_from),
       ),
-      used_visible c.scope f (no_left (used c.scope f).faults _ behind_to),
-      used_visible c.scope x (no_left (used c.scope x).faults _ (no_right (used c.scope f).faults _ behind_to)),
+      used_visible c.scope f (no_left (used c.scope f).faults _ after_to),
+      used_visible c.scope x (no_left (used c.scope x).faults _ (no_right (used c.scope f).faults _ after_to)),
     )
 initializer_visible c at (source.Value e) none = expression_visible c.scope at e (no_left (value_of c.scope at e).faults [] none)
 
@@ -243,7 +243,7 @@ mutual
   step_visible c (source.IfElse at test body otherwise) none =
       let t = condition_in c.scope at test in
       let b = steps_typed c NoStep body in
-      let d = steps_behind c b.value.1 in
+      let d = steps_after c b.value.1 in
       let o = steps_typed d NoStep otherwise in
       let both = no_right t.faults (b.faults ++ (o.faults ++ [])) none in (
         condition_visible c.scope at test (no_left t.faults _ none),
@@ -265,19 +265,19 @@ mutual
       let index = vector_index c.scope vector.at vector in
       let v = index_value c.scope vector.at subscript in
       let all = no_right (may_set vector.at c.scope.inside).faults _ (no_left (set_entry_step c.scope vector.at vector subscript e).faults [] none) in
-      let behind_vector = no_right index.faults _ all in
-      let behind_index = no_right (written_at vector.at (own_vertex c.scope.inside) v.value).faults _ (no_right v.faults _ behind_vector) in (
+      let after_vector = no_right index.faults _ all in
+      let behind_index = no_right (written_at vector.at (own_vertex c.scope.inside) v.value).faults _ (no_right v.faults _ after_vector) in (
         vector_visible c.scope vector.at vector (no_left index.faults _ all),
-        index_visible c.scope subscript (value_of c.scope vector.at subscript) (expression_visible c.scope vector.at subscript) (no_left v.faults _ behind_vector),
+        index_visible c.scope subscript (value_of c.scope vector.at subscript) (expression_visible c.scope vector.at subscript) (no_left v.faults _ after_vector),
         integer_visible c.scope vector.at e (no_left (integer_in c.scope vector.at e).faults _ behind_index),
       )
   step_visible c (source.ReduceEntry vector subscript by e) none =
       let index = vector_index c.scope vector.at vector in
       let v = index_value c.scope vector.at subscript in
-      let behind_vector = no_right (may_reduce vector.at c.scope.inside index.value by c.writes).faults _ (no_right index.faults _ none) in
-      let behind_index = no_right (written_at vector.at (own_vertex c.scope.inside) v.value).faults _ (no_right v.faults _ behind_vector) in (
+      let after_vector = no_right (may_reduce vector.at c.scope.inside index.value by c.writes).faults _ (no_right index.faults _ none) in
+      let behind_index = no_right (written_at vector.at (own_vertex c.scope.inside) v.value).faults _ (no_right v.faults _ after_vector) in (
         vector_visible c.scope vector.at vector (no_left index.faults _ none),
-        index_visible c.scope subscript (value_of c.scope vector.at subscript) (expression_visible c.scope vector.at subscript) (no_left v.faults _ behind_vector),
+        index_visible c.scope subscript (value_of c.scope vector.at subscript) (expression_visible c.scope vector.at subscript) (no_left v.faults _ after_vector),
         integer_visible c.scope vector.at e (no_left (integer_in c.scope vector.at e).faults _ behind_index),
       )
   step_visible c (source.AddVertex set e) none = absurd (not_empty _ _ none)
@@ -288,11 +288,11 @@ mutual
   steps_visible c so_far (source.Then label action others) none =
       let l = labelled c label in
       let s = step_typed l.value.1 action in
-      let rest = steps_typed s.value.1 (step_behind so_far s.value.0) others in
+      let rest = steps_typed s.value.1 (step_after so_far s.value.0) others in
       let both = no_right l.faults (s.faults ++ rest.faults) none in
       let clear = no_left s.faults rest.faults both in
-      let last = steps_visible s.value.1 (step_behind so_far s.value.0) others (no_right s.faults rest.faults both) in
-      subst (λ visible. ActionUsesVisible visible action × BlockUsesVisible (names_behind visible action) others) (labelled_same c label)
+      let last = steps_visible s.value.1 (step_after so_far s.value.0) others (no_right s.faults rest.faults both) in
+      subst (λ visible. ActionUsesVisible visible action × BlockUsesVisible (names_after visible action) others) (labelled_same c label)
       (step_visible l.value.1 action clear, subst (λ visible. BlockUsesVisible visible others) (step_new l.value.1 action clear).1 last)
 
 -- statements of main
@@ -346,20 +346,20 @@ mutual
       let index = vector_index c.scope vector.at vector in
       let v = value_of c.scope vector.at subscript in
       let all = no_left (set_entry c.scope vector.at vector subscript e).faults [] none in
-      let behind_vector = no_right index.faults _ all in
-      let behind_index = no_right (as_index vector.at v.value).faults _ (no_right v.faults _ behind_vector) in (
+      let after_vector = no_right index.faults _ all in
+      let behind_index = no_right (as_index vector.at v.value).faults _ (no_right v.faults _ after_vector) in (
         vector_visible c.scope vector.at vector (no_left index.faults _ all),
-        expression_visible c.scope vector.at subscript (no_left v.faults _ behind_vector),
+        expression_visible c.scope vector.at subscript (no_left v.faults _ after_vector),
         integer_visible c.scope vector.at e (no_left (integer_in c.scope vector.at e).faults _ behind_index),
       )
   action_visible c (source.ReduceEntry vector subscript by e) none =
       let index = vector_index c.scope vector.at vector in
       let v = value_of c.scope vector.at subscript in
       let all = no_left (reduce_entry c.scope vector.at vector subscript by e).faults [] none in
-      let behind_vector = no_right index.faults _ all in
-      let behind_index = no_right (as_index vector.at v.value).faults _ (no_right v.faults _ behind_vector) in (
+      let after_vector = no_right index.faults _ all in
+      let behind_index = no_right (as_index vector.at v.value).faults _ (no_right v.faults _ after_vector) in (
         vector_visible c.scope vector.at vector (no_left index.faults _ all),
-        expression_visible c.scope vector.at subscript (no_left v.faults _ behind_vector),
+        expression_visible c.scope vector.at subscript (no_left v.faults _ after_vector),
         integer_visible c.scope vector.at e (no_left (integer_in c.scope vector.at e).faults _ behind_index),
       )
   action_visible c (source.AddVertex set e) none =
@@ -369,15 +369,15 @@ mutual
       )
   action_visible c (source.Apply target ends function) none =
       let all = no_left (apply c.scope target.at target ends function).faults [] none in
-      let behind_target = no_right (used c.scope target).faults _ all in
-      let behind_from = no_right (end_of c.scope ends.from).faults _ behind_target in
-      let behind_to = no_right (end_of c.scope ends.to).faults _ behind_from in (
+      let after_target = no_right (used c.scope target).faults _ all in
+      let after_from = no_right (end_of c.scope ends.from).faults _ after_target in
+      let after_to = no_right (end_of c.scope ends.to).faults _ after_from in (
         used_visible c.scope target (no_left (used c.scope target).faults _ all),
         (
-          end_visible c.scope ends.from (no_left (end_of c.scope ends.from).faults _ behind_target),
-          end_visible c.scope ends.to (no_left (end_of c.scope ends.to).faults _ behind_from),
+          end_visible c.scope ends.from (no_left (end_of c.scope ends.from).faults _ after_target),
+          end_visible c.scope ends.to (no_left (end_of c.scope ends.to).faults _ after_from),
         ),
-        used_visible c.scope function (no_left (used c.scope function).faults _ behind_to),
+        used_visible c.scope function (no_left (used c.scope function).faults _ after_to),
       )
 
   statements_visible : (c : CheckerTree) (so_far : BlockTree) (block : source.BlockTree) → (statements_typed c so_far block).faults ≡ [] → BlockUsesVisible (seen c.scope) block
@@ -391,7 +391,7 @@ mutual
       let both = no_right l.faults (a.faults ++ rest.faults) none in
       let clear = no_left a.faults rest.faults both in
       let last = statements_visible a.value.1 more others (no_right a.faults rest.faults both) in
-      subst (λ visible. ActionUsesVisible visible action × BlockUsesVisible (names_behind visible action) others) (labelled_same c label)
+      subst (λ visible. ActionUsesVisible visible action × BlockUsesVisible (names_after visible action) others) (labelled_same c label)
       (action_visible d action clear, subst (λ visible. BlockUsesVisible visible others) (action_new d action clear).1 last)
 
 -- functions

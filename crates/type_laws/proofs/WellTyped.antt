@@ -26,7 +26,7 @@ use Rattle.types.specs.Declaration.{DeclaredTree, FunctionKindTree, EdgeKind, Ve
 use Rattle.types.specs.Initial.{ApplyEndTree, InitializerTree, Members, Loaded, Degrees, ErrorInitializer, edge_function, end_of, ends_given, filter_function, filter_named, filtered, filtered_by, initializer_of, is_all, is_degrees, is_edges, is_loaded, is_sound, names_error, is_error_end, is_wrong, loaded, modified, modified_by, new_set, of_edges, vector_of, writes_vector, lacks_weights}
 use Rattle.types.specs.Literal.{literal_condition, literal_integer}
 use Rattle.types.specs.Program.{opening, program_of, set_count}
-use Rattle.types.specs.Step.{declare_step_as, may_reduce, may_set, set_entry_step, step_behind, step_typed, steps_behind, steps_typed}
+use Rattle.types.specs.Step.{declare_step_as, may_reduce, may_set, set_entry_step, step_after, step_typed, steps_after, steps_typed}
 use Rattle.types.specs.Checker.{condition_in}
 use Rattle.type_laws.specs.WellTyped.{ActionFits, BlockFits, ConstantFits, DeclarationFits, FunctionFits, IsAllVertices, IsLoaded, IsNumberOrTruth, IsOutDegrees}
 use Rattle.type_laws.proofs.Booleans.{both_true, false_is_not_true, neither_true}
@@ -90,7 +90,7 @@ mutual
       steps_fit_kind may c NoStep body is (no_left b.faults [] (no_right (condition_in c.scope at test).faults _ none))
   step_fits_kind may c (source.IfElse at test body otherwise) is none =
       let b = steps_typed c NoStep body in
-      let d = steps_behind c b.value.1 in
+      let d = steps_after c b.value.1 in
       let o = steps_typed d NoStep otherwise in
       let both = no_right (condition_in c.scope at test).faults (b.faults ++ (o.faults ++ [])) none in (
         steps_fit_kind may c NoStep body is (no_left b.faults (o.faults ++ []) both),
@@ -117,11 +117,11 @@ mutual
   steps_fit_kind may c so_far (source.Then label action others) is none =
       let l = labelled c label in
       let s = step_typed l.value.1 action in
-      let rest = steps_typed s.value.1 (step_behind so_far s.value.0) others in
+      let rest = steps_typed s.value.1 (step_after so_far s.value.0) others in
       let both = no_right l.faults (s.faults ++ rest.faults) none in
       let here = ap (λ scope. scope.inside) (labelled_scope c label) ∙ is in (
         step_fits_kind may l.value.1 action here (no_left s.faults rest.faults both),
-        steps_fit_kind may s.value.1 (step_behind so_far s.value.0) others (step_inside l.value.1 action ∙ here) (no_right s.faults rest.faults both),
+        steps_fit_kind may s.value.1 (step_after so_far s.value.0) others (step_inside l.value.1 action ∙ here) (no_right s.faults rest.faults both),
       )
 
 may_vertex : May inside.VertexFunction (Unit {0}) (Unit {0})
@@ -314,14 +314,14 @@ initializer_sound c at (source.ApplyModified edges ends f v) known none =
     let g = used c.scope f in
     let x = used c.scope v in
     let behind_edges = no_right e.faults _ none in
-    let behind_from = no_right a.faults _ behind_edges in
-    let behind_to = no_right b.faults _ behind_from in
-    let behind_function = no_right g.faults _ behind_to in
+    let after_from = no_right a.faults _ behind_edges in
+    let after_to = no_right b.faults _ after_from in
+    let after_function = no_right g.faults _ after_to in
     modified_sound c at e.value a.value b.value g.value x.value
     (clear_entity nowhere edges.bytes e.value (used_known nowhere inside.Main c.scope edges known (no_left e.faults _ none)))
-    (end_known nowhere inside.Main c ends.from known (no_left a.faults _ behind_edges)) (end_known nowhere inside.Main c ends.to known (no_left b.faults _ behind_from))
-    (clear_entity nowhere f.bytes g.value (used_known nowhere inside.Main c.scope f known (no_left g.faults _ behind_to)))
-    (clear_entity nowhere v.bytes x.value (used_known nowhere inside.Main c.scope v known (no_left x.faults _ behind_function))) (no_right x.faults _ behind_function)
+    (end_known nowhere inside.Main c ends.from known (no_left a.faults _ behind_edges)) (end_known nowhere inside.Main c ends.to known (no_left b.faults _ after_from))
+    (clear_entity nowhere f.bytes g.value (used_known nowhere inside.Main c.scope f known (no_left g.faults _ after_to)))
+    (clear_entity nowhere v.bytes x.value (used_known nowhere inside.Main c.scope v known (no_left x.faults _ after_function))) (no_right x.faults _ after_function)
 initializer_sound c at (source.Value e) known none =
     let v = value_of c.scope at e in value_sound v.value (expression_reads c.scope at (main_reads c.scope at known) e (no_left v.faults [] none)).1
 

@@ -13,25 +13,25 @@ names_before zero (name ∷ sets) = None ∷ names_before zero sets
 names_before (suc count) (name ∷ sets) = Some name ∷ names_before count sets
 
 -- after a statement: a declared set is visible to the end of its block
-abbrev pub names_behind : StatementKindTree → SetNames → SetNames
-names_behind (DeclareInteger name e) names = names
-names_behind (DeclareCondition name c) names = names
-names_behind (SetInteger slot e) names = names
-names_behind (SetCondition slot c) names = names
-names_behind (ReduceInteger slot by e) names = names
-names_behind (SetEntry vector index e) names = names
-names_behind (ReduceEntry vector index by e) names = names
-names_behind (DeclareSet name value) names = names ++ Some name ∷ []
-names_behind (AssignSet slot value) names = names
-names_behind (AddVertex slot e) names = names
-names_behind (PrintInteger e) names = names
-names_behind (PrintCondition c) names = names
-names_behind (ApplyVertex slot function) names = names
-names_behind (ApplyEdges ends function) names = names
-names_behind (If c body) names = names
-names_behind (IfElse c body other) names = names
-names_behind (While c body) names = names
-names_behind (For name first end body) names = names
+abbrev pub names_after : StatementKindTree → SetNames → SetNames
+names_after (DeclareInteger name e) names = names
+names_after (DeclareCondition name c) names = names
+names_after (SetInteger slot e) names = names
+names_after (SetCondition slot c) names = names
+names_after (ReduceInteger slot by e) names = names
+names_after (SetEntry vector index e) names = names
+names_after (ReduceEntry vector index by e) names = names
+names_after (DeclareSet name value) names = names ++ Some name ∷ []
+names_after (AssignSet slot value) names = names
+names_after (AddVertex slot e) names = names
+names_after (PrintInteger e) names = names
+names_after (PrintCondition c) names = names
+names_after (ApplyVertex slot function) names = names
+names_after (ApplyEdges ends function) names = names
+names_after (If c body) names = names
+names_after (IfElse c body other) names = names
+names_after (While c body) names = names
+names_after (For name first end body) names = names
 
 abbrev mutual
   -- P holds of each statement in the blocks of a statement
@@ -58,4 +58,4 @@ abbrev mutual
   -- P holds of each statement of a block, at the names that are visible before it
   pub HoldsOfEach : (P : SetNames → StatementKindTree → Type 0) → SetNames → BlockTree → Type 0
   HoldsOfEach P names Empty = Unit {0}
-  HoldsOfEach P names (Then number label action others) = P names action × HoldsInside P names action × HoldsOfEach P (names_behind action names) others
+  HoldsOfEach P names (Then number label action others) = P names action × HoldsInside P names action × HoldsOfEach P (names_after action names) others

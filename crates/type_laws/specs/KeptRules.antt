@@ -201,8 +201,8 @@ edges_after declared.EdgeSet b = true
 edges_after declared.WeightedEdgeSet b = true
 edges_after _ b = b
 
-abbrev pub behind_constant : Declarations → ParameterTree → Declarations
-behind_constant d p = record {
+abbrev pub after_constant : Declarations → ParameterTree → Declarations
+after_constant d p = record {
   known = with_name d.known p.name (constant_meaning d.vectors p.declared);
   vectors = counted_vectors p.declared d.vectors;
   edges = edges_after p.declared d.edges;
@@ -247,28 +247,28 @@ abbrev pub MainKeeps : Known → List ParameterTree → Option ParameterTree →
 MainKeeps k parameters result body = (parameters ≡ []) × (result ≡ None) × BlockKeeps inside.Main (known_in_main k) body
 
 -- after a function its name is visible, and those in it are forgotten
-abbrev pub behind_main : Declarations → Identifier → BlockTree → Declarations
-behind_main d name body =
+abbrev pub after_main : Declarations → Identifier → BlockTree → Declarations
+after_main d name body =
     record d { known = with_name (meaning.closed_known d.known (known_after inside.Main (known_in_main d.known) body)) name meaning.Main; main = true }
 
-abbrev pub function_behind : Declarations → Identifier → Meaning → Known → Declarations
-function_behind d name m after = record d { known = with_name (meaning.closed_known d.known after) name m }
+abbrev pub function_after : Declarations → Identifier → Meaning → Known → Declarations
+function_after d name m after = record d { known = with_name (meaning.closed_known d.known after) name m }
 
 -- what an edge function reduces is kept
-abbrev pub edge_function_behind : Declarations → Identifier → (weighted : Bool) → Known → Declarations
-edge_function_behind d name weighted after =
+abbrev pub edge_function_after : Declarations → Identifier → (weighted : Bool) → Known → Declarations
+edge_function_after d name weighted after =
     record d { known = record (with_name (meaning.closed_known d.known after) name (meaning.EdgeFunction (length d.known.written) weighted)) { written = after.written ++ after.reduced ∷ [] } }
 
-abbrev pub behind_function : Declarations → Identifier → List ParameterTree → Option ParameterTree → BlockTree → Declarations
-behind_function d name [] result body = d
-behind_function d name (v ∷ []) None body = function_behind d name meaning.VertexFunction (known_after inside.VertexFunction (known_at_vertex d.known v) body)
-behind_function d name (v ∷ []) (Some test) body = function_behind d name meaning.Filter (known_after inside.Filter (known_in_filter d.known v test) body)
-behind_function d name (src ∷ dst ∷ []) None body = edge_function_behind d name false (known_after inside.EdgeFunction (known_on_edge d.known src dst) body)
-behind_function d name (src ∷ dst ∷ []) (Some result) body = d
-behind_function d name (src ∷ dst ∷ w ∷ []) None body =
-    edge_function_behind d name true (known_after inside.EdgeFunction (known_on_weighted_edge d.known src dst w) body)
-behind_function d name (src ∷ dst ∷ w ∷ []) (Some result) body = d
-behind_function d name (a ∷ b ∷ c ∷ e ∷ others) result body = d
+abbrev pub after_function : Declarations → Identifier → List ParameterTree → Option ParameterTree → BlockTree → Declarations
+after_function d name [] result body = d
+after_function d name (v ∷ []) None body = function_after d name meaning.VertexFunction (known_after inside.VertexFunction (known_at_vertex d.known v) body)
+after_function d name (v ∷ []) (Some test) body = function_after d name meaning.Filter (known_after inside.Filter (known_in_filter d.known v test) body)
+after_function d name (src ∷ dst ∷ []) None body = edge_function_after d name false (known_after inside.EdgeFunction (known_on_edge d.known src dst) body)
+after_function d name (src ∷ dst ∷ []) (Some result) body = d
+after_function d name (src ∷ dst ∷ w ∷ []) None body =
+    edge_function_after d name true (known_after inside.EdgeFunction (known_on_weighted_edge d.known src dst w) body)
+after_function d name (src ∷ dst ∷ w ∷ []) (Some result) body = d
+after_function d name (a ∷ b ∷ c ∷ e ∷ others) result body = d
 
 -- a declaration, whose name is new; the function that is run is the one named `main`
 abbrev pub DeclarationKeeps : Declarations → DeclarationTree → Type 0
@@ -276,15 +276,15 @@ DeclarationKeeps d (source.Constant at p initial) = ConstantKeeps d p.declared i
 DeclarationKeeps d (source.Function at name parameters result body) =
     IsNew d.known name × (name.bytes ≡ main_bytes → MainKeeps d.known parameters result body) × (name.bytes ≢ main_bytes → FunctionKeeps d.known parameters result body)
 
-abbrev pub behind_declaration : Declarations → DeclarationTree → Declarations
-behind_declaration d (source.Constant at p initial) = behind_constant d p
-behind_declaration d (source.Function at name parameters result body) =
-    if bytes_eq name.bytes main_bytes then behind_main d name body else behind_function d name parameters result body
+abbrev pub after_declaration : Declarations → DeclarationTree → Declarations
+after_declaration d (source.Constant at p initial) = after_constant d p
+after_declaration d (source.Function at name parameters result body) =
+    if bytes_eq name.bytes main_bytes then after_main d name body else after_function d name parameters result body
 
 -- each declaration, after those before it; and one is main
 abbrev pub DeclarationsKeep : Declarations → List DeclarationTree → Type 0
 DeclarationsKeep d [] = d.main ≡ true
-DeclarationsKeep d (x ∷ others) = DeclarationKeeps d x × DeclarationsKeep (behind_declaration d x) others
+DeclarationsKeep d (x ∷ others) = DeclarationKeeps d x × DeclarationsKeep (after_declaration d x) others
 
 abbrev pub nothing_declared : Declarations
 nothing_declared = record { known = record { names = []; labels = []; reduced = []; written = [] }; vectors = 0; edges = false; main = false }

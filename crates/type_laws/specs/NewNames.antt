@@ -15,19 +15,19 @@ abbrev pub IsNew : List (List ℕ) → Identifier → Type 0
 IsNew visible name = AllByRecursion (λ other. name.bytes ≢ other) visible
 
 -- what is visible after a statement: a declared variable, to the end of its block
-abbrev pub names_behind : List (List ℕ) → StatementKindTree → List (List ℕ)
-names_behind visible (Declare at variable initial) = with_new visible variable.name
-names_behind visible (While at test body) = visible
-names_behind visible (For at name first limit body) = visible
-names_behind visible (If at test body) = visible
-names_behind visible (IfElse at test body otherwise) = visible
-names_behind visible (Print at e) = visible
-names_behind visible (Assign name initial) = visible
-names_behind visible (Reduce name by e) = visible
-names_behind visible (SetEntry vector index e) = visible
-names_behind visible (ReduceEntry vector index by e) = visible
-names_behind visible (AddVertex set e) = visible
-names_behind visible (Apply target ends function) = visible
+abbrev pub names_after : List (List ℕ) → StatementKindTree → List (List ℕ)
+names_after visible (Declare at variable initial) = with_new visible variable.name
+names_after visible (While at test body) = visible
+names_after visible (For at name first limit body) = visible
+names_after visible (If at test body) = visible
+names_after visible (IfElse at test body otherwise) = visible
+names_after visible (Print at e) = visible
+names_after visible (Assign name initial) = visible
+names_after visible (Reduce name by e) = visible
+names_after visible (SetEntry vector index e) = visible
+names_after visible (ReduceEntry vector index by e) = visible
+names_after visible (AddVertex set e) = visible
+names_after visible (Apply target ends function) = visible
 
 abbrev mutual
   -- each name that is declared in a statement is new where it is
@@ -47,7 +47,7 @@ abbrev mutual
 
   pub BlockDeclaresNew : List (List ℕ) → BlockTree → Type 0
   BlockDeclaresNew visible Empty = Unit {0}
-  BlockDeclaresNew visible (Then label action others) = ActionDeclaresNew visible action × BlockDeclaresNew (names_behind visible action) others
+  BlockDeclaresNew visible (Then label action others) = ActionDeclaresNew visible action × BlockDeclaresNew (names_after visible action) others
 
 -- parameters, one after the other, and a result
 abbrev pub with_parameters : List (List ℕ) → List ParameterTree → List (List ℕ)

@@ -15,7 +15,7 @@ use Rattle.types.specs.Block.{action_typed, closed, statements_typed}
 use Rattle.types.specs.Checker.{CheckerTree, counted, declared_in, integer_slot, labelled, restarted, with_scope}
 use Rattle.types.specs.Declaration.{DeclaredTree, FunctionKindTree, MainKind, declaration_typed, inside_of, kind, opened, parameter, takes_weight}
 use Rattle.types.specs.Program.{opening, set_count}
-use Rattle.types.specs.Step.{step_typed, steps_behind, steps_typed, with_writes}
+use Rattle.types.specs.Step.{step_typed, steps_after, steps_typed, with_writes}
 use Rattle.type_laws.specs.ExpressionParts as form
 use Rattle.type_laws.specs.ExpressionParts.{Form}
 
@@ -95,7 +95,7 @@ function_statement_parts c (source.For at name first limit body) =
     IntWanted c.scope at first ∷ IntWanted c.scope at limit ∷ NewName c.scope name ∷ FunctionBlock (in_for c name) body ∷ []
 function_statement_parts c (source.If at test body) = BoolWanted c.scope at test ∷ FunctionBlock c body ∷ []
 function_statement_parts c (source.IfElse at test body otherwise) =
-    BoolWanted c.scope at test ∷ FunctionBlock c body ∷ FunctionBlock (steps_behind c (steps_typed c NoStep body).value.1) otherwise ∷ []
+    BoolWanted c.scope at test ∷ FunctionBlock c body ∷ FunctionBlock (steps_after c (steps_typed c NoStep body).value.1) otherwise ∷ []
 function_statement_parts c (source.Print at e) = []
 function_statement_parts c (source.Assign name initial) = name_of c.scope name.at name ∷ Initial c name.at initial ∷ []
 function_statement_parts c (source.Reduce name by e) = name_of c.scope name.at name ∷ whole c.scope name.at e ∷ []

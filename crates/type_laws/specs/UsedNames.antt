@@ -6,7 +6,7 @@ use Rattle.syntax.specs.SourceTrees as tree
 use Rattle.syntax.specs.SourceTrees.{ExpressionTree, ConjunctionTree, ComparisonTree, SumTree, TermTree, UnaryTree, PrimaryTree}
 use Rattle.syntax.specs.SourceTrees as source
 use Rattle.syntax.specs.SourceTrees.{EndsTree, InitialTree, StatementKindTree, BlockTree, DeclarationTree}
-use Rattle.type_laws.specs.NewNames.{names_behind, names_inside, with_declaration, with_new}
+use Rattle.type_laws.specs.NewNames.{names_after, names_inside, with_declaration, with_new}
 
 abbrev pub IsVisible : List (List ℕ) → Identifier → Type 0
 IsVisible visible name = Contains visible name.bytes
@@ -86,7 +86,7 @@ abbrev mutual
   -- each statement, at what is visible after those before it
   pub BlockUsesVisible : List (List ℕ) → BlockTree → Type 0
   BlockUsesVisible visible source.Empty = Unit {0}
-  BlockUsesVisible visible (source.Then label action others) = ActionUsesVisible visible action × BlockUsesVisible (names_behind visible action) others
+  BlockUsesVisible visible (source.Then label action others) = ActionUsesVisible visible action × BlockUsesVisible (names_after visible action) others
 
 -- The name of a declaration is visible after its end.
 abbrev pub DeclarationUsesVisible : List (List ℕ) → DeclarationTree → Type 0

@@ -160,25 +160,25 @@ abbrev mutual
   StepsAreResolved p v (step.StepThen first others) = StepIsResolved p v first × StepsAreResolved p (behind_step first v) others
 
 -- after a statement of main
-abbrev pub behind_action : StatementKindTree → VisibleTree → VisibleTree
-behind_action (action.DeclareInteger name e) v = with_integer name v
-behind_action (action.DeclareCondition name c) v = with_condition name v
-behind_action (action.SetInteger slot e) v = v
-behind_action (action.SetCondition slot c) v = v
-behind_action (action.ReduceInteger slot by e) v = v
-behind_action (action.SetEntry vector index e) v = v
-behind_action (action.ReduceEntry vector index by e) v = v
-behind_action (action.DeclareSet name value) v = with_set name v
-behind_action (action.AssignSet slot value) v = v
-behind_action (action.AddVertex slot e) v = v
-behind_action (action.PrintInteger e) v = v
-behind_action (action.PrintCondition c) v = v
-behind_action (action.ApplyVertex slot function) v = v
-behind_action (action.ApplyEdges ends function) v = v
-behind_action (action.If c body) v = v
-behind_action (action.IfElse c body other) v = v
-behind_action (action.While c body) v = v
-behind_action (action.For name first end body) v = v
+abbrev pub after_action : StatementKindTree → VisibleTree → VisibleTree
+after_action (action.DeclareInteger name e) v = with_integer name v
+after_action (action.DeclareCondition name c) v = with_condition name v
+after_action (action.SetInteger slot e) v = v
+after_action (action.SetCondition slot c) v = v
+after_action (action.ReduceInteger slot by e) v = v
+after_action (action.SetEntry vector index e) v = v
+after_action (action.ReduceEntry vector index by e) v = v
+after_action (action.DeclareSet name value) v = with_set name v
+after_action (action.AssignSet slot value) v = v
+after_action (action.AddVertex slot e) v = v
+after_action (action.PrintInteger e) v = v
+after_action (action.PrintCondition c) v = v
+after_action (action.ApplyVertex slot function) v = v
+after_action (action.ApplyEdges ends function) v = v
+after_action (action.If c body) v = v
+after_action (action.IfElse c body other) v = v
+after_action (action.While c body) v = v
+after_action (action.For name first end body) v = v
 
 abbrev mutual
   pub ActionIsResolved : ProgramTree → VisibleTree → StatementKindTree → Type 0
@@ -206,7 +206,7 @@ abbrev mutual
   pub BlockIsResolved : ProgramTree → VisibleTree → BlockTree → Type 0
   BlockIsResolved p v action.Empty = Unit {0}
   BlockIsResolved p v (action.Then number label first others) =
-      IsLabel p label × ActionIsResolved p v first × BlockIsResolved p (behind_action first v) others
+      IsLabel p label × ActionIsResolved p v first × BlockIsResolved p (after_action first v) others
 
 -- functions with their names
 abbrev pub EdgeFunctionIsResolved : ProgramTree → FunctionTree → Type 0

@@ -31,7 +31,7 @@ use Rattle.types.specs.Block.{statements_typed}
 use Rattle.types.specs.Declaration.{DeclaredTree, FunctionKindTree, MainKind, EdgeKind, VertexKind, FilterKind, NoKind, declaration_typed, declarations_typed, declare_constant_as, declare_function, declare_name, function_of, inside_of, kind, opened, parameter, parameters_declared, result_declared, result_entity, with_main, takes_weight}
 use Rattle.types.specs.EdgeWrites.{ReducesInOneWay, SetsNoEntry, StepReduces, StepSetsNoEntry, StepsReduce}
 use Rattle.types.specs.Initial.{InitializerTree, initializer_of}
-use Rattle.types.specs.Step.{assigned_step, declare_step_as, entry_step, may_reduce, may_set, one_reduction, own_vertex, reduce_entry_step, reduced_as, reduced_step, reduction_step, same_reduction, step_behind, step_typed, steps_behind, steps_typed, with_writes, written_at, written_with}
+use Rattle.types.specs.Step.{assigned_step, declare_step_as, entry_step, may_reduce, may_set, one_reduction, own_vertex, reduce_entry_step, reduced_as, reduced_step, reduction_step, same_reduction, step_after, step_typed, steps_after, steps_typed, with_writes, written_at, written_with}
 use Rattle.types.specs.Program.{opening, program_of, set_count}
 use Rattle.types.specs.Checker.{integer_in}
 
@@ -76,9 +76,9 @@ mutual
   steps_extend old new NoStep more agree = tt
   steps_extend old new (StepThen step others) more agree = (step_extends old new step more agree.0, steps_extend old new others more agree.1)
 
-agree_behind : (writes : Writes) (steps : FunctionStatementsTree) (step : FunctionStatementTree) → StepsAgree writes steps → StepAgrees writes step → StepsAgree writes (step_behind steps step)
-agree_behind writes NoStep step agree agrees = (agrees, tt)
-agree_behind writes (StepThen s others) step agree agrees = (agree.0, agree_behind writes others step agree.1 agrees)
+agree_after : (writes : Writes) (steps : FunctionStatementsTree) (step : FunctionStatementTree) → StepsAgree writes steps → StepAgrees writes step → StepsAgree writes (step_after steps step)
+agree_after writes NoStep step agree agrees = (agrees, tt)
+agree_after writes (StepThen s others) step agree agrees = (agree.0, agree_after writes others step agree.1 agrees)
 
 -- a checker after a statement: in the same function, where what was written stays so
 abbrev pub GoesOn : CheckerTree → CheckerTree → Type 0
@@ -211,7 +211,7 @@ abbrev pub AllFit : CheckerTree → FunctionStatementsTree × CheckerTree → Ty
 AllFit c r = GoesOn c r.1 × StepsAgree r.1.writes r.0
 
 -- after a block the old scope stands again
-block_goes : (c d : CheckerTree) → GoesOn c d → GoesOn c (steps_behind c d)
+block_goes : (c d : CheckerTree) → GoesOn c d → GoesOn c (steps_after c d)
 block_goes c d goes = (refl, goes.1)
 
 mutual
@@ -227,12 +227,12 @@ mutual
       let all = steps_fit c NoStep body is tt in (block_goes c (steps_typed c NoStep body).value.1 all.0, all.1)
   step_fits c (source.IfElse at test body otherwise) is =
       let b = (steps_typed c NoStep body).value in
-      let d = steps_behind c b.1 in
+      let d = steps_after c b.1 in
       let o = (steps_typed d NoStep otherwise).value in
       let all = steps_fit c NoStep body is tt in
       let others = steps_fit d NoStep otherwise is tt in
       let behind = block_goes d o.1 others.0 in
-      (goes_further c d (steps_behind d o.1) (block_goes c b.1 all.0) behind, (steps_extend b.1.writes o.1.writes b.0 others.0.1 all.1, others.1))
+      (goes_further c d (steps_after d o.1) (block_goes c b.1 all.0) behind, (steps_extend b.1.writes o.1.writes b.0 others.0.1 all.1, others.1))
   step_fits c (source.Print at e) is = (stays c, tt)
   step_fits c (source.Assign name initial) is =
       (stays c, assigned_agrees c.writes name.at (initializer_of c name.at initial).value (used c.scope name).value)
@@ -253,8 +253,8 @@ mutual
       let labels = labelled_goes c label in
       let first = step_fits l.1 action (labels.0 ∙ is) in
       let goes = goes_further c l.1 s.1 labels first.0 in
-      let rest = steps_fit s.1 (step_behind so_far s.0) others (goes.0 ∙ is) (agree_behind s.1.writes so_far s.0 (steps_extend c.writes s.1.writes so_far goes.1 agree) first.1) in
-      (goes_further c s.1 (steps_typed s.1 (step_behind so_far s.0) others).value.1 goes rest.0, rest.1)
+      let rest = steps_fit s.1 (step_after so_far s.0) others (goes.0 ∙ is) (agree_after s.1.writes so_far s.0 (steps_extend c.writes s.1.writes so_far goes.1 agree) first.1) in
+      (goes_further c s.1 (steps_typed s.1 (step_after so_far s.0) others).value.1 goes rest.0, rest.1)
 
 -- what agrees with what is written
 mutual
@@ -304,9 +304,9 @@ writes_well f writes agree = (
   steps_set_none writes f.steps agree,
 )
 
-all_behind : (fs : List FunctionTree) (f : FunctionTree) → AllByRecursion WritesWell fs → WritesWell f → AllByRecursion WritesWell (fs ++ f ∷ [])
-all_behind [] f all well = (well, tt)
-all_behind (g ∷ fs) f all well = (all.0, all_behind fs f all.1 well)
+all_after : (fs : List FunctionTree) (f : FunctionTree) → AllByRecursion WritesWell fs → WritesWell f → AllByRecursion WritesWell (fs ++ f ∷ [])
+all_after [] f all well = (well, tt)
+all_after (g ∷ fs) f all well = (all.0, all_after fs f all.1 well)
 
 -- declarations
 abbrev pub AllWriteWell : DeclaredTree → Type 0
@@ -357,7 +357,7 @@ function_well d at name parameters result body (MainKind fits) all =
     main_well (declare_name (record d { checker = with_scope b.1 d.checker.scope }) name entity.Main).value fits b.0 all
 function_well d at name parameters result body (EdgeKind weighted) all =
     let b = (steps_typed (opened d.checker (EdgeKind weighted) parameters result).value NoStep body).value in
-    all_behind d.edge_functions (function_of (record d { checker = with_scope b.1 d.checker.scope }) b.0) all
+    all_after d.edge_functions (function_of (record d { checker = with_scope b.1 d.checker.scope }) b.0) all
     (edge_well weighted d.checker (length b.1.names) parameters result body)
 function_well d at name parameters result body VertexKind all = all
 function_well d at name parameters result body FilterKind all = all

@@ -8,7 +8,7 @@ use Rattle.syntax.specs.Offsets.{IsOffsetIn, StandWhere, StandsWhere}
 use Rattle.syntax.specs.SourceTrees as source
 use Rattle.syntax.specs.SourceTrees.{CallTree, ChainTree, DeclarationTree, InitialTree, ParameterTree, SourceTree}
 use Rattle.syntax.specs.SourceSpelling.{assigned_before, block_before, chain_before, declaration_before, each_before, next_call_before, next_parameter_before, parameters_before, result_before, schedule_before, source_terminals}
-use Rattle.syntax.proofs.Behind.{all_both, chain_behind, declaration_behind, each_behind, next_call_behind, parameters_behind, result_behind, typed_behind}
+use Rattle.syntax.proofs.Behind.{all_both, chain_after, declaration_after, each_after, next_call_after, parameters_after, result_after, typed_after}
 use Rattle.syntax.proofs.Offsets.{each_stands}
 use Rattle.typed_tree.specs.declared.expression.Endpoint.{Endpoint}
 use Rattle.typed_tree.specs.declared.expression.Endpoint.TheVariants as endpoint
@@ -87,11 +87,11 @@ NamesStand P parameters = AllByRecursion (λ p. P p.name.at) parameters
 
 others_stand : (P : ℕ → Type 0) (parameters : List ParameterTree) (rest : List Terminal) → StandWhere P (each_before next_parameter_before parameters rest) → NamesStand P parameters
 others_stand P [] rest all = tt
-others_stand P (p ∷ others) rest all = (all.1.0, others_stand P others rest (typed_behind (StandsWhere P) p _ all.1))
+others_stand P (p ∷ others) rest all = (all.1.0, others_stand P others rest (typed_after (StandsWhere P) p _ all.1))
 
 names_stand : (P : ℕ → Type 0) (parameters : List ParameterTree) (rest : List Terminal) → StandWhere P (parameters_before parameters rest) → NamesStand P parameters
 names_stand P [] rest all = tt
-names_stand P (p ∷ others) rest all = (all.0, others_stand P others rest (typed_behind (StandsWhere P) p _ all))
+names_stand P (p ∷ others) rest all = (all.0, others_stand P others rest (typed_after (StandsWhere P) p _ all))
 
 parameters_stand : (w : Bool) (P : ℕ → Type 0) (c : CheckerTree) (p : Endpoint) (parameters : List ParameterTree) → NamesStand P parameters → FaultsStand P (parameters_declared w c p parameters)
 parameters_stand w P c p [] names = tt
@@ -164,23 +164,23 @@ function_stands P d at name parameters result body NoKind stands = steps_declare
 declaration_stands : (P : ℕ → Type 0) (d : DeclaredTree) (x : DeclarationTree) (rest : List Terminal) → StandWhere P (declaration_before x rest) → FaultsStand P (declaration_typed d x)
 declaration_stands P d (source.Constant at p initial) rest all =
     let initializer = initializer_of d.checker at initial in
-    let behind_type = typed_behind (StandsWhere P) p (assigned_before initial rest) all.1 in
-    both_stand P initializer.faults _ (initializer_stands P d.checker at initial _ all.0 behind_type.1) (constant_stands P d at p.name initial p.declared initializer.value all.0 all.1.0)
+    let after_type = typed_after (StandsWhere P) p (assigned_before initial rest) all.1 in
+    both_stand P initializer.faults _ (initializer_stands P d.checker at initial _ all.0 after_type.1) (constant_stands P d at p.name initial p.declared initializer.value all.0 all.1.0)
 declaration_stands P d (source.Function at name parameters result body) rest all =
-    let inside = parameters_behind (StandsWhere P) parameters _ all.1.1.1 in
+    let inside = parameters_after (StandsWhere P) parameters _ all.1.1.1 in
     function_stands P d at name parameters result body (kind name.bytes parameters result) (record {
       here = all.0;
       there = all.1.0;
       names = names_stand P parameters _ all.1.1.1;
       inside = (_, inside.1);
-      block = (_, result_behind (StandsWhere P) result _ inside.1);
+      block = (_, result_after (StandsWhere P) result _ inside.1);
     })
 
 declarations_stand : (P : ℕ → Type 0) (d : DeclaredTree) (xs : List DeclarationTree) (rest : List Terminal) → StandWhere P (each_before declaration_before xs rest) → FaultsStand P (declarations_typed d xs)
 declarations_stand P d [] rest all = tt
 declarations_stand P d (x ∷ others) rest all =
     let e = declaration_typed d x in
-    both_stand P e.faults _ (declaration_stands P d x _ all) (declarations_stand P e.value others rest (declaration_behind (StandsWhere P) x _ all))
+    both_stand P e.faults _ (declaration_stands P d x _ all) (declarations_stand P e.value others rest (declaration_after (StandsWhere P) x _ all))
 
 main_of_stands : (P : ℕ → Type 0) (end : ℕ) (main : Option BlockTree) → P end → FaultsStand P (main_of end main)
 main_of_stands P end None last = (last, tt)
@@ -200,14 +200,14 @@ CallsStand P calls = AllByRecursion (λ call. P call.at) calls
 
 calls_stand : (P : ℕ → Type 0) (calls : List CallTree) (rest : List Terminal) → StandWhere P (each_before next_call_before calls rest) → CallsStand P (map schedule_call calls)
 calls_stand P [] rest all = tt
-calls_stand P (call ∷ others) rest all = (all.1.0, calls_stand P others rest (next_call_behind (StandsWhere P) call _ all))
+calls_stand P (call ∷ others) rest all = (all.1.0, calls_stand P others rest (next_call_after (StandsWhere P) call _ all))
 
 chains_stand : (P : ℕ → Type 0) (chains : List ChainTree) (rest : List Terminal) → StandWhere P (each_before chain_before chains rest) → CallsStand P (chain_calls chains)
 chains_stand P [] rest all = tt
 chains_stand P (chain ∷ others) rest all = (
   all.1.1.0,
-  all_both (λ call. P call.at) (map schedule_call chain.more) (chain_calls others) (calls_stand P chain.more _ (next_call_behind (StandsWhere P) chain.first _ all.1))
-      (chains_stand P others rest (chain_behind (StandsWhere P) chain _ all)),
+  all_both (λ call. P call.at) (map schedule_call chain.more) (chain_calls others) (calls_stand P chain.more _ (next_call_after (StandsWhere P) chain.first _ all.1))
+      (chains_stand P others rest (chain_after (StandsWhere P) chain _ all)),
 )
 
 schedule_stands : (P : ℕ → Type 0) (schedule : Option (List ChainTree)) → StandWhere P (schedule_before schedule []) → CallsStand P (schedule_calls schedule)
@@ -216,7 +216,7 @@ schedule_stands P (Some chains) all = chains_stand P chains [] all.1.1
 
 pub schedule_calls_stand : (P : ℕ → Type 0) (source : SourceTree) (end : ℕ) → StandWhere P (source_terminals source) → CallsStand P (program_of source end).value.schedule
 schedule_calls_stand P source end all =
-    schedule_stands P source.schedule (each_behind (StandsWhere P) declaration_before (declaration_behind (StandsWhere P)) source.declarations _ all.1.1.1.1.1.1)
+    schedule_stands P source.schedule (each_after (StandsWhere P) declaration_before (declaration_after (StandsWhere P)) source.declarations _ all.1.1.1.1.1.1)
 
 -- so they are offsets in it
 pub fault_offsets : (source : SourceTree) (end : ℕ) → AllByRecursion (λ f. IsOffsetIn (source_terminals source) f.at ⊎ (f.at ≡ end)) (program_of source end).faults

@@ -10,7 +10,7 @@ use Rattle.syntax.specs.ExpressionSpelling.{expression_terminals}
 use Rattle.syntax.specs.Offsets.{StandWhere, StandsWhere}
 use Rattle.syntax.specs.SourceTrees as source
 use Rattle.syntax.specs.SourceSpelling.{action_before, assigned_before, block_before, ends_before, initial_before, label_terminals}
-use Rattle.syntax.proofs.Behind.{action_behind, all_left, all_right, block_behind, ends_behind, typed_behind}
+use Rattle.syntax.proofs.Behind.{action_after, all_left, all_right, block_behind, ends_after, typed_after}
 use Rattle.syntax.proofs.Offsets.{from_stands, to_stands}
 use Rattle.typed_tree.specs.declared.expression.VarRef.{VarRef}
 use Rattle.typed_tree.specs.BlockTree.{StatementKindTree, BlockTree, Empty}
@@ -171,8 +171,8 @@ mutual
   action_stands : (P : ℕ → Type 0) (c : CheckerTree) (action : source.StatementKindTree) (rest : List Terminal) → StandWhere P (action_before action rest) → FaultsStand P (action_typed c action)
   action_stands P c (source.Declare at p initial) rest all =
       let initializer = initializer_of c at initial in
-      let behind_type = typed_behind (StandsWhere P) p (assigned_before initial rest) all.1 in
-      both_stand P initializer.faults _ (initializer_stands P c at initial _ all.0 behind_type.1) (declare_as_stands P c at p.name initializer.value p.declared all.0 all.1.0)
+      let after_type = typed_after (StandsWhere P) p (assigned_before initial rest) all.1 in
+      both_stand P initializer.faults _ (initializer_stands P c at initial _ all.0 after_type.1) (declare_as_stands P c at p.name initializer.value p.declared all.0 all.1.0)
   action_stands P c (source.While at test body) rest all =
       let t = condition_in c.scope at test in
       let b = statements_typed c Empty body in
@@ -213,7 +213,7 @@ mutual
       in_place_stands P c (reduce_entry c.scope vector.at vector index by e) (entry_parts_stand P c.scope vector index e all.0 (in_front P index _ all.1.1) (in_front P e _ second.1.1))
   action_stands P c (source.AddVertex set e) rest all = in_place_stands P c (add_vertex c.scope set.at set e) (add_vertex_stands P c.scope set e all.0 (in_front P e _ all.1.1.1.1))
   action_stands P c (source.Apply target ends function) rest all =
-      let names = ends_behind (StandsWhere P) ends _ all.1 in
+      let names = ends_after (StandsWhere P) ends _ all.1 in
       in_place_stands P c (apply c.scope target.at target ends function) (apply_stands P c.scope target ends function _ all.0 names.1.1.1.0 all.1)
 
   pub statements_stand : (P : ℕ → Type 0) (c : CheckerTree) (so_far : BlockTree) (block : source.BlockTree) (rest : List Terminal) → StandWhere P (block_before block rest)
@@ -225,4 +225,4 @@ mutual
       let statement = all_right (StandsWhere P) (label_terminals label) _ all in
       both_stand P l.faults _ (labelled_stands P c label (all_left (StandsWhere P) (label_terminals label) _ all))
       (both_stand P a.faults _ (action_stands P (counted l.value.1) action _ statement)
-      (statements_stand P a.value.1 (behind so_far (suc l.value.1.statements) l.value.0 a.value.0) others rest (action_behind (StandsWhere P) action _ statement)))
+      (statements_stand P a.value.1 (behind so_far (suc l.value.1.statements) l.value.0 a.value.0) others rest (action_after (StandsWhere P) action _ statement)))

@@ -11,7 +11,7 @@ use Rattle.syntax.specs.ExpressionSpelling.{expression_terminals}
 use Rattle.syntax.specs.Offsets.{StandWhere, StandsWhere}
 use Rattle.syntax.specs.SourceTrees as source
 use Rattle.syntax.specs.SourceSpelling.{action_before, assigned_before, block_before, ends_before, initial_before, label_terminals}
-use Rattle.syntax.proofs.Behind.{action_behind, all_left, all_right, block_behind, ends_behind, typed_behind}
+use Rattle.syntax.proofs.Behind.{action_after, all_left, all_right, block_behind, ends_after, typed_after}
 use Rattle.syntax.proofs.Offsets.{from_stands, to_stands}
 use Rattle.typed_tree.specs.declared.expression.Endpoint.{Endpoint}
 use Rattle.typed_tree.specs.FunctionStatementTree.{FunctionStatementTree, FunctionStatementsTree, NoStep}
@@ -26,7 +26,7 @@ use Rattle.expression_types.specs.ValueTree.{ValueTree, Integer, Condition, Vert
 use Rattle.expression_types.proofs.FaultOffsets.{FaultsStand, both_stand, index_stands, used_stands, value_stands, vector_stands}
 use Rattle.types.specs.Checker.{CheckerTree, condition_slot, declared_in, integer_slot, labelled}
 use Rattle.types.specs.Initial.{InitializerTree, initializer_condition, end_of, initializer_of, initializer_integer}
-use Rattle.types.specs.Step.{assign_step, assigned_step, at_own, declare_step_as, may_reduce, may_set, no_add, no_apply, one_reduction, own_vertex, reduce_entry_step, reduce_step, reduced_as, reduced_step, same_endpoint, same_reduction, set_entry_step, step_behind, step_in_place, step_typed, steps_behind, steps_typed, written_at, written_with}
+use Rattle.types.specs.Step.{assign_step, assigned_step, at_own, declare_step_as, may_reduce, may_set, no_add, no_apply, one_reduction, own_vertex, reduce_entry_step, reduce_step, reduced_as, reduced_step, same_endpoint, same_reduction, set_entry_step, step_after, step_in_place, step_typed, steps_after, steps_typed, written_at, written_with}
 use Rattle.types.specs.Checker.{as_integer, condition_in, integer_in}
 use Rattle.types.proofs.ValueOffsets.{as_integer_stands, initializer_condition_stands, condition_in_stands, end_stands, initializer_stands, initializer_integer_stands, integer_in_stands}
 use Rattle.types.proofs.StatementOffsets.{at_back, declared_in_stands, in_front, labelled_stands, last_stands}
@@ -161,8 +161,8 @@ mutual
   step_stands : (P : ℕ → Type 0) (c : CheckerTree) (action : source.StatementKindTree) (rest : List Terminal) → StandWhere P (action_before action rest) → FaultsStand P (step_typed c action)
   step_stands P c (source.Declare at p initial) rest all =
       let initializer = initializer_of c at initial in
-      let behind_type = typed_behind (StandsWhere P) p (assigned_before initial rest) all.1 in
-      both_stand P initializer.faults _ (initializer_stands P c at initial _ all.0 behind_type.1) (declare_step_as_stands P c at p.name initializer.value p.declared all.0 all.1.0)
+      let after_type = typed_after (StandsWhere P) p (assigned_before initial rest) all.1 in
+      both_stand P initializer.faults _ (initializer_stands P c at initial _ all.0 after_type.1) (declare_step_as_stands P c at p.name initializer.value p.declared all.0 all.1.0)
   step_stands P c (source.While at test body) rest all =
       let t = condition_in c.scope at test in
       let b = steps_typed c NoStep body in (
@@ -190,12 +190,12 @@ mutual
   step_stands P c (source.IfElse at test body otherwise) rest all =
       let t = condition_in c.scope at test in
       let b = steps_typed c NoStep body in
-      let o = steps_typed (steps_behind c b.value.1) NoStep otherwise in
+      let o = steps_typed (steps_after c b.value.1) NoStep otherwise in
       let inside = at_back P test _ all.1 in
       let second = block_behind (StandsWhere P) body _ inside in
       both_stand P t.faults _ (condition_in_stands P c.scope at test all.0 (in_front P test _ all.1))
       (both_stand P b.faults _ (steps_stand P c NoStep body _ inside)
-      (both_stand P o.faults [] (steps_stand P (steps_behind c b.value.1) NoStep otherwise _ second.1) tt))
+      (both_stand P o.faults [] (steps_stand P (steps_after c b.value.1) NoStep otherwise _ second.1) tt))
   step_stands P c (source.Print at e) rest all = (all.0, tt)
   step_stands P c (source.Assign name initial) rest all = step_in_place_stands P c (assign_step c name.at name initial) (assign_step_stands P c name initial _ all.0 all.1.1)
   step_stands P c (source.Reduce name by e) rest all = step_in_place_stands P c (reduce_step c.scope name.at name by e) (reduce_step_stands P c.scope name by e all.0 (in_front P e _ all.1.1))
@@ -206,7 +206,7 @@ mutual
       let second = at_back P index _ all.1.1 in reduce_entry_step_stands P c vector index by e all.0 (in_front P index _ all.1.1) (in_front P e _ second.1.1)
   step_stands P c (source.AddVertex set e) rest all = step_in_place_stands P c (no_add c.scope set.at set e) (no_add_stands P c.scope set e all.0 (in_front P e _ all.1.1.1.1))
   step_stands P c (source.Apply target ends function) rest all =
-      let names = ends_behind (StandsWhere P) ends _ all.1 in
+      let names = ends_after (StandsWhere P) ends _ all.1 in
       step_in_place_stands P c (no_apply c.scope target.at target ends function) (no_apply_stands P c.scope target ends function _ all.0 names.1.1.1.0 all.1)
 
   pub steps_stand : (P : ℕ → Type 0) (c : CheckerTree) (so_far : FunctionStatementsTree) (block : source.BlockTree) (rest : List Terminal) → StandWhere P (block_before block rest)
@@ -218,4 +218,4 @@ mutual
       let statement = all_right (StandsWhere P) (label_terminals label) _ all in
       both_stand P l.faults _ (labelled_stands P c label (all_left (StandsWhere P) (label_terminals label) _ all))
       (both_stand P s.faults _ (step_stands P l.value.1 action _ statement)
-      (steps_stand P s.value.1 (step_behind so_far s.value.0) others rest (action_behind (StandsWhere P) action _ statement)))
+      (steps_stand P s.value.1 (step_after so_far s.value.0) others rest (action_after (StandsWhere P) action _ statement)))

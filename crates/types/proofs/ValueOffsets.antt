@@ -8,7 +8,7 @@ use Rattle.syntax.specs.Offsets.{StandWhere, StandsWhere}
 use Rattle.syntax.specs.SourceTrees as source
 use Rattle.syntax.specs.SourceTrees.{InitialTree}
 use Rattle.syntax.specs.SourceSpelling.{initial_before}
-use Rattle.syntax.proofs.Behind.{all_left, ends_behind}
+use Rattle.syntax.proofs.Behind.{all_left, ends_after}
 use Rattle.syntax.proofs.Offsets.{from_stands, to_stands}
 use Rattle.typed_tree.specs.declared.expression.VarRef.{VarRef}
 use Rattle.typed_tree.specs.declared.statement.ApplyEnds.{ApplyEnds}
@@ -128,7 +128,7 @@ initializer_stands P c at (source.ApplyModified edges ends function vector) rest
     let b = end_of c.scope ends.to in
     let f = used c.scope function in
     let v = used c.scope vector in
-    let names = ends_behind (StandsWhere P) ends _ all.1 in
+    let names = ends_after (StandsWhere P) ends _ all.1 in
     both_stand P e.faults _ (used_stands P c.scope edges all.0)
     (both_stand P a.faults _ (end_stands P c.scope ends.from (from_stands P ends _ all.1))
     (both_stand P b.faults _ (end_stands P c.scope ends.to (to_stands P ends _ all.1))

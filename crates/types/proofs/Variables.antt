@@ -46,17 +46,17 @@ declare_step_as-steps c at name initializer declared.Vector = refl
 declare_step_as-steps c at name initializer declared.EdgeSet = refl
 declare_step_as-steps c at name initializer declared.WeightedEdgeSet = refl
 
-visible_behind : {A : Type 0} (c d : CheckerTree) (name : Identifier) (m : WithFaults (Entity × A)) (v : Entity × A) (old between new : Option Fault)
+visible_after : {A : Type 0} (c d : CheckerTree) (name : Identifier) (m : WithFaults (Entity × A)) (v : Entity × A) (old between new : Option Fault)
     → outcome old m ≡ (v, between) → outcome between (declared_in c name v.0) ≡ (d, new) → outcome old (m >>= visible_then c name) ≡ ((v.1, d), new)
-visible_behind c d name m v old between new is visible =
+visible_after c d name m v old between new is visible =
     outcome_then old between m v (visible_then c name) is ∙ outcome_then between new (declared_in c name v.0) d (λ d. sure (v.1, d)) visible
 
 pub declared_as : (c d : CheckerTree) (at : ℕ) (name : Identifier) (initializer : InitializerTree) (type : DeclaredType) (v : Entity × StatementKindTree) (old between new : Option Fault)
     → outcome old (variable_as c at initializer type) ≡ (v, between) → outcome between (declared_in c name v.0) ≡ (d, new) → outcome old (declare_as c at name initializer type) ≡ ((v.1, d), new)
 declared_as c d at name initializer type v old between new is visible =
-    ap (outcome old) (declare_as-steps c at name initializer type) ∙ visible_behind c d name (variable_as c at initializer type) v old between new is visible
+    ap (outcome old) (declare_as-steps c at name initializer type) ∙ visible_after c d name (variable_as c at initializer type) v old between new is visible
 
 pub declared_step_as : (c d : CheckerTree) (at : ℕ) (name : Identifier) (initializer : InitializerTree) (type : DeclaredType) (v : Entity × FunctionStatementTree) (old between new : Option Fault)
     → outcome old (step_variable_as c at initializer type) ≡ (v, between) → outcome between (declared_in c name v.0) ≡ (d, new) → outcome old (declare_step_as c at name initializer type) ≡ ((v.1, d), new)
 declared_step_as c d at name initializer type v old between new is visible =
-    ap (outcome old) (declare_step_as-steps c at name initializer type) ∙ visible_behind c d name (step_variable_as c at initializer type) v old between new is visible
+    ap (outcome old) (declare_step_as-steps c at name initializer type) ∙ visible_after c d name (step_variable_as c at initializer type) v old between new is visible

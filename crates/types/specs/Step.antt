@@ -193,32 +193,32 @@ abbrev pub step_in_place : CheckerTree → WithFaults FunctionStatementTree → 
 step_in_place c step = step >>= λ s. sure (s, c)
 
 -- the statements so far, with one more after them
-abbrev pub step_behind : FunctionStatementsTree → FunctionStatementTree → FunctionStatementsTree
-step_behind NoStep step = StepThen step NoStep
-step_behind (StepThen s others) step = StepThen s (step_behind others step)
+abbrev pub step_after : FunctionStatementsTree → FunctionStatementTree → FunctionStatementsTree
+step_after NoStep step = StepThen step NoStep
+step_after (StepThen s others) step = StepThen s (step_after others step)
 
 -- after a block the names that became visible in it are forgotten
-abbrev pub steps_behind : CheckerTree → CheckerTree → CheckerTree
-steps_behind c d = with_scope d c.scope
+abbrev pub steps_after : CheckerTree → CheckerTree → CheckerTree
+steps_after c d = with_scope d c.scope
 
 -- The name of a `for` is visible in its body alone, and its bounds are looked at before.
 abbrev pub no_for : CheckerTree → ℕ → Identifier → (first limit : ExpressionTree) → (CheckerTree → WithFaults (FunctionStatementsTree × CheckerTree)) → WithFaults (FunctionStatementTree × CheckerTree)
 no_for c at name first limit body =
     fault_at at rule.WrongType no_step >>= λ s. integer_in c.scope at first >>= λ a. integer_in c.scope at limit >>= λ z.
-    declared_in c name (entity.LoopVariable (integer_slot c)) >>= λ d. body d >>= λ b. sure (s, steps_behind c b.1)
+    declared_in c name (entity.LoopVariable (integer_slot c)) >>= λ d. body d >>= λ b. sure (s, steps_after c b.1)
 
 abbrev mutual
   pub step_typed : CheckerTree → source.StatementKindTree → WithFaults (FunctionStatementTree × CheckerTree)
   step_typed c (source.Declare at p initial) = declare_step c at p.name p.declared initial
   step_typed c (source.While at test body) =
-      fault_at at rule.WrongType no_step >>= λ s. condition_in c.scope at test >>= λ t. steps_typed c NoStep body >>= λ b. sure (s, steps_behind c b.1)
+      fault_at at rule.WrongType no_step >>= λ s. condition_in c.scope at test >>= λ t. steps_typed c NoStep body >>= λ b. sure (s, steps_after c b.1)
   step_typed c (source.For at name first limit body) =
       no_for c at name first limit (λ d. steps_typed d NoStep body)
   step_typed c (source.If at test body) =
-      condition_in c.scope at test >>= λ t. steps_typed c NoStep body >>= λ b. sure (If t b.0, steps_behind c b.1)
+      condition_in c.scope at test >>= λ t. steps_typed c NoStep body >>= λ b. sure (If t b.0, steps_after c b.1)
   step_typed c (source.IfElse at test body otherwise) =
       condition_in c.scope at test >>= λ t. steps_typed c NoStep body >>= λ b.
-      steps_typed (steps_behind c b.1) NoStep otherwise >>= λ o. sure (IfElse t b.0 o.0, steps_behind (steps_behind c b.1) o.1)
+      steps_typed (steps_after c b.1) NoStep otherwise >>= λ o. sure (IfElse t b.0 o.0, steps_after (steps_after c b.1) o.1)
   step_typed c (source.Print at e) = fault_at at rule.PrintOutsideMain (no_step, c)
   step_typed c (source.Assign name initial) = step_in_place c (assign_step c name.at name initial)
   step_typed c (source.Reduce name by e) = step_in_place c (reduce_step c.scope name.at name by e)
@@ -231,4 +231,4 @@ abbrev mutual
   pub steps_typed : CheckerTree → FunctionStatementsTree → source.BlockTree → WithFaults (FunctionStatementsTree × CheckerTree)
   steps_typed c so_far source.Empty = sure (so_far, c)
   steps_typed c so_far (source.Then label action others) =
-      labelled c label >>= λ l. step_typed l.1 action >>= λ s. steps_typed s.1 (step_behind so_far s.0) others
+      labelled c label >>= λ l. step_typed l.1 action >>= λ s. steps_typed s.1 (step_after so_far s.0) others

@@ -28,8 +28,8 @@ module _ (low : ℕ) (f g : ℕ → List (ℕ × ℤ)) where
 
 -- lists of old vertices come after others
 module _ (es : Block) (map : Rises 0 64 es) (some_each : HaveNeighbours es) (f : ℕ → List (ℕ × ℤ)) (low high : ℕ) (p : Block) (le : low ≤ high) (is : p ≡ built f low) where
-  pub carried_behind : p ++ slice_range es (count_below low es) (count_below high es) ≡ built (up_to low f (λ u. neighbours_of u es)) high
-  carried_behind =
+  pub carried_after : p ++ slice_range es (count_below low es) (count_below high es) ≡ built (up_to low f (λ u. neighbours_of u es)) high
+  carried_after =
       let g : ℕ → List (ℕ × ℤ) = up_to low f (λ u. neighbours_of u es) in
       ap (λ l. l ++ slice_range es (count_below low es) (count_below high es)) (is ∙ sym (built_before low f (λ u. neighbours_of u es)))
       ∙ carried es map some_each g low high le (λ u ge lt. behind low f (λ v. neighbours_of v es) u ge)
@@ -37,7 +37,7 @@ module _ (es : Block) (map : Rises 0 64 es) (some_each : HaveNeighbours es) (f :
   pub carried_rise : high ≤ 64 → Rises 0 64 (p ++ slice_range es (count_below low es) (count_below high es))
   carried_rise within =
       rises_to 0 high 64 (p ++ slice_range es (count_below low es) (count_below high es))
-      (subst (Rises 0 high) (sym carried_behind) (rises_built (up_to low f (λ u. neighbours_of u es)) high)) within
+      (subst (Rises 0 high) (sym carried_after) (rises_built (up_to low f (λ u. neighbours_of u es)) high)) within
 
 module _ (f : ℕ → List (ℕ × ℤ)) where
   pub built_none : IsBuilt f 0 [] []
@@ -66,8 +66,8 @@ module _ (f : ℕ → List (ℕ × ℤ)) where
       record {
         small = up_to low ok.small old;
         large = up_to low ok.large old_large;
-        page = carried_behind p' made.page.map (packed_some p' made.page.packed) ok.small low high p le ok.page;
-        long = carried_behind s' made.long.map (lists_some s' made.long.lists) ok.large low high s le ok.long;
+        page = carried_after p' made.page.map (packed_some p' made.page.packed) ok.small low high p le ok.page;
+        long = carried_after s' made.long.map (lists_some s' made.long.lists) ok.large low high s le ok.long;
         lists = λ u lt. elim (cases_lt u low) [
           | inl under ↦ rw (before low ok.small old u under, before low ok.large old_large u under) (ok.lists u under)
           | inr over ↦ rw (behind low ok.small old u over, behind low ok.large old_large u over) (sym (made.lists u (omega (arith, lt))) ∙ sym (same u over lt))

@@ -26,7 +26,7 @@ abbrev pub IsReducedOver : Reduction → (number : ℕ → ℤ → ℤ) → List
 IsReducedOver r number es n = (d v : ℕ) (h : ℤ) → reduced_at r v h ((d, n) ∷ []) ≡ reduced_at r v h (entry_numbers_given number d es)
 
 -- each edge gives the number of its source and its weight, and to reduce with what is sent is to reduce with those of these entries
-pub record IsEntryContribution (sent : SourceContribution) (gives : Edge → List (ℕ × Reduction × ℤ)) (es : List (ℕ × ℤ)) : Type 0 where
+pub record IsEntryContribution (contribution : SourceContribution) (gives : Edge → List (ℕ × Reduction × ℤ)) (es : List (ℕ × ℤ)) : Type 0 where
   pub number : ℕ → ℤ → ℤ
-  pub each : (s d : ℕ) (w : ℤ) → gives (s, d, w) ≡ (sent.vector, sent.reduction, number s w) ∷ []
-  pub all : IsReducedOver sent.reduction number es sent.number
+  pub each : (s d : ℕ) (w : ℤ) → gives (s, d, w) ≡ (contribution.vector, contribution.reduction, number s w) ∷ []
+  pub all : IsReducedOver contribution.reduction number es contribution.number

@@ -15,7 +15,7 @@ abbrev pub IsReducedTo : Reduction → (number : ℕ → ℤ) → List ℕ → �
 IsReducedTo r number ss n = (d v : ℕ) (h : ℤ) → reduced_at r v h ((d, n) ∷ []) ≡ reduced_at r v h (numbers_given number d ss)
 
 -- each edge gives the number of its source, and to reduce with what is sent is to reduce with those of these sources
-pub record IsReducedContribution (sent : SourceContribution) (gives : Edge → List (ℕ × Reduction × ℤ)) (ss : List ℕ) : Type 0 where
+pub record IsReducedContribution (contribution : SourceContribution) (gives : Edge → List (ℕ × Reduction × ℤ)) (ss : List ℕ) : Type 0 where
   pub number : ℕ → ℤ
-  pub each : (s d : ℕ) (w : ℤ) → gives (s, d, w) ≡ (sent.vector, sent.reduction, number s) ∷ []
-  pub all : IsReducedTo sent.reduction number ss sent.number
+  pub each : (s d : ℕ) (w : ℤ) → gives (s, d, w) ≡ (contribution.vector, contribution.reduction, number s) ∷ []
+  pub all : IsReducedTo contribution.reduction number ss contribution.number

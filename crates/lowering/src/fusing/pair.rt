@@ -3,9 +3,9 @@ ghost use Rattle.std.specs.Prelude.{◌≡◌, false, IfOk};
 ghost use Rattle.std.specs.Option.{option_map};
 ghost use Rattle.typed_tree.specs.BlockTree.{statement_kind_tree, block_tree};
 ghost use Rattle.typed_tree.specs.ProgramTree.{program_tree};
-ghost use Rattle.plans.specs.Fusing.{fusion_role_of, edges_together as edges_done, is_with as does_fuse};
-ghost use Rattle.plans.specs.Fusing.{together as done_together, vertices_together as vertices_done, with_next};
-ghost use Rattle.plans.specs.inside.Parts.{edge_apply_tree, together_tree, vertex_apply_tree};
+ghost use Rattle.plans.specs.Fusing.{fusion_role_of, fused_edges as edges_done, is_with as does_fuse};
+ghost use Rattle.plans.specs.Fusing.{together as done_together, fused_vertices as vertices_done, with_next};
+ghost use Rattle.plans.specs.inside.Parts.{edge_apply_tree, fused_pair_tree, vertex_apply_tree};
 
 use crate::fusing::applies::{edge_apply_of, vertex_apply_of};
 use crate::fusing::fits::{edges_fit, vertices_fit};
@@ -28,7 +28,7 @@ pub(crate) fn pair_at(
     rest: &[MainStatement],
 ) -> Result<Option<FusedPair>, AllocError>
     ensures { IfOk result (λ both. fusion_role_of (program_tree program.now) schedule.now depth false statement.now.label
-        (statement_kind_tree statement.now.action) (block_tree rest.now) ≡ with_next (option_map together_tree both)) }
+        (statement_kind_tree statement.now.action) (block_tree rest.now) ≡ with_next (option_map fused_pair_tree both)) }
 {
     match rest.first() {
         Some(next) => {
@@ -61,10 +61,10 @@ pub(crate) fn together(
     first: &StatementKind,
     second: &StatementKind,
 ) -> Result<Option<FusedPair>, AllocError>
-    ensures { IfOk result (λ both. option_map together_tree both
+    ensures { IfOk result (λ both. option_map fused_pair_tree both
         ≡ done_together (program_tree program.now) depth (statement_kind_tree first.now) (statement_kind_tree second.now)) }
 {
-    let edges = edges_together(
+    let edges = fused_edges(
         alloc,
         program,
         depth,
@@ -75,19 +75,19 @@ pub(crate) fn together(
         Some(both) => Ok(Some(both)),
         None => {
             let (first, second) = (vertex_apply_of(first), vertex_apply_of(second));
-            Ok(vertices_together(program, first, second))
+            Ok(fused_vertices(program, first, second))
         }
     }
 }
 
-fn edges_together(
+fn fused_edges(
     alloc: Global,
     program: &Typed,
     depth: Depth,
     first: Option<EdgeApply>,
     second: Option<EdgeApply>,
 ) -> Result<Option<FusedPair>, AllocError>
-    ensures { IfOk result (λ both. option_map together_tree both
+    ensures { IfOk result (λ both. option_map fused_pair_tree both
         ≡ edges_done (program_tree program.now) depth (option_map edge_apply_tree first) (option_map edge_apply_tree second)) }
 {
     let (Some(first), Some(second)) = (first, second) else {
@@ -103,12 +103,12 @@ fn edges_together(
     }))
 }
 
-fn vertices_together(
+fn fused_vertices(
     program: &Typed,
     first: Option<VertexApply>,
     second: Option<VertexApply>,
 ) -> Option<FusedPair>
-    ensures { option_map together_tree result ≡ vertices_done (program_tree program.now) (option_map vertex_apply_tree first)
+    ensures { option_map fused_pair_tree result ≡ vertices_done (program_tree program.now) (option_map vertex_apply_tree first)
         (option_map vertex_apply_tree second) }
 {
     let (Some(first), Some(second)) = (first, second) else {

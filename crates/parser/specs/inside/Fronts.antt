@@ -24,14 +24,14 @@ begun_type keyword.EdgeSet = Some type.EdgeSet
 begun_type _ = None
 
 -- the type that has begun so; what ends the type of an edgeset says whether its edges have weights
-abbrev pub type_behind : DeclaredType → Reader DeclaredType
-type_behind type.Int ws = Some (type.Int, ws)
-type_behind type.Bool ws = Some (type.Bool, ws)
-type_behind type.Vertex ws = Some (type.Vertex, ws)
-type_behind type.VertexSet ws = closed (in_braces (OfKeyword keyword.Vertex)) (type.VertexSet, ws)
-type_behind type.Vector ws = closed (in_braces (OfKeyword keyword.Vertex) ++ in_parentheses (OfKeyword keyword.Int ∷ [])) (type.Vector, ws)
-type_behind type.EdgeSet ws = after_terminals edge_ends ws >>= edgeset_at
-type_behind type.WeightedEdgeSet ws = after_terminals edge_ends ws >>= edgeset_at
+abbrev pub type_after : DeclaredType → Reader DeclaredType
+type_after type.Int ws = Some (type.Int, ws)
+type_after type.Bool ws = Some (type.Bool, ws)
+type_after type.Vertex ws = Some (type.Vertex, ws)
+type_after type.VertexSet ws = closed (in_braces (OfKeyword keyword.Vertex)) (type.VertexSet, ws)
+type_after type.Vector ws = closed (in_braces (OfKeyword keyword.Vertex) ++ in_parentheses (OfKeyword keyword.Int ∷ [])) (type.Vector, ws)
+type_after type.EdgeSet ws = after_terminals edge_ends ws >>= edgeset_at
+type_after type.WeightedEdgeSet ws = after_terminals edge_ends ws >>= edgeset_at
 
 -- whether the method is one of an initial value that is no expression, or begins one of its ends
 abbrev pub is_called : Option Keyword → Bool

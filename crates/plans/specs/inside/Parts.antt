@@ -13,6 +13,6 @@ edge_apply_tree x = record { ends = x.ends; part = part_tree x.part }
 abbrev pub vertex_apply_tree : VertexApply → VertexApplyTree
 vertex_apply_tree x = record { set = x.set; function = x.function }
 
-abbrev pub together_tree : FusedPair → OperationTree
-together_tree (together.Edges ends first second) = ApplyEdgesTogether ends (part_tree first) (part_tree second)
-together_tree (together.Vertices set first second) = ApplyVerticesTogether set first second
+abbrev pub fused_pair_tree : FusedPair → OperationTree
+fused_pair_tree (together.Edges ends first second) = ApplyEdgesTogether ends (part_tree first) (part_tree second)
+fused_pair_tree (together.Vertices set first second) = ApplyVerticesTogether set first second

@@ -21,8 +21,8 @@ pub record IsRangeOfPiece (w : PullWork) (start : FoldStart) (piece : ℕ) (p : 
   pub reads : (m : StateValue) (steps : List FunctionStatementsTree) → IsApplyOf w.apply m steps → IsContextOf p.context m steps
   pub from : (v : ℕ) → passes_words p.from v ≡ is_source w.sources v
   pub to : (m : StateValue) (test : ℕ → Bool) → IsEndTest w.apply.to m test → IsEndTest p.to m test
-  pub low : p.low ≡ end_of w.cuts (piece - 1)
-  pub high : p.high ≡ end_of w.cuts piece
+  pub low : p.low ≡ end_of w.partition (piece - 1)
+  pub high : p.high ≡ end_of w.partition piece
   pub order : p.low ≤ p.high
   pub within : p.high ≤ w.apply.flat.now.vertices
   pub masked : p.masked.now ≡ w.masked.items

@@ -5,7 +5,7 @@ use Rattle.syntax.specs.SourceTrees as source
 use Rattle.typed_tree.specs.FunctionStatementTree.{FunctionStatementTree, FunctionStatementsTree, NoStep}
 use Rattle.expression_types.specs.Faults.{WithFaults, ◌>>=◌, sure}
 use Rattle.types.specs.Checker.{CheckerTree, labelled}
-use Rattle.types.specs.Step.{steps_behind, steps_typed}
+use Rattle.types.specs.Step.{steps_after, steps_typed}
 
 -- one statement
 abbrev pub labelled_step : CheckerTree → Option Identifier → (CheckerTree → WithFaults (FunctionStatementTree × CheckerTree)) → WithFaults (FunctionStatementTree × CheckerTree)
@@ -13,4 +13,4 @@ labelled_step c label step = labelled c label >>= λ l. step l.1
 
 -- a block of its own
 abbrev pub steps_inside : CheckerTree → source.BlockTree → WithFaults (FunctionStatementsTree × CheckerTree)
-steps_inside c block = steps_typed c NoStep block >>= λ b. sure (b.0, steps_behind c b.1)
+steps_inside c block = steps_typed c NoStep block >>= λ b. sure (b.0, steps_after c b.1)

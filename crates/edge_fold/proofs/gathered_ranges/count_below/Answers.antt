@@ -16,8 +16,8 @@ before_middle cs k middle d e x up l inside less =
     let same = ap (λ (c : EntryChange). c.vertex) (get_or_default cs middle d e inside) in
     omega (arith, most, same, less)
 
-behind_middle : (cs : List EntryChange) (k middle : ℕ) (d e : EntryChange) (x : ℕ) → IsAscending cs → middle ≤ k → k < length cs → x ≤ (get_or cs middle e).vertex → x ≤ (get_or cs k d).vertex
-behind_middle cs k middle d e x up l inside more =
+after_middle : (cs : List EntryChange) (k middle : ℕ) (d e : EntryChange) (x : ℕ) → IsAscending cs → middle ≤ k → k < length cs → x ≤ (get_or cs middle e).vertex → x ≤ (get_or cs k d).vertex
+after_middle cs k middle d e x up l inside more =
     let most = up middle k d l inside in
     let same = ap (λ (c : EntryChange). c.vertex) (get_or_default cs middle d e (omega (arith, l, inside))) in
     omega (arith, most, same, more)
@@ -56,7 +56,7 @@ halves-preserved c =
       order = under;
       inside = omega (arith, over, inside);
       below = c.halves.invariant.below;
-      above = λ up k d l b. behind_middle c.args.numbers.now k middle d one c.args.vertex up l b (omega (arith, own, more));
+      above = λ up k d l b. after_middle c.args.numbers.now k middle d one c.args.vertex up l b (omega (arith, own, more));
     }
 
 pub returns-clause-split : goal.returns-clause-split

@@ -162,9 +162,9 @@ unary-returns t c =
     let signs = c.args.unary.now.signs.items in
     let p = primary_of c.args.unary.now.primary in
     let v = value_tree c.in_ok-value.value in
-    subst (λ m. ReportsFaults value_tree c.args.first_fault.now c.behind_signs.new.first_fault c.behind_signs.result m) (sym (unary_value-behind scope at signs p))
-    (reports_then value_tree c.args.first_fault.now c.primary.new.first_fault c.behind_signs.new.first_fault (primary_value scope at p) v (signs_value at signs) c.behind_signs.result c.in_ok-value.ensures
-    (subst (λ signs. ReportsFaults value_tree c.primary.new.first_fault c.behind_signs.new.first_fault c.behind_signs.result (signs_value at signs v)) c.deref.ensures.value c.behind_signs.ensures))
+    subst (λ m. ReportsFaults value_tree c.args.first_fault.now c.after_signs.new.first_fault c.after_signs.result m) (sym (unary_value-behind scope at signs p))
+    (reports_then value_tree c.args.first_fault.now c.primary.new.first_fault c.after_signs.new.first_fault (primary_value scope at p) v (signs_value at signs) c.after_signs.result c.in_ok-value.ensures
+    (subst (λ signs. ReportsFaults value_tree c.primary.new.first_fault c.after_signs.new.first_fault c.after_signs.result (signs_value at signs v)) c.deref.ensures.value c.after_signs.ensures))
 
 pub sum-returns-then-is_empty : goal.sum-returns-then-is_empty
 sum-returns-then-is_empty t c =

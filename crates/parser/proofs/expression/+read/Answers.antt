@@ -11,11 +11,11 @@ use Rattle.syntax.specs.ExpressionViews.{primary_of, unary_of, term_from, sum_fr
 use Rattle.syntax.specs.inside.ExpressionViews.{term_of, sum_of, comparison_of, conjunction_of}
 use Rattle.syntax.specs.SourceTrees.{Bare}
 use Rattle.syntax.specs.Nesting.{◌>>=◌}
-use Rattle.syntax.specs.ExpressionReading.{operand_by, behind_by, multiplication, addition, after_and, after_or, unary_at, term_at, comparison_at, conjunction_at}
+use Rattle.syntax.specs.ExpressionReading.{operand_by, after_by, multiplication, addition, after_and, after_or, unary_at, term_at, comparison_at, conjunction_at}
 use Rattle.syntax.specs.inside.ExpressionReading.{expression_in}
 use Rattle.parser.proofs.Faults.{passed_on, refused}
 use Rattle.parser.proofs.Fronts.{none_or, none_and}
-use Rattle.syntax.proofs.Loops.{chain_start, chain_step, chain_end, chain_fails, operand_found, operand_fails, behind_found, behind_fails, signs_start, signs_step, signs_end, with_signs, behind_terminal, below}
+use Rattle.syntax.proofs.Loops.{chain_start, chain_step, chain_end, chain_fails, operand_found, operand_fails, after_found, after_fails, signs_start, signs_step, signs_end, with_signs, behind_terminal, below}
 use Rattle.parser.proofs.Primaries.{in_deeper, primary_name, primary_symbol, primary_literal, named_unindexed}
 use Rattle.parser.proofs.expression.+read.Goals as goal
 
@@ -59,16 +59,16 @@ pub expression-returns-in_err-operand-clause-reads : goal.expression-returns-in_
 expression-returns-in_err-operand-clause-reads t c =
     let p = err_from_is_err_and c.from_residual-in_err-operand.result c.from_residual-in_err-operand.ensures.1 in
     rw (p.1, p.2) (passed_on conjunction_of (λ e. e) c.in_err-operand.field-0.0 _ _ c.in_err-operand.ensures.reads
-    (λ none. chain_fails expression_from c.more.invariant (behind_fails (conjunction_at c.args.depth) (terminals c.in-Some.after) (after_or (terminals c.more.left)) (ap after_or c.in-Some.ensures.is) none)))
+    (λ none. chain_fails expression_from c.more.invariant (after_fails (conjunction_at c.args.depth) (terminals c.in-Some.after) (after_or (terminals c.more.left)) (ap after_or c.in-Some.ensures.is) none)))
 
 pub expression-more-preserved : goal.expression-more-preserved
 expression-more-preserved t c =
     chain_step conjunction_of c.more.more.items _ c.in_ok-operand.operand (terminals c.in_ok-operand.behind) c.in_ok-push.ensures.items c.more.invariant
-    (behind_found (conjunction_at c.args.depth) (terminals c.in-Some.after) (terminals c.in_ok-operand.behind) (conjunction_of c.in_ok-operand.operand) (after_or (terminals c.more.left)) (ap after_or c.in-Some.ensures.is) c.in_ok-operand.ensures.reads)
+    (after_found (conjunction_at c.args.depth) (terminals c.in-Some.after) (terminals c.in_ok-operand.behind) (conjunction_of c.in_ok-operand.operand) (after_or (terminals c.more.left)) (ap after_or c.in-Some.ensures.is) c.in_ok-operand.ensures.reads)
     (below _ _ _ c.in_ok-operand.ensures.shorter (behind_terminal _ _ _ c.in-Some.ensures.is))
 
 pub expression-returns-clause-reads : goal.expression-returns-clause-reads
-expression-returns-clause-reads t c = chain_end expression_from c.more.invariant (ap (behind_by (conjunction_at c.args.depth)) (none_or (terminals c.more.left) c.in_default.ensures.is))
+expression-returns-clause-reads t c = chain_end expression_from c.more.invariant (ap (after_by (conjunction_at c.args.depth)) (none_or (terminals c.more.left) c.in_default.ensures.is))
 
 pub conjunction-more-init : goal.conjunction-more-init
 conjunction-more-init t c = chain_start comparison_of c.new-more.result.items _ c.new-more.ensures.items c.in_ok-first.ensures.reads c.in_ok-first.ensures.shorter
@@ -77,16 +77,16 @@ pub conjunction-returns-in_err-operand-clause-reads : goal.conjunction-returns-i
 conjunction-returns-in_err-operand-clause-reads t c =
     let p = err_from_is_err_and c.from_residual-in_err-operand.result c.from_residual-in_err-operand.ensures.1 in
     rw (p.1, p.2) (passed_on comparison_of conjunction_of c.in_err-operand.field-0.0 _ _ c.in_err-operand.ensures.reads
-    (λ none. chain_fails conjunction_from c.more.invariant (behind_fails (comparison_at c.args.depth) (terminals c.in-Some.after) (after_and (terminals c.more.left)) (ap after_and c.in-Some.ensures.is) none)))
+    (λ none. chain_fails conjunction_from c.more.invariant (after_fails (comparison_at c.args.depth) (terminals c.in-Some.after) (after_and (terminals c.more.left)) (ap after_and c.in-Some.ensures.is) none)))
 
 pub conjunction-more-preserved : goal.conjunction-more-preserved
 conjunction-more-preserved t c =
     chain_step comparison_of c.more.more.items _ c.in_ok-operand.operand (terminals c.in_ok-operand.behind) c.in_ok-push.ensures.items c.more.invariant
-    (behind_found (comparison_at c.args.depth) (terminals c.in-Some.after) (terminals c.in_ok-operand.behind) (comparison_of c.in_ok-operand.operand) (after_and (terminals c.more.left)) (ap after_and c.in-Some.ensures.is) c.in_ok-operand.ensures.reads)
+    (after_found (comparison_at c.args.depth) (terminals c.in-Some.after) (terminals c.in_ok-operand.behind) (comparison_of c.in_ok-operand.operand) (after_and (terminals c.more.left)) (ap after_and c.in-Some.ensures.is) c.in_ok-operand.ensures.reads)
     (below _ _ _ c.in_ok-operand.ensures.shorter (behind_terminal _ _ _ c.in-Some.ensures.is))
 
 pub conjunction-returns-clause-reads : goal.conjunction-returns-clause-reads
-conjunction-returns-clause-reads t c = chain_end conjunction_from c.more.invariant (ap (behind_by (comparison_at c.args.depth)) (none_and (terminals c.more.left) c.in_default.ensures.is))
+conjunction-returns-clause-reads t c = chain_end conjunction_from c.more.invariant (ap (after_by (comparison_at c.args.depth)) (none_and (terminals c.more.left) c.in_default.ensures.is))
 
 pub inner-returns-in-Some-clause-reads : goal.inner-returns-in-Some-clause-reads
 inner-returns-in-Some-clause-reads t c =

@@ -2,7 +2,7 @@ use Rattle.std.proofs.Common.{◌+◌, ◌*◌, length, map}
 use Rattle.parser.specs.inside.Readers.{terminals}
 use Rattle.syntax.specs.ExpressionViews.{unary_of}
 use Rattle.syntax.specs.inside.ExpressionViews.{term_of, comparison_of, conjunction_of}
-use Rattle.syntax.specs.ExpressionReading.{operand_by, behind_by, multiplication, addition, after_and, after_or, primary_at, unary_at, term_at, comparison_at, conjunction_at}
+use Rattle.syntax.specs.ExpressionReading.{operand_by, after_by, multiplication, addition, after_and, after_or, primary_at, unary_at, term_at, comparison_at, conjunction_at}
 use Rattle.syntax.proofs.Loops.{Chain, Signs}
 use Rattle.parser.proofs.expression.+read.Given as goal
 
@@ -35,14 +35,14 @@ decreases-expression l = 9 * l.depth + 8
 
 abbrev pub invariant-expression-more : goal.invariant-expression-more
 invariant-expression-more l =
-    Chain (conjunction_at l.depth) (λ ws. behind_by (conjunction_at l.depth) (after_or ws)) (terminals l.cursor) (conjunction_of l.first) (map conjunction_of l.more.items) (terminals l.left)
+    Chain (conjunction_at l.depth) (λ ws. after_by (conjunction_at l.depth) (after_or ws)) (terminals l.cursor) (conjunction_of l.first) (map conjunction_of l.more.items) (terminals l.left)
 
 abbrev pub decreases-expression-more : goal.decreases-expression-more
 decreases-expression-more l = length (terminals l.left)
 
 abbrev pub invariant-conjunction-more : goal.invariant-conjunction-more
 invariant-conjunction-more l =
-    Chain (comparison_at l.depth) (λ ws. behind_by (comparison_at l.depth) (after_and ws)) (terminals l.cursor) (comparison_of l.first) (map comparison_of l.more.items) (terminals l.left)
+    Chain (comparison_at l.depth) (λ ws. after_by (comparison_at l.depth) (after_and ws)) (terminals l.cursor) (comparison_of l.first) (map comparison_of l.more.items) (terminals l.left)
 
 abbrev pub decreases-conjunction-more : goal.decreases-conjunction-more
 decreases-conjunction-more l = length (terminals l.left)

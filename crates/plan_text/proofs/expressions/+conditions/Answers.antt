@@ -9,7 +9,7 @@ use Rattle.plan_text.specs.Expressions.{comparison_word, condition_words, connec
 use Rattle.plan_text.specs.inside.Rows.{connected_words, times}
 use Rattle.plan_text.specs.Expressions.{spaced}
 use Rattle.plan_text.proofs.Rows.{bool_expression_tree-Not, words_connected, words_turned}
-use Rattle.plan_text.proofs.Spaces.{put_behind, still_left}
+use Rattle.plan_text.proofs.Spaces.{put_after, still_left}
 use Rattle.plan_text.proofs.expressions.+conditions.Goals as goal
 
 pub put_condition-returns-in_ok-put_condition-in-Not : goal.put_condition-returns-in_ok-put_condition-in-Not
@@ -19,7 +19,7 @@ put_condition-returns-in_ok-put_condition-in-Not t c =
     let tree = ap bool_expression_tree c.in-Not.is ∙ bool_expression_tree-Not c.in-Not.turns c.in-Not.c in
     let inside = c.in_ok-put_condition-in-Not.ensures ∙ ap (λ e. old ++ spaced (condition_words p (bool_expression_tree e))) c.deref.ensures in
     on_ok_weaker c.put_times.result (λ is.
-    put_behind old c.put_condition.new.out.items c.put_times.new.out.items (condition_words p (bool_expression_tree c.in-Not.c.value)) (times c.in-Not.turns (codes "not")) inside is
+    put_after old c.put_condition.new.out.items c.put_times.new.out.items (condition_words p (bool_expression_tree c.in-Not.c.value)) (times c.in-Not.turns (codes "not")) inside is
     ∙ ap (λ ws. old ++ spaced ws) (sym (words_turned p c.in-Not.turns (bool_expression_tree c.in-Not.c.value)) ∙ ap (condition_words p) (sym tree)))
     c.put_times.ensures
 
@@ -30,9 +30,9 @@ put_condition-returns-in_ok-put_integer-in-Compare-2 t c =
     let left = integer_words p (int_expression_tree c.in-Compare.left) in
     let right = integer_words p (int_expression_tree c.in-Compare.right) in
     let tree = ap bool_expression_tree c.in-Compare.is in
-    let both = put_behind old c.put_integer.new.out.items c.put_integer-in-Compare.new.out.items left right c.in_ok-put_integer-in-Compare.ensures c.in_ok-put_integer-in-Compare-2.ensures in
+    let both = put_after old c.put_integer.new.out.items c.put_integer-in-Compare.new.out.items left right c.in_ok-put_integer-in-Compare.ensures c.in_ok-put_integer-in-Compare-2.ensures in
     on_ok_weaker c.put_word-in-Compare.result (λ is.
-    put_behind old c.put_integer-in-Compare.new.out.items c.put_word-in-Compare.new.out.items (left ++ right) (comparison_word c.in-Compare.comparison ∷ []) both
+    put_after old c.put_integer-in-Compare.new.out.items c.put_word-in-Compare.new.out.items (left ++ right) (comparison_word c.in-Compare.comparison ∷ []) both
     (is ∙ ap (λ w. c.put_integer-in-Compare.new.out.items ++ spaced (w ∷ [])) c.comparison_text.ensures)
     ∙ ap (λ e. old ++ spaced (condition_words p e)) (sym tree))
     c.put_word-in-Compare.ensures
@@ -47,7 +47,7 @@ put_condition-returns-in_ok-put_condition-in-Connect t c =
     let tree = ap bool_expression_tree c.in-Connect.is ∙ bool_expression_tree-Connect connective c.in-Connect.first c.in-Connect.others in
     let inside = c.in_ok-put_condition-in-Connect.ensures ∙ ap (λ e. old ++ spaced (condition_words p (bool_expression_tree e))) c.deref-in-Connect.ensures in
     on_ok_weaker c.put_connected.result (λ is.
-    put_behind old c.put_condition-in-Connect.new.out.items c.put_connected.new.out.items (condition_words p first) (connected_words p connective others) inside
+    put_after old c.put_condition-in-Connect.new.out.items c.put_connected.new.out.items (condition_words p first) (connected_words p connective others) inside
     (is ∙ ap (λ cs. c.put_condition-in-Connect.new.out.items ++ spaced (connected_words p connective cs)) c.deref-in-Connect-2.ensures.value)
     ∙ ap (λ ws. old ++ spaced ws) (sym (words_connected p connective first others) ∙ ap (condition_words p) (sym tree)))
     c.put_connected.ensures

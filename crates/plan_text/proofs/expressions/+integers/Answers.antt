@@ -8,7 +8,7 @@ use Rattle.plan_text.specs.Expressions.{entry_word, integer_words, operator_word
 use Rattle.plan_text.specs.inside.Rows.{operand_words, times}
 use Rattle.plan_text.specs.Expressions.{spaced}
 use Rattle.plan_text.proofs.Rows.{int_expression_tree-Entry, int_expression_tree-Negative, words_negated, words_operands}
-use Rattle.plan_text.proofs.Spaces.{put_behind, still_left}
+use Rattle.plan_text.proofs.Spaces.{put_after, still_left}
 use Rattle.plan_text.proofs.expressions.+integers.Goals as goal
 
 pub put_integer-returns-in_ok-put_integer-in-Entry : goal.put_integer-returns-in_ok-put_integer-in-Entry
@@ -18,7 +18,7 @@ put_integer-returns-in_ok-put_integer-in-Entry t c =
     let tree = ap int_expression_tree c.in-Entry.is ∙ int_expression_tree-Entry c.in-Entry.vector c.in-Entry.index in
     let index = c.in_ok-put_integer-in-Entry.ensures ∙ ap (λ e. old ++ spaced (integer_words p (int_expression_tree e))) c.deref.ensures in
     on_ok_weaker c.put_entry-in-Entry.result (λ is.
-    put_behind old c.put_integer.new.out.items c.put_entry-in-Entry.new.out.items (integer_words p (int_expression_tree c.in-Entry.index.value)) (entry_word p c.in-Entry.vector ∷ []) index is
+    put_after old c.put_integer.new.out.items c.put_entry-in-Entry.new.out.items (integer_words p (int_expression_tree c.in-Entry.index.value)) (entry_word p c.in-Entry.vector ∷ []) index is
     ∙ ap (λ e. old ++ spaced (integer_words p e)) (sym tree))
     c.put_entry-in-Entry.ensures
 
@@ -29,7 +29,7 @@ put_integer-returns-in_ok-put_integer-in-Negative t c =
     let tree = ap int_expression_tree c.in-Negative.is ∙ int_expression_tree-Negative c.in-Negative.signs c.in-Negative.e in
     let inside = c.in_ok-put_integer-in-Negative.ensures ∙ ap (λ e. old ++ spaced (integer_words p (int_expression_tree e))) c.deref-in-Negative.ensures in
     on_ok_weaker c.put_times.result (λ is.
-    put_behind old c.put_integer-in-Negative.new.out.items c.put_times.new.out.items (integer_words p (int_expression_tree c.in-Negative.e.value)) (times c.in-Negative.signs (codes "neg")) inside is
+    put_after old c.put_integer-in-Negative.new.out.items c.put_times.new.out.items (integer_words p (int_expression_tree c.in-Negative.e.value)) (times c.in-Negative.signs (codes "neg")) inside is
     ∙ ap (λ ws. old ++ spaced ws) (sym (words_negated p c.in-Negative.signs (int_expression_tree c.in-Negative.e.value)) ∙ ap (integer_words p) (sym tree)))
     c.put_times.ensures
 
@@ -42,7 +42,7 @@ put_integer-returns-in_ok-put_integer-in-Arithmetic t c =
     let tree = ap int_expression_tree c.in-Arithmetic.is ∙ int_expression_tree-Arithmetic c.in-Arithmetic.first c.in-Arithmetic.operands in
     let inside = c.in_ok-put_integer-in-Arithmetic.ensures ∙ ap (λ e. old ++ spaced (integer_words p (int_expression_tree e))) c.deref-in-Arithmetic.ensures in
     on_ok_weaker c.put_operands.result (λ is.
-    put_behind old c.put_integer-in-Arithmetic.new.out.items c.put_operands.new.out.items (integer_words p first) (operand_words p operands) inside
+    put_after old c.put_integer-in-Arithmetic.new.out.items c.put_operands.new.out.items (integer_words p first) (operand_words p operands) inside
     (is ∙ ap (λ os. c.put_integer-in-Arithmetic.new.out.items ++ spaced (operand_words p os)) c.deref-in-Arithmetic-2.ensures.value)
     ∙ ap (λ ws. old ++ spaced ws) (sym (words_operands p first operands) ∙ ap (integer_words p) (sym tree)))
     c.put_operands.ensures

@@ -4,7 +4,7 @@ use Rattle.std.proofs.lemmas.Int.{to_z-of_z}
 use Rattle.edge_apply.specs.Words.{is_set}
 use Rattle.edge_fold.specs.EntryNumbers.{entry_with}
 use Rattle.pull_engine.specs.inside.Columns.{entry_at}
-use Rattle.pull_engine.proofs.Chosen.{rest_behind}
+use Rattle.pull_engine.proofs.Chosen.{rest_after}
 use Rattle.pull_engine.proofs.EntryFolds.{entries_of_round}
 use Rattle.pull_engine.proofs.chosen_sources.fold_chosen.Goals as goal
 
@@ -22,6 +22,6 @@ rounds-preserved c =
       room = kept.ensures.room ∙ c.rounds.invariant.room;
       inside = within;
       folded = entries_of_round (is_set c.args.words.now) c.args.reduction (entry_with c.args.numbers) (to_z w64 c.rounds.number-bits) (to_z w64 (of_z w64 came)) (drop low es) (drop high es) (map (entry_at es) (take kept.result kept.new.indices)) (high - low)
-          (rest_behind es low high order) kept.ensures.chosen (to_z-of_z w64 came fits ∙ c.reduce_entries-number.ensures)
+          (rest_after es low high order) kept.ensures.chosen (to_z-of_z w64 came fits ∙ c.reduce_entries-number.ensures)
           ∙ c.rounds.invariant.folded;
     }

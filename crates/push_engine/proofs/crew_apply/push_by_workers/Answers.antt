@@ -19,6 +19,6 @@ returns-clause-changes g c =
     let cs = c.in_ok-changes.changes.vectors.items in
     let lent = c.deref.ensures.value in
     let found = subst (λ n. AreFound (Answers work) n c.in_ok-found.found.items) c.pieces-pieces.ensures c.in_ok-found.ensures.found in
-    let listed = subst (λ fs. AreFound (Answers work) (length work.cuts) fs) (sym lent) found in
-    let whole = c.in_ok-changes.ensures.changes (found_answers (Answers work) (length work.cuts) _ listed) (found_once (Answers work) (length work.cuts) _ listed) in
+    let listed = subst (λ fs. AreFound (Answers work) (length work.partition) fs) (sym lent) found in
+    let whole = c.in_ok-changes.ensures.changes (found_answers (Answers work) (length work.partition) _ listed) (found_once (Answers work) (length work.partition) _ listed) in
     subst (λ (a : Apply). AreChangesOf a cs) c.in_ok-work.ensures.apply whole

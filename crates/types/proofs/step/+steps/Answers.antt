@@ -11,7 +11,7 @@ use Rattle.expression_types.specs.declared.scope.Entity.TheVariants as entity
 use Rattle.expression_types.specs.Faults.{fault_at, outcome, sure, ◌>>=◌}
 use Rattle.expression_types.specs.ScopeTree.{left}
 use Rattle.expression_types.proofs.Steps.{outcome_then}
-use Rattle.types.specs.Step.{no_step, step_typed, steps_behind, steps_typed}
+use Rattle.types.specs.Step.{no_step, step_typed, steps_after, steps_typed}
 use Rattle.types.specs.inside.Checker.{checker_of}
 use Rattle.types.specs.Checker.{declared_in, integer_slot, with_scope}
 use Rattle.types.specs.Checker.{integer_in}
@@ -63,17 +63,17 @@ repeat-returns-clause-typed t c =
     ∙ ap (λ xs. source.For at c.in-For.name c.in-For.first c.in-For.limit (source_block xs)) (sym c.deref.ensures.value))
     ∙ outcome_then c.args.first_fault.now c.wrong-step.new.first_fault (fault_at at rule.WrongType no_step) no_step
     (λ s. integer_in scope at c.in-For.first >>= λ a. integer_in scope at c.in-For.limit >>= λ z. declared_in checker c.in-For.name (entity.LoopVariable (integer_slot checker)) >>= λ d.
-    steps_typed d NoStep body >>= λ b. sure (s, steps_behind checker b.1)) (ap (λ n. (no_step, n)) (sym c.wrong-step.ensures.first_fault))
+    steps_typed d NoStep body >>= λ b. sure (s, steps_after checker b.1)) (ap (λ n. (no_step, n)) (sym c.wrong-step.ensures.first_fault))
     ∙ outcome_then c.wrong-step.new.first_fault c.integer.new.first_fault (integer_in scope at c.in-For.first) a
     (λ a. integer_in scope at c.in-For.limit >>= λ z. declared_in checker c.in-For.name (entity.LoopVariable (integer_slot checker)) >>= λ d. steps_typed d NoStep body >>= λ b.
-    sure (no_step, steps_behind checker b.1)) c.in_ok-_first.ensures
+    sure (no_step, steps_after checker b.1)) c.in_ok-_first.ensures
     ∙ outcome_then c.integer.new.first_fault c.integer-2.new.first_fault (integer_in scope at c.in-For.limit) z
     (λ z. declared_in checker c.in-For.name (entity.LoopVariable (integer_slot checker)) >>= λ d. steps_typed d NoStep body >>= λ b.
-    sure (no_step, steps_behind checker b.1)) c.in_ok-_limit.ensures
+    sure (no_step, steps_after checker b.1)) c.in_ok-_limit.ensures
     ∙ outcome_then c.integer-2.new.first_fault c.declare_loop_variable.new.first_fault (declared_in checker c.in-For.name (entity.LoopVariable (integer_slot checker))) d
-    (λ d. steps_typed d NoStep body >>= λ b. sure (no_step, steps_behind checker b.1))
+    (λ d. steps_typed d NoStep body >>= λ b. sure (no_step, steps_after checker b.1))
     c.in_ok-declare_loop_variable.ensures.declared
-    ∙ outcome_then c.declare_loop_variable.new.first_fault new (steps_typed d NoStep body) (b, last) (λ b. sure (no_step, steps_behind checker b.1)) c.in_ok-_body.ensures.typed
+    ∙ outcome_then c.declare_loop_variable.new.first_fault new (steps_typed d NoStep body) (b, last) (λ b. sure (no_step, steps_after checker b.1)) c.in_ok-_body.ensures.typed
     ∙ (λ i. ((sym c.wrong-step.ensures.step i, with_scope last (sym again i)), new))
 
 pub steps-statements-preserved : goal.steps-statements-preserved
@@ -93,7 +93,7 @@ inner-returns-clause-typed t c =
     let b = function_statements_tree c.in_ok-typed.typed.items in
     let new = c.steps.new.first_fault in
     let again = c.leave.ensures ∙ ap (λ m. left m last.scope) c.mark-mark.ensures.mark ∙ left_again checker.scope last.scope c.in_ok-typed.ensures.kept in
-    outcome_then c.args.first_fault.now new (steps_typed checker NoStep (source_block c.args.block.now)) (b, last) (λ b. sure (b.0, steps_behind checker b.1)) c.in_ok-typed.ensures.typed
+    outcome_then c.args.first_fault.now new (steps_typed checker NoStep (source_block c.args.block.now)) (b, last) (λ b. sure (b.0, steps_after checker b.1)) c.in_ok-typed.ensures.typed
     ∙ (λ i. ((b, with_scope last (sym again i)), new))
 
 pub inner-returns-clause-kept : goal.inner-returns-clause-kept

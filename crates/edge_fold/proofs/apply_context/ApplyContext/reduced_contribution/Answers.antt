@@ -9,9 +9,9 @@ pub returns : goal.returns
 returns c m steps are =
     let f = c.args.self in
     let alone : f.second ≡ None = search rules in
-    let sent = c.in_ok-sent.sent in
-    let is = c.in_ok-sent.ensures m are.vectors in
-    let given = λ (s : ℕ). (let g : ℕ × Reduction × ℤ = (sent.vector, sent.reduction, is.number s) in g) in
+    let contribution = c.in_ok-contribution.contribution in
+    let is = c.in_ok-contribution.ensures m are.vectors in
+    let given = λ (s : ℕ). (let g : ℕ × Reduction × ℤ = (contribution.vector, contribution.reduction, is.number s) in g) in
     record {
       number = is.number;
       each = λ s d w. one_given f m steps (s, d, w) (given s ∷ []) are alone

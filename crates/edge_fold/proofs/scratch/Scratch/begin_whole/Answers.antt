@@ -8,10 +8,10 @@ use Rattle.edge_fold.proofs.scratch.Scratch.begin_whole.Goals as goal
 
 pub returns-in-Some : goal.returns-in-Some
 returns-in-Some c =
-    let sent = c.in-Some.sent in
+    let contribution = c.in-Some.contribution in
     on_ok_weaker c.fill.result
     (λ joined m steps are x r by.
-    let own : IsBy r x ((sent.vector, sent.reduction, sent.number) ∷ []) = subst (λ (gs : List (ℕ × Reduction × ℤ)). IsBy r x gs) (c.in-Some.ensures m steps are 0 (pos 0)) (by (0, 0, pos 0)) in
+    let own : IsBy r x ((contribution.vector, contribution.reduction, contribution.number) ∷ []) = subst (λ (gs : List (ℕ × Reduction × ℤ)). IsBy r x gs) (c.in-Some.ensures m steps are 0 (pos 0)) (by (0, 0, pos 0)) in
     folded_nothing c.args.context m steps _ _ x r refl refl (joined x r own.0))
     c.fill.ensures
 

@@ -2,7 +2,7 @@
 use Rattle.std.proofs.Common.{refl}
 use Rattle.edge_fold.specs.Contributions.{all_given, row}
 use Rattle.edge_fold.proofs.JoinedSlots.{folded_before}
-use Rattle.edge_fold.proofs.ShapePairs.{joined_sent, joined_weighed}
+use Rattle.edge_fold.proofs.ShapePairs.{joined_contribution, joined_weighed}
 use Rattle.edge_fold.proofs.scratch.Scratch.fold_entries.Goals as goal
 
 pub returns-in-Some-clause-folded : goal.returns-in-Some-clause-folded
@@ -12,7 +12,7 @@ returns-in-Some-clause-folded g c done m steps edges are has x r by =
     let es = g.E.NeighbourEntries.entries c.args.destinations.now in
     let source = c.args.source in
     folded_before f m steps edges (row source es) now _ x r refl
-    (joined_sent f x r now.slots c.join_number.new.self source c.in-Some.sent (all_given m steps) es (c.in-Some.ensures m steps are) by (c.in_ok-join_number.ensures x r))
+    (joined_contribution f x r now.slots c.join_number.new.self source c.in-Some.contribution (all_given m steps) es (c.in-Some.ensures m steps are) by (c.in_ok-join_number.ensures x r))
     (has x r by)
 
 pub returns-in-Some-entry_contribution-clause-folded : goal.returns-in-Some-entry_contribution-clause-folded

@@ -18,13 +18,13 @@ returns-in-Some c m steps edges es keys are has x r by =
     let f = c.args.context in
     let d = c.args.destination in
     let ss = c.args.sources.now in
-    let sent = c.in-Some.sent in
+    let contribution = c.in-Some.contribution in
     let g = all_given m steps in
     let is = c.in-Some.ensures m steps are in
-    let own : IsBy r x ((sent.vector, sent.reduction, is.number 0) ∷ []) = subst (λ (gs : List (ℕ × Reduction × ℤ)). IsBy r x gs) (is.each 0 d (pos 0)) (by (0, d, pos 0)) in
+    let own : IsBy r x ((contribution.vector, contribution.reduction, is.number 0) ∷ []) = subst (λ (gs : List (ℕ × Reduction × ℤ)). IsBy r x gs) (is.each 0 d (pos 0)) (by (0, d, pos 0)) in
     folded_before f m steps edges (column d es) now _ x r refl
-    (joined_alike f x r now.slots c.join_number.new.self (cond (sent.vector == x) (each_given sent.number (d ∷ [])) []) (given_on x g (column d es))
-    (λ v n. together_given r x d v n sent g ss es is own.0 keys)
+    (joined_alike f x r now.slots c.join_number.new.self (cond (contribution.vector == x) (each_given contribution.number (d ∷ [])) []) (given_on x g (column d es))
+    (λ v n. together_given r x d v n contribution g ss es is own.0 keys)
     (c.in_ok-join_number.ensures x r own.0))
     (has x r by)
 

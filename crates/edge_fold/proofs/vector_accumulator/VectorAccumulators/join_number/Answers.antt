@@ -14,23 +14,23 @@ use Rattle.edge_fold.proofs.vector_accumulator.VectorAccumulators.join_number.Go
 pub returns : goal.returns
 returns g c x r own =
     let now = c.position.new.self in
-    let sent = c.args.sent in
+    let contribution = c.args.contribution in
     let p = c.in_ok-position.position in
     let ds = firsts (g.E.NeighbourEntries.entries c.args.destinations.now) in
     let f = c.args.context in
-    let number = sent.number in
+    let number = contribution.number in
     let fits : FitsSigned w64 number = search rules in
     let was : VectorAccumulator = c.index_mut.result.now in
     let few : now.used ≤ length now.slots.items = search rules in
     let at = c.in_ok-position.ensures.position in
     let op = c.opening-opening in
-    let combine = combined (start_of op.result) sent.reduction in
+    let combine = combined (start_of op.result) contribution.reduction in
     let joined = λ (v : ℕ) (h : ℤ). c.in_ok-join_number.ensures v h
-    ∙ ap (λ (n : ℤ). reduced_at sent.reduction v (held_with combine was.entries v (opening_seed op.result v h)) (each_given n ds)) (to_z-of_z w64 number fits) in
+    ∙ ap (λ (n : ℤ). reduced_at contribution.reduction v (held_with combine was.entries v (opening_seed op.result v h)) (each_given n ds)) (to_z-of_z w64 number fits) in
     let all = each_given number ds in
-    let given = cond (sent.vector == x) all [] in
-    joined_slot f x sent.vector p r c.args.self.now now _ was (record { vector = was.vector; reduction = was.reduction; entries = c.join_number.new.self }) given refl
+    let given = cond (contribution.vector == x) all [] in
+    joined_slot f x contribution.vector p r c.args.self.now now _ was (record { vector = was.vector; reduction = was.reduction; entries = c.join_number.new.self }) given refl
     at.0 at.1 few c.index_mut.ensures.value refl refl c.in_ok-position.ensures.held (c.in_ok-position.ensures.reduction x r own)
-    (λ v h same. along f x sent.vector v sent.reduction r (start_of op.result) was.entries c.join_number.new.self h _ (λ _. all) (equal sent.vector x same) (own (equal sent.vector x same)) op.ensures.start (op.ensures.seed v h) (joined v h)
+    (λ v h same. along f x contribution.vector v contribution.reduction r (start_of op.result) was.entries c.join_number.new.self h _ (λ _. all) (equal contribution.vector x same) (own (equal contribution.vector x same)) op.ensures.start (op.ensures.seed v h) (joined v h)
     ∙ ap (λ (b : Bool). reduced_at r v (held_with (combined f.start r) was.entries v (first_entry f x v h)) (cond b all [])) (sym same))
     (λ off. ap (λ (b : Bool). cond b all []) off)

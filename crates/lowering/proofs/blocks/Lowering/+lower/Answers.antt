@@ -11,12 +11,12 @@ use Rattle.plans.specs.Fusing.{fusion_role_of}
 use Rattle.plans.specs.Instruction.{UnlessBelow, Jump, Turn, Advance}
 use Rattle.plans.specs.inside.Plan.{IsWithin}
 use Rattle.plans.specs.Plan.{behind, behind_all, in_loop, loop_step, plain, plan, plan_all}
-use Rattle.plans.proofs.Depths.{within_behind_all}
+use Rattle.plans.proofs.Depths.{within_after_all}
 use Rattle.lowering.specs.inside.Putting.{BeginsLoop, Fills, Puts}
 use Rattle.lowering.specs.inside.Visible.{depth_of}
 use Rattle.lowering.proofs.Measures.{action_size, block_size, inner_falls}
 use Rattle.lowering.proofs.Putting.{puts_nothing}
-use Rattle.lowering.proofs.Statements.{HasPut, behind_none, has_put_all, has_put_next, has_put_none, puts_if, puts_apply_schedule, puts_while, puts_for}
+use Rattle.lowering.proofs.Statements.{HasPut, after_none, has_put_all, has_put_next, has_put_none, puts_if, puts_apply_schedule, puts_while, puts_for}
 use Rattle.lowering.proofs.blocks.Lowering.+lower.Goals as goal
 
 pub put_all-statements-preserved : goal.put_all-statements-preserved
@@ -48,7 +48,7 @@ put_inside-returns-clause-visible t c =
     let body = block_tree c.args.body.now in
     let within : IsWithin c.depth-depth.result (depth_of c.put_all.new.visible) =
     subst (λ x. IsWithin x (depth_of c.put_all.new.visible)) (sym c.depth-depth.ensures)
-    (subst (λ x. IsWithin d x) (sym c.in_ok-put_all.ensures.visible) (within_behind_all body d)) in
+    (subst (λ x. IsWithin d x) (sym c.in_ok-put_all.ensures.visible) (within_after_all body d)) in
     c.cut.ensures within ∙ c.depth-depth.ensures
 
 pub put_statement-returns-in-If-clause-code : goal.put_statement-returns-in-If-clause-code
@@ -212,7 +212,7 @@ put_all-returns-clause-code t c =
 
 pub put_all-returns-clause-visible : goal.put_all-returns-clause-visible
 put_all-returns-clause-visible t c =
-    sym (c.statements.invariant.visible ∙ behind_none c.statements.left.now (depth_of c.statements.visible) c.in_default.ensures.cases)
+    sym (c.statements.invariant.visible ∙ after_none c.statements.left.now (depth_of c.statements.visible) c.in_default.ensures.cases)
 
 pub put_next-returns-then-is_done-clause-next : goal.put_next-returns-then-is_done-clause-next
 put_next-returns-then-is_done-clause-next t c = rw c.if-is_done.true

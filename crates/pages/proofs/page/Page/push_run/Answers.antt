@@ -6,7 +6,7 @@ use Rattle.ascending_lists.specs.Maps.{Rises}
 use Rattle.pages.specs.inside.Entries.{lists_in, end_of}
 use Rattle.ascending_lists.proofs.MapOrder.{rises_room}
 use Rattle.pages.proofs.Storing.{lists_length}
-use Rattle.pages.proofs.Copying.{listed_front, listed_behind, lists_take, lists_drop, end_between, end_within}
+use Rattle.pages.proofs.Copying.{listed_front, listed_after, lists_take, lists_drop, end_between, end_within}
 use Rattle.pages.proofs.page.Page.push_run.Goals as goal
 
 pub start_of-start-requires-clause-within : goal.start_of-start-requires-clause-within
@@ -42,7 +42,7 @@ copy-requires-clause-run c =
     let es = q.entries.items in
     let bytes = q.bytes.items in
     rw (c.start_of-start.ensures, c.as_slice-lists.ensures.value, c.as_slice-bytes.ensures.value)
-    (listed_front (end_of 0 (take c.args.from es)) (c.args.to - c.args.from) bytes (drop c.args.from es) (listed_behind 0 c.args.from bytes es c.page.invariant.listed))
+    (listed_front (end_of 0 (take c.args.from es)) (c.args.to - c.args.from) bytes (drop c.args.from es) (listed_after 0 c.args.from bytes es c.page.invariant.listed))
 
 pub copy-requires-clause-stop : goal.copy-requires-clause-stop
 copy-requires-clause-stop c =

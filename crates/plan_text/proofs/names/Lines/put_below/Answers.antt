@@ -5,7 +5,7 @@ use Rattle.typed_tree.specs.ProgramTree.{program_tree}
 use Rattle.plan_text.specs.Expressions.{name_at}
 use Rattle.plan_text.specs.Lines.{end_name}
 use Rattle.plan_text.specs.Expressions.{bracketed, spaced}
-use Rattle.plan_text.proofs.Spaces.{absurd_cons, bracket_closed, put_behind}
+use Rattle.plan_text.proofs.Spaces.{absurd_cons, bracket_closed, put_after}
 use Rattle.plan_text.proofs.names.Lines.put_below.Goals as goal
 
 pub returns : goal.returns
@@ -14,7 +14,7 @@ returns c =
     let ws = name_at p c.args.name ∷ end_name p c.args.name ∷ codes "<" ∷ [] in
     let middle = c.put_word.new.out.items in
     on_ok_weaker c.close_bracket.result (λ closes.
-    put_behind c.args.out.now.items middle c.close_bracket.new.out.items (codes "unless" ∷ []) (bracketed ws ∷ []) c.in_ok-put_word.ensures
+    put_after c.args.out.now.items middle c.close_bracket.new.out.items (codes "unless" ∷ []) (bracketed ws ∷ []) c.in_ok-put_word.ensures
     (bracket_closed middle c.close_bracket.new.out.items ws
     (closes (middle ++ 91 ∷ []) ws (absurd_cons _ _)
     (c.in_ok-put_test.ensures ∙ ap (λ t. t ++ spaced ws) c.in_ok-open_bracket.ensures))))

@@ -6,7 +6,7 @@ use Rattle.typed_tree.specs.ProgramTree.{program_tree}
 use Rattle.plan_text.specs.Expressions.{integer_words, name_at}
 use Rattle.plan_text.specs.Lines.{reducing_word}
 use Rattle.plan_text.specs.Expressions.{spaced}
-use Rattle.plan_text.proofs.Spaces.{put_behind}
+use Rattle.plan_text.proofs.Spaces.{put_after}
 use Rattle.plan_text.proofs.names.Lines.put_reduced.Goals as goal
 
 pub returns : goal.returns
@@ -17,7 +17,7 @@ returns c =
     let value = integer_words p (int_expression_tree c.args.e.now) in
     let named = c.in_ok-put_word.ensures ∙ ap (λ w. old ++ spaced (w ∷ [])) c.name.ensures in
     on_ok_weaker c.put_word-2.result (λ is.
-    put_behind old c.put_integer.new.out.items c.put_word-2.new.out.items (name ++ value) (reducing_word c.args.reduction ∷ [])
-    (put_behind old c.put_word.new.out.items c.put_integer.new.out.items name value named c.in_ok-put_integer.ensures)
+    put_after old c.put_integer.new.out.items c.put_word-2.new.out.items (name ++ value) (reducing_word c.args.reduction ∷ [])
+    (put_after old c.put_word.new.out.items c.put_integer.new.out.items name value named c.in_ok-put_integer.ensures)
     (is ∙ ap (λ w. c.put_integer.new.out.items ++ spaced (w ∷ [])) c.reducing_text.ensures))
     c.put_word-2.ensures

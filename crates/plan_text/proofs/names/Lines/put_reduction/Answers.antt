@@ -6,7 +6,7 @@ use Rattle.typed_tree.specs.ProgramTree.{program_tree}
 use Rattle.plan_text.specs.Expressions.{integer_words, name_at}
 use Rattle.plan_text.specs.Lines.{reducing_word}
 use Rattle.plan_text.specs.Expressions.{bracketed, spaced}
-use Rattle.plan_text.proofs.Spaces.{absurd_cons, bracket_closed, put_behind}
+use Rattle.plan_text.proofs.Spaces.{absurd_cons, bracket_closed, put_after}
 use Rattle.plan_text.proofs.names.Lines.put_reduction.Goals as goal
 
 pub returns : goal.returns
@@ -15,7 +15,7 @@ returns c =
     let ws = name_at p c.args.name ∷ integer_words p (int_expression_tree c.args.e.now) ++ reducing_word c.args.reduction ∷ [] in
     let middle = c.put_target.new.out.items in
     on_ok_weaker c.close_bracket.result (λ closes.
-    put_behind c.args.out.now.items middle c.close_bracket.new.out.items (codes "set" ∷ name_at p c.args.name ∷ []) (bracketed ws ∷ []) c.in_ok-put_target.ensures
+    put_after c.args.out.now.items middle c.close_bracket.new.out.items (codes "set" ∷ name_at p c.args.name ∷ []) (bracketed ws ∷ []) c.in_ok-put_target.ensures
     (bracket_closed middle c.close_bracket.new.out.items ws
     (closes (middle ++ 91 ∷ []) ws (absurd_cons _ _)
     (c.in_ok-put_reduced.ensures ∙ ap (λ t. t ++ spaced ws) c.in_ok-open_bracket.ensures))))

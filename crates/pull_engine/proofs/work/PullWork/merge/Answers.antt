@@ -29,11 +29,11 @@ returns-in_ok-changes-in-Some-clause-changes c =
     (λ r by.
     let old = entry m.vectors y in
     let new = entry_after m steps y r es in
-    c.in_ok-changes-in-Some.ensures (told_in_piece old new w.cuts)
+    c.in_ok-changes-in-Some.ensures (told_in_piece old new w.partition)
     (subst (λ (l : ℕ). IsPermutation (pieces_of fs) (range_with_len 1 l)) (sym count) order)
     (pulled_parts w fs y at answers m steps from to vectors sizes kernels is_from is_to r by)
-    ∙ ap (λ (l : ℕ). flat_map (told_in_piece old new w.cuts) (range_with_len 1 l)) count
-    ∙ told_in_pieces old new w.cuts n w.whole))
+    ∙ ap (λ (l : ℕ). flat_map (told_in_piece old new w.partition) (range_with_len 1 l)) count
+    ∙ told_in_pieces old new w.partition n w.whole))
     c.changes_in.ensures.changes
 
 pub returns-in-None-clause-changes : goal.returns-in-None-clause-changes

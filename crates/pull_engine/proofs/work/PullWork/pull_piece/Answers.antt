@@ -45,7 +45,7 @@ returns c =
     let es = edges_between from to g.edges in
     let same = ap (λ (d : Digraph). edges_between passes to d.edges) of_piece.flat
     ∙ between_agree g passes from to of_piece.graph (λ v l. of_piece.from v ∙ w.passing m from vectors sizes is_from v l) in
-    subst (λ (e : ℕ). AreChangesFrom x (end_of w.cuts (k - 1)) (e - end_of w.cuts (k - 1)) es m steps cs.items) of_piece.high
+    subst (λ (e : ℕ). AreChangesFrom x (end_of w.partition (k - 1)) (e - end_of w.partition (k - 1)) es m steps cs.items) of_piece.high
     (subst (λ (s : ℕ). AreChangesFrom x s (p.high - s) es m steps cs.items) of_piece.low
     (subst (λ (fs : List Edge). AreChangesFrom x p.low (p.high - p.low) fs m steps cs.items) same
     (changed m steps to (of_piece.reads m steps (record { vectors = vectors; sizes = sizes; kernels = kernels })) (of_piece.to m to is_to)))))

@@ -6,7 +6,7 @@ use Rattle.pull_engine.proofs.work.PullWork.vertices_of.Goals as goal
 pub overflow_cast-result : goal.overflow_cast-result
 overflow_cast-result c =
     let w = c.args.self.now in
-    let inside = piece_inside w.apply.flat.now.vertices w.cuts c.args.piece w.whole c.requires.some c.requires.inside in
+    let inside = piece_inside w.apply.flat.now.vertices w.partition c.args.piece w.whole c.requires.some c.requires.inside in
     let order = inside.0 in
     let last = inside.1 in
     let start = c.piece-indices.ensures.start in
@@ -17,7 +17,7 @@ overflow_cast-result c =
 pub overflow_cast-result-2 : goal.overflow_cast-result-2
 overflow_cast-result-2 c =
     let w = c.args.self.now in
-    let inside = piece_inside w.apply.flat.now.vertices w.cuts c.args.piece w.whole c.requires.some c.requires.inside in
+    let inside = piece_inside w.apply.flat.now.vertices w.partition c.args.piece w.whole c.requires.some c.requires.inside in
     let last = inside.1 in
     let end = c.piece-indices.ensures.end in
     let count = c.vertices.ensures.count in
@@ -27,7 +27,7 @@ overflow_cast-result-2 c =
 pub returns-clause-order : goal.returns-clause-order
 returns-clause-order c =
     let w = c.args.self.now in
-    let inside = piece_inside w.apply.flat.now.vertices w.cuts c.args.piece w.whole c.requires.some c.requires.inside in
+    let inside = piece_inside w.apply.flat.now.vertices w.partition c.args.piece w.whole c.requires.some c.requires.inside in
     let order = inside.0 in
     let start = c.piece-indices.ensures.start in
     let end = c.piece-indices.ensures.end in
@@ -36,7 +36,7 @@ returns-clause-order c =
 pub returns-clause-within : goal.returns-clause-within
 returns-clause-within c =
     let w = c.args.self.now in
-    let inside = piece_inside w.apply.flat.now.vertices w.cuts c.args.piece w.whole c.requires.some c.requires.inside in
+    let inside = piece_inside w.apply.flat.now.vertices w.partition c.args.piece w.whole c.requires.some c.requires.inside in
     let last = inside.1 in
     let end = c.piece-indices.ensures.end in
     omega (arith, last, end)

@@ -16,7 +16,7 @@ returns-in_ok-gathered-in-Some-clause-out c =
     let found = c.in_ok-gathered-in-Some.ensures in (
       found.ascending,
       λ m steps from to vectors sizes kernels is_from is_to.
-          let es = rows w.apply.flat.now.edges (passing_in w.tested from (piece_of w.cuts w.sources.items c.args.piece)) in
+          let es = rows w.apply.flat.now.edges (passing_in w.tested from (piece_of w.partition w.sources.items c.args.piece)) in
           gathered_where n m steps (is_set words) to es g (c.in-Some.ensures m to vectors sizes is_to)
           (gathered_first n m steps (is_set words) es g (found.given m steps from (λ _. true) vectors sizes kernels is_from (λ v. refl))),
     )
@@ -29,6 +29,6 @@ returns-in_ok-gathered-in-None-clause-out c =
     let found = c.in_ok-gathered-in-None.ensures in (
       found.ascending,
       λ m steps from to vectors sizes kernels is_from is_to.
-          let es = rows w.apply.flat.now.edges (passing_in w.tested from (piece_of w.cuts w.sources.items c.args.piece)) in
+          let es = rows w.apply.flat.now.edges (passing_in w.tested from (piece_of w.partition w.sources.items c.args.piece)) in
           gathered_second n m steps to es g (found.given m steps from to vectors sizes kernels is_from is_to),
     )

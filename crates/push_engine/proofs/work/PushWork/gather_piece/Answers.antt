@@ -13,7 +13,7 @@ use Rattle.push_engine.proofs.work.PushWork.gather_piece.Goals as goal
 pub part_between-part-requires-clause-order : goal.part_between-part-requires-clause-order
 part_between-part-requires-clause-order c =
     let w = c.args.self.now in
-    let inside = piece_inside (length w.sources.items) w.cuts c.args.piece w.whole c.requires.some c.requires.inside in
+    let inside = piece_inside (length w.sources.items) w.partition c.args.piece w.whole c.requires.some c.requires.inside in
     let order = inside.0 in
     let start = c.piece-indices.ensures.start in
     let end = c.piece-indices.ensures.end in
@@ -22,7 +22,7 @@ part_between-part-requires-clause-order c =
 pub part_between-part-requires-clause-inside : goal.part_between-part-requires-clause-inside
 part_between-part-requires-clause-inside c =
     let w = c.args.self.now in
-    let inside = piece_inside (length w.sources.items) w.cuts c.args.piece w.whole c.requires.some c.requires.inside in
+    let inside = piece_inside (length w.sources.items) w.partition c.args.piece w.whole c.requires.some c.requires.inside in
     let last = inside.1 in
     let end = c.piece-indices.ensures.end in
     let long = ap length c.deref.ensures.value in
@@ -38,9 +38,9 @@ returns-clause-given c m steps from test vectors sizes kernels is_from is_test x
     let part = c.part_between-part.ensures
     ∙ ap (λ (us : List ℕ). slice_range us c.piece-indices.result.start c.piece-indices.result.end) c.deref.ensures.value
     ∙ ap (λ (s : ℕ). slice_range w.sources.items s c.piece-indices.result.end) c.piece-indices.ensures.start
-    ∙ ap (λ (e : ℕ). slice_range w.sources.items (end_of w.cuts (k - 1)) e) c.piece-indices.ensures.end in
+    ∙ ap (λ (e : ℕ). slice_range w.sources.items (end_of w.partition (k - 1)) e) c.piece-indices.ensures.end in
     let reads = c.context-context.ensures.reads m steps (record { vectors = vectors; sizes = sizes; kernels = kernels }) in
     let has = c.in_ok-fold_part.ensures m steps from reads is_from (c.begin.ensures _ m steps) in
     let gathered = c.in_ok-gathered.ensures.given m steps (folded c.part_between-part.result.now) test reads is_test has (ap (λ (f : ApplyContext). f.start) c.context-context.ensures.context) x r by in
-    subst (λ (n : ℕ). AreGatheredFor n m steps (filter (λ e. test e.1) (folded (piece_of w.cuts w.sources.items k))) g x r) (ap (λ (f : ApplyContext). f.vertices) c.context-context.ensures.context)
+    subst (λ (n : ℕ). AreGatheredFor n m steps (filter (λ e. test e.1) (folded (piece_of w.partition w.sources.items k))) g x r) (ap (λ (f : ApplyContext). f.vertices) c.context-context.ensures.context)
     (subst (λ (us : List ℕ). AreGatheredFor c.context-context.result.vertices m steps (filter (λ e. test e.1) (folded us)) g x r) part gathered)

@@ -28,7 +28,7 @@ returns-clause-changes c answers order m steps from to vectors sizes kernels is_
     let new = λ (es : List Edge). entry (after_edges steps m.sets m.vectors es m.vectors) x in
     let each = subst (λ (n : ℕ). EachGathered n m steps edges_of fs) (sym count) (each_gathered w fs m steps from to answers vectors sizes kernels is_from is_to) in
     let has = c.in_ok-join_all.ensures m steps edges_of each (c.begin.ensures _ m steps) in
-    let whole = merged _ m steps edges w.tested from to w.cuts w.sources.items (pieces_of fs) c.join_all.new.scratch w.whole (w.passing m from vectors sizes is_from) order has in
+    let whole = merged _ m steps edges w.tested from to w.partition w.sources.items (pieces_of fs) c.join_all.new.scratch w.whole (w.passing m from vectors sizes is_from) order has in
     c.in_ok-changes.ensures.changes m steps (edges_between from to edges) (λ _. true) reads (λ v. refl) whole starts x r by (omega (arith, count, long))
     ∙ ap (λ (n : ℕ). changed n old (new (filter (λ e. true) (edges_between from to edges)))) count
     ∙ ap (λ (es : List Edge). changed w.apply.flat.now.vertices old (new es)) (filter_all (λ _. true) (edges_between from to edges) (λ e. refl))

@@ -22,5 +22,5 @@ returns-then-is_worth_workers-clause-changes g c =
     let edges_of = edges_of_piece w from to in
     changed m steps edges_of vectors sizes kernels (each_ascends w fs answers) (each_gathered w fs m steps from to answers vectors sizes kernels is_from is_to) x r by long
     ∙ changed_by_alike n x r m steps (flat_map edges_of (pieces_of fs)) (edges_between from to edges) by long
-    (λ v k. merged_alike r x v (all_given m steps) edges w.tested from to w.cuts w.sources.items (pieces_of fs) w.whole (w.passing m from vectors sizes is_from) order k))
+    (λ v k. merged_alike r x v (all_given m steps) edges w.tested from to w.partition w.sources.items (pieces_of fs) w.whole (w.passing m from vectors sizes is_from) order k))
     c.merge_by_ranges.ensures.changes

@@ -1,9 +1,9 @@
--- Proofs of `write_behind`, src/reply_writer.rt.
+-- Proofs of `write_after`, src/reply_writer.rt.
 use Rattle.std.proofs.Common.{[], ◌∙◌, refl, sym, ap, subst}
 use Rattle.replies.specs.Sending.{Sends}
 use Rattle.replies.proofs.SendingLaws.{fails_more, sends_written, fails_written, emits_failed}
-use Rattle.replies.proofs.reply_writer.ReplyWriter.write_behind.Goals as goal
-use Rattle.replies.proofs.reply_writer.ReplyWriter.write_behind.Goals.{in-Ok, in-Err}
+use Rattle.replies.proofs.reply_writer.ReplyWriter.write_after.Goals as goal
+use Rattle.replies.proofs.reply_writer.ReplyWriter.write_after.Goals.{in-Ok, in-Err}
 
 pub returns-in_err-flush : goal.returns-in_err-flush
 returns-in_err-flush g c = emits_failed _ _ _ _ _ c.from_residual.ensures.1 (fails_more _ _ [] c.args.bytes.now _ c.in_err-flush.ensures.emits)

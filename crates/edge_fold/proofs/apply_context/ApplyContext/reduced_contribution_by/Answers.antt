@@ -1,4 +1,4 @@
--- Proofs of `together_by`, src/reduced_contributions.rt.
+-- Proofs of `reduced_contribution_by`, src/reduced_contributions.rt.
 use Rattle.std.proofs.Common.{rules, ◌∷◌, [], ℤ, pos, List, FitsSigned, to_z, of_z, w64, ap, sym, ◌∙◌}
 use Rattle.std.proofs.lemmas.Int.{to_z-of_z}
 use Rattle.typed_tree.specs.declared.expression.Operator.TheVariants as operator
@@ -8,7 +8,7 @@ use Rattle.vectors.specs.Lanes.{lane_entry}
 use Rattle.edge_fold.specs.Contributions.{reduced_at}
 use Rattle.kernels.specs.declared.shape.Shape.{Shape}
 use Rattle.kernels.specs.ShapePairs.{shape_given}
-use Rattle.edge_fold.proofs.apply_context.ApplyContext.together_by.Goals as goal
+use Rattle.edge_fold.proofs.apply_context.ApplyContext.reduced_contribution_by.Goals as goal
 
 pub returns-in_ok-reduce_numbers-in-Source : goal.returns-in_ok-reduce_numbers-in-Source
 returns-in_ok-reduce_numbers-in-Source c m vectors =

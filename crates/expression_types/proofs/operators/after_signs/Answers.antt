@@ -1,9 +1,9 @@
--- Proofs of `behind_signs`, src/operators.rt.
+-- Proofs of `after_signs`, src/operators.rt.
 use Rattle.std.proofs.Common.{ap, sym, ◌∙◌, length}
 use Rattle.typed_tree.specs.IntExpressionTree.{int_expression_tree, negated}
 use Rattle.expression_types.specs.ValueTree.{Integer, value_tree}
 use Rattle.expression_types.proofs.SignLaws.{error_stays, integer_negated, integer_misses, other_misses, named_so, not_empty}
-use Rattle.expression_types.proofs.operators.behind_signs.Goals as goal
+use Rattle.expression_types.proofs.operators.after_signs.Goals as goal
 
 pub returns-then-is_error : goal.returns-then-is_error
 returns-then-is_error c =

@@ -1,8 +1,8 @@
--- Proofs of `cut_sources`, src/listed.rt.
+-- Proofs of `partition_sources`, src/listed.rt.
 use Rattle.std.proofs.Common.{ℕ, length, ap, ◌∙◌}
 use Rattle.std.proofs.lemmas.List.{length-map}
 use Rattle.flat_snapshot.specs.Neighbours.{destinations_of}
-use Rattle.push_engine.proofs.listed.cut_sources.Goals as goal
+use Rattle.push_engine.proofs.listed.partition_sources.Goals as goal
 
 pub by_degrees-requires-clause-degrees : goal.by_degrees-requires-clause-degrees
 by_degrees-requires-clause-degrees c edge_aware =

@@ -1,4 +1,4 @@
--- Proofs of `sent_by`, src/source_contributions.rt.
+-- Proofs of `source_contribution_by`, src/source_contributions.rt.
 use Rattle.std.proofs.Common.{rules, ◌∷◌, [], ℤ, List, FitsSigned, to_z, of_z, w64, ap, sym, ◌∙◌}
 use Rattle.std.proofs.lemmas.Int.{to_z-of_z}
 use Rattle.typed_tree.specs.declared.expression.Operator.TheVariants as operator
@@ -6,7 +6,7 @@ use Rattle.algorithm_meaning.specs.Arithmetic.{arithmetic}
 use Rattle.algorithm_meaning.specs.Value.{entry}
 use Rattle.kernels.specs.declared.shape.Shape.{Shape}
 use Rattle.kernels.specs.ShapePairs.{shape_given}
-use Rattle.edge_fold.proofs.apply_context.ApplyContext.sent_by.Goals as goal
+use Rattle.edge_fold.proofs.apply_context.ApplyContext.source_contribution_by.Goals as goal
 
 pub returns-in-Source : goal.returns-in-Source
 returns-in-Source c m vectors d w =
