@@ -3,7 +3,7 @@ use Rattle.std.specs.Prelude.{◌≡◌, ℕ, ℤ, pos, negsuc, FitsSigned, if�
 use Rattle.std.specs.Int.{w64}
 use Rattle.apply_options.specs.declared.reduction.Reduction.{Reduction}
 use Rattle.apply_options.specs.declared.reduction.Reduction.TheVariants as reduction
-use Rattle.edge_lists.specs.Edge.{Edge}
+use Rattle.weighted_edges.specs.Edge.{Edge}
 use Rattle.typed_tree.specs.FunctionStatementTree.{FunctionStatementsTree}
 use Rattle.algorithm_meaning.specs.declared.contribution.Contribution.{Contribution}
 use Rattle.algorithm_meaning.specs.declared.state.SetBinding.{SetBinding}

@@ -1,6 +1,6 @@
 -- What a run works on, and what it keeps.
 use Rattle.std.specs.Prelude.{ℕ, ℤ, Bool, false, List, [], ◌∷◌}
-use Rattle.edge_lists.specs.Edge.{Edge, unit_weight}
+use Rattle.weighted_edges.specs.Edge.{Edge, unit_weight}
 use Rattle.algorithm_meaning.specs.declared.state.SetBinding.{SetBinding}
 
 -- the vertices are the numbers below this, and the edges are between them

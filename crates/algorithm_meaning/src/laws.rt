@@ -2,7 +2,7 @@
 ghost use Rattle.std.specs.Prelude.{◌≡◌, ◌<◌, false, ℕ, ℤ, List, [], ◌∷◌, ◌++◌, length, slice_index_or};
 ghost use Rattle.std.specs.List.Sorted.{IsPermutation};
 ghost use Rattle.apply_options.specs.declared.reduction.Reduction.{Reduction};
-ghost use Rattle.edge_lists.specs.Edge.{Edge};
+ghost use Rattle.weighted_edges.specs.Edge.{Edge};
 ghost use Rattle.typed_tree.specs.FunctionStatementTree.{FunctionStatementsTree};
 ghost use Rattle.algorithm_meaning.specs.declared.contribution.Contribution.{Contribution};
 ghost use Rattle.algorithm_meaning.specs.declared.state.SetBinding.{SetBinding};

@@ -21,7 +21,7 @@ use Rattle.schedule.specs.Independence.{is_none_of, are_apart}
 use Rattle.typed_tree.specs.inside.Access.{step_writes, steps_write}
 use Rattle.schedule.specs.ScheduleTree.{ScheduleTree}
 use Rattle.std.proofs.lemmas.Bool.{and_parts}
-use Rattle.edge_lists.specs.Edge.{Edge}
+use Rattle.weighted_edges.specs.Edge.{Edge}
 use Rattle.plans.specs.Instruction.{OperationTree, Do, ApplyEdgesTogether, ApplyVerticesTogether, Unless, Enter, UnlessBelow, Advance, Turn, Jump, End}
 use Rattle.plans.specs.Plan.{plan_of}
 use Rattle.plans.specs.Fused.{FitTogether}

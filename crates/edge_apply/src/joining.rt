@@ -1,7 +1,7 @@
 //! The merge of what the pieces of an apply have found.
 ghost use Rattle.std.specs.Prelude.{◌≡◌, ℕ, ◌≤◌, List, [], length, slice_range, OnOk};
 ghost use Rattle.std.specs.List.{filter, flat_map};
-ghost use Rattle.edge_lists.specs.Edge.{Edge};
+ghost use Rattle.weighted_edges.specs.Edge.{Edge};
 ghost use Rattle.crew.specs.Pieces.{pieces_of};
 ghost use Rattle.kernels.specs.FunctionStatementTree.{FunctionStatementsTree};
 ghost use Rattle.kernels.specs.State.{StateValue};

@@ -1,7 +1,7 @@
 -- Lists of the ends of edges, and graphs that differ in no other edges.
 use Rattle.std.specs.Prelude.{◌≡◌, ℕ, ◌+◌, ◌^◌, ◌≤◌, ◌==◌, Bool, not, ◌&&◌, List, [], ◌∷◌}
 use Rattle.std.specs.List.{filter, list_any}
-use Rattle.edge_lists.specs.Edge.{Edge}
+use Rattle.weighted_edges.specs.Edge.{Edge}
 use Rattle.tree_batch.specs.Edge.{Ends, index}
 
 -- whether the edge from u to v is listed

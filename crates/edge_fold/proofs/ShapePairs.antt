@@ -1,7 +1,7 @@
 -- Statements of a shape, and functions of two.
 use Rattle.std.proofs.Common.{◌≡◌, ℕ, ℤ, ◌==◌, pos, cond, None, List, [], ◌∷◌, ◌++◌, length, refl, sym, ap, ◌∙◌, subst, arith}
 use Rattle.std.proofs.lemmas.List.{append-nil}
-use Rattle.edge_lists.specs.Edge.{Edge}
+use Rattle.weighted_edges.specs.Edge.{Edge}
 use Rattle.apply_options.specs.declared.reduction.Reduction.{Reduction}
 use Rattle.typed_tree.specs.FunctionStatementTree.{FunctionStatementsTree}
 use Rattle.algorithm_meaning.specs.Arithmetic.{arithmetic}

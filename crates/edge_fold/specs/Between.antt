@@ -1,7 +1,7 @@
 -- The edges that an apply goes over.
 use Rattle.std.specs.Prelude.{ℕ, Bool, ◌&&◌, List, map}
 use Rattle.std.specs.List.{filter}
-use Rattle.edge_lists.specs.Edge.{Edge}
+use Rattle.weighted_edges.specs.Edge.{Edge}
 
 -- those from a source that passes to a destination that passes
 abbrev pub edges_between : (from to : ℕ → Bool) → List Edge → List Edge

@@ -2,7 +2,7 @@
 use Rattle.std.specs.Prelude.{◌≡◌, ℕ, ◌<◌, ℤ, ◌==◌, ◌&&◌, nat_le, nat_lt, Bool, if◌then◌else◌, List, ◌∷◌, ◌++◌}
 use Rattle.std.specs.List.Sorted.{IsNonDecreasingBy}
 use Rattle.apply_options.specs.declared.reduction.Reduction.{Reduction}
-use Rattle.edge_lists.specs.Edge.{Edge}
+use Rattle.weighted_edges.specs.Edge.{Edge}
 use Rattle.typed_tree.specs.FunctionStatementTree.{FunctionStatementsTree}
 use Rattle.algorithm_meaning.specs.State.{StateValue}
 use Rattle.vectors.specs.declared.changes.EntryChange.{EntryChange}

@@ -1,7 +1,7 @@
 //! Changes of an apply: what its accumulators have for each vector.
 ghost use Rattle.std.specs.Prelude.{◌≡◌, ℕ, ◌==◌, ◌≤◌, ◌++◌, Bool, if◌then◌else◌, List, [], length, slice_index_or, IfOk, OnOk};
 ghost use Rattle.std.specs.List.{filter};
-ghost use Rattle.edge_lists.specs.Edge.{Edge};
+ghost use Rattle.weighted_edges.specs.Edge.{Edge};
 ghost use Rattle.apply_options.specs.declared.reduction.Reduction.{Reduction};
 ghost use Rattle.typed_tree.specs.FunctionStatementTree.{FunctionStatementsTree};
 ghost use Rattle.algorithm_meaning.specs.EdgeApply.{IsGivenBy};

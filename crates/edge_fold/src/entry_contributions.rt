@@ -1,7 +1,7 @@
 //! Contributions of an edge function that depends on an entry of the source and on the weight.
 ghost use Rattle.std.specs.Prelude.{◌≡◌, ℕ, ℤ, List, None, IfSome, length};
 ghost use Rattle.apply_options.specs.declared.reduction.Reduction.{Reduction};
-ghost use Rattle.edge_lists.specs.Edge.{Edge};
+ghost use Rattle.weighted_edges.specs.Edge.{Edge};
 ghost use Rattle.typed_tree.specs.FunctionStatementTree.{FunctionStatementsTree};
 ghost use Rattle.algorithm_meaning.specs.State.{StateValue};
 ghost use Rattle.kernels.specs.ShapePairs.{shape_given};

@@ -32,7 +32,7 @@ impl Scratch {
     ghost use Rattle.algorithm_meaning.specs.State.{StateValue};
     ghost use Rattle.edge_fold.specs.declared.apply_context.ApplyContext.{ApplyContext};
     ghost use Rattle.edge_fold.specs.Folded.{IsContextOf, HasFolded};
-    ghost use Rattle.edge_lists.specs.Edge.{Edge};
+    ghost use Rattle.weighted_edges.specs.Edge.{Edge};
     ghost use Rattle.edge_fold.specs.Between.{firsts};
     ghost use Rattle.edge_fold.specs.Contributions.{entries_of, row};
 

@@ -1,6 +1,6 @@
 //! Statements: contributions of an edge function of two statements, each of a shape, of which one is folded after the other.
 ghost use Rattle.std.specs.Prelude.{◌≡◌, ◌++◌, true, false, List, IfSome, IfOk};
-ghost use Rattle.edge_lists.specs.Edge.{Edge};
+ghost use Rattle.weighted_edges.specs.Edge.{Edge};
 ghost use Rattle.typed_tree.specs.FunctionStatementTree.{FunctionStatementsTree};
 ghost use Rattle.algorithm_meaning.specs.State.{StateValue};
 ghost use Rattle.kernels.specs.ShapePairs.{shape_given};

@@ -2,7 +2,7 @@
 use Rattle.std.proofs.Common.{◌≡◌, ℕ, ℤ, pos, true, Option, Some, None, List, [], ◌∷◌, ◌++◌, refl, sym, ap, ap₂, ◌∙◌}
 use Rattle.std.proofs.lemmas.Bool.{and_parts, false≢true}
 use Rattle.std.specs.Borrow.{Bor}
-use Rattle.edge_lists.specs.Edge.{Edge, unit_edge}
+use Rattle.weighted_edges.specs.Edge.{Edge, unit_edge}
 use Rattle.apply_options.specs.declared.reduction.Reduction.{Reduction}
 use Rattle.typed_tree.specs.declared.expression.Endpoint.TheVariants as endpoint
 use Rattle.algorithm_meaning.specs.declared.contribution.Contribution.{Contribution}

@@ -1,7 +1,7 @@
 -- The destinations whose entries an apply may change otherwise than the former one did.
 use Rattle.std.specs.Prelude.{ℕ, ◌==◌, Bool, true, ◌||◌, ◌&&◌, Option, Some, None, List}
 use Rattle.std.specs.List.{list_any}
-use Rattle.edge_lists.specs.Edge.{Edge}
+use Rattle.weighted_edges.specs.Edge.{Edge}
 use Rattle.kernels.specs.EdgeApply.{is_member}
 use Rattle.kernels.specs.declared.endpoint_filter.EndpointFilter.{EndpointFilter}
 use Rattle.kernels.specs.declared.endpoint_filter.EndpointFilter.TheVariants as end

@@ -1,6 +1,6 @@
 -- The edges that are gone over to find what an apply may change otherwise than a former one.
 use Rattle.std.specs.Prelude.{ℕ, ◌+◌, if◌then◌else◌, Option, None, List, [], ◌∷◌, length}
-use Rattle.edge_lists.specs.Edge.{Edge}
+use Rattle.weighted_edges.specs.Edge.{Edge}
 use Rattle.kernels.specs.declared.endpoint_filter.EndpointFilter.{EndpointFilter}
 use Rattle.flat_snapshot.specs.Neighbours.{destinations_of, sources_of}
 use Rattle.edge_apply.specs.declared.apply.Apply.{Apply}

@@ -1,6 +1,6 @@
 //! Laws of vertex sets and of the ends of applies, each the contract of a call that does nothing.
 ghost use Rattle.std.specs.Prelude.{◌≡◌, ◌≢◌, ◌↔◌, ◌<◌, ℕ, List, Contains, true, slice_get};
-ghost use Rattle.edge_lists.specs.Edge.{Edge};
+ghost use Rattle.weighted_edges.specs.Edge.{Edge};
 ghost use Rattle.typed_tree.specs.declared.expression.VarRef as slot;
 ghost use Rattle.typed_tree.specs.declared.statement.ApplyEnds as ends;
 ghost use Rattle.typed_tree.specs.declared.statement.SetValue.TheVariants as set;

@@ -4,7 +4,7 @@ use Rattle.std.proofs.lemmas.Bool.Decides.{nat_tests}
 use Rattle.std.proofs.lemmas.Int.{int_wrap-add_left}
 use Rattle.std.specs.Int.{int_wrap}
 use Rattle.std.specs.List.{range_with_len}
-use Rattle.edge_lists.specs.Edge.{Edge}
+use Rattle.weighted_edges.specs.Edge.{Edge}
 use Rattle.algorithm_meaning.specs.Arithmetic.{wrapped}
 use Rattle.plain_run.specs.inside.Degrees.{counted}
 use Rattle.algorithm_meaning.specs.Meaning.{out_degree}

@@ -8,7 +8,7 @@ ghost use Rattle.plain_run.specs.inside.Seen.{graph_of, state_of};
 
 use crate::state::{EdgeList, Environment, InterpreterState};
 use algorithm_meaning::{SetBinding, arithmetic_of};
-use edge_lists::UNIT_WEIGHT;
+use weighted_edges::UNIT_WEIGHT;
 use std::alloc::{AllocError, Global};
 use typed_tree::{InitialValue, Operator, Sequence, Typed, Vector};
 

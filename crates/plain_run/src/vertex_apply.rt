@@ -8,7 +8,7 @@ use crate::evaluate::members_at;
 use crate::function::{FunctionFrame, begin, new_frame, run_steps, steps_at};
 use crate::state::InterpreterState;
 use algorithm_meaning::{SetBinding, Writing};
-use edge_lists::UNIT_WEIGHT;
+use weighted_edges::UNIT_WEIGHT;
 use std::alloc::{AllocError, Global};
 use typed_tree::{Function, FunctionStatement, Sequence};
 

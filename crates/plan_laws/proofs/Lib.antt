@@ -12,3 +12,11 @@ pub mod Around
 pub mod AroundInstructions
 pub mod Counting
 pub mod LoopLaw
+mod Machine
+mod Plain
+mod Words
+mod CutWords
+mod Values
+mod Named
+mod Bare
+mod LineWords

@@ -19,7 +19,7 @@ use Rattle.algorithm_meaning.specs.EdgeApply.{gives}
 use Rattle.typed_tree.specs.Independence.{is_none_of, are_apart}
 use Rattle.typed_tree.specs.inside.Access.{integer_reads, condition_reads, step_uses, steps_use}
 use Rattle.std.proofs.lemmas.Bool.{and_parts}
-use Rattle.edge_lists.specs.Edge.{Edge}
+use Rattle.weighted_edges.specs.Edge.{Edge}
 use Rattle.plans.specs.inside.Fusing.{integer_sizes, condition_sizes, step_sizes, steps_sizes}
 use Rattle.algorithm_meaning.specs.declared.state.SetBinding.{SetBinding}
 

@@ -1,7 +1,7 @@
 -- Two edge functions along the same edges.
 use Rattle.std.proofs.Common.{◌≡◌, ℕ, ◌==◌, ℤ, true, not, List, [], ◌∷◌, ◌++◌, slice_index_or, ap, sym, ◌∙◌}
 use Rattle.std.proofs.lemmas.List.{append-nil}
-use Rattle.edge_lists.specs.Edge.{Edge}
+use Rattle.weighted_edges.specs.Edge.{Edge}
 use Rattle.typed_tree.specs.FunctionStatementTree.{FunctionStatementsTree}
 use Rattle.algorithm_meaning.specs.EdgeApply.{gives, after_edges}
 use Rattle.typed_tree.specs.Independence.{is_none_of, are_apart}

@@ -9,7 +9,7 @@ use Rattle.algorithm_meaning.specs.EdgeApply.{after_edge_apply, after_edges, mat
 use Rattle.typed_tree.specs.Independence.{is_none_of, are_apart, end_reads, function_uses, function_writes}
 use Rattle.typed_tree.specs.inside.Access.{steps_use, steps_use_where, steps_write, steps_write_where}
 use Rattle.std.proofs.lemmas.Bool.{and_parts}
-use Rattle.edge_lists.specs.Edge.{Edge}
+use Rattle.weighted_edges.specs.Edge.{Edge}
 use Rattle.algorithm_meaning.specs.declared.state.Depth.{Depth}
 use Rattle.plans.specs.Fusing.{EdgeApplyTree, result_indices, result_vectors, end_sets, function_sizes, is_same_end, edges_fit}
 use Rattle.plans.specs.Machine.{with_result, after_parts}

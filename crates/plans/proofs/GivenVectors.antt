@@ -11,7 +11,7 @@ use Rattle.algorithm_meaning.specs.EdgeApply.{gives}
 use Rattle.typed_tree.specs.Independence.{is_none_of}
 use Rattle.typed_tree.specs.inside.Access.{integer_reads, condition_reads, step_uses, steps_use, step_writes, steps_write}
 use Rattle.std.proofs.lemmas.Bool.{and_parts}
-use Rattle.edge_lists.specs.Edge.{Edge}
+use Rattle.weighted_edges.specs.Edge.{Edge}
 use Rattle.algorithm_meaning.specs.declared.state.SetBinding.{SetBinding}
 use Rattle.algorithm_meaning.specs.declared.contribution.Contribution.{Contribution}
 use Rattle.plans.proofs.Beside.{both_parts}

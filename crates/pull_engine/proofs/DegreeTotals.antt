@@ -3,7 +3,7 @@ use Rattle.std.proofs.Common.{◌≡◌, ℕ, zero, suc, ℤ, ◌+◌, ◌*◌, 
 use Rattle.std.specs.List.{range_with_len, sum_by}
 use Rattle.std.proofs.lemmas.Bool.{eq-eqb, ne_eqb}
 use Rattle.std.proofs.lemmas.List.FromFn.{length-range_with_len}
-use Rattle.edge_lists.specs.Edge.{Edge}
+use Rattle.weighted_edges.specs.Edge.{Edge}
 use Rattle.tree_batch.proofs.AllEdges.{few_vertices}
 use Rattle.flat_snapshot.specs.Digraph.{Digraph, IsDigraph}
 use Rattle.flat_snapshot.specs.Edge.{Ends, IsWithin, Rises, ends_eq, ends_of, weight_in}

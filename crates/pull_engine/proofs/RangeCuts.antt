@@ -1,7 +1,7 @@
 -- Ranges of vertices that are gone over by blocks.
 use Rattle.std.proofs.Common.{◌≡◌, ℕ, zero, suc, ◌+◌, ◌-◌, ◌*◌, ◌/◌, ◌<◌, ◌≤◌, ◌&&◌, ℤ, Bool, cond, List, [], ◌++◌, bit_and, refl, sym, ap, ap₂, ◌∙◌, arith}
 use Rattle.std.proofs.lemmas.List.{append-nil}
-use Rattle.edge_lists.specs.Edge.{Edge}
+use Rattle.weighted_edges.specs.Edge.{Edge}
 use Rattle.apply_options.specs.declared.reduction.Reduction.{Reduction}
 use Rattle.vectors.specs.declared.changes.EntryChange.{EntryChange}
 use Rattle.flat_snapshot.specs.Neighbours.{sources_of}

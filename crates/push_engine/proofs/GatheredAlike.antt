@@ -1,7 +1,7 @@
 -- What edges give where destinations are tested twice, or by tests that agree.
 use Rattle.std.proofs.Common.{◌≡◌, ℕ, ◌<◌, Bool, true, cond, List, refl, sym, ap, ◌∙◌, subst}
 use Rattle.std.specs.List.{filter}
-use Rattle.edge_lists.specs.Edge.{Edge}
+use Rattle.weighted_edges.specs.Edge.{Edge}
 use Rattle.kernels.specs.FunctionStatementTree.{FunctionStatementsTree}
 use Rattle.kernels.specs.State.{StateValue}
 use Rattle.edge_fold.specs.declared.gathered.Gathered.{Gathered}

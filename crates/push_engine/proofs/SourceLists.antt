@@ -2,7 +2,7 @@
 use Rattle.std.proofs.Common.{◌≡◌, ℕ, ◌<◌, ◌==◌, ◌⊎◌, inl, inr, ◌&&◌, ℤ, Bool, true, false, cond, Some, List, [], ◌∷◌, length, refl, sym, ap, ◌∙◌, arith}
 use Rattle.std.proofs.lemmas.Bool.Decides.{Decides-eqb}
 use Rattle.std.specs.List.{filter, range_with_len}
-use Rattle.edge_lists.specs.Edge.{Edge}
+use Rattle.weighted_edges.specs.Edge.{Edge}
 use Rattle.kernels.specs.EdgeApply.{is_member}
 use Rattle.apply_options.specs.declared.apply_schedule.Direction.{Direction}
 use Rattle.apply_options.specs.declared.apply_schedule.Direction.TheVariants.{SparsePush, DensePush, DensePull, Hybrid}

@@ -4,7 +4,7 @@ ghost use Rattle.std.specs.Int.{bit_at};
 ghost use Rattle.std.specs.List.{filter, range_with_len};
 ghost use Rattle.std.specs.Map.{keys_of};
 ghost use Rattle.std.specs.Option.{option_copied};
-ghost use Rattle.edge_lists.specs.Edge.{Edge};
+ghost use Rattle.weighted_edges.specs.Edge.{Edge};
 ghost use Rattle.kernels.specs.FunctionStatementTree.{FunctionStatementsTree};
 ghost use Rattle.kernels.specs.EdgeApply.{is_member};
 ghost use Rattle.kernels.specs.State.{StateValue};

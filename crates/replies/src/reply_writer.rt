@@ -8,7 +8,7 @@ use crate::outcome_text::push_spaced_integer;
 use crate::send_error::SendError;
 use decimal::push_number;
 use devices::{Drain, write_all};
-use edge_lists::UNIT_WEIGHT;
+use weighted_edges::UNIT_WEIGHT;
 use std::alloc::AllocError;
 use std::marker::Model;
 use tree_batch::Graph;

@@ -1,7 +1,7 @@
 -- Out-degrees of vertices.
 use Rattle.std.proofs.Common.{◌≡◌, ℕ, ℤ, suc, ◌^◌, ◌<◌, ◌==◌, pos, Bool, true, false, cond, List, [], ◌∷◌, length, FitsSigned, w64, ap, sym, ◌∙◌, refl, arith}
 use Rattle.std.proofs.lemmas.Int.{int_wrap_fits, ints}
-use Rattle.edge_lists.specs.Edge.{Edge}
+use Rattle.weighted_edges.specs.Edge.{Edge}
 use Rattle.algorithm_meaning.specs.Arithmetic.{wrapped}
 use Rattle.algorithm_meaning.specs.Meaning.{out_degree}
 use Rattle.flat_snapshot.specs.Neighbours.{destinations_of}

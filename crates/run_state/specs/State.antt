@@ -1,6 +1,6 @@
 -- The state of a run.
 use Rattle.std.specs.Prelude.{◌≡◌, ℕ, ◌<◌, ℤ, List, [], length, map, slice_get, slice_index_or}
-use Rattle.edge_lists.specs.Edge.{unit_weight}
+use Rattle.weighted_edges.specs.Edge.{unit_weight}
 use Rattle.typed_tree.specs.declared.program.Vector.{Vector}
 use Rattle.algorithm_meaning.specs.State.{GraphValue, StateValue, main_scope}
 use Rattle.algorithm_meaning.specs.Value.{members_of}

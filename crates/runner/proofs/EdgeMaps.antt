@@ -1,6 +1,6 @@
 -- What engines change, in the words of the meaning.
 use Rattle.std.proofs.Common.{◌≡◌, ℕ, ℤ, ◌<◌, ◌≤◌, Some, List, [], Result, Ok, Err, IfOk, length, slice_index_or, ap, sym, ◌∙◌, subst, subst₂}
-use Rattle.edge_lists.specs.Edge.{Edge}
+use Rattle.weighted_edges.specs.Edge.{Edge}
 use Rattle.typed_tree.specs.declared.statement.ApplyEnds.{ApplyEnds}
 use Rattle.typed_tree.specs.ProgramTree.{ProgramTree}
 use Rattle.typed_tree.specs.FunctionStatementTree.{FunctionStatementsTree}

@@ -1,6 +1,6 @@
 -- The sources of a hybrid, in a set, and which way an apply goes over the edges.
 use Rattle.std.specs.Prelude.{◌≡◌, ℕ, ◌<◌, ◌/◌, ◌&&◌, if◌then◌else◌, Bool, true, false, List, Option, Some, None, length, nat_lt}
-use Rattle.edge_lists.specs.Edge.{Edge}
+use Rattle.weighted_edges.specs.Edge.{Edge}
 use Rattle.apply_options.specs.declared.apply_schedule.Direction.{Direction}
 use Rattle.apply_options.specs.declared.apply_schedule.Direction.TheVariants as direction
 use Rattle.algorithm_meaning.specs.EdgeApply.{is_member}

@@ -5,7 +5,7 @@ use Rattle.std.specs.Option.{option_and_then, option_map}
 use Rattle.std.specs.Str.{bytes_eq}
 use lib.Pointwise.{bytes_decides}
 use Rattle.std.proofs.lemmas.Bool.{false≢true}
-use Rattle.edge_lists.specs.Edge.{unit_weight}
+use Rattle.weighted_edges.specs.Edge.{unit_weight}
 use Rattle.decimal.specs.Numbers.{number_of}
 use Rattle.decimal.proofs.NumberLaws.{integer-read_back}
 use Rattle.scripts.specs.declared.commands.Command.{Command}

@@ -3,7 +3,7 @@ use Rattle.std.specs.Prelude.{◌≡◌, ◌⊎◌, ℕ, ℤ, pos, neg_ℤ, Fits
 use Rattle.std.specs.Fmt.{signed_decimal}
 use Rattle.std.specs.Int.{w64}
 use Rattle.std.specs.List.{AllZip}
-use Rattle.edge_lists.specs.Edge.{unit_weight}
+use Rattle.weighted_edges.specs.Edge.{unit_weight}
 use Rattle.scripts.specs.declared.commands.Command.{Command}
 use Rattle.scripts.specs.declared.commands.Command.TheVariants.{Vertices, Add, Remove, Grow, Commit, Hold, Release, Edges, EdgesOf, Run}
 

@@ -5,7 +5,7 @@ use Rattle.std.specs.Str.{bytes_eq}
 use Rattle.scripts.specs.declared.commands.Command.{Command}
 use Rattle.scripts.specs.declared.commands.Command.TheVariants.{Vertices, Add, Remove, Grow, Commit, Hold, Release, Edges, EdgesOf, Run}
 use Rattle.decimal.specs.Numbers.{number_of, integer_of}
-use Rattle.edge_lists.specs.Edge.{unit_weight}
+use Rattle.weighted_edges.specs.Edge.{unit_weight}
 use Rattle.scripts.specs.Pieces.{words_of}
 
 -- whether the word is spelled so, byte for byte

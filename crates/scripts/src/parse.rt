@@ -7,7 +7,7 @@ ghost use Rattle.scripts.specs.Commands.{grow_of, alone, hold_of, edges_of, run_
 
 use crate::commands::{Command, DEFAULT_CHUNK_SIZE};
 use crate::words::Words;
-use edge_lists::UNIT_WEIGHT;
+use weighted_edges::UNIT_WEIGHT;
 
 /// The command of a line without its line feed, or `None` where the line is no command. The numbers
 /// of `vertices`, `add`, `del` and `grow` are below 2^32, the others below 2^64; the weight of `add` is a signed

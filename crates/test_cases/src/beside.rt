@@ -4,7 +4,7 @@
 //! nothing of plans. Both must show the same.
 
 use flat_snapshot::Flat;
-use run_comparison::{TestedProgram, shows_the_same};
+use test_oracle::{TestedProgram, shows_the_same};
 use std::alloc::{AllocError, Global};
 use std::io;
 use std::io::ErrorKind;

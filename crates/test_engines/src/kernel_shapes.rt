@@ -2,7 +2,7 @@
 //! is not.
 
 use kernels::{EdgeKernel, Shape, ShapePair};
-use run_comparison::checked;
+use test_oracle::checked;
 use std::alloc::{AllocError, Global};
 use std::test::Fail;
 use typed_tree::Operator;

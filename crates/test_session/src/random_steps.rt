@@ -3,7 +3,7 @@
 use crate::plain_world::{MOST_VERTICES, PlainWorld};
 use crate::programs::{commit, plans, session};
 use crate::rows::{shown_by, shows};
-use measuring::{Random, random_weight};
+use bench_support::{Random, random_weight};
 use plans::Plan;
 use session::{Session, SessionError, SessionReply, SessionStep};
 use std::alloc::{AllocError, Global};

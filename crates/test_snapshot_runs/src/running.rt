@@ -9,7 +9,7 @@ use snapshot_runs::{run_held, run_latest};
 use std::alloc::Global;
 use std::thread::Threads;
 use test_helpers::{ask, tell};
-use text_runs::{RunBounds, run_text_on_latest};
+use compiled_runs::{RunBounds, run_text_on_latest};
 
 /// The plan of a text, if it has one.
 pub(crate) fn planned(alloc: Global, text: &[u8]) -> Option<Plan> {

@@ -7,7 +7,7 @@ use Rattle.shared_tree.specs.ChangedMaps.{total_weight}
 use Rattle.ascending_lists.specs.Ascending.{AscendsFrom}
 use Rattle.ascending_lists.specs.Maps as maps
 use Rattle.ascending_lists.specs.Maps.{lookup}
-use Rattle.edge_lists.specs.Edge.{Edge}
+use Rattle.weighted_edges.specs.Edge.{Edge}
 use Rattle.pages.specs.Vertices.{neighbours_of}
 use Rattle.pages.proofs.Ranks.{none_below}
 use Rattle.vertex_blocks.specs.Blocks.{Block, AreNeighbourLists, edge_total, numbered, lists_of}

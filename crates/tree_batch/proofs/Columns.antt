@@ -6,7 +6,7 @@ use Rattle.ascending_lists.specs.Ascending.{AscendsFrom}
 use Rattle.ascending_lists.specs.Maps.{lookup}
 use Rattle.ascending_lists.proofs.MapKeys.{entries_rise}
 use Rattle.ascending_lists.proofs.MapValues as values
-use Rattle.edge_lists.specs.Edge.{Edge}
+use Rattle.weighted_edges.specs.Edge.{Edge}
 use Rattle.tree_batch.specs.Edge.{ends_of, index, weight_in, Rises}
 use Rattle.tree_batch.specs.Neighbours.{destinations_of, sources_of}
 use Rattle.tree_batch.proofs.Rising.{rises_within}

@@ -1,6 +1,6 @@
 -- Neighbours of vertices with their weights, and the edges that they make.
 use Rattle.std.specs.Prelude.{◌≡◌, ◌≢◌, ℕ, ℤ, ◌==◌, if◌then◌else◌, Option, List, ◌∷◌, ◌++◌, MatchOption}
-use Rattle.edge_lists.specs.Edge.{Edge}
+use Rattle.weighted_edges.specs.Edge.{Edge}
 use Rattle.tree_batch.specs.Edge.{edges_from}
 
 -- the destinations of the edges from u with their weights, in order

@@ -7,7 +7,7 @@ ghost use Rattle.tree_batch.specs.Edge.{count_asked, entry_misfits, has_weight, 
 
 use crate::error::GraphError;
 use crate::graph::MAX_VERTICES;
-use edge_lists::UNIT_WEIGHT;
+use weighted_edges::UNIT_WEIGHT;
 use std::alloc::{AllocError, Global};
 use std::marker::Model;
 

@@ -23,7 +23,7 @@ pub struct EdgeIter<'a> {
 impl<'a> Model for EdgeIter<'a> {
     ghost use Rattle.std.specs.Prelude.{List, ◌++◌};
     ghost use Rattle.vertex_blocks.specs.Blocks.{AreNeighbourLists};
-    ghost use Rattle.edge_lists.specs.Edge.{Edge};
+    ghost use Rattle.weighted_edges.specs.Edge.{Edge};
     ghost use Rattle.tree_batch.specs.Neighbours.{edges_of};
     ghost use Rattle.tree_batch.specs.inside.Neighbours.{edges_left};
 

@@ -2,7 +2,7 @@
 use Rattle.std.specs.Prelude.{ℕ, List, ◌∷◌, ◌++◌, ◌≡◌, ◌-◌, ◌≤◌, length, slice_index_or}
 use Rattle.std.specs.List.{flat_map}
 use Rattle.apply_options.specs.declared.reduction.Reduction.{Reduction}
-use Rattle.edge_lists.specs.Edge.{Edge}
+use Rattle.weighted_edges.specs.Edge.{Edge}
 use Rattle.vectors.specs.declared.changes.Changes.{Changes}
 use Rattle.vectors.specs.declared.changes.EntryChange.{EntryChange}
 use Rattle.kernels.specs.FunctionStatementTree.{FunctionStatementsTree}

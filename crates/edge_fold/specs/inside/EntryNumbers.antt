@@ -1,7 +1,7 @@
 -- Beside `EntryNumbers`: definitions that no public contract cites.
 use Rattle.std.specs.Prelude.{ℤ, ℕ, List, ◌∷◌, ◌≡◌}
 use Rattle.apply_options.specs.declared.reduction.Reduction.{Reduction}
-use Rattle.edge_lists.specs.Edge.{Edge}
+use Rattle.weighted_edges.specs.Edge.{Edge}
 use Rattle.algorithm_meaning.specs.Arithmetic.{arithmetic}
 use Rattle.edge_fold.specs.declared.entry_numbers.NumberWith.{NumberWith}
 use Rattle.edge_fold.specs.Contributions.{reduced_at}

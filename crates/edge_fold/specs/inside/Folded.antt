@@ -1,6 +1,6 @@
 -- Beside `Folded`: definitions that no public contract cites.
 use Rattle.std.specs.Prelude.{List}
-use Rattle.edge_lists.specs.Edge.{Edge}
+use Rattle.weighted_edges.specs.Edge.{Edge}
 use Rattle.edge_fold.specs.declared.pairs.PairColumns.{PairColumns}
 use Rattle.edge_fold.specs.Contributions.{pairs}
 

@@ -1,7 +1,7 @@
 -- Beside `ReducedContributions`: definitions that no public contract cites.
 use Rattle.std.specs.Prelude.{ℕ, ℤ, List, ◌∷◌, ◌≡◌}
 use Rattle.apply_options.specs.declared.reduction.Reduction.{Reduction}
-use Rattle.edge_lists.specs.Edge.{Edge}
+use Rattle.weighted_edges.specs.Edge.{Edge}
 use Rattle.edge_fold.specs.Contributions.{reduced_at}
 use Rattle.edge_fold.specs.declared.apply_context.SourceContribution.{SourceContribution}
 

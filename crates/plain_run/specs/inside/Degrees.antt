@@ -1,6 +1,6 @@
 -- Edges counted one by one, each at its source.
 use Rattle.std.specs.Prelude.{ℕ, ℤ, pos, ◌+ℤ◌, List, [], ◌∷◌, slice_index_or, slice_set}
-use Rattle.edge_lists.specs.Edge.{Edge}
+use Rattle.weighted_edges.specs.Edge.{Edge}
 use Rattle.algorithm_meaning.specs.Arithmetic.{wrapped}
 
 abbrev pub counted_once : ℕ → List ℤ → List ℤ

@@ -1,6 +1,6 @@
 -- For each vertex, whether it passes an end of an apply.
 use Rattle.std.specs.Prelude.{◌≡◌, ℕ, Bool, true, false, ◌&&◌, List, [], ◌∷◌, slice_index_or, slice_set}
-use Rattle.edge_lists.specs.Edge.{Edge}
+use Rattle.weighted_edges.specs.Edge.{Edge}
 use Rattle.plain_run.specs.declared.edge_apply.Passing.{Passing}
 
 -- the flag of each vertex is the test's answer, and any other number is false

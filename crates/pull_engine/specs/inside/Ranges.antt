@@ -2,7 +2,7 @@
 use Rattle.std.specs.Prelude.{ℕ, ℤ, List, ◌∷◌, ◌++◌, Bool, if◌then◌else◌, Option}
 use Rattle.std.specs.Borrow.{Bor}
 use Rattle.apply_options.specs.declared.reduction.Reduction.{Reduction}
-use Rattle.edge_lists.specs.Edge.{Edge}
+use Rattle.weighted_edges.specs.Edge.{Edge}
 use Rattle.flat_snapshot.specs.Neighbours.{sources_of}
 use Rattle.vectors.specs.declared.changes.EntryChange.{EntryChange}
 use Rattle.kernels.specs.FunctionStatementTree.{FunctionStatementsTree}

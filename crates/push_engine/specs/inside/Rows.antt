@@ -1,7 +1,7 @@
 -- Beside `Rows`: definitions that no public contract cites.
 use Rattle.std.specs.Prelude.{ℕ, Bool, List}
 use Rattle.std.specs.List.{filter}
-use Rattle.edge_lists.specs.Edge.{Edge}
+use Rattle.weighted_edges.specs.Edge.{Edge}
 use Rattle.push_engine.specs.Rows.{rows}
 
 -- of these those to the destinations that pass

@@ -1,6 +1,6 @@
 -- Beside `Sources`: definitions that no public contract cites.
 use Rattle.std.specs.Prelude.{◌≡◌, ℕ, ◌<◌, length, Bool, List}
-use Rattle.edge_lists.specs.Edge.{Edge}
+use Rattle.weighted_edges.specs.Edge.{Edge}
 use Rattle.flat_snapshot.specs.Neighbours.{destinations_of}
 use Rattle.kernels.specs.EdgeApply.{is_member}
 use Rattle.edge_apply.specs.inside.Lists.{AscendsFrom}

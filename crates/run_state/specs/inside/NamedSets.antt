@@ -1,7 +1,7 @@
 -- Vertex sets with their names and sizes, and how a run's state lies in memory.
 use Rattle.std.specs.Prelude.{◌≡◌, ℕ, ℤ, Bool, List, [], ◌∷◌, length, map, replicate, slice_get, take}
 use Rattle.std.specs.Int.{cast_signed, w64}
-use Rattle.edge_lists.specs.Edge.{unit_weight}
+use Rattle.weighted_edges.specs.Edge.{unit_weight}
 use Rattle.algorithm_meaning.specs.State.{StateValue, main_scope}
 use Rattle.algorithm_meaning.specs.Value.{members_of}
 use Rattle.vertex_sets.specs.VertexSet.{IsAscendingBelow, VertexSubset}

@@ -2,7 +2,7 @@
 use Rattle.std.specs.Prelude.{ℕ, ◌+◌, List, ◌∷◌, length, Option, Some, None, nat_lt, if◌then◌else◌, ◌/◌, min, Bool, ◌≡◌}
 use Rattle.apply_options.specs.declared.apply_schedule.Parallelization.{Parallelization}
 use Rattle.apply_options.specs.declared.apply_schedule.Parallelization.TheVariants.{Serial, StaticVertex, DynamicVertex, EdgeAwareDynamicVertex}
-use Rattle.edge_lists.specs.Edge.{Edge}
+use Rattle.weighted_edges.specs.Edge.{Edge}
 use Rattle.flat_snapshot.specs.Neighbours.{sources_of}
 use Rattle.kernels.specs.declared.endpoint_filter.EndpointFilter.{EndpointFilter}
 use Rattle.kernels.specs.declared.endpoint_filter.EndpointFilter.TheVariants as end

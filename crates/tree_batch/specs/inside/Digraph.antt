@@ -1,6 +1,6 @@
 -- Beside `Digraph`: definitions that no public contract cites.
 use Rattle.std.specs.Prelude.{ℕ, List}
-use Rattle.edge_lists.specs.Edge.{Edge}
+use Rattle.weighted_edges.specs.Edge.{Edge}
 use Rattle.tree_batch.specs.Digraph.{Digraph}
 
 abbrev pub digraph : ℕ → List Edge → Digraph

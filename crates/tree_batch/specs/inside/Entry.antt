@@ -1,6 +1,6 @@
 -- Beside `Entry`: definitions that no public contract cites.
 use Rattle.std.specs.Prelude.{ℕ, MatchOption, ◌≡◌, ℤ, Option, Some, None, List}
-use Rattle.edge_lists.specs.Edge.{Edge}
+use Rattle.weighted_edges.specs.Edge.{Edge}
 use Rattle.edge_updates.specs.declared.edge_update.EdgeUpdate.{EdgeUpdate}
 use Rattle.edge_updates.specs.EdgeUpdate.{vertex_of, neighbour_of}
 use Rattle.weighted_updates.specs.WeightedUpdates.{weight_said}

@@ -1,6 +1,6 @@
 -- Beside `Neighbours`: definitions that no public contract cites.
 use Rattle.std.specs.Prelude.{ℕ, ℤ, Option, List, Some, None}
-use Rattle.edge_lists.specs.Edge.{Edge}
+use Rattle.weighted_edges.specs.Edge.{Edge}
 use Rattle.ascending_lists.specs.Maps.{lookup}
 use Rattle.pages.specs.Vertices.{neighbours_of}
 use Rattle.tree_batch.specs.Edge.{Ends, edges_from}

@@ -1,6 +1,6 @@
 use Rattle.std.proofs.Common.{ℕ, List, [], take}
 use Rattle.std.specs.List.{filter, flat_map}
-use Rattle.edge_lists.specs.Edge.{Edge}
+use Rattle.weighted_edges.specs.Edge.{Edge}
 use Rattle.kernels.specs.FunctionStatementTree.{FunctionStatementsTree}
 use Rattle.kernels.specs.State.{StateValue}
 use Rattle.edge_fold.specs.Folded.{HasFolded}

@@ -2,7 +2,7 @@ use Rattle.std.proofs.Common.{List, refl, ap, ◌∙◌, arith}
 use Rattle.std.proofs.lemmas.Result.{IfOk-weaker}
 use Rattle.kernels.specs.EdgeApply.{after_edges, is_member}
 use Rattle.kernels.specs.Value.{entry}
-use Rattle.edge_lists.specs.Edge.{Edge}
+use Rattle.weighted_edges.specs.Edge.{Edge}
 use Rattle.edge_fold.specs.Changed.{changed}
 use Rattle.edge_apply.proofs.Filtered.{to_agree}
 use Rattle.follow_engine.proofs.among.pull_among.Goals as goal

@@ -1,7 +1,7 @@
 -- Proofs of `pull_folded`, src/changes.rt.
 use Rattle.std.proofs.Common.{◌≡◌, ◌-◌, ℕ, true, List, refl, ap, ap₂, ◌∙◌, arith}
 use Rattle.std.specs.List.{filter, range_with_len}
-use Rattle.edge_lists.specs.Edge.{Edge}
+use Rattle.weighted_edges.specs.Edge.{Edge}
 use Rattle.kernels.specs.EdgeApply.{after_edges}
 use Rattle.kernels.specs.Value.{entry}
 use Rattle.edge_fold.specs.Between.{edges_between}

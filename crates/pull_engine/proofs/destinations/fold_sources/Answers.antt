@@ -1,6 +1,6 @@
 -- Proofs of `fold_sources`, src/destinations.rt.
 use Rattle.std.proofs.Common.{◌++◌, ℕ, ℤ, List, OnOk, sym, ap, ◌∙◌, subst}
-use Rattle.edge_lists.specs.Edge.{Edge}
+use Rattle.weighted_edges.specs.Edge.{Edge}
 use Rattle.kernels.specs.FunctionStatementTree.{FunctionStatementsTree}
 use Rattle.kernels.specs.State.{StateValue}
 use Rattle.edge_fold.specs.Folded.{IsContextOf, HasFolded}

@@ -4,7 +4,7 @@ use Rattle.std.proofs.lemmas.List.{append-nil}
 use Rattle.std.proofs.lemmas.Nat.Bits.{bit_at-trailing_zeros}
 use Rattle.std.specs.List.{filter, range_with_len}
 use lib.Count.{count_trailing_zeros}
-use Rattle.edge_lists.specs.Edge.{Edge}
+use Rattle.weighted_edges.specs.Edge.{Edge}
 use Rattle.vertex_sets.specs.inside.Words.{bit_members}
 use Rattle.vertex_sets.proofs.BitMembers.{bits_lowest, bits_none}
 use Rattle.edge_fold.proofs.Walks.{FoldsMore, folded_along, walk_begun, walk_done, walk_more}

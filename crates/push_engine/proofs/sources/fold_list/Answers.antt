@@ -1,7 +1,7 @@
 -- Proofs of `fold_list`, src/sources.rt.
 use Rattle.std.proofs.Common.{◌++◌, ℕ, ℤ, List, OnOk, subst}
 use Rattle.std.specs.List.{filter}
-use Rattle.edge_lists.specs.Edge.{Edge}
+use Rattle.weighted_edges.specs.Edge.{Edge}
 use Rattle.kernels.specs.FunctionStatementTree.{FunctionStatementsTree}
 use Rattle.kernels.specs.State.{StateValue}
 use Rattle.edge_fold.specs.Folded.{IsContextOf, HasFolded}

@@ -1,7 +1,7 @@
 -- Proofs of `source_contribution`, src/source_contributions.rt.
 use Rattle.std.proofs.Common.{rules, ◌≡◌, ℕ, ℤ, None, [], ◌∷◌}
 use Rattle.std.proofs.lemmas.Option.{IfSome_then}
-use Rattle.edge_lists.specs.Edge.{Edge}
+use Rattle.weighted_edges.specs.Edge.{Edge}
 use Rattle.apply_options.specs.declared.reduction.Reduction.{Reduction}
 use Rattle.kernels.specs.Meaning.{given_in}
 use Rattle.edge_fold.proofs.ShapePairs.{one_given, shaped_given}

@@ -1,7 +1,7 @@
 -- Proofs of `changes`, src/apply_changes.rt.
 use Rattle.std.proofs.Common.{ℕ, ◌<◌, if◌then◌else◌, ℤ, [], List, take, refl, sym, ap, ◌∙◌, arith}
 use Rattle.std.specs.List.{filter}
-use Rattle.edge_lists.specs.Edge.{Edge}
+use Rattle.weighted_edges.specs.Edge.{Edge}
 use Rattle.algorithm_meaning.specs.EdgeApply.{after_edges}
 use Rattle.algorithm_meaning.specs.Value.{entry}
 use Rattle.edge_fold.specs.Folded.{waiting}

@@ -1,6 +1,6 @@
 -- Proofs of `flush`, src/scratch.rt.
 use Rattle.std.proofs.Common.{ℕ, ℤ, List, ap, ◌∙◌}
-use Rattle.edge_lists.specs.Edge.{Edge}
+use Rattle.weighted_edges.specs.Edge.{Edge}
 use Rattle.edge_fold.specs.FoldStarts.{combined, first_entry}
 use Rattle.edge_fold.specs.Contributions.{all_given, given_on, reduced_at}
 use Rattle.edge_fold.specs.VectorAccumulators.{active, held_in_with}

@@ -1,6 +1,6 @@
 -- Proofs of `gathered`, src/gathered.rt.
 use Rattle.std.proofs.Common.{ℕ, ◌<◌, ℤ, [], if◌then◌else◌, List, take, sym, ap, ◌∙◌}
-use Rattle.edge_lists.specs.Edge.{Edge}
+use Rattle.weighted_edges.specs.Edge.{Edge}
 use Rattle.edge_fold.specs.declared.apply_context.FoldStart.TheVariants as start
 use Rattle.edge_fold.specs.Folded.{waiting}
 use Rattle.edge_fold.specs.Contributions.{all_given, given_on, pairs, reduced_at}

@@ -1,7 +1,7 @@
 -- Proofs of `gather_piece`, src/pieces.rt.
 use Rattle.std.proofs.Common.{◌≡◌, ◌-◌, ℕ, true, List, slice_range, refl, sym, ap, ◌∙◌, subst}
 use Rattle.std.specs.List.{filter, range_with_len}
-use Rattle.edge_lists.specs.Edge.{Edge}
+use Rattle.weighted_edges.specs.Edge.{Edge}
 use Rattle.flat_snapshot.specs.Digraph.{Digraph}
 use Rattle.edge_fold.specs.Gathered.{AreGatheredFor}
 use Rattle.crew.specs.Partition.{end_of, piece_of}

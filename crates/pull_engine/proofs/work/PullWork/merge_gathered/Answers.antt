@@ -3,7 +3,7 @@ use Rattle.std.proofs.Common.{ℕ, true, List, refl, sym, ap, ◌∙◌, subst, 
 use Rattle.std.specs.List.{filter, range_with_len}
 use Rattle.std.proofs.lemmas.List.FromFn.{length-range_with_len}
 use Rattle.crew.specs.Partition.{AreEnds}
-use Rattle.edge_lists.specs.Edge.{Edge}
+use Rattle.weighted_edges.specs.Edge.{Edge}
 use Rattle.kernels.specs.EdgeApply.{after_edges}
 use Rattle.kernels.specs.Value.{entry}
 use Rattle.edge_fold.specs.Between.{edges_between}

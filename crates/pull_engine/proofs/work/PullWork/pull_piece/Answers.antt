@@ -1,7 +1,7 @@
 -- Proofs of `pull_piece`, src/pieces.rt.
 use Rattle.std.proofs.Common.{◌-◌, ℕ, ℤ, List, sym, ap, ◌∙◌, subst}
 use Rattle.std.proofs.lemmas.Result.{IfOk-weaker}
-use Rattle.edge_lists.specs.Edge.{Edge}
+use Rattle.weighted_edges.specs.Edge.{Edge}
 use Rattle.flat_snapshot.specs.Digraph.{Digraph}
 use Rattle.crew.specs.Partition.{end_of}
 use Rattle.edge_apply.proofs.Filtered.{between_agree}

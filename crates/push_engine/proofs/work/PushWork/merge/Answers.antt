@@ -1,7 +1,7 @@
 -- Proofs of `merge`, src/pieces.rt.
 use Rattle.std.proofs.Common.{ℕ, true, List, refl, sym, ap, ◌∙◌, subst, arith}
 use Rattle.std.specs.List.{filter}
-use Rattle.edge_lists.specs.Edge.{Edge}
+use Rattle.weighted_edges.specs.Edge.{Edge}
 use Rattle.kernels.specs.Value.{entry}
 use Rattle.edge_fold.specs.declared.apply_context.ApplyContext.{ApplyContext}
 use Rattle.edge_fold.specs.Between.{edges_between}
