@@ -12,8 +12,7 @@ use Rattle.algorithm_meaning.specs.declared.contribution.Contribution.{Contribut
 use Rattle.algorithm_meaning.specs.declared.state.SetBinding.{SetBinding}
 use Rattle.algorithm_meaning.specs.Arithmetic.{reduced}
 use Rattle.algorithm_meaning.specs.Value.{entry, reduce_at}
-use Rattle.algorithm_meaning.specs.EdgeApply.{all_give, with_given, after_edges}
-use Rattle.algorithm_meaning.specs.EdgeApply.{IsGivenBy, for_vector}
+use Rattle.algorithm_meaning.specs.EdgeApply.{all_give, with_given, after_edges, IsGivenBy, for_vector}
 use Rattle.algorithm_meaning.specs.Laws.{given_to, reduced_all}
 use Rattle.algorithm_meaning.proofs.Lists.{Commutes, fold-permutation}
 use Rattle.algorithm_meaning.proofs.Reductions.{reduced_all-append, lists_swapped}

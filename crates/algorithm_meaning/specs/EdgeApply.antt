@@ -14,8 +14,7 @@ use Rattle.algorithm_meaning.specs.declared.state.SetBinding.{SetBinding}
 use Rattle.algorithm_meaning.specs.Arithmetic.{int_equal}
 use Rattle.algorithm_meaning.specs.State.{GraphValue, StateValue, edge_scope}
 use Rattle.algorithm_meaning.specs.Value.{entry, members_of, reduce_at}
-use Rattle.algorithm_meaning.specs.Function.{first_work, after_steps, steps_of}
-use Rattle.algorithm_meaning.specs.Function.{lets_through}
+use Rattle.algorithm_meaning.specs.Function.{first_work, after_steps, steps_of, lets_through}
 
 -- the vertex is a member
 abbrev pub is_member : ℕ → List ℕ → Bool

@@ -10,11 +10,8 @@ use Rattle.algorithm_meaning.specs.declared.state.SetBinding.{SetBinding}
 use Rattle.algorithm_meaning.specs.Arithmetic.{wrapped}
 use Rattle.algorithm_meaning.specs.State.{GraphValue, StateValue, main_scope}
 use Rattle.algorithm_meaning.specs.Stand.{Stand, Live, then_do, bool_value_in, with_value, choose, Over}
-use Rattle.algorithm_meaning.specs.Statements.{after_declare_integer, after_declare_condition, after_set_integer, after_set_condition, after_reduce_integer}
-use Rattle.algorithm_meaning.specs.Statements.{with_vectors, after_set_entry, after_reduce_entry}
-use Rattle.algorithm_meaning.specs.Statements.{after_print_integer, after_print_condition}
-use Rattle.algorithm_meaning.specs.VertexSets.{all_below, after_declare_set, after_assign_set, after_add_vertex}
-use Rattle.algorithm_meaning.specs.VertexSets.{after_apply_vertex}
+use Rattle.algorithm_meaning.specs.Statements.{after_declare_integer, after_declare_condition, after_set_integer, after_set_condition, after_reduce_integer, with_vectors, after_set_entry, after_reduce_entry, after_print_integer, after_print_condition}
+use Rattle.algorithm_meaning.specs.VertexSets.{all_below, after_declare_set, after_assign_set, after_add_vertex, after_apply_vertex}
 use Rattle.algorithm_meaning.specs.EdgeApply.{after_edge_apply}
 use Rattle.algorithm_meaning.specs.Loop.{inside, after_while, after_for, bounds_in}
 use Rattle.algorithm_meaning.specs.declared.outcome.NamedVector.{NamedVector}

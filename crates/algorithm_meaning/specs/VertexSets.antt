@@ -11,10 +11,9 @@ use Rattle.algorithm_meaning.specs.State.{GraphValue, StateValue, vertex_scope}
 use Rattle.algorithm_meaning.specs.Value.{members_of}
 use Rattle.algorithm_meaning.specs.Stand.{Stand, Live, vertex_in, with_value}
 use Rattle.algorithm_meaning.specs.Statements.{with_vectors}
-use Rattle.algorithm_meaning.specs.Function.{filtered}
+use Rattle.algorithm_meaning.specs.Function.{filtered, first_work, after_steps, steps_of}
 use Rattle.algorithm_meaning.specs.EdgeApply.{after_edge_apply, modified}
 use Rattle.algorithm_meaning.specs.declared.contribution.Writing.TheVariants.{AtOnce}
-use Rattle.algorithm_meaning.specs.Function.{first_work, after_steps, steps_of}
 
 -- the vertices of a graph
 abbrev pub all_below : ℕ → List ℕ

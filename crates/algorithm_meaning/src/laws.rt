@@ -7,9 +7,8 @@ ghost use Rattle.typed_tree.specs.FunctionStatementTree.{FunctionStatementsTree}
 ghost use Rattle.algorithm_meaning.specs.declared.contribution.Contribution.{Contribution};
 ghost use Rattle.algorithm_meaning.specs.declared.state.SetBinding.{SetBinding};
 ghost use Rattle.algorithm_meaning.specs.Arithmetic.{remainder};
-ghost use Rattle.algorithm_meaning.specs.EdgeApply.{after_edges, is_member};
+ghost use Rattle.algorithm_meaning.specs.EdgeApply.{after_edges, is_member, IsGivenBy};
 ghost use Rattle.algorithm_meaning.specs.Laws.{HasSignOf, IsReduction, given_to, reduced_all};
-ghost use Rattle.algorithm_meaning.specs.EdgeApply.{IsGivenBy};
 ghost use Rattle.algorithm_meaning.specs.Value.{entry};
 ghost use Rattle.algorithm_meaning.specs.VertexSets.{after_vertices};
 

@@ -1,6 +1,6 @@
 -- The edge applies of a checked program give each vector numbers by one reduction.
 use Rattle.std.proofs.Common.{◌≡◌, ℕ, zero, suc, ◌==◌, ◌⊎◌, ℤ, Bool, true, false, not, cond, inl, inr, List, [], ◌∷◌, ◌++◌, length, slice_get, ap, sym, ◌∙◌, refl, arith, subst, Ok}
-use Rattle.std.proofs.lemmas.Bool.{false≢true}
+use Rattle.std.proofs.lemmas.Bool.{false≢true, and_parts}
 use Rattle.std.proofs.lemmas.Bool.Decides.{nat_tests}
 use Rattle.std.proofs.lemmas.List.Elements.{All-nil, All-cons}
 use Rattle.std.specs.List.{All, AllByRecursion, list_all}
@@ -20,7 +20,6 @@ use Rattle.algorithm_meaning.specs.EdgeApply.{for_vector}
 use Rattle.schedule.specs.Independence.{is_none_of, are_apart}
 use Rattle.typed_tree.specs.inside.Access.{step_writes, steps_write}
 use Rattle.schedule.specs.ScheduleTree.{ScheduleTree}
-use Rattle.std.proofs.lemmas.Bool.{and_parts}
 use Rattle.weighted_edges.specs.Edge.{Edge}
 use Rattle.plans.specs.Instruction.{OperationTree, Do, ApplyEdgesTogether, ApplyVerticesTogether, Unless, Enter, UnlessBelow, Advance, Turn, Jump, End}
 use Rattle.plans.specs.Plan.{plan_of}

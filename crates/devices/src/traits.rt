@@ -1,7 +1,6 @@
 //! What a reader and a writer tell of their bytes.
 ghost use Rattle.std.specs.Prelude.{◌≡◌, ℕ, Bool, ◌||◌, ◌<◌, ◌≤◌, List, ◌++◌, length, take, IfOk, OnOk, OnErr};
-ghost use Rattle.devices.specs.Devices.{TakesPart};
-ghost use Rattle.devices.specs.Devices.{says_end};
+ghost use Rattle.devices.specs.Devices.{TakesPart, says_end};
 
 use std::io;
 

@@ -4,10 +4,9 @@ use Rattle.std.proofs.lemmas.List.{map-append, drop_more}
 use Rattle.std.specs.declared.io.Error.{Error}
 use Rattle.algorithm_meaning.specs.ProgramTree.{ProgramTree}
 use Rattle.driver.specs.declared.compiled_plan.CompiledPlan.{CompiledPlan}
-use Rattle.driver.specs.Reading.{tree_of}
+use Rattle.driver.specs.Reading.{tree_of, HoldPrograms, HoldsPlan, HoldsProgram, IsNoProgram, LacksProgram}
 use Rattle.plans.specs.declared.plan.Plan.{Plan}
 use Rattle.plans.specs.Plan.{program_of}
-use Rattle.driver.specs.Reading.{HoldPrograms, HoldsPlan, HoldsProgram, IsNoProgram, LacksProgram}
 use Rattle.driver.specs.declared.error.ServeError.{ServeError}
 use Rattle.driver.specs.declared.error.ServeError.TheVariants.{NoMemory}
 

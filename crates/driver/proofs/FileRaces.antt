@@ -6,18 +6,16 @@ use Rattle.replies.specs.declared.send_error.SendError.{SendError}
 use Rattle.replies.specs.declared.send_error.SendError.TheVariants.{NoMemory, WriteFailed}
 use Rattle.plans.specs.declared.plan.Plan.{Plan}
 use Rattle.races.specs.Race.{IsRace, MayRun}
-use Rattle.races.specs.RaceScript.{order_by}
+use Rattle.races.specs.RaceScript.{order_by, MayOpen, RefusesRace}
 use Rattle.races.specs.RaceText.{TakesBeginning, Writes}
-use Rattle.races.specs.RaceScript.{MayOpen, RefusesRace}
 use Rattle.races.specs.declared.error.RaceError.{RaceError}
 use Rattle.races.specs.declared.outcomes.Race.{Race}
 use Rattle.races.specs.declared.reading.RaceScript.{RaceScript}
 use Rattle.driver.specs.declared.compiled_plan.CompiledPlan.{CompiledPlan}
 use Rattle.driver.specs.declared.error.ServeError.{ServeError}
 use Rattle.driver.specs.Endings.{of_race, of_send}
-use Rattle.driver.specs.Reading.{tree_of}
+use Rattle.driver.specs.Reading.{tree_of, HoldPrograms}
 use Rattle.driver.specs.Racing.{EndsWriting, HoldsScript, IsRaceOf, RefusesRaceOf}
-use Rattle.driver.specs.Reading.{HoldPrograms}
 
 -- as many plans are lent as there are programs in the files
 lent_length : (programs seen : List CompiledPlan) (plans lent : List (Bor Plan)) → seen ≡ programs → map (λ p. p.now) plans ≡ map (λ c. c.plan) seen → lent ≡ plans → length lent ≡ length programs

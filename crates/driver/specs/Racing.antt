@@ -4,9 +4,8 @@ use Rattle.std.specs.Borrow.{Bor}
 use Rattle.std.specs.declared.io.Error.{Error}
 use Rattle.algorithm_meaning.specs.ProgramTree.{ProgramTree}
 use Rattle.scripts.specs.Script.{Input, Written}
-use Rattle.races.specs.RaceScript.{Order, ReadsScript, order_of}
+use Rattle.races.specs.RaceScript.{Order, ReadsScript, order_of, MayOpen, RefusesRace}
 use Rattle.races.specs.Race.{IsRace, MayRun, has_faulted}
-use Rattle.races.specs.RaceScript.{MayOpen, RefusesRace}
 use Rattle.races.specs.RaceText.{TakesBeginning, race_text}
 use Rattle.races.specs.declared.error.RaceError.{RaceError}
 use Rattle.races.specs.declared.error.RaceScriptError.{RaceScriptError}
@@ -15,8 +14,7 @@ use Rattle.driver.specs.declared.compiled_plan.CompiledPlan.{CompiledPlan}
 use Rattle.driver.specs.declared.error.ServeError.{ServeError}
 use Rattle.driver.specs.declared.error.ServeError.TheVariants.{NoMemory, WriteFailed}
 use Rattle.driver.specs.Endings.{of_race, of_race_script, status_of_end}
-use Rattle.driver.specs.Reading.{tree_of}
-use Rattle.driver.specs.Reading.{FailsRead, HoldPrograms, LacksProgram}
+use Rattle.driver.specs.Reading.{tree_of, FailsRead, HoldPrograms, LacksProgram}
 
 -- the file may hold the script of a race, and that is it
 pub record HoldsScript (holds : List ℕ → Type 0) (order : Order) : Type 0 where

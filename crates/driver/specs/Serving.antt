@@ -9,11 +9,9 @@ use Rattle.plans.specs.declared.plan.Plan.{Plan}
 use Rattle.plans.specs.Plan.{program_of}
 use Rattle.lowering.specs.Text.{text_of}
 use Rattle.scripts.specs.declared.error.ScriptError.{ScriptError}
-use Rattle.scripts.specs.Script.{Input, Written, RunsScript}
-use Rattle.scripts.specs.Script.{RunsText}
+use Rattle.scripts.specs.Script.{Input, Written, RunsScript, RunsText}
 use Rattle.requests.specs.declared.asked.Request.{Request}
-use Rattle.requests.specs.Asked.{command_line}
-use Rattle.requests.specs.Asked.{asked_by, request_of, IsFaultAmong}
+use Rattle.requests.specs.Asked.{command_line, asked_by, request_of, IsFaultAmong}
 use Rattle.requests.specs.declared.asked.RequestError.{RequestError}
 use Rattle.requests.specs.declared.asked.Request.TheVariants as request
 use Rattle.driver.specs.Endings.{of_script, status_of_end, refusal_status_of}

@@ -2,8 +2,7 @@
 use Rattle.std.proofs.Common.{◌≡◌, ℕ, ◌+◌, ◌<◌, Option, option_to_list, List, [], ◌∷◌, ◌++◌, length, take, get_or, sym, ap, ◌∙◌, append_assoc}
 use Rattle.std.proofs.lemmas.List.{append-nil, take_more}
 use Rattle.tree_batch.specs.declared.batch.Entry.{Entry}
-use Rattle.tree_batch.specs.Edge.{Ends}
-use Rattle.tree_batch.specs.Edge.{named_by}
+use Rattle.tree_batch.specs.Edge.{Ends, named_by}
 use Rattle.edge_differences.specs.Named.{named_in, named_in_all}
 
 named_pushed : (xs : List Entry) (x : Entry) → named_in (xs ++ x ∷ []) ≡ named_in xs ++ option_to_list (named_by x)

@@ -5,8 +5,7 @@ use Rattle.std.proofs.lemmas.List.Folds.{list_any-append}
 use Rattle.std.specs.List.{filter}
 use Rattle.weighted_edges.specs.Edge.{Edge}
 use Rattle.tree_batch.specs.declared.batch.Entry.{Entry}
-use Rattle.tree_batch.specs.Edge.{Ends, IsAscending, Rises, all_ends, ends_eq, ends_of, index, weight_in}
-use Rattle.tree_batch.specs.Edge.{NoneNames, is_between, misfits, named_by, vertices_after, weight_after}
+use Rattle.tree_batch.specs.Edge.{Ends, IsAscending, Rises, all_ends, ends_eq, ends_of, index, weight_in, NoneNames, is_between, misfits, named_by, vertices_after, weight_after}
 use Rattle.tree_batch.specs.Digraph.{Digraph, IsDigraph, graph_after, graph_through}
 use Rattle.tree_batch.proofs.AllEdges.{after_within, are_among, digraph_after, few_vertices, in_all, rises_all, weight_in-weighed}
 use Rattle.tree_batch.proofs.Deciding.{count_after, none_decides}

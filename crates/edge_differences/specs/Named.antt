@@ -1,8 +1,7 @@
 -- The edges that batches name.
 use Rattle.std.specs.Prelude.{◌≡◌, false, option_to_list, List, [], ◌∷◌, ◌++◌}
 use Rattle.tree_batch.specs.declared.batch.Entry.{Entry}
-use Rattle.tree_batch.specs.Edge.{Ends}
-use Rattle.tree_batch.specs.Edge.{misfits, named_by}
+use Rattle.tree_batch.specs.Edge.{Ends, misfits, named_by}
 use Rattle.tree_batch.specs.Digraph.{Digraph, graph_after}
 
 -- the ends that the entries of a batch name, in order

@@ -9,8 +9,7 @@ use Rattle.apply_options.specs.declared.reduction.Reduction.{Reduction}
 use Rattle.typed_tree.specs.FunctionStatementTree.{FunctionStatementsTree}
 use Rattle.algorithm_meaning.specs.declared.contribution.Contribution.{Contribution}
 use Rattle.algorithm_meaning.specs.Arithmetic.{reduced}
-use Rattle.algorithm_meaning.specs.EdgeApply.{after_edges, all_give, gives}
-use Rattle.algorithm_meaning.specs.EdgeApply.{IsGivenBy, for_vector as for_one}
+use Rattle.algorithm_meaning.specs.EdgeApply.{after_edges, all_give, gives, IsGivenBy, for_vector as for_one}
 use Rattle.algorithm_meaning.specs.Laws.{given_to, reduced_all}
 use Rattle.algorithm_meaning.specs.State.{StateValue}
 use Rattle.algorithm_meaning.specs.Value.{entry}

@@ -4,7 +4,7 @@ ghost use Rattle.std.specs.List.{filter};
 ghost use Rattle.weighted_edges.specs.Edge.{Edge};
 ghost use Rattle.apply_options.specs.declared.reduction.Reduction.{Reduction};
 ghost use Rattle.typed_tree.specs.FunctionStatementTree.{FunctionStatementsTree};
-ghost use Rattle.algorithm_meaning.specs.EdgeApply.{IsGivenBy};
+ghost use Rattle.algorithm_meaning.specs.EdgeApply.{IsGivenBy, after_edges};
 ghost use Rattle.algorithm_meaning.specs.State.{StateValue};
 ghost use Rattle.algorithm_meaning.specs.Value.{entry};
 ghost use Rattle.kernels.specs.Registers.{HasSizes};
@@ -17,7 +17,6 @@ ghost use Rattle.edge_fold.specs.Folded.{IsContextOf, HasFolded};
 ghost use Rattle.edge_fold.specs.inside.Held.{held};
 ghost use Rattle.edge_fold.specs.VectorAccumulators.{active};
 ghost use Rattle.edge_fold.specs.inside.VectorAccumulators.{held_in};
-ghost use Rattle.algorithm_meaning.specs.EdgeApply.{after_edges};
 
 use crate::apply_context::ApplyContext;
 use crate::passing::keep_passing;

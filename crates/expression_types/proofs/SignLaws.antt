@@ -11,8 +11,7 @@ use Rattle.typed_tree.specs.BoolExpressionTree.{BoolExpressionTree, turned}
 use Rattle.typed_tree.specs.IntExpressionTree.{IntExpressionTree, Parameter, negated}
 use Rattle.expression_types.specs.declared.fault.Fault.{Fault}
 use Rattle.expression_types.specs.declared.fault.TypeRule.TheVariants as rule
-use Rattle.expression_types.specs.Faults.{earlier}
-use Rattle.expression_types.specs.Faults.{WithFaults, sure, fault_at, outcome, ◌>>=◌}
+use Rattle.expression_types.specs.Faults.{earlier, WithFaults, sure, fault_at, outcome, ◌>>=◌}
 use Rattle.expression_types.specs.Operators.{given, signed_value}
 use Rattle.expression_types.specs.Expression.{unary_value, primary_value}
 use Rattle.expression_types.specs.ScopeTree.{ScopeTree}

@@ -2,9 +2,8 @@
 use Rattle.std.proofs.Common.{◌≡◌, refl, ap, sym, ◌∙◌, ℕ, suc, ◌+◌, ◌<◌, ◌≤◌, List, [], ◌∷◌, ◌++◌, length, drop, get_or, drop-cons, add-one, Option, Some, Result, Ok, Err}
 use Rattle.std.proofs.lemmas.List.{append-nil, append_assoc, at_drop_all}
 use Rattle.expression_types.specs.declared.fault.Fault.{Fault}
-use Rattle.expression_types.specs.Faults.{earlier, least_of}
+use Rattle.expression_types.specs.Faults.{earlier, least_of, WithFaults, ReportsFaults, sure, outcome, ◌>>=◌}
 use Rattle.std.specs.declared.alloc.AllocError.{AllocError}
-use Rattle.expression_types.specs.Faults.{WithFaults, ReportsFaults, sure, outcome, ◌>>=◌}
 
 pub bind-sure : {A : Type 0} (m : WithFaults A) → (m >>= λ x. sure x) ≡ m
 bind-sure m = let make : List Fault → WithFaults _ = λ faults. record { faults = faults; value = m.value } in ap make (append-nil m.faults)

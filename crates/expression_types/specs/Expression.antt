@@ -15,9 +15,8 @@ use Rattle.expression_types.specs.declared.scope.Entity.TheVariants as entity
 use Rattle.expression_types.specs.declared.scope.Inside.{Inside}
 use Rattle.expression_types.specs.declared.scope.Inside.TheVariants as inside
 use Rattle.expression_types.specs.BareNames.{bare_name}
-use Rattle.expression_types.specs.ScopeTree.{found}
+use Rattle.expression_types.specs.ScopeTree.{found, ScopeTree}
 use Rattle.expression_types.specs.Faults.{WithFaults, sure, fault_at, ◌>>=◌}
-use Rattle.expression_types.specs.ScopeTree.{ScopeTree}
 use Rattle.expression_types.specs.ValueTree.{ValueTree, Integer, Condition, ErrorValue, is_error, named_value, named_vector, named_set}
 use Rattle.expression_types.specs.Operators.{added, multiplied, given, unless_faulty, IntegersTree, ConditionsTree, first_integer, first_condition, beside_integer, beside_condition, grouped_integers, grouped_conditions, related_value, signed_value, entry_value}
 

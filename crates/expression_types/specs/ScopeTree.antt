@@ -5,7 +5,6 @@ use Rattle.syntax.specs.Terminals.{Identifier}
 use Rattle.expression_types.specs.declared.scope.Entity.{Entity}
 use Rattle.expression_types.specs.declared.scope.Inside.{Inside}
 use Rattle.expression_types.specs.declared.scope.Mark.{Mark}
-
 use Rattle.expression_types.specs.Faults.{WithFaults, sure, fault_at}
 use Rattle.expression_types.specs.declared.fault.TypeRule.TheVariants as rule
 use Rattle.expression_types.specs.declared.scope.Entity.TheVariants as entity

@@ -1,10 +1,9 @@
 //! Operand rows: the typed operands of operators in a row.
-ghost use Rattle.std.specs.Prelude.{◌≡◌};
+ghost use Rattle.std.specs.Prelude.{◌≡◌, IfOk};
 ghost use Rattle.typed_tree.specs.inside.BoolExpressionTree.{conditions_tree};
 ghost use Rattle.typed_tree.specs.BoolExpressionTree.{bool_expression_tree};
 ghost use Rattle.typed_tree.specs.IntExpressionTree.{int_expression_tree};
 ghost use Rattle.typed_tree.specs.inside.IntExpressionTree.{operands_tree};
-ghost use Rattle.std.specs.Prelude.{IfOk};
 ghost use Rattle.expression_types.specs.inside.Operands.{conditions_of, integers_of};
 ghost use Rattle.expression_types.specs.Operators.{beside_condition, beside_integer, first_condition, first_integer, grouped_conditions, grouped_integers};
 ghost use Rattle.expression_types.specs.Faults.{ReportsFaults};

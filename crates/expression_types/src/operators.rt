@@ -1,11 +1,9 @@
 //! Typing of operators: what signs, relations, rows and indexes make of typed operands.
 ghost use Rattle.std.specs.Prelude.{◌≡◌, Some, false, IfOk, IsTrue};
 ghost use Rattle.std.specs.Option.{option_map};
-ghost use Rattle.expression_types.specs.Faults.{ReportsFaults, outcome};
+ghost use Rattle.expression_types.specs.Faults.{ReportsFaults, outcome, earlier};
 ghost use Rattle.expression_types.specs.Expression.{as_vector, entry_of};
-ghost use Rattle.expression_types.specs.Operators.{added, compared_value, entry_value, equated_value};
-ghost use Rattle.expression_types.specs.Operators.{function_entry, given, main_entry, multiplied, related_value};
-ghost use Rattle.expression_types.specs.Faults.{earlier};
+ghost use Rattle.expression_types.specs.Operators.{added, compared_value, entry_value, equated_value, function_entry, given, main_entry, multiplied, related_value};
 ghost use Rattle.expression_types.specs.inside.Signs.{all_minus, all_not, signs_value};
 ghost use Rattle.expression_types.specs.ValueTree.{ErrorValue, is_condition, is_error, value_tree};
 

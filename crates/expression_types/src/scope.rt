@@ -1,8 +1,7 @@
 //! Scopes: which names are visible at a point of a source, and what each is.
 ghost use Rattle.std.specs.Prelude.{◌≡◌, ◌≤◌, ◌+◌, ◌*◌, ◌^◌, OnErr, length};
-ghost use Rattle.expression_types.specs.ScopeTree.{found};
+ghost use Rattle.expression_types.specs.ScopeTree.{found, Keeps, conditions_of, declared, empty_scope, entered, integers_of, left, mark_of, sets_of};
 ghost use Rattle.expression_types.specs.Faults.{ReportsFaults};
-ghost use Rattle.expression_types.specs.ScopeTree.{Keeps, conditions_of, declared, empty_scope, entered, integers_of, left, mark_of, sets_of};
 
 use crate::fault::{Fault, TypeRule, note};
 use crate::names::Names;

@@ -3,8 +3,7 @@ ghost use Rattle.std.specs.Prelude.{◌≡◌, is_some};
 ghost use Rattle.std.specs.Option.{option_map};
 ghost use Rattle.typed_tree.specs.BoolExpressionTree.{bool_expression_tree};
 ghost use Rattle.typed_tree.specs.IntExpressionTree.{int_expression_tree};
-ghost use Rattle.expression_types.specs.ValueTree.{as_condition, as_integer, as_set, as_vertex, is_condition as condition, is_error as error};
-ghost use Rattle.expression_types.specs.ValueTree.{named_set, named_value, named_vector, reads_entry as entry_is_read, value_tree};
+ghost use Rattle.expression_types.specs.ValueTree.{as_condition, as_integer, as_set, as_vertex, is_condition as condition, is_error as error, named_set, named_value, named_vector, reads_entry as entry_is_read, value_tree};
 ghost use Rattle.expression_types.specs.inside.ValueTree.{operands_read_entry};
 
 use crate::scope::Entity;

@@ -11,8 +11,7 @@ use Rattle.kernels.specs.FunctionStatementTree.{FunctionStatementsTree}
 use Rattle.kernels.specs.EdgeApply.{all_give, gives}
 use Rattle.kernels.specs.State.{StateValue}
 use Rattle.kernels.specs.Registers.{CodeInput, HasSizes, Registers, is_nonzero, run, step, with_number}
-use Rattle.kernels.specs.Meaning.{each, given_by}
-use Rattle.kernels.specs.Meaning.{IsEdgeCode, edge_input, given_in}
+use Rattle.kernels.specs.Meaning.{each, given_by, IsEdgeCode, edge_input, given_in}
 use Rattle.kernels.specs.ContributionCode.{ContributionCode}
 use Rattle.kernels.specs.RegisterInstruction.{RegisterInstruction}
 use Rattle.kernels.specs.RegisterInstruction.TheVariants as code

@@ -9,9 +9,8 @@ use Rattle.decimal.specs.Numbers.{value_of}
 use Rattle.decimal.proofs.NumberLaws.{value_of-longer, all_ascii_digits-append}
 use Rattle.lexer.specs.declared.symbol.Symbol.{Symbol}
 use Rattle.lexer.specs.declared.token.TokenKind.TheVariants as kind
-use Rattle.lexer.specs.Spelling.{Every, is_white, is_letter, is_word_byte, is_quotable, is_in_line}
+use Rattle.lexer.specs.Spelling.{Every, is_white, is_letter, is_word_byte, is_quotable, is_in_line, symbol_spelling}
 use Rattle.lexer.specs.inside.Runs.{EndsRun, IsRun, Quote, Punctuation, class_of, IsFirst}
-use Rattle.lexer.specs.Spelling.{symbol_spelling}
 use Rattle.lexer.specs.Tokens.{IsWord, IsName, PieceKind, White, Comment, Lexeme, IsPiece, IsLongest, IsSmall, BeginsBadByte, BeginsUnfinishedText, BeginsLargeNumber}
 use Rattle.lexer.proofs.RunLaws.{ends_at, ends_whole}
 use Rattle.lexer.proofs.ShapeLaws.{PieceShape, piece_shape, piece_nonempty}

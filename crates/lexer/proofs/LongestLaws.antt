@@ -7,9 +7,8 @@ use Rattle.decimal.specs.Numbers.{value_of}
 use Rattle.lexer.specs.declared.symbol.Symbol.{Symbol}
 use Rattle.lexer.specs.declared.symbol.Symbol.TheVariants as symbol
 use Rattle.lexer.specs.declared.token.TokenKind.TheVariants as kind
-use Rattle.lexer.specs.Spelling.{Every, is_white, is_letter, is_word_byte, is_quotable, is_in_line}
+use Rattle.lexer.specs.Spelling.{Every, is_white, is_letter, is_word_byte, is_quotable, is_in_line, symbol_spelling}
 use Rattle.lexer.specs.inside.Runs.{EndsRun, Class, Blank, Letter, Digit, Hash, Quote, Punctuation, class_of}
-use Rattle.lexer.specs.Spelling.{symbol_spelling}
 use Rattle.lexer.specs.Tokens.{IsWord, IsName, PieceKind, White, Comment, Lexeme, IsPiece, IsLongest}
 use Rattle.lexer.proofs.ShapeLaws.{PieceShape, piece_shape, class_of-white, class_of-letter, class_of-digit}
 use Rattle.lexer.proofs.SpellingLaws.{SymbolShape, symbol_spelling-SymbolShape}

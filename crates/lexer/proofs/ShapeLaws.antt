@@ -6,9 +6,8 @@ use Rattle.std.proofs.lemmas.Bool.{and_parts}
 use Rattle.std.proofs.lemmas.Bool.Decides.{nat_tests}
 use Rattle.lexer.specs.declared.symbol.Symbol.{Symbol}
 use Rattle.lexer.specs.declared.token.TokenKind.TheVariants as kind
-use Rattle.lexer.specs.Spelling.{Every, is_white, is_letter}
+use Rattle.lexer.specs.Spelling.{Every, is_white, is_letter, symbol_spelling}
 use Rattle.lexer.specs.inside.Runs.{Class, Blank, Letter, Digit, Hash, Quote, Punctuation, class_of}
-use Rattle.lexer.specs.Spelling.{symbol_spelling}
 use Rattle.lexer.specs.Tokens.{IsWord, PieceKind, White, Comment, Lexeme, IsPiece}
 use Rattle.lexer.proofs.SpellingLaws.{keyword_spelling-IsWord, SymbolShape, symbol_spelling-SymbolShape}
 

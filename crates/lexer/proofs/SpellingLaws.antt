@@ -6,10 +6,9 @@ use Rattle.lexer.specs.declared.keyword.Keyword.{Keyword}
 use Rattle.lexer.specs.declared.keyword.Keyword.TheVariants as keyword
 use Rattle.lexer.specs.declared.symbol.Symbol.{Symbol}
 use Rattle.lexer.specs.declared.symbol.Symbol.TheVariants as symbol
-use Rattle.lexer.specs.Spelling.{Every, is_letter, is_word_byte}
+use Rattle.lexer.specs.Spelling.{Every, is_letter, is_word_byte, keyword_spelling, symbol_spelling}
 use Rattle.lexer.specs.inside.Runs.{Class, Letter, Punctuation, class_of}
 use Rattle.lexer.specs.declared.keyword.TheConstants.{KEYWORDS}
-use Rattle.lexer.specs.Spelling.{keyword_spelling, symbol_spelling}
 use Rattle.lexer.specs.inside.Spelling.{place_of}
 use Rattle.lexer.specs.Tokens.{IsWord}
 

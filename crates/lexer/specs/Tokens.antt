@@ -10,8 +10,7 @@ use Rattle.lexer.specs.declared.token.TokenKind.{TokenKind}
 use Rattle.lexer.specs.declared.token.TokenKind.TheVariants as kind
 use Rattle.lexer.specs.declared.error.LexError.{LexError}
 use Rattle.lexer.specs.declared.error.LexError.TheVariants.{BadByte, NumberTooLarge, UnfinishedText, NoMemory}
-use Rattle.lexer.specs.Spelling.{Every, is_white, is_letter, is_word_byte, is_quotable, is_in_line}
-use Rattle.lexer.specs.Spelling.{keyword_spelling, symbol_spelling}
+use Rattle.lexer.specs.Spelling.{Every, is_white, is_letter, is_word_byte, is_quotable, is_in_line, keyword_spelling, symbol_spelling}
 
 -- a letter or an underscore, and then letters, digits and underscores
 abbrev pub IsWord : List ℕ → Type 0

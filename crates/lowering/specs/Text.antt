@@ -11,8 +11,7 @@ use Rattle.plan_text.specs.Lines.{advance_words, below_words, bound_words, edges
 use Rattle.plan_text.specs.Expressions.{joined, spaced}
 use Rattle.plans.specs.declared.instruction.Instruction.{Instruction}
 use Rattle.plans.specs.declared.plan.Plan.{Plan}
-use Rattle.plans.specs.Operation.{ArePairwise}
-use Rattle.plans.specs.Operation.{IsInstruction}
+use Rattle.plans.specs.Operation.{ArePairwise, IsInstruction}
 
 -- an edge function as the text names it
 abbrev pub changed_set : ResultTree → Option ChangedSet

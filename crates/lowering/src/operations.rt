@@ -6,8 +6,7 @@ ghost use Rattle.typed_tree.specs.IntExpressionTree.{int_expression_tree};
 ghost use Rattle.kernels.specs.Kernels.{IsConditionKernel, IsIntegerKernel};
 ghost use Rattle.plans.specs.Fusing.{EdgeApplyTree, edge_apply_of as edge_apply_in};
 ghost use Rattle.plans.specs.Instruction.{Do};
-ghost use Rattle.plans.specs.Operation.{set_value};
-ghost use Rattle.plans.specs.Operation.{IsFor, IsOperation};
+ghost use Rattle.plans.specs.Operation.{set_value, IsFor, IsOperation};
 ghost use Rattle.lowering.specs.inside.Kinds.{HasNoBlock, IsModified, IsOnSets, IsOther};
 
 use crate::fusing::edge_apply_of;

@@ -19,8 +19,7 @@ use Rattle.typed_tree.specs.ProgramTree.{ProgramTree}
 use Rattle.algorithm_meaning.specs.Arithmetic.{int_equal}
 use Rattle.algorithm_meaning.specs.State.{GraphValue, StateValue}
 use Rattle.algorithm_meaning.specs.Value.{entry, members_of}
-use Rattle.algorithm_meaning.specs.Function.{steps_of}
-use Rattle.algorithm_meaning.specs.Function.{result_of, lets_through}
+use Rattle.algorithm_meaning.specs.Function.{steps_of, result_of, lets_through}
 use Rattle.algorithm_meaning.specs.EdgeApply.{is_end, is_member, is_modified, matching, passes}
 use Rattle.algorithm_meaning.specs.VertexSets.{all_below, members_for, vectors_after}
 use Rattle.meaning_laws.specs.Members.{AreVertices, IsEndOf, LetsThrough}

@@ -18,8 +18,7 @@ use Rattle.algorithm_meaning.specs.Function.{lets_through}
 use Rattle.algorithm_meaning.specs.Statements.{condition_line, integer_line}
 use Rattle.algorithm_meaning.specs.VertexSets.{inserted, members_for, set_members}
 use Rattle.algorithm_meaning.specs.Loop.{bounds_in, depth_of, for_body, for_test, leave, loop, next_of, take_turn, while_body, while_test}
-use Rattle.algorithm_meaning.specs.Meaning.{after, after_all, all_vertices, opening}
-use Rattle.algorithm_meaning.specs.Meaning.{meaning, named_set, outcome_of}
+use Rattle.algorithm_meaning.specs.Meaning.{after, after_all, all_vertices, opening, meaning, named_set, outcome_of}
 use Rattle.meaning_laws.specs.Members.{AreVertices}
 use Rattle.meaning_laws.specs.Printing.{IsPrinted, IsPrintedLine}
 use Rattle.meaning_laws.proofs.Ascending.{inserted_vertices, no_vertices}

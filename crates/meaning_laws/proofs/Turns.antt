@@ -20,8 +20,7 @@ use Rattle.algorithm_meaning.specs.EdgeApply.{after_edge_apply, after_edges, is_
 use Rattle.algorithm_meaning.specs.Statements.{with_vectors}
 use Rattle.algorithm_meaning.specs.VertexSets.{after_assign_set, after_declare_set, with_members, with_new_set}
 use Rattle.algorithm_meaning.specs.Loop.{bounds_in, depth_of, for_body, for_test, leave, loop, next_of, take_turn, while_body, while_test}
-use Rattle.algorithm_meaning.specs.Meaning.{after, after_all, opening}
-use Rattle.algorithm_meaning.specs.Meaning.{meaning, outcome_of, shown}
+use Rattle.algorithm_meaning.specs.Meaning.{after, after_all, opening, meaning, outcome_of, shown}
 
 -- the state with so many more turns left
 abbrev pub plus : ℕ → StateValue → StateValue

@@ -9,8 +9,7 @@ use Rattle.algorithm_meaning.specs.declared.state.LoopCounter.{LoopCounter}
 use Rattle.algorithm_meaning.specs.State.{GraphValue, StateValue}
 use Rattle.algorithm_meaning.specs.Stand.{Stand, Live, Over, then_do, int_value_in, vertex_in, bool_value_in, with_value, choose}
 use Rattle.algorithm_meaning.specs.Loop.{after_for, after_while, bounds_in, depth_of, for_body, for_test, inside, leave, loop, next_of, take_turn, while_body, while_test}
-use Rattle.algorithm_meaning.specs.Meaning.{after, after_all, opening}
-use Rattle.algorithm_meaning.specs.Meaning.{meaning, outcome_of}
+use Rattle.algorithm_meaning.specs.Meaning.{after, after_all, opening, meaning, outcome_of}
 
 -- no more than n turns are left, and none where they ran out
 abbrev Falls : ℕ → Stand → Type 0

@@ -6,8 +6,7 @@ use Rattle.typed_tree.specs.declared.statement.VertexFilter.TheVariants.{Members
 use Rattle.typed_tree.specs.FunctionStatementTree.{FunctionTree}
 use Rattle.algorithm_meaning.specs.State.{GraphValue, StateValue}
 use Rattle.algorithm_meaning.specs.Value.{members_of}
-use Rattle.algorithm_meaning.specs.Function.{steps_of}
-use Rattle.algorithm_meaning.specs.Function.{result_of}
+use Rattle.algorithm_meaning.specs.Function.{steps_of, result_of}
 
 -- the numbers are vertices, each once and in ascending order
 pub record AreVertices (vertices : ℕ) (members : List ℕ) : Type 0 where

@@ -8,8 +8,7 @@ ghost use Rattle.algorithm_meaning.specs.declared.state.LoopCounter as counter;
 ghost use Rattle.algorithm_meaning.specs.State.{GraphValue, StateValue};
 ghost use Rattle.algorithm_meaning.specs.Stand.{Live, bool_value_in, choose, then_do, with_value};
 ghost use Rattle.algorithm_meaning.specs.Loop.{after_for, after_while, for_body, for_test, inside, loop, next_of, take_turn, while_body, while_test};
-ghost use Rattle.algorithm_meaning.specs.Meaning.{after, after_all};
-ghost use Rattle.algorithm_meaning.specs.Meaning.{meaning};
+ghost use Rattle.algorithm_meaning.specs.Meaning.{after, after_all, meaning};
 
 /// The law that a `while` is its test, and where that holds a turn, the body and the `while` again; and that a `for` is the
 /// same with its name at the next number. The call does nothing.

@@ -9,13 +9,12 @@ use Rattle.lexer.specs.declared.symbol.Symbol.TheVariants as symbol
 use Rattle.syntax.specs.Terminals.{Terminal, Identifier, Opening, OfKeyword, OfSymbol, keyword_terminal}
 use Rattle.syntax.specs.ExpressionReading.{Reader}
 use Rattle.syntax.specs.Nesting.{◌>>=◌}
-use Rattle.syntax.specs.SourceTrees.{ExpressionTree}
+use Rattle.syntax.specs.SourceTrees.{ExpressionTree, BlockTree, StatementKindTree, While, For, If, IfElse, Then}
 use Rattle.syntax.specs.declared.statement.Statement.{Statement}
 use Rattle.syntax.specs.declared.statement.Action.{Row_of-Statement, end_of-Statement, more_of-Statement, items-the_row-Statement}
 use Rattle.syntax.specs.declared.statement.Action.TheViews as views
 use Rattle.syntax.specs.declared.statement.Action.TheViews.{the_lemmas}
 use Rattle.syntax.proofs.Loops.{Goes, goes_end, goes_fails}
-use Rattle.syntax.specs.SourceTrees.{BlockTree, StatementKindTree, While, For, If, IfElse, Then}
 use Rattle.syntax.specs.SourceViews.{statement_kind_tree, rows_tree, block_tree}
 use Rattle.syntax.specs.inside.SourceViews.{statement_of}
 use Rattle.syntax.specs.SourceReading.{expression, name_at, after_terminal, after_terminals, closed, else_by, action_by, block_by, block_at, block_from, next_statement, statement_by, begins_statement, where_begins}

@@ -6,14 +6,13 @@ use Rattle.lexer.specs.declared.keyword.Keyword.TheVariants as keyword
 use Rattle.lexer.specs.declared.token.Token.{Token}
 use Rattle.lexer.specs.declared.token.TokenKind.{TokenKind}
 use Rattle.lexer.specs.declared.token.TokenKind.TheVariants as kind
-use Rattle.lexer.specs.Tokens.{AreInOrder, FaultsAt, bytes_of}
+use Rattle.lexer.specs.Tokens.{AreInOrder, FaultsAt, bytes_of, slice_of}
 use Rattle.lexer.proofs.OrderLaws.{HasTokens-AreInOrder}
 use Rattle.syntax.specs.Nesting.{PassesAt, nesting_after}
 use Rattle.syntax.specs.Offsets.{StandWhere, StandsWhere}
 use Rattle.syntax.specs.SourceSpelling.{source_terminals}
 use Rattle.syntax.specs.SourceTrees.{SourceTree}
 use Rattle.syntax.specs.Terminals.{keyword_terminal, terminal_of, terminals_of}
-use Rattle.lexer.specs.Tokens.{slice_of}
 use Rattle.parser.specs.declared.error.ParseError.{ParseError}
 use Rattle.parser.specs.declared.error.ParseError.TheVariants.{BadByte, NumberTooLarge, UnfinishedText, Unexpected, TooDeep, NoMemory}
 use Rattle.parser.specs.Outcome.{Parses, StandsIn, beginning_of}

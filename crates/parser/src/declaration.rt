@@ -2,8 +2,7 @@
 ghost use Rattle.std.specs.Prelude.{◌≡◌, ◌<◌, ◌≤◌, length, option_map, IfOk};
 ghost use Rattle.syntax.specs.Terminals.{OfSymbol};
 ghost use Rattle.parser.specs.inside.Readers.{terminals, Gives};
-ghost use Rattle.syntax.specs.SourceReading.{after_terminal, each_at, parameters_at, result_by};
-ghost use Rattle.syntax.specs.SourceReading.{begins_declaration as begins_declaration_at, next_declaration, declaration_by, block as block_at_limit};
+ghost use Rattle.syntax.specs.SourceReading.{after_terminal, each_at, parameters_at, result_by, begins_declaration as begins_declaration_at, next_declaration, declaration_by, block as block_at_limit};
 ghost use Rattle.syntax.specs.SourceViews.{parameter_tree, declaration_tree};
 ghost use Rattle.parser.specs.inside.Declarations.{beginning_of, declared_by, constant_at, signature_at, function_at, parameters_from};
 ghost use Rattle.parser.specs.inside.Views.{each, signature_tree, statements_tree};

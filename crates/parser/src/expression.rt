@@ -4,9 +4,8 @@ ghost use Rattle.parser.specs.inside.Readers.{terminals, Gives, Passes, AnswersB
 ghost use Rattle.syntax.specs.ExpressionViews.{primary_of, unary_of};
 ghost use Rattle.syntax.specs.inside.ExpressionViews.{term_of, sum_of, comparison_of, conjunction_of};
 ghost use Rattle.parser.specs.inside.Literals.{literal_at};
-ghost use Rattle.syntax.specs.ExpressionReading.{no_expression, primary_at, named_by, after_open_bracket, after_dot, after_size_call};
+ghost use Rattle.syntax.specs.ExpressionReading.{no_expression, primary_at, named_by, after_open_bracket, after_dot, after_size_call, truth_of as truth_of_terminal, unary_at, term_at, sum_at, comparison_at, conjunction_at, expression_at};
 ghost use Rattle.syntax.specs.inside.ExpressionReading.{expression_in};
-ghost use Rattle.syntax.specs.ExpressionReading.{truth_of as truth_of_terminal, unary_at, term_at, sum_at, comparison_at, conjunction_at, expression_at};
 
 use crate::cursor::Cursor;
 use crate::syntax_error::SyntaxError;

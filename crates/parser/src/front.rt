@@ -3,8 +3,7 @@ ghost use Rattle.std.specs.Prelude.{◌≡◌, ◌<◌, ◌≤◌, ℕ, ◌∷�
 ghost use Rattle.std.specs.List.{list_all};
 ghost use Rattle.syntax.specs.Terminals.{OfKeyword, OfSymbol, keyword_terminal};
 ghost use Rattle.parser.specs.inside.Readers.{terminals, Gives, Passes};
-ghost use Rattle.syntax.specs.SourceReading.{after_terminals, name_at, number_at, text_at};
-ghost use Rattle.syntax.specs.SourceReading.{label_at, argument_at, after_terminal, expression as expression_at_limit};
+ghost use Rattle.syntax.specs.SourceReading.{after_terminals, name_at, number_at, text_at, label_at, argument_at, after_terminal, expression as expression_at_limit};
 ghost use Rattle.syntax.specs.SourceViews.{text_of};
 ghost use Rattle.parser.specs.inside.Plain.{is_plain, plain_terminal};
 

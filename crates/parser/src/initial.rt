@@ -4,8 +4,7 @@ ghost use Rattle.syntax.specs.Terminals.{Terminal, OfKeyword, keyword_terminal};
 ghost use Rattle.parser.specs.inside.Readers.{terminals, Gives};
 ghost use Rattle.syntax.specs.SourceReading.{in_parentheses, closed, end_at, ends_at, method_at, initial_at, value_at, assigned_at};
 ghost use Rattle.syntax.specs.SourceViews.{initial_tree, ends_tree};
-ghost use Rattle.parser.specs.inside.Fronts.{begins_call as begins_call_at, is_called, called_terminal, name_pair_at};
-ghost use Rattle.parser.specs.inside.Fronts.{modified_by, filter_at, call_by, new_set_at, load_at};
+ghost use Rattle.parser.specs.inside.Fronts.{begins_call as begins_call_at, is_called, called_terminal, name_pair_at, modified_by, filter_at, call_by, new_set_at, load_at};
 
 use crate::cursor::Cursor;
 use crate::syntax_error::SyntaxError;

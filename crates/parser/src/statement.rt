@@ -3,8 +3,7 @@ ghost use Rattle.std.specs.Prelude.{◌≤◌, [], ◌∷◌, length, IfOk, None
 ghost use Rattle.syntax.specs.Terminals.{OfKeyword, OfSymbol};
 ghost use Rattle.parser.specs.inside.Readers.{terminals, Gives};
 ghost use Rattle.parser.specs.inside.Fronts.{applied_by, applied_function_at};
-ghost use Rattle.syntax.specs.SourceReading.{reduction_at, ended_at, entry_at, entry_by, after_terminal};
-ghost use Rattle.syntax.specs.SourceReading.{after_terminals, method_by, added_at, reduced_at, named_action};
+ghost use Rattle.syntax.specs.SourceReading.{reduction_at, ended_at, entry_at, entry_by, after_terminal, after_terminals, method_by, added_at, reduced_at, named_action};
 ghost use Rattle.syntax.specs.SourceViews.{statement_kind_tree};
 
 use crate::cursor::Cursor;

@@ -6,9 +6,8 @@ ghost use Rattle.typed_tree.specs.ProgramTree.{program_tree};
 ghost use Rattle.algorithm_meaning.specs.EdgeApply.{after_edge_apply};
 ghost use Rattle.algorithm_meaning.specs.Statements.{with_vectors};
 ghost use Rattle.algorithm_meaning.specs.Loop.{after_for, after_while, for_body, inside, take_turn};
-ghost use Rattle.algorithm_meaning.specs.Meaning.{after, after_all};
+ghost use Rattle.algorithm_meaning.specs.Meaning.{after, after_all, meaning};
 ghost use Rattle.plain_run.specs.inside.Seen.{HasNoBlock, IsOverSets, graph_of, stand, state_of};
-ghost use Rattle.algorithm_meaning.specs.Meaning.{meaning};
 ghost use Rattle.algorithm_meaning.specs.Stand.{Live};
 
 use crate::edge_apply::apply_edges;

@@ -6,8 +6,7 @@ ghost use Rattle.std.specs.Prelude.{◌≡◌, IfOk, slice_set};
 ghost use Rattle.typed_tree.specs.IntExpressionTree.{int_expression_tree};
 ghost use Rattle.typed_tree.specs.BoolExpressionTree.{bool_expression_tree};
 ghost use Rattle.plain_run.specs.inside.Seen.{stand, state_of};
-ghost use Rattle.algorithm_meaning.specs.Statements.{after_declare_condition, after_declare_integer};
-ghost use Rattle.algorithm_meaning.specs.Statements.{after_reduce_integer, after_set_condition, after_set_integer};
+ghost use Rattle.algorithm_meaning.specs.Statements.{after_declare_condition, after_declare_integer, after_reduce_integer, after_set_condition, after_set_integer};
 
 use crate::evaluate::integer_at;
 use crate::state::{InterpreterState, StatementContext};

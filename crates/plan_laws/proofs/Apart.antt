@@ -4,9 +4,8 @@ use Rattle.std.specs.List.{AllByRecursion, Contains, list_any}
 use Rattle.std.proofs.lemmas.Bool.{and_from, ne_eqb, not_from_false, or_from}
 use Rattle.std.proofs.lemmas.List.Elements.{Contains-append_right}
 use Rattle.typed_tree.specs.FunctionStatementTree.{FunctionTree}
-use Rattle.typed_tree.specs.Independence.{are_apart, is_none_of}
+use Rattle.typed_tree.specs.Independence.{are_apart, is_none_of, are_independent, is_end}
 use Rattle.typed_tree.specs.inside.Access.{steps_use_where, steps_write_where}
-use Rattle.typed_tree.specs.Independence.{are_independent, is_end}
 use Rattle.typed_tree.specs.ProgramTree.{ProgramTree}
 use Rattle.typed_tree.specs.declared.apply.StatementApply.{StatementApply}
 use Rattle.typed_tree.specs.declared.apply.StatementApply.TheVariants.{Vertices, Edges}

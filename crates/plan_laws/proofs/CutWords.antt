@@ -22,8 +22,7 @@ use Rattle.typed_tree.specs.BoolExpressionTree.{BoolExpressionTree}
 use Rattle.typed_tree.specs.ProgramTree.{ProgramTree}
 use Rattle.algorithm_meaning.specs.State.{StateValue}
 use Rattle.algorithm_meaning.specs.Stand.{bool_value_in, int_value_in}
-use Rattle.plan_text.specs.Expressions.{comparison_word, condition_words, connective_word, entry_word, integer_words, name_at, name_of, operator_word, truth_word, vector_at}
-use Rattle.plan_text.specs.Expressions.{bracketed, joined}
+use Rattle.plan_text.specs.Expressions.{comparison_word, condition_words, connective_word, entry_word, integer_words, name_at, name_of, operator_word, truth_word, vector_at, bracketed, joined}
 use Rattle.decimal.proofs.NumberLaws.{digits_model}
 use Rattle.plan_laws.specs.Machine.{Number, Truth, Names, last_byte, read_words}
 use Rattle.plan_laws.specs.Given.{ConditionIsGiven, IntegerIsGiven}

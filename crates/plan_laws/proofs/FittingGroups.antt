@@ -16,8 +16,7 @@ use Rattle.algorithm_meaning.specs.VertexSets.{all_below}
 use Rattle.algorithm_meaning.specs.Arithmetic.{wrapped}
 use Rattle.algorithm_meaning.specs.Meaning.{opening, opening_entries, out_degree}
 use Rattle.schedule.specs.Calls.{grown, grown_by, schedule_of}
-use Rattle.schedule.specs.Schedule.{index_from, vector_index, vector_names}
-use Rattle.schedule.specs.Schedule.{empty_schedule}
+use Rattle.schedule.specs.Schedule.{index_from, vector_index, vector_names, empty_schedule}
 use Rattle.schedule.proofs.CallSteps.{Step, GivesValue, Fuses, PutsGroup, kept_by_calls}
 use Rattle.schedule.proofs.Groups.{accepted_groups_are_distinct}
 use Rattle.schedule.proofs.Indices.{concat_last}

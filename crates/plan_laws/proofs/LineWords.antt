@@ -19,8 +19,7 @@ use Rattle.plans.specs.Instruction.{InstructionTree, OperationTree}
 use Rattle.plans.specs.Plan.{plan_of}
 use Rattle.plan_text.specs.declared.applied_function.AppliedFunction.{AppliedFunction}
 use Rattle.plan_text.specs.declared.applied_function.ChangedSet.{ChangedSet}
-use Rattle.plan_text.specs.Expressions.{bracketed, joined}
-use Rattle.plan_text.specs.Expressions.{condition_words, integer_words, name_at, vector_at}
+use Rattle.plan_text.specs.Expressions.{bracketed, joined, condition_words, integer_words, name_at, vector_at}
 use Rattle.plan_text.specs.Lines.{changed_words, dense_word, direction_word, edges_words, end_name, end_word, function_at, group_words, one_part, parallelization_word, part_words, put_words, reducing_word, reduction_word, second_function_words, second_words, set_line, set_words, statement_words, vertices_words}
 use Rattle.lowering.specs.Text.{group_lines, instruction_lines, line_of, operation_words, shown_part, target_words, text_of}
 use Rattle.plan_laws.specs.Brackets.{put_byte}

@@ -10,9 +10,8 @@ use Rattle.typed_tree.specs.declared.statement.VertexFilter.{VertexFilter}
 use Rattle.typed_tree.specs.declared.statement.VertexFilter.TheVariants as filter
 use Rattle.typed_tree.specs.declared.apply.StatementApply.{StatementApply}
 use Rattle.typed_tree.specs.declared.apply.StatementApply.TheVariants.{Vertices}
-use Rattle.typed_tree.specs.Independence.{are_apart, function_uses, function_writes}
+use Rattle.typed_tree.specs.Independence.{are_apart, function_uses, function_writes, are_same, are_same_ends, have_same_sets, is_end, name_at}
 use Rattle.typed_tree.specs.BlockTree.{StatementKindTree}
-use Rattle.typed_tree.specs.Independence.{are_same, are_same_ends, have_same_sets, is_end, name_at}
 use Rattle.typed_tree.specs.ProgramTree.{ProgramTree}
 use Rattle.typed_tree.specs.Resolved.{VisibleTree, EndIsResolved, EndsAreResolved, IsResolved, after_action}
 use Rattle.schedule.specs.Laws.{IsIndependent}

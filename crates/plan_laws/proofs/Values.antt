@@ -19,9 +19,8 @@ use Rattle.algorithm_meaning.specs.State.{StateValue}
 use Rattle.algorithm_meaning.specs.Stand.{int_value_in}
 use Rattle.plans.specs.Instruction as operation
 use Rattle.plans.specs.Instruction.{InstructionTree, OperationTree}
-use Rattle.plan_text.specs.Expressions.{integer_words, name_at}
+use Rattle.plan_text.specs.Expressions.{integer_words, name_at, bracketed}
 use Rattle.plan_text.specs.Lines.{end_name, reducing_word, set_line, statement_words}
-use Rattle.plan_text.specs.Expressions.{bracketed}
 use Rattle.lowering.specs.Text.{operation_words, target_words}
 use Rattle.plan_laws.specs.Machine.{StackValue, Number, Truth, Stack, Names, read_word, read_words}
 use Rattle.plan_laws.specs.Given.{IntegerIsGiven, IsNamed}

@@ -22,8 +22,7 @@ use Rattle.apply_options.specs.declared.apply_schedule.Parallelization.{Parallel
 use Rattle.apply_options.specs.declared.apply_schedule.Parallelization.TheVariants as parallelization
 use Rattle.plan_text.specs.declared.applied_function.AppliedFunction.{AppliedFunction}
 use Rattle.plan_text.specs.declared.applied_function.ChangedSet.{ChangedSet}
-use Rattle.plan_text.specs.Expressions.{bracketed}
-use Rattle.plan_text.specs.Expressions.{name_at, vector_at, integer_words, condition_words}
+use Rattle.plan_text.specs.Expressions.{bracketed, name_at, vector_at, integer_words, condition_words}
 
 -- how a reduction of an entry is spelled, and the operator that it is
 abbrev pub reduction_word : Reduction → List ℕ

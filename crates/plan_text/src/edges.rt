@@ -1,10 +1,8 @@
 //! Edge applies, and groups of fields, as words.
 ghost use Rattle.std.specs.Prelude.{◌≡◌, ◌++◌, ◌∷◌, [], map, codes, OnOk};
 ghost use Rattle.typed_tree.specs.ProgramTree.{program_tree};
-ghost use Rattle.plan_text.specs.Expressions.{vector_at};
-ghost use Rattle.plan_text.specs.Lines.{changed_words, dense_word, direction_word, edges_words};
-ghost use Rattle.plan_text.specs.Lines.{end_word, group_words, parallelization_word, part_words, second_words};
-ghost use Rattle.plan_text.specs.Expressions.{spaced};
+ghost use Rattle.plan_text.specs.Expressions.{vector_at, spaced};
+ghost use Rattle.plan_text.specs.Lines.{changed_words, dense_word, direction_word, edges_words, end_word, group_words, parallelization_word, part_words, second_words};
 
 use crate::applied_function::{AppliedFunction, ChangedSet};
 use crate::names::Lines;

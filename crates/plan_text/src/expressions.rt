@@ -4,10 +4,8 @@ ghost use Rattle.std.specs.Prelude.{◌≡◌, ◌++◌, ◌∷◌, [], OnOk};
 ghost use Rattle.typed_tree.specs.IntExpressionTree.{int_expression_tree};
 ghost use Rattle.typed_tree.specs.BoolExpressionTree.{bool_expression_tree};
 ghost use Rattle.typed_tree.specs.ProgramTree.{program_tree};
-ghost use Rattle.plan_text.specs.Expressions.{comparison_word, condition_words, connective_word, entry_word};
-ghost use Rattle.plan_text.specs.Expressions.{integer_words, operator_word, size_word, truth_word};
+ghost use Rattle.plan_text.specs.Expressions.{comparison_word, condition_words, connective_word, entry_word, integer_words, operator_word, size_word, truth_word, spaced};
 ghost use Rattle.plan_text.specs.inside.Rows.{connected_words, operand_words};
-ghost use Rattle.plan_text.specs.Expressions.{spaced};
 
 use crate::names::Lines;
 use crate::words::{put_marked, put_times, put_word};

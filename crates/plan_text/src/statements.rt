@@ -4,11 +4,9 @@ ghost use Rattle.typed_tree.specs.BlockTree.{statement_kind_tree};
 ghost use Rattle.typed_tree.specs.BoolExpressionTree.{bool_expression_tree};
 ghost use Rattle.typed_tree.specs.IntExpressionTree.{int_expression_tree};
 ghost use Rattle.typed_tree.specs.ProgramTree.{program_tree};
-ghost use Rattle.plan_text.specs.Expressions.{condition_words, integer_words, name_at};
-ghost use Rattle.plan_text.specs.Lines.{advance_words, below_words, bound_words, end_name, put_words, reducing_word};
-ghost use Rattle.plan_text.specs.Lines.{reduction_word, set_line, set_words, statement_words, unless_words, vertices_words};
+ghost use Rattle.plan_text.specs.Expressions.{condition_words, integer_words, name_at, bracketed, spaced};
+ghost use Rattle.plan_text.specs.Lines.{advance_words, below_words, bound_words, end_name, put_words, reducing_word, reduction_word, set_line, set_words, statement_words, unless_words, vertices_words};
 ghost use Rattle.plan_text.specs.inside.Statements.{TakesValues};
-ghost use Rattle.plan_text.specs.Expressions.{bracketed, spaced};
 ghost use Rattle.apply_options.specs.declared.apply_schedule.ApplySchedule.{ApplySchedule};
 
 use crate::applied_function::{AppliedFunction, ChangedSet};

@@ -13,8 +13,7 @@ use Rattle.algorithm_meaning.specs.Arithmetic.{negative, arithmetic, compared, c
 use Rattle.algorithm_meaning.specs.State.{ScopeValue, edge_scope, filter_scope}
 use Rattle.algorithm_meaning.specs.Value.{vertex_at, entry_at, members_of, value, truth}
 use Rattle.algorithm_meaning.specs.Statements.{new_integer, new_condition, set_integer, set_condition, reduce_integer, forget_new}
-use Rattle.algorithm_meaning.specs.Function.{WorkValue, first_work, after_set, after_reduce, after_step, after_steps, after_block}
-use Rattle.algorithm_meaning.specs.Function.{result_of}
+use Rattle.algorithm_meaning.specs.Function.{WorkValue, first_work, after_set, after_reduce, after_step, after_steps, after_block, result_of}
 use Rattle.algorithm_meaning.specs.EdgeApply.{gives}
 use Rattle.typed_tree.specs.Independence.{is_none_of, are_apart}
 use Rattle.typed_tree.specs.inside.Access.{integer_reads, condition_reads, step_uses, steps_use}

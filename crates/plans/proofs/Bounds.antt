@@ -8,24 +8,21 @@ use Rattle.typed_tree.specs.BlockTree.{StatementKindTree, DeclareInteger, Declar
 use Rattle.algorithm_meaning.specs.declared.state.Depth.{Depth}
 use Rattle.plans.specs.Instruction.{EdgePartTree, OperationTree, Do, ApplyEdgesTogether, ApplyVerticesTogether, Unless, Enter, UnlessBelow, Advance, Turn, Jump, End, InstructionTree}
 use Rattle.algorithm_meaning.specs.declared.state.LoopCounter.{LoopCounter}
-use Rattle.plans.specs.Plan.{plan_of}
+use Rattle.plans.specs.Plan.{plan_of, IsPlan, program_of}
 use Rattle.plans.specs.Machine.{Configuration, At, Ended, step}
 use Rattle.plans.proofs.Whole.{steps_lower}
 use Rattle.algorithm_meaning.specs.State.{GraphValue, StateValue}
 use Rattle.apply_options.specs.ScheduleTree.{ScheduleTree}
 use Rattle.typed_tree.specs.ProgramTree.{ProgramTree}
 use Rattle.plans.specs.declared.plan.Plan.{Plan}
-use Rattle.plans.specs.Plan.{IsPlan, program_of}
 use Rattle.std.proofs.Math.Bridge.{le_prop}
 use Rattle.std.proofs.Math.Logic.{∥∥₁_elim}
 use Rattle.std.proofs.lemmas.List.{length-map}
 use Rattle.plans.specs.Bound.{uses_turn, is_turn, rank_by, rank_where, most_steps}
-use Rattle.plans.specs.Operation.{part_tree}
+use Rattle.plans.specs.Operation.{part_tree, set_value, IsOperation, AreInstructions}
 use Rattle.plans.specs.declared.instruction.Instruction.{Instruction}
 use Rattle.plans.specs.declared.operation.PlanOperation.{PlanOperation}
 use Rattle.plans.specs.declared.operation.PlanOperation.TheVariants as op
-use Rattle.plans.specs.Operation.{set_value}
-use Rattle.plans.specs.Operation.{IsOperation, AreInstructions}
 use Rattle.plans.specs.inside.Outline.{outline, outline_of, most_steps_of}
 
 -- the bound sees no difference

@@ -1,6 +1,6 @@
 -- The edges that two edge applies look at.
 use Rattle.std.proofs.Common.{◌≡◌, ℕ, nat_lt, ◌&&◌, true, List, Option, Some, None, slice_get, ap, ◌∙◌, refl}
-use Rattle.std.proofs.lemmas.Bool.{eqb-true}
+use Rattle.std.proofs.lemmas.Bool.{eqb-true, and_parts}
 use Rattle.std.specs.List.{filter}
 use Rattle.typed_tree.specs.declared.statement.VertexFilter.{VertexFilter}
 use Rattle.typed_tree.specs.declared.statement.VertexFilter.TheVariants as end
@@ -8,12 +8,10 @@ use Rattle.typed_tree.specs.declared.statement.ApplyEnds.{ApplyEnds}
 use Rattle.typed_tree.specs.FunctionStatementTree.{FunctionTree}
 use Rattle.algorithm_meaning.specs.State.{GraphValue, StateValue}
 use Rattle.algorithm_meaning.specs.Value.{members_of}
-use Rattle.algorithm_meaning.specs.Function.{steps_of}
-use Rattle.algorithm_meaning.specs.Function.{result_of}
+use Rattle.algorithm_meaning.specs.Function.{steps_of, result_of}
 use Rattle.algorithm_meaning.specs.EdgeApply.{is_member, passes, matching}
 use Rattle.typed_tree.specs.Independence.{is_none_of, are_apart, end_reads}
 use Rattle.typed_tree.specs.inside.Access.{steps_use, steps_use_where, steps_write, steps_write_where}
-use Rattle.std.proofs.lemmas.Bool.{and_parts}
 use Rattle.plans.specs.inside.Fusing.{steps_sizes, steps_sizes_where}
 use Rattle.plans.specs.Fusing.{end_sets, is_same_end}
 use Rattle.plans.proofs.Beside.{AgreeBut, SetsAgreeBut, result_same}

@@ -5,8 +5,7 @@ use Rattle.algorithm_meaning.specs.declared.outcome.End.TheVariants.{Finished}
 use Rattle.algorithm_meaning.specs.State.{GraphValue, StateValue}
 use Rattle.algorithm_meaning.specs.Value.{members_of}
 use Rattle.algorithm_meaning.specs.Stand.{Stand, Live, Over}
-use Rattle.algorithm_meaning.specs.Meaning.{after_all, opening, all_vertices}
-use Rattle.algorithm_meaning.specs.Meaning.{outcome_of, meaning}
+use Rattle.algorithm_meaning.specs.Meaning.{after_all, opening, all_vertices, outcome_of, meaning}
 use Rattle.apply_options.specs.ScheduleTree.{ScheduleTree}
 use Rattle.algorithm_meaning.specs.declared.state.Depth.{Depth}
 use Rattle.plans.specs.Instruction.{End, InstructionTree}

@@ -14,9 +14,8 @@ use Rattle.typed_tree.specs.BlockTree.{StatementKindTree, BlockTree, Empty, Then
 use Rattle.typed_tree.specs.ProgramTree.{ProgramTree}
 use Rattle.typed_tree.specs.declared.apply.StatementApply.{StatementApply}
 use Rattle.typed_tree.specs.declared.apply.StatementApply.TheVariants.{Edges}
-use Rattle.typed_tree.specs.Independence.{are_apart, function_writes}
+use Rattle.typed_tree.specs.Independence.{are_apart, function_writes, are_independent}
 use Rattle.typed_tree.specs.Fold.{all_pass, end_fold, function_fold, gathered}
-use Rattle.typed_tree.specs.Independence.{are_independent}
 use Rattle.typed_tree.specs.declared.statement.VertexFilter.TheVariants as end
 use Rattle.typed_tree.specs.declared.statement.SetValue.TheVariants as set
 use Rattle.typed_tree.specs.BlockTree as block

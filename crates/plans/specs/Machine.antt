@@ -10,11 +10,9 @@ use Rattle.algorithm_meaning.specs.declared.state.Depth.{Depth}
 use Rattle.algorithm_meaning.specs.State.{GraphValue, StateValue}
 use Rattle.algorithm_meaning.specs.Value.{members_of}
 use Rattle.algorithm_meaning.specs.Stand.{Stand, Live, Over, int_value_in, bool_value_in}
-use Rattle.algorithm_meaning.specs.Statements.{with_new_integer}
-use Rattle.algorithm_meaning.specs.Statements.{with_vectors}
+use Rattle.algorithm_meaning.specs.Statements.{with_new_integer, with_vectors}
 use Rattle.algorithm_meaning.specs.Function.{steps_of}
-use Rattle.algorithm_meaning.specs.VertexSets.{with_new_set, with_members}
-use Rattle.algorithm_meaning.specs.VertexSets.{after_vertex}
+use Rattle.algorithm_meaning.specs.VertexSets.{with_new_set, with_members, after_vertex}
 use Rattle.algorithm_meaning.specs.EdgeApply.{after_edge_apply, modified}
 use Rattle.algorithm_meaning.specs.Loop.{forget_beyond, next_of}
 use Rattle.algorithm_meaning.specs.Meaning.{after}

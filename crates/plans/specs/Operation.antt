@@ -11,17 +11,13 @@ use Rattle.typed_tree.specs.declared.statement.SetValue.TheVariants as set
 use Rattle.algorithm_meaning.specs.declared.state.Depth.{Depth}
 use Rattle.algorithm_meaning.specs.Function.{steps_of}
 use Rattle.kernels.specs.declared.expression.ExpressionKernel.{ExpressionKernel}
-use Rattle.kernels.specs.Kernels.{IsIntegerKernel, IsConditionKernel}
+use Rattle.kernels.specs.Kernels.{IsIntegerKernel, IsConditionKernel, IsEdgeKernel, IsFilterKernel}
 use Rattle.kernels.specs.Meaning.{IsVertexCode}
-use Rattle.kernels.specs.Kernels.{IsEdgeKernel, IsFilterKernel}
 use Rattle.plans.specs.Instruction.{OperationTree, Do, ApplyEdgesTogether, ApplyVerticesTogether, Unless, Enter, UnlessBelow, Advance, Turn, Jump, End, InstructionTree, ResultTree, Dropped, Declared, Assigned, EdgePartTree}
 use Rattle.plans.specs.Fusing.{edge_apply_of}
 use Rattle.plans.specs.declared.part.EdgePart.{EdgePart}
-
 use Rattle.plans.specs.declared.operation.PlanOperation.{PlanOperation}
 use Rattle.plans.specs.declared.instruction.Instruction.{Instruction}
-
-
 use Rattle.plans.specs.declared.kernels_at.Kernels.{Kernels}
 use Rattle.plans.specs.declared.part.PartResult.{PartResult}
 use Rattle.plans.specs.declared.set_expression.SetExpression.{SetExpression}

@@ -9,10 +9,8 @@ use Rattle.plans.specs.Instruction.{OperationTree, Do, Unless, Enter, UnlessBelo
 use Rattle.plans.specs.Fusing.{FusionRole, Alone, WithNext, WithPrevious, fusion_role_of, takes_next}
 use Rattle.plans.specs.declared.functions.FunctionKernels.{FunctionKernels}
 use Rattle.plans.specs.declared.instruction.Instruction.{Instruction}
-use Rattle.plans.specs.Operation.{AreFunctionKernels}
-use Rattle.plans.specs.Operation.{AreInstructions}
+use Rattle.plans.specs.Operation.{AreFunctionKernels, AreInstructions}
 use Rattle.plans.specs.declared.plan.Plan.{Plan}
-
 use Rattle.plans.specs.Reducing.{AppliesReduce}
 
 -- one more of each kind

@@ -3,8 +3,7 @@ use Rattle.std.specs.Prelude.{◌≡◌, ℕ, ◌<◌, ◌≤◌, List, length}
 use Rattle.typed_tree.specs.ProgramTree.{ProgramTree}
 use Rattle.algorithm_meaning.specs.declared.outcome.Outcome.{Outcome}
 use Rattle.algorithm_meaning.specs.State.{GraphValue}
-use Rattle.algorithm_meaning.specs.Meaning.{after_all, opening}
-use Rattle.algorithm_meaning.specs.Meaning.{shown, meaning}
+use Rattle.algorithm_meaning.specs.Meaning.{after_all, opening, shown, meaning}
 use Rattle.plans.specs.Instruction.{InstructionTree}
 use Rattle.plans.specs.Machine.{Configuration, At, Ended, step, steps, first_configuration, finish}
 use Rattle.plans.specs.Bound.{most_steps}

@@ -14,7 +14,7 @@ use Rattle.edge_fold.specs.declared.scratch.Scratch.{Scratch}
 use Rattle.edge_fold.specs.Between.{edges_between}
 use Rattle.edge_fold.specs.Ends.{IsEndTest}
 use Rattle.edge_fold.specs.Folded.{AreKernels, HasFolded}
-use Rattle.edge_fold.specs.Contributions.{column}
+use Rattle.edge_fold.specs.Contributions.{column, IsReducedBy}
 use Rattle.edge_fold.proofs.Orders.{folded_in_any_order}
 use Rattle.edge_fold.proofs.Walks.{folded_along}
 use Rattle.crew.specs.Partition.{AreEnds, piece_of}
@@ -23,8 +23,7 @@ use Rattle.flat_snapshot.specs.Digraph.{Digraph, IsDigraph}
 use Rattle.flat_snapshot.specs.Edge.{Ends, IsWithin, ends_eq, ends_of, weight_in}
 use Rattle.flat_snapshot.specs.Neighbours.{sources_of}
 use Rattle.edge_apply.specs.Pieces.{EachGathered}
-use Rattle.edge_apply.proofs.Listed.{member_of_range}
-use Rattle.edge_apply.proofs.Listed.{member_filtered, rises_filtered}
+use Rattle.edge_apply.proofs.Listed.{member_of_range, member_filtered, rises_filtered}
 use Rattle.vertex_sets.proofs.Ascending.{rises_range}
 use Rattle.kernels.specs.EdgeApply.{is_member}
 use Rattle.std.proofs.lemmas.List.Elements.{filter-append}
@@ -33,7 +32,6 @@ use Rattle.pull_engine.specs.declared.work.PullWork.{PullWork}
 use Rattle.pull_engine.specs.Columns.{columns, passing}
 use Rattle.apply_options.specs.declared.reduction.Reduction.{Reduction}
 use Rattle.kernels.specs.Value.{entry}
-use Rattle.edge_fold.specs.Contributions.{IsReducedBy}
 use Rattle.pull_engine.specs.Pieces.{Answers, AnswersFor, GathersPiece, edges_into_piece}
 use Rattle.pull_engine.specs.Ranges.{entry_after, shape_vector}
 use Rattle.pull_engine.proofs.FoundParts.{ListParts}

@@ -19,8 +19,7 @@ use Rattle.push_engine.specs.Rows.{rows}
 use Rattle.push_engine.specs.inside.Sources.{AreSources}
 use Rattle.push_engine.specs.Sources.{passing_in}
 use Rattle.push_engine.proofs.RowFolds.{agree_on_rows, rows-append, rows_to_are_edges}
-use Rattle.edge_apply.proofs.Listed.{rising}
-use Rattle.edge_apply.proofs.Listed.{rises_filtered}
+use Rattle.edge_apply.proofs.Listed.{rising, rises_filtered}
 use Rattle.vertex_sets.proofs.Ascending.{Rises}
 
 -- the edges of all pieces

@@ -9,9 +9,8 @@ use Rattle.version_list.specs.Timeline.{IsLegal}
 use Rattle.shared_graph.specs.declared.entry.Entry.{Entry}
 use Rattle.shared_graph.specs.declared.error.SharedError.{SharedError}
 use Rattle.shared_graph.specs.declared.error.SharedError.TheVariants as shared
-use Rattle.shared_graph.specs.Histories.{own, steps_of}
+use Rattle.shared_graph.specs.Histories.{own, steps_of, ReaderState}
 use Rattle.shared_graph.specs.Outcome.{Answers}
-use Rattle.shared_graph.specs.Histories.{ReaderState}
 use Rattle.races.specs.declared.outcomes.CommitReply.{CommitReply}
 use Rattle.races.specs.declared.outcomes.CommitReply.TheVariants as answer
 use Rattle.races.specs.Race.{AreAnswered, IsAnswered, commits, entries_of}

@@ -8,8 +8,7 @@ use Rattle.tree_batch.specs.Digraph.{empty_graph, graph_through}
 use Rattle.plans.specs.declared.plan.Plan.{Plan}
 use Rattle.version_list.specs.Machine.{opened}
 use Rattle.shared_graph.specs.declared.entry.Entry.{Entry}
-use Rattle.shared_graph.specs.Histories.{batches_of}
-use Rattle.shared_graph.specs.Histories.{ReaderState, fresh_reader}
+use Rattle.shared_graph.specs.Histories.{batches_of, ReaderState, fresh_reader}
 use Rattle.shared_graph.proofs.Counted.{commits_alone}
 use Rattle.shared_graph.proofs.Prefixes.{prefix_self, prefix_trans, prefix_whole}
 use Rattle.shared_graph.proofs.Versions.{batches_prefix}

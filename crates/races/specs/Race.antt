@@ -11,8 +11,7 @@ use Rattle.version_list.specs.declared.step.Reply.TheVariants.{Version}
 use Rattle.version_list.specs.Machine.{State, opened}
 use Rattle.version_list.specs.Timeline.{IsLegal}
 use Rattle.shared_graph.specs.declared.entry.Entry.{Entry}
-use Rattle.shared_graph.specs.Histories.{batches_of, entry, fold_of, own, steps_of}
-use Rattle.shared_graph.specs.Histories.{ReaderState, fresh_reader, HasMade, IsRefused}
+use Rattle.shared_graph.specs.Histories.{batches_of, entry, fold_of, own, steps_of, ReaderState, fresh_reader, HasMade, IsRefused}
 use Rattle.snapshot_runs.specs.Outcome.{IsOutcomeOn}
 use Rattle.races.specs.declared.outcomes.CommitReply.{CommitReply}
 use Rattle.races.specs.declared.outcomes.CommitReply.TheVariants as answer

@@ -2,8 +2,7 @@
 use Rattle.std.specs.Prelude.{◌≡◌, ℕ, ◌<◌, suc, List, [], ◌∷◌, ◌++◌, Result, Ok, Err, codes, decimal}
 use Rattle.std.specs.List.{flat_map}
 use Rattle.scripts.specs.Script.{Written}
-use Rattle.replies.specs.ReplyText.{word_line}
-use Rattle.replies.specs.ReplyText.{outcome_text}
+use Rattle.replies.specs.ReplyText.{word_line, outcome_text}
 use Rattle.replies.specs.declared.send_error.SendError.{SendError}
 use Rattle.replies.specs.declared.send_error.SendError.TheVariants.{NoMemory, WriteFailed}
 use Rattle.races.specs.declared.outcomes.CommitReply.{CommitReply}

@@ -13,8 +13,7 @@ use Rattle.clap.specs.declared.error.kind.ErrorKind.{ErrorKind as FaultKind}
 use Rattle.clap.specs.declared.error.kind.ErrorKind.TheVariants.{OutOfMemory}
 use Rattle.clap.specs.declared.parser.matches.ArgMatches.{ArgMatches}
 use Rattle.clap.specs.declared.parser.matches.ArgMatches.TheViews.{out-ArgMatches, out-SubCommand}
-use Rattle.requests.specs.Asked.{Answers, HasFewWorkers, IsFaultAmong, command_of, found_request, race_of, request_of, script_with, files_of}
-use Rattle.requests.specs.Asked.{command_line}
+use Rattle.requests.specs.Asked.{Answers, HasFewWorkers, IsFaultAmong, command_of, found_request, race_of, request_of, script_with, files_of, command_line}
 use Rattle.requests.specs.Refusal.{of_fault}
 use Rattle.requests.specs.declared.asked.Request.{Request}
 use Rattle.requests.specs.declared.asked.RequestError.{RequestError}

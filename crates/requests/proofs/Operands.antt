@@ -13,8 +13,7 @@ use Rattle.clap.specs.Simple.{names_of}
 use Rattle.clap.specs.Walk.{Names, Walk, idle, rows_after, walk, walked}
 use Rattle.clap.specs.Faults.{defaults_fault, level_fault, walk_fault}
 use Rattle.clap.specs.declared.error.kind.ErrorKind.TheVariants.{UnknownArgument, InvalidSubcommand, DisplayHelp}
-use Rattle.requests.specs.Asked.{command_line}
-use Rattle.requests.specs.Asked.{file_of, request_of, script_with}
+use Rattle.requests.specs.Asked.{command_line, file_of, request_of, script_with}
 use Rattle.requests.specs.Forms.{HasOperands, IsCommand, no_words, check_word, check_after_dashes, plan_word, plan_after_dashes, script_words, script_after_dashes, operands}
 use Rattle.requests.proofs.FileWords.{NamesOne, file_quiet, file_quiet_after, file_read, taker}
 use Rattle.requests.proofs.Flags.{HasOnlyAnswers, dashes, first_is_quiet, held, is_value, none_or_answer, second_is_quiet, step_is_fault}

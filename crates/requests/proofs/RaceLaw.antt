@@ -9,8 +9,7 @@ use Rattle.clap.specs.ValueTests.{accepts}
 use Rattle.clap.specs.Words.{Row, Rule, Text, fault_of}
 use Rattle.clap.specs.Faults.{check_fault, default_fault, defaults_fault, given_default_fault, level_fault, walk_fault}
 use Rattle.clap.specs.Walk.{Walk, default_rows, has_row, nothing_held, reading_by, rows_after, walked, with_default}
-use Rattle.requests.specs.Asked.{Asks, a_race, race_of, request_of}
-use Rattle.requests.specs.Asked.{command_line}
+use Rattle.requests.specs.Asked.{Asks, a_race, race_of, request_of, command_line}
 use Rattle.requests.specs.Forms.{HasNoHyphen, IsTaken, NumberOption, RacePart, a_file, apart, files_in, joined, number_given, numbers_in, numbers_of, option_word, the_turns, the_workers, words_of}
 use Rattle.requests.proofs.RaceParts.{AreRows, Follows, Pending, a_number, a_script, all_used, nothing, pending_files, pending_numbers, position_after, settled_at, some_programs, turns_used, use_quiet, walk_at, workers_used}
 use Rattle.requests.proofs.RaceWalk.{IsQuiet, Turn, first_after_turns, first_after_workers, first_file, next_after_script, next_after_turns, next_after_workers, next_file, number_has_no_hyphen, number_met, one_more_program, turns_joined, turns_named, waits_at, workers_joined, workers_named}

@@ -12,8 +12,7 @@ use Rattle.clap.specs.declared.builder.value_parser.Reading.TheVariants.{AsWritt
 use Rattle.clap.specs.declared.parser.matches.ValueSource.TheVariants.{CommandLine}
 use Rattle.clap.specs.declared.builder.value_parser.ValueParser.TheVariants.{Unsigned}
 use Rattle.clap.specs.declared.error.kind.ErrorKind.TheVariants.{ValueValidation}
-use Rattle.requests.specs.Asked.{Asks, a_race}
-use Rattle.requests.specs.Asked.{command_line, race_command}
+use Rattle.requests.specs.Asked.{Asks, a_race, command_line, race_command}
 use Rattle.requests.specs.Forms.{HasNoHyphen}
 use Rattle.requests.proofs.Flags.{no_dashes}
 use Rattle.requests.proofs.Operands.{at_start, gathers, names, top}

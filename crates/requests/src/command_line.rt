@@ -3,10 +3,7 @@
 ghost use Rattle.std.specs.Prelude.{◌≡◌, IfOk, codes, false};
 ghost use Rattle.clap.specs.Words.{App, app_of, rule_of, with_rule, with_subcommand};
 ghost use Rattle.clap.specs.declared.builder.command.Command.TheViews.{out-Command as fields_of};
-ghost use Rattle.requests.specs.Asked.{command_line, file_command, one_file as file_rule};
-ghost use Rattle.requests.specs.Asked.{program as program_alone, script_command, script_files};
-ghost use Rattle.requests.specs.Asked.{file_commands as commands_of_files, race_command, race_script as script_rule};
-ghost use Rattle.requests.specs.Asked.{race_programs as programs_rule, workers_option, turns_option};
+ghost use Rattle.requests.specs.Asked.{command_line, file_command, one_file as file_rule, program as program_alone, script_command, script_files, file_commands as commands_of_files, race_command, race_script as script_rule, race_programs as programs_rule, workers_option, turns_option};
 
 use apply_options::MAX_WORKERS;
 use clap::{Arg, ArgAction, Command, value_parser};

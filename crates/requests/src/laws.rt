@@ -8,10 +8,8 @@ ghost use Rattle.clap.specs.ValueTests.{accepts};
 ghost use Rattle.clap.specs.Words.{Text, fault_of};
 ghost use Rattle.clap.specs.declared.builder.value_parser.ValueParser.TheVariants.{Unsigned};
 ghost use Rattle.clap.specs.declared.error.kind.ErrorKind.TheVariants.{ValueValidation};
-ghost use Rattle.requests.specs.Asked.{Asks, a_race, request_of};
-ghost use Rattle.requests.specs.Asked.{command_line};
-ghost use Rattle.requests.specs.Forms.{HasNoHyphen, HasOperands, IsCommand, IsTaken, RacePart};
-ghost use Rattle.requests.specs.Forms.{files_in, number_given, numbers_in, the_turns, the_workers, words_of};
+ghost use Rattle.requests.specs.Asked.{Asks, a_race, request_of, command_line};
+ghost use Rattle.requests.specs.Forms.{HasNoHyphen, HasOperands, IsCommand, IsTaken, RacePart, files_in, number_given, numbers_in, the_turns, the_workers, words_of};
 
 /// The law that words without a fault which ask for no race ask for what their operands are: no words for the input, and else a
 /// command and its files. The call does nothing.

@@ -2,8 +2,7 @@
 
 ghost use Rattle.std.specs.Prelude.{◌≡◌, IfOk, codes, map};
 ghost use Rattle.clap.specs.Words.{found_of, rows_of, subcommand_rows_of};
-ghost use Rattle.requests.specs.Asked.{Answers, HasFewWorkers, asked_by, command_of, file_of, files_of, found_request};
-ghost use Rattle.requests.specs.Asked.{number_of, race_of, script_with};
+ghost use Rattle.requests.specs.Asked.{Answers, HasFewWorkers, asked_by, command_of, file_of, files_of, found_request, number_of, race_of, script_with};
 ghost use Rattle.requests.specs.inside.Numbers.{within};
 
 use crate::asked::{Request, RequestError};

@@ -1,9 +1,8 @@
 //! The vertex sets of a run, with their names and their sizes.
 ghost use Rattle.std.specs.Prelude.{◌≡◌, ◌<◌, ◌≤◌, ◌+◌, ℕ, length, map, slice_get, take, vec_capacity, vec_len, IfOk, IfSome, OnErr, OnOk};
 ghost use Rattle.std.specs.Option.{option_copied};
-ghost use Rattle.algorithm_meaning.specs.Meaning.{named_set};
+ghost use Rattle.algorithm_meaning.specs.Meaning.{named_set, all_vertices};
 ghost use Rattle.algorithm_meaning.specs.State.{GraphValue};
-ghost use Rattle.algorithm_meaning.specs.Meaning.{all_vertices};
 ghost use Rattle.algorithm_meaning.specs.Value.{members_of};
 ghost use Rattle.algorithm_meaning.specs.VertexSets.{inserted, with_members, with_new_set};
 ghost use Rattle.run_state.specs.View.{members_in};

@@ -17,9 +17,8 @@ use Rattle.algorithm_meaning.specs.Value.{entry}
 use Rattle.runner.specs.EdgeMap.{AreChangesTo}
 use Rattle.plans.specs.declared.part.EdgePart.{EdgePart}
 use Rattle.plans.specs.declared.part.PartResult.{PartResult}
-use Rattle.plans.specs.Operation.{result_tree}
+use Rattle.plans.specs.Operation.{result_tree, ApplyEdgesOf}
 use Rattle.plans.specs.declared.instruction.Instruction.{Instruction}
-use Rattle.plans.specs.Operation.{ApplyEdgesOf}
 use Rattle.plans.specs.Fusing.{EdgeApplyTree, edge_apply_of}
 use Rattle.plans.specs.Instruction.{OperationTree}
 use Rattle.plans.specs.Machine.{At, act, go_on, with_result}

@@ -5,8 +5,7 @@ use Rattle.typed_tree.specs.declared.statement.ApplyEnds.{ApplyEnds}
 use Rattle.typed_tree.specs.ProgramTree.{ProgramTree}
 use Rattle.typed_tree.specs.FunctionStatementTree.{FunctionStatementsTree}
 use Rattle.apply_options.specs.declared.reduction.Reduction.{Reduction}
-use Rattle.algorithm_meaning.specs.EdgeApply.{after_edge_apply, after_edges, matching, passes}
-use Rattle.algorithm_meaning.specs.EdgeApply.{IsGivenBy}
+use Rattle.algorithm_meaning.specs.EdgeApply.{after_edge_apply, after_edges, matching, passes, IsGivenBy}
 use Rattle.algorithm_meaning.specs.State.{GraphValue, StateValue}
 use Rattle.algorithm_meaning.specs.Value.{entry}
 use Rattle.flat_snapshot.specs.Digraph.{Digraph, IsDigraph}

@@ -8,15 +8,13 @@ use Rattle.kernels.specs.declared.vertex_kernel.VertexKernel.{VertexKernel}
 use Rattle.kernels.specs.Meaning.{IsVertexCode}
 use Rattle.algorithm_meaning.specs.declared.state.Depth.{Depth}
 use Rattle.plans.specs.Instruction.{OperationTree}
-use Rattle.plans.specs.Plan.{plan_of}
-use Rattle.plans.specs.Plan.{program_of}
+use Rattle.plans.specs.Plan.{plan_of, program_of}
 use Rattle.plans.specs.declared.functions.FunctionKernels.{FunctionKernels}
 use Rattle.plans.specs.declared.instruction.Instruction.{Instruction}
 use Rattle.plans.specs.declared.operation.PlanOperation.{PlanOperation}
 use Rattle.plans.specs.declared.operation.PlanOperation.TheVariants as op
 use Rattle.plans.specs.declared.plan.Plan.{Plan}
-use Rattle.plans.specs.Operation.{kernel_at}
-use Rattle.plans.specs.Operation.{IsFor, IsInstruction, IsOperation}
+use Rattle.plans.specs.Operation.{kernel_at, IsFor, IsInstruction, IsOperation}
 use Rattle.run_state.specs.VertexKernels.{IsVertexKernel}
 use Rattle.runner.specs.inside.Done.{HaveTrees, IsReady}
 use Rattle.runner.proofs.Partners.{partner_at}

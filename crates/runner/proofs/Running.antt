@@ -8,8 +8,7 @@ use Rattle.typed_tree.specs.ProgramTree.{ProgramTree}
 use Rattle.algorithm_meaning.specs.declared.outcome.End.{End as Ending}
 use Rattle.algorithm_meaning.specs.declared.outcome.Outcome.{Outcome}
 use Rattle.algorithm_meaning.specs.State.{GraphValue, StateValue}
-use Rattle.algorithm_meaning.specs.Meaning.{opening}
-use Rattle.algorithm_meaning.specs.Meaning.{meaning}
+use Rattle.algorithm_meaning.specs.Meaning.{opening, meaning}
 use Rattle.apply_options.specs.ScheduleTree.{ScheduleTree}
 use Rattle.plans.specs.Instruction.{InstructionTree}
 use Rattle.plans.specs.Machine.{Configuration, At, Ended, step, steps, first_configuration}

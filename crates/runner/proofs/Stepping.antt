@@ -17,7 +17,7 @@ use Rattle.plans.specs.Fused.{FitTogether}
 use Rattle.plans.specs.Instruction.{ApplyVerticesTogether, Do, InstructionTree, OperationTree}
 use Rattle.algorithm_meaning.specs.Loop.{forget_beyond, next_of}
 use Rattle.plans.specs.Machine.{Configuration, At, act, act_at, after_advance, step}
-use Rattle.plans.specs.Plan.{plan_of}
+use Rattle.plans.specs.Plan.{plan_of, IsPlan, program_of}
 use Rattle.plans.proofs.Reaching.{is_inside}
 use Rattle.plans.proofs.Whole.{steps_lower}
 use Rattle.plans.specs.inside.Outline.{most_steps_of}
@@ -25,7 +25,6 @@ use Rattle.plans.specs.declared.instruction.Instruction.{Instruction}
 use Rattle.plans.specs.declared.operation.PlanOperation.TheVariants as op
 use Rattle.plans.specs.declared.plan.Plan.{Plan}
 use Rattle.plans.specs.Operation.{IsInstruction, IsOperation}
-use Rattle.plans.specs.Plan.{IsPlan, program_of}
 use Rattle.plans.proofs.Bounds.{same_bound}
 use Rattle.runner.specs.declared.flow.Flow.TheVariants.{Next}
 use Rattle.runner.specs.declared.memory.Memory.{Memory}

@@ -4,8 +4,7 @@ ghost use Rattle.typed_tree.specs.BlockTree.{AssignSet, DeclareSet};
 ghost use Rattle.typed_tree.specs.ProgramTree.{ProgramTree};
 ghost use Rattle.algorithm_meaning.specs.State.{GraphValue};
 ghost use Rattle.plans.specs.Instruction.{Do};
-ghost use Rattle.plans.specs.Operation.{AreFunctionKernels};
-ghost use Rattle.plans.specs.Operation.{set_value};
+ghost use Rattle.plans.specs.Operation.{AreFunctionKernels, set_value};
 ghost use Rattle.runner.specs.inside.Done.{HasDone, IsAsBefore};
 ghost use Rattle.runner.specs.inside.Position.{IsOn};
 

@@ -19,10 +19,8 @@ use Rattle.schedule.specs.declared.error.ScheduleRule.{ScheduleRule}
 use Rattle.schedule.specs.declared.error.ScheduleRule.TheVariants as rule
 use Rattle.schedule.specs.BrokenRules.{AppliesNoEdges, BreakNoRule, BreaksConfigRule, BreaksFields, BreaksFieldsRule, BreaksFuseRule, BreaksRule, BreaksRuleOf, HasNoVector, HasValueOf, InGroup, IsFusedTwice, IsLeastBroken, IsNoValue, IsRefused, NamedTwice, NamesOneTwice, NamesVector, NoVector, OnApplies, OnLabel, OnLabels, TooFew, WithTwo}
 use Rattle.schedule.specs.Calls.{after_call, and_then, apply_at, first_given, fuse_at, fuse_or, fusing_fault_of, fusing_of_two, given, grown, grown_by, is_followed_by, schedule_of, two_of, value_at, value_of_two, value_on, with_call, with_call_of, with_calls, with_group}
-use Rattle.schedule.specs.Schedule.{label_index, vector_index}
+use Rattle.schedule.specs.Schedule.{label_index, vector_index, empty_schedule, is_fused, with_apply_schedule, dense_vertex_set_of, direction_of, parallelization_of}
 use Rattle.schedule.specs.Refusal.{number_of_rule}
-use Rattle.schedule.specs.Schedule.{empty_schedule, is_fused, with_apply_schedule}
-use Rattle.schedule.specs.Schedule.{dense_vertex_set_of, direction_of, parallelization_of}
 use Rattle.schedule.proofs.CallSteps.{ok_is}
 
 -- what a call comes to tells which rules it breaks

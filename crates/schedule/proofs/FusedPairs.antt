@@ -1,6 +1,6 @@
 -- Fused statements of an accepted schedule.
 use Rattle.std.proofs.Common.{◌≡◌, refl, ap, subst, sym, ◌∙◌, ℕ, Bool, true, false, not, ◌||◌, nat_eq}
-use Rattle.std.proofs.lemmas.Bool.{eqb-true}
+use Rattle.std.proofs.lemmas.Bool.{eqb-true, and_parts}
 use Rattle.std.specs.Prelude.{Option, Some, None, Ok, if◌then◌else◌}
 use Rattle.typed_tree.specs.ProgramTree.{ProgramTree}
 use Rattle.apply_options.specs.declared.apply_schedule.ApplySchedule.{ApplySchedule}
@@ -15,7 +15,6 @@ use Rattle.typed_tree.specs.Independence.{are_independent, have_same_sets, is_en
 use Rattle.apply_options.specs.ScheduleTree.{ScheduleTree, apply_schedule_of, fused_as}
 use Rattle.schedule.specs.Schedule.{empty_schedule, with_fused}
 use Rattle.schedule.proofs.CallSteps.{Step, GivesValue, Fuses, PutsGroup, kept_by_calls}
-use Rattle.std.proofs.lemmas.Bool.{and_parts}
 use Rattle.schedule.proofs.Uses.{nothing_in_common}
 use Rattle.schedule.proofs.ApplySchedules.{apply_schedule_elsewhere, apply_schedule_here, fused_after_value, given_fused}
 

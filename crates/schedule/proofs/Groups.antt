@@ -8,9 +8,8 @@ use Rattle.std.specs.Prelude.{Option, Some, None, Ok, if◌then◌else◌}
 use Rattle.typed_tree.specs.ProgramTree.{ProgramTree}
 use Rattle.schedule.specs.Calls.{grown, grown_by, schedule_of}
 use Rattle.schedule.specs.Laws.{GroupsAreDistinct}
-use Rattle.schedule.specs.Schedule.{vector_index}
+use Rattle.schedule.specs.Schedule.{vector_index, empty_schedule}
 use Rattle.apply_options.specs.ScheduleTree.{ScheduleTree}
-use Rattle.schedule.specs.Schedule.{empty_schedule}
 use Rattle.schedule.proofs.CallSteps.{Step, GivesValue, Fuses, PutsGroup, kept_by_calls}
 use Rattle.schedule.proofs.Indices.{concat_last}
 

@@ -12,9 +12,8 @@ use Rattle.typed_tree.specs.declared.apply.StatementApply.{StatementApply}
 use Rattle.typed_tree.specs.declared.apply.StatementApply.TheVariants.{Vertices, Edges}
 use Rattle.schedule.specs.Calls.{after_call, and_then, apply_at, first_given, given, schedule_of, two_of, value_at, value_of_two, value_on, with_call, with_call_of, with_calls}
 use Rattle.schedule.specs.Laws.{IsGiven, IsGivenByTwo, IsGivenTo, HasValues}
-use Rattle.schedule.specs.Schedule.{label_index}
+use Rattle.schedule.specs.Schedule.{label_index, empty_schedule, with_apply_schedule, with_fused}
 use Rattle.apply_options.specs.ScheduleTree.{ScheduleTree, apply_schedule_of, fused_as}
-use Rattle.schedule.specs.Schedule.{empty_schedule, with_apply_schedule, with_fused}
 use Rattle.schedule.proofs.CallSteps.{Step, GivesValue, Fuses, PutsGroup, kept_by_calls, ok_is}
 use Rattle.schedule.proofs.ApplySchedules.{apply_schedule_elsewhere, apply_schedule_here}
 

@@ -12,10 +12,8 @@ use Rattle.typed_tree.specs.ProgramTree.{ProgramTree, ScheduleCallTree}
 use Rattle.schedule.specs.declared.error.ScheduleRule.{ScheduleRule}
 use Rattle.schedule.specs.declared.error.ScheduleRule.TheVariants as rule
 use Rattle.schedule.specs.Calls.{apply_at, is_followed_by, two_of, with_call}
-use Rattle.schedule.specs.Schedule.{label_index, vector_index}
+use Rattle.schedule.specs.Schedule.{label_index, vector_index, is_fused, dense_vertex_set_of, direction_of, parallelization_of}
 use Rattle.schedule.specs.Refusal.{number_of_rule}
-use Rattle.schedule.specs.Schedule.{is_fused}
-use Rattle.schedule.specs.Schedule.{dense_vertex_set_of, direction_of, parallelization_of}
 
 -- the text is no value of the kind that a `config` call gives
 abbrev pub IsNoValue : Setting → List ℕ → Type 0

@@ -13,12 +13,9 @@ use Rattle.schedule.specs.declared.error.ScheduleError.TheVariants.{Faulty, NoMe
 use Rattle.typed_tree.specs.declared.apply.StatementApply.{StatementApply}
 use Rattle.typed_tree.specs.declared.apply.StatementApply.TheVariants.{Vertices, Edges}
 use Rattle.schedule.specs.declared.site.Site.{Site}
-use Rattle.schedule.specs.Schedule.{label_index, vector_index}
+use Rattle.schedule.specs.Schedule.{label_index, vector_index, with_apply_schedule, with_fused, with_one_group, is_fused, empty_schedule, site_of, direction_of, parallelization_of, dense_vertex_set_of}
 use Rattle.typed_tree.specs.Independence.{have_same_sets, are_independent}
 use Rattle.apply_options.specs.ScheduleTree.{ScheduleTree, apply_schedule_of}
-use Rattle.schedule.specs.Schedule.{with_apply_schedule, with_fused, with_one_group, is_fused, empty_schedule}
-use Rattle.schedule.specs.Schedule.{site_of}
-use Rattle.schedule.specs.Schedule.{direction_of, parallelization_of, dense_vertex_set_of}
 
 -- a value, which is in its table, where none was given before
 abbrev pub first_given : {V : Type 0} → Option V → Option V → Result (Option V) ScheduleRule

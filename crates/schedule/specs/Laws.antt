@@ -13,11 +13,9 @@ use Rattle.apply_options.specs.declared.apply_schedule.Fused.TheVariants.{With, 
 use Rattle.typed_tree.specs.declared.apply.StatementApply.{StatementApply}
 use Rattle.typed_tree.specs.declared.apply.StatementApply.TheVariants.{Edges}
 use Rattle.schedule.specs.Calls.{apply_at, is_followed_by, two_of}
-use Rattle.schedule.specs.Schedule.{label_index}
-use Rattle.typed_tree.specs.Independence.{end_reads, function_uses, function_writes}
-use Rattle.typed_tree.specs.Independence.{have_same_sets, is_end}
+use Rattle.schedule.specs.Schedule.{label_index, direction_of, parallelization_of, dense_vertex_set_of}
+use Rattle.typed_tree.specs.Independence.{end_reads, function_uses, function_writes, have_same_sets, is_end}
 use Rattle.apply_options.specs.ScheduleTree.{ScheduleTree, apply_schedule_of}
-use Rattle.schedule.specs.Schedule.{direction_of, parallelization_of, dense_vertex_set_of}
 
 -- No vector that the first of two edge applies writes is read or written by the second, or read by a filter of its ends,
 -- and no end of the second is the set that the first one's changes go to. Two vertex applies are done vertex by vertex.

@@ -1,8 +1,7 @@
 //! Rules of `fuse` calls: whether two applies may be done together.
 ghost use Rattle.std.specs.Prelude.{◌≡◌, IfOk};
 ghost use Rattle.typed_tree.specs.ProgramTree.{program_tree};
-ghost use Rattle.typed_tree.specs.Independence.{are_independent as independent, are_same as same_name};
-ghost use Rattle.typed_tree.specs.Independence.{are_same_ends as same_ends, have_same_sets as same_sets, is_end};
+ghost use Rattle.typed_tree.specs.Independence.{are_independent as independent, are_same as same_name, are_same_ends as same_ends, have_same_sets as same_sets, is_end};
 
 use crate::access::{end_does_avoid, function_does_avoid};
 use crate::names::name_at;

@@ -10,10 +10,9 @@ use Rattle.replies.specs.declared.send_error.SendError.{SendError}
 use Rattle.replies.specs.declared.send_error.SendError.TheVariants.{NoMemory, WriteFailed}
 use Rattle.scripts.specs.Pieces.{HasNone}
 use Rattle.scripts.specs.Replies.{OpenState, answer, replies, replies_to_ended, has_faulted}
-use Rattle.scripts.specs.Script.{Input, Written, bytes_written_by, IsBeginning, NoneFails, RepliesInPart, RepliesToEnded, RunsScript}
+use Rattle.scripts.specs.Script.{Input, Written, bytes_written_by, IsBeginning, NoneFails, RepliesInPart, RepliesToEnded, RunsScript, Reading}
 use Rattle.replies.specs.Sending.{Output, Sends, SendsPart, Fails}
 use Rattle.replies.specs.inside.Sending.{output}
-use Rattle.scripts.specs.Script.{Reading}
 use Rattle.scripts.specs.inside.Progress.{at_start, reading_after, replies_within}
 use Rattle.scripts.proofs.PieceLaws.{HasNone-unended}
 use Rattle.scripts.proofs.ReadingLaws.{reading_then, replies_then, replies-last, faults-last}

@@ -5,8 +5,7 @@ use Rattle.algorithm_meaning.specs.ProgramTree.{ProgramTree}
 use Rattle.scripts.specs.declared.error.ScriptError.{ScriptError}
 use Rattle.scripts.specs.declared.error.ScriptError.TheVariants.{NoMemory, ReadFailed, WriteFailed}
 use Rattle.scripts.specs.Replies.{replies, faults}
-use Rattle.scripts.specs.Script.{Input, Written, input, RepliesInPart, RunsScript}
-use Rattle.scripts.specs.Script.{BeginsReplies, RunsText}
+use Rattle.scripts.specs.Script.{Input, Written, input, RepliesInPart, RunsScript, BeginsReplies, RunsText}
 use Rattle.scripts.proofs.ReadingLaws.{empty_when_none}
 
 -- before the text is read, and after n bytes of it

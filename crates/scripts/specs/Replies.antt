@@ -18,8 +18,7 @@ use Rattle.scripts.specs.declared.commands.Command.{Command}
 use Rattle.scripts.specs.declared.commands.Command.TheVariants as command
 use Rattle.scripts.specs.Commands.{command_of}
 use Rattle.scripts.specs.Pieces.{lines_of, ended_lines}
-use Rattle.replies.specs.ReplyText.{is_fault, outcome_text}
-use Rattle.replies.specs.ReplyText.{word_line, ticket_line, edges_text}
+use Rattle.replies.specs.ReplyText.{is_fault, outcome_text, word_line, ticket_line, edges_text}
 
 -- an open graph: its versions, the entries that the next commit takes, and whether some run on it has ended by a fault
 pub record OpenState : Type 0 where

@@ -2,8 +2,7 @@
 ghost use Rattle.std.specs.Prelude.{◌≡◌, ◌∷◌};
 ghost use Rattle.std.specs.Option.{option_map};
 ghost use Rattle.scripts.specs.declared.commands.Command.TheVariants.{Commit, Release};
-ghost use Rattle.scripts.specs.Commands.{command_of, command_of_words, vertices_of, add_of, weight_of, remove_of};
-ghost use Rattle.scripts.specs.Commands.{grow_of, alone, hold_of, edges_of, run_of, ticket_of, one_number};
+ghost use Rattle.scripts.specs.Commands.{command_of, command_of_words, vertices_of, add_of, weight_of, remove_of, grow_of, alone, hold_of, edges_of, run_of, ticket_of, one_number};
 
 use crate::commands::{Command, DEFAULT_CHUNK_SIZE};
 use crate::words::Words;

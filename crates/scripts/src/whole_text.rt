@@ -1,7 +1,6 @@
 //! Whole texts: scripts that are at hand from their first byte to their last.
 ghost use Rattle.std.specs.Prelude.{◌≡◌};
-ghost use Rattle.scripts.specs.Script.{bytes_written_by};
-ghost use Rattle.scripts.specs.Script.{RunsText};
+ghost use Rattle.scripts.specs.Script.{bytes_written_by, RunsText};
 
 use crate::error::ScriptError;
 use crate::programs::Programs;

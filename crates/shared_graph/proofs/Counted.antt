@@ -11,8 +11,7 @@ use Rattle.version_list.specs.declared.step.Reply.TheVariants.{Version, Refused}
 use Rattle.version_list.specs.Machine.{State, lacks_room, newest_graph, newest_number, opened, reply_to, state_after}
 use Rattle.version_list.specs.Timeline.{IsLegal, replay}
 use Rattle.shared_graph.specs.declared.entry.Entry.{Entry}
-use Rattle.shared_graph.specs.Histories.{batches_of, entry, state_at, steps_of}
-use Rattle.shared_graph.specs.Histories.{HasMade, ReaderState}
+use Rattle.shared_graph.specs.Histories.{batches_of, entry, state_at, steps_of, HasMade, ReaderState}
 use Rattle.shared_graph.proofs.Growing.{steps_of-push}
 use Rattle.shared_graph.proofs.Prefixes.{prefix_trans, prefix_whole}
 use Rattle.shared_graph.proofs.Versions.{batches_append, batches_prefix, number_at}

@@ -20,10 +20,9 @@ use Rattle.version_list.specs.Timeline.{Timeline, IsLegal, Accepts, beginning, A
 use Rattle.version_list.specs.Prepared.{Prepares, IsPrepared, IsPreparedAcquire}
 use Rattle.version_list.proofs.Stepping.{next_version, held_versions}
 use Rattle.shared_graph.specs.declared.entry.Entry.{Entry}
-use Rattle.shared_graph.specs.Histories.{steps_of, own, state_at, IsNewest}
+use Rattle.shared_graph.specs.Histories.{steps_of, own, state_at, IsNewest, ReaderState, HasMade}
 use Rattle.shared_graph.specs.inside.Histories.{MayFollow}
 use Rattle.shared_graph.specs.Holding.{Hold, HoldsVersion}
-use Rattle.shared_graph.specs.Histories.{ReaderState, HasMade}
 use Rattle.shared_graph.specs.Outcome.{Refuses}
 use Rattle.shared_graph.specs.inside.Refusal.{from_version}
 use Rattle.shared_graph.specs.inside.Locked.{IsTimelineOf, AreCounts, ShowsRefusal}

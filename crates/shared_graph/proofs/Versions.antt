@@ -6,9 +6,8 @@ use Rattle.tree_batch.specs.declared.batch.Entry.{Entry as Change}
 use Rattle.tree_batch.specs.Digraph.{Digraph, empty_graph, graph_through}
 use Rattle.version_list.specs.declared.step.Done.{Done}
 use Rattle.version_list.specs.declared.step.Which.{Which}
-use Rattle.version_list.specs.Machine.{State, opened, newest_number, version_graph}
+use Rattle.version_list.specs.Machine.{State, opened, newest_number, version_graph, commits_of}
 use Rattle.version_list.specs.Timeline.{IsLegal}
-use Rattle.version_list.specs.Machine.{commits_of}
 use Rattle.version_list.proofs.Stepping.{newest_graph_is}
 use Rattle.version_list.proofs.Commits.{commits_append, replay_commits, replay_opening}
 use Rattle.shared_graph.specs.declared.entry.Entry.{Entry}

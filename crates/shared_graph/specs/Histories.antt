@@ -7,9 +7,8 @@ use Rattle.tree_batch.specs.Digraph.{Digraph, empty_graph, graph_through}
 use Rattle.version_list.specs.declared.step.Step.{Step}
 use Rattle.version_list.specs.declared.step.Reply.{Reply}
 use Rattle.version_list.specs.declared.step.Done.{Done}
-use Rattle.version_list.specs.Machine.{State, newest_number, version_graph, reply_to}
+use Rattle.version_list.specs.Machine.{State, newest_number, version_graph, reply_to, commits_of}
 use Rattle.version_list.specs.Timeline.{replay, IsLegal}
-use Rattle.version_list.specs.Machine.{commits_of}
 use Rattle.version_list.specs.declared.step.Reply.TheVariants.{Refused}
 use Rattle.shared_graph.specs.declared.entry.Entry.{Entry}
 

@@ -10,9 +10,8 @@ ghost use Rattle.version_list.specs.declared.step.Which.TheVariants as which;
 ghost use Rattle.version_list.specs.Machine.{opened, newest_number, version_graph};
 ghost use Rattle.version_list.specs.Timeline.{IsLegal};
 ghost use Rattle.shared_graph.specs.declared.entry.Entry as entry;
-ghost use Rattle.shared_graph.specs.Histories.{steps_of, state_at, batches_of, fold_of, fold_of_first, IsNewest, IsVersionOf};
+ghost use Rattle.shared_graph.specs.Histories.{steps_of, state_at, batches_of, fold_of, fold_of_first, IsNewest, IsVersionOf, HasMade, ReaderState};
 ghost use Rattle.shared_graph.specs.Holding.{Hold, HoldsVersion};
-ghost use Rattle.shared_graph.specs.Histories.{HasMade, ReaderState};
 
 /// The law that a legal history has as many versions beside version 0 as it has commits, and that the
 /// graph of each is the fold of the batches up to it, of the newest that of all of them.

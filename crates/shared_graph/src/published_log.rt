@@ -5,9 +5,8 @@ ghost use Rattle.std.specs.Arc.{arc_value};
 ghost use mathlib.Core.List.{IsPrefix};
 ghost use Rattle.version_list.specs.Machine.{opened, state_after};
 ghost use Rattle.version_list.specs.Timeline.{IsLegal};
-ghost use Rattle.shared_graph.specs.Histories.{own, steps_of, state_at, IsNewest};
+ghost use Rattle.shared_graph.specs.Histories.{own, steps_of, state_at, IsNewest, HasMade, fresh_readers};
 ghost use Rattle.shared_graph.specs.inside.Histories.{MayFollow};
-ghost use Rattle.shared_graph.specs.Histories.{HasMade, fresh_readers};
 ghost use Rattle.shared_graph.specs.inside.Locked.{AreCounts, ShowsRefusal};
 ghost use Rattle.shared_graph.specs.inside.Refusal.{from_version};
 

@@ -6,8 +6,7 @@ ghost use mathlib.Core.List.{IsPrefix};
 ghost use Rattle.left_right.specs.Sides.{view as view_of};
 ghost use Rattle.version_list.specs.Machine.{opened};
 ghost use Rattle.version_list.specs.Timeline.{IsLegal};
-ghost use Rattle.shared_graph.specs.Histories.{steps_of, own, state_at, IsNewest};
-ghost use Rattle.shared_graph.specs.Histories.{fresh_reader, Shows};
+ghost use Rattle.shared_graph.specs.Histories.{steps_of, own, state_at, IsNewest, fresh_reader, Shows};
 ghost use Rattle.shared_graph.specs.inside.Publishing.{Knows};
 
 use crate::error::LatestError;
@@ -47,8 +46,7 @@ impl<J: Naming> Model for Reader<J> {
     ghost use mathlib.Core.List.{IsPrefix};
     ghost use Rattle.left_right.specs.Sides.{view as view_of};
     ghost use Rattle.version_list.specs.Machine.{opened};
-    ghost use Rattle.shared_graph.specs.Histories.{own};
-    ghost use Rattle.shared_graph.specs.Histories.{ReaderState};
+    ghost use Rattle.shared_graph.specs.Histories.{own, ReaderState};
     ghost use Rattle.shared_graph.specs.inside.Publishing.{Knows};
 
     ghost Value = { ReaderState };

@@ -5,10 +5,9 @@ ghost use Rattle.version_list.specs.declared.step.Step.TheVariants.{Commit, Acqu
 ghost use Rattle.version_list.specs.declared.step.Reply.TheVariants as reply;
 ghost use Rattle.version_list.specs.Machine.{opened};
 ghost use Rattle.version_list.specs.Timeline.{beginning};
-ghost use Rattle.shared_graph.specs.Histories.{state_at};
+ghost use Rattle.shared_graph.specs.Histories.{state_at, fresh_readers};
 ghost use Rattle.shared_graph.specs.Holding.{HoldsVersion};
 ghost use Rattle.shared_graph.specs.Outcome.{Answers, AnswersRelease, Opens};
-ghost use Rattle.shared_graph.specs.Histories.{fresh_readers};
 
 use crate::book::Opening;
 use crate::error::SharedError;

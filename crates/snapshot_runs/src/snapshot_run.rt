@@ -2,8 +2,7 @@
 ghost use Rattle.std.specs.Prelude.{◌≡◌, ◌↔◌, Err, IfOk, IfErr, length};
 ghost use Rattle.crew.specs.Outcome.{AreWorkers};
 ghost use Rattle.runner.specs.declared.run_error.RunError.TheVariants as run;
-ghost use Rattle.shared_graph.specs.Histories.{batches_of, fold_of, fold_of_first};
-ghost use Rattle.shared_graph.specs.Histories.{Shows};
+ghost use Rattle.shared_graph.specs.Histories.{batches_of, fold_of, fold_of_first, Shows};
 ghost use Rattle.snapshot_runs.specs.declared.error.LatestRunError.TheVariants.{BadWorkers};
 ghost use Rattle.snapshot_runs.specs.Outcome.{IsOutcomeOn, Leaves};
 ghost use Rattle.version_list.specs.Machine.{opened};

@@ -11,13 +11,12 @@ use Rattle.syntax.specs.declared.operators.Prefix.TheVariants as prefix
 use Rattle.syntax.specs.declared.operators.Relation.{Relation}
 use Rattle.syntax.specs.declared.operators.Relation.TheVariants as relation
 use Rattle.syntax.specs.Terminals.{Terminal, Identifier, Name, Text, Opening, OfKeyword, OfSymbol}
-use Rattle.syntax.specs.SourceTrees.{ExpressionTree, ConjunctionTree, ComparisonTree, SumTree, TermTree, UnaryTree, PrimaryTree, LastConjunction, ConjunctionThen, LastComparison, ComparisonThen, OneSum, TwoSums, LastTerm, TermThen, LastUnary, UnaryThen, Bare, Signed, Literal, Truth, Variable, Entry, Size, Parentheses}
+use Rattle.syntax.specs.SourceTrees.{ExpressionTree, ConjunctionTree, ComparisonTree, SumTree, TermTree, UnaryTree, PrimaryTree, LastConjunction, ConjunctionThen, LastComparison, ComparisonThen, OneSum, TwoSums, LastTerm, TermThen, LastUnary, UnaryThen, Bare, Signed, Literal, Truth, Variable, Entry, Size, Parentheses, EndsTree, InitialTree, NewSet, Load, Vertices, OutDegrees, Filter, ApplyModified, Value, StatementKindTree, Declare, While, For, If, IfElse, Print, Assign, Reduce, SetEntry, ReduceEntry, AddVertex, Apply, BlockTree, Empty, Then, ParameterTree, DeclarationTree, Constant, Function, CallTree, ChainTree, SourceTree}
 use Rattle.syntax.specs.ExpressionSpelling.{addition_terminal, multiplication_terminal, relation_terminal, prefix_terminal, truth_terminal, expression_terminals, conjunction_terminals, comparison_terminals, sum_terminals, term_terminals, unary_terminals, primary_terminals}
 use Rattle.syntax.specs.declared.declaration.DeclaredType.{DeclaredType}
 use Rattle.syntax.specs.declared.declaration.DeclaredType.TheVariants as type
 use Rattle.apply_options.specs.declared.reduction.Reduction.{Reduction}
 use Rattle.apply_options.specs.declared.reduction.Reduction.TheVariants as reduction
-use Rattle.syntax.specs.SourceTrees.{EndsTree, InitialTree, NewSet, Load, Vertices, OutDegrees, Filter, ApplyModified, Value, StatementKindTree, Declare, While, For, If, IfElse, Print, Assign, Reduce, SetEntry, ReduceEntry, AddVertex, Apply, BlockTree, Empty, Then, ParameterTree, DeclarationTree, Constant, Function, CallTree, ChainTree, SourceTree}
 use Rattle.syntax.specs.SourceSpelling.{each_before, type_terminals, reduction_terminal, argument_terminals, end_terminals, ends_before, initial_before, typed_before, assigned_before, label_terminals, action_before, block_before, next_parameter_before, parameters_before, result_before, declaration_before, setting_keyword, next_text_before, call_before, next_call_before, chain_before, schedule_before, source_terminals}
 use Rattle.source_text.specs.Text.{bare}
 use Rattle.source_text.specs.Bare.{bare_name, bare_expression, bare_conjunction, bare_comparison, bare_sum, bare_term, bare_unary, bare_primary, bare_ends, bare_initial, bare_parameter, bare_action, bare_block, bare_declaration, bare_call, bare_chain, bare_source}

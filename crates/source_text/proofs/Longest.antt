@@ -10,9 +10,8 @@ use Rattle.lexer.specs.declared.symbol.Symbol.{Symbol}
 use Rattle.lexer.specs.declared.symbol.Symbol.TheVariants as symbol
 use Rattle.lexer.specs.declared.token.TokenKind.{TokenKind}
 use Rattle.lexer.specs.declared.token.TokenKind.TheVariants as kind
-use Rattle.lexer.specs.Spelling.{is_white, is_word_byte}
+use Rattle.lexer.specs.Spelling.{is_white, is_word_byte, keyword_spelling, symbol_spelling}
 use Rattle.lexer.specs.inside.Runs.{EndsRun}
-use Rattle.lexer.specs.Spelling.{keyword_spelling, symbol_spelling}
 use Rattle.lexer.specs.Tokens.{IsWord, Lexeme, IsLongest}
 use Rattle.lexer.proofs.LongestLaws.{IsNoReduction, IsNoPair, word_longest, number_longest, label_longest, text_longest, reduction_longest, pair_longest, single_longest}
 use Rattle.lexer.proofs.ShapeLaws.{digit-not_white, letter-not_white}

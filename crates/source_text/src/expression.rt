@@ -3,8 +3,7 @@ ghost use Rattle.std.specs.Prelude.{◌++◌, ◌∷◌, OnOk};
 ghost use Rattle.syntax.specs.SourceTrees.{Size};
 ghost use Rattle.syntax.specs.inside.ExpressionViews.{comparison_of, conjunction_of, sum_of, term_of};
 ghost use Rattle.syntax.specs.ExpressionViews.{primary_of, unary_of};
-ghost use Rattle.syntax.specs.ExpressionSpelling.{addition_terminal, comparison_terminals, conjunction_terminals, expression_terminals, multiplication_terminal};
-ghost use Rattle.syntax.specs.ExpressionSpelling.{prefix_terminal, primary_terminals, relation_terminal, sum_terminals, term_terminals, unary_terminals};
+ghost use Rattle.syntax.specs.ExpressionSpelling.{addition_terminal, comparison_terminals, conjunction_terminals, expression_terminals, multiplication_terminal, prefix_terminal, primary_terminals, relation_terminal, sum_terminals, term_terminals, unary_terminals};
 ghost use Rattle.source_text.specs.inside.Written.{Puts, signs_before};
 
 use crate::terminals::{put_keyword, put_name, put_number, put_symbol};

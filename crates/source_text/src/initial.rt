@@ -4,8 +4,7 @@ ghost use Rattle.lexer.specs.declared.keyword.Keyword.TheVariants as keyword_ter
 ghost use Rattle.lexer.specs.declared.symbol.Symbol.TheVariants as symbol;
 ghost use Rattle.syntax.specs.Terminals.{OfSymbol, Name as terminal_name, OfKeyword};
 ghost use Rattle.syntax.specs.SourceTrees.{ApplyModified, Filter, Load, NewSet};
-ghost use Rattle.syntax.specs.SourceSpelling.{argument_terminals, assigned_before, end_terminals, ends_before};
-ghost use Rattle.syntax.specs.SourceSpelling.{ended_before, initial_before, type_terminals, typed_before};
+ghost use Rattle.syntax.specs.SourceSpelling.{argument_terminals, assigned_before, end_terminals, ends_before, ended_before, initial_before, type_terminals, typed_before};
 ghost use Rattle.syntax.specs.SourceReading.{edge_ends};
 ghost use Rattle.syntax.specs.SourceViews.{ends_tree, initial_tree, parameter_tree};
 ghost use Rattle.source_text.specs.inside.Written.{Puts};

@@ -3,13 +3,12 @@ use Rattle.std.proofs.Common.{◌≡◌, refl, sym, ◌∙◌, ap, arith, Bool, 
 use Rattle.lexer.specs.declared.keyword.Keyword.TheVariants as keyword
 use Rattle.lexer.specs.declared.symbol.Symbol.TheVariants as symbol
 use Rattle.syntax.specs.Terminals.{Terminal, Identifier, Name, OfKeyword, OfSymbol}
-use Rattle.syntax.specs.SourceTrees.{ExpressionTree}
+use Rattle.syntax.specs.SourceTrees.{ExpressionTree, ParameterTree, EndsTree, InitialTree, NewSet, Load, Vertices, OutDegrees, Filter, ApplyModified, Value, StatementKindTree, Declare, While, For, If, IfElse, Print, Assign, Reduce, SetEntry, ReduceEntry, AddVertex, Apply, BlockTree, Empty, Then}
 use Rattle.syntax.specs.ExpressionReading.{Reader}
 use Rattle.syntax.specs.Nesting.{◌>>=◌}
 use Rattle.syntax.specs.ExpressionSpelling.{expression_terminals}
 use Rattle.apply_options.specs.declared.reduction.Reduction.{Reduction}
 use Rattle.apply_options.specs.declared.reduction.Reduction.TheVariants as reduction
-use Rattle.syntax.specs.SourceTrees.{ParameterTree, EndsTree, InitialTree, NewSet, Load, Vertices, OutDegrees, Filter, ApplyModified, Value, StatementKindTree, Declare, While, For, If, IfElse, Print, Assign, Reduce, SetEntry, ReduceEntry, AddVertex, Apply, BlockTree, Empty, Then}
 use Rattle.syntax.specs.SourceSpelling.{ends_before, initial_before, assigned_before, ended_before, end_terminals, reduction_terminal, label_terminals, action_before, block_before, each_before, typed_before, argument_terminals, type_terminals}
 use Rattle.syntax.specs.SourceReading.{expression, ends_at, method_at, initial_at, named_initial, modified_at, assigned_at, ended_at, entry_by, applied_at, argument_at, named_action, else_by, action_by, block_at, no_block, next_statement, statement_by, begins_statement, label_at, block_from, where_begins, each_at, closed, after_terminal, after_terminals, name_at}
 use Rattle.syntax.specs.inside.Fits.{Fits, FitsInitial, FitsAction, FitsBlock}

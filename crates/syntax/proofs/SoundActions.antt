@@ -3,11 +3,10 @@ use Rattle.std.proofs.Common.{◌≡◌, refl, ◌∙◌, ap, Bool, true, false,
 use Rattle.lexer.specs.declared.keyword.Keyword.TheVariants as keyword
 use Rattle.lexer.specs.declared.symbol.Symbol.TheVariants as symbol
 use Rattle.syntax.specs.Terminals.{Terminal, Identifier, Name, Number, Label, Opening, OfKeyword, OfSymbol}
-use Rattle.syntax.specs.SourceTrees.{ExpressionTree}
+use Rattle.syntax.specs.SourceTrees.{ExpressionTree, InitialTree, NewSet, Load, Vertices, OutDegrees, Filter, ApplyModified, Value, StatementKindTree, Declare, While, For, If, IfElse, Print, Assign, Reduce, SetEntry, ReduceEntry, AddVertex, Apply, BlockTree, DeclarationTree, Constant, Function, ChainTree, SourceTree}
 use Rattle.syntax.specs.ExpressionReading.{Reader}
 use Rattle.syntax.specs.ExpressionSpelling.{expression_terminals}
 use Rattle.apply_options.specs.declared.reduction.Reduction.TheVariants as reduction
-use Rattle.syntax.specs.SourceTrees.{InitialTree, NewSet, Load, Vertices, OutDegrees, Filter, ApplyModified, Value, StatementKindTree, Declare, While, For, If, IfElse, Print, Assign, Reduce, SetEntry, ReduceEntry, AddVertex, Apply, BlockTree, DeclarationTree, Constant, Function, ChainTree, SourceTree}
 use Rattle.syntax.specs.SourceSpelling.{ends_before, initial_before, assigned_before, ended_before, end_terminals, reduction_terminal, label_terminals, action_before, block_before, each_before, typed_before, argument_terminals, parameters_before, result_before, declaration_before, chain_before, schedule_before, source_terminals}
 use Rattle.syntax.specs.SourceReading.{expression, value_at, name_at, number_at, end_at, end_by, ends_at, method_at, initial_at, named_initial, modified_at, assigned_at, ended_at, reduction_at, entry_by, added_at, applied_at, argument_at, reduced_at, named_action, method_by, else_by, action_by, block_by, block_at, block, no_block, next_statement, statement_by, begins_statement, label_at, block_from, where_begins, each_at, after_terminal, after_terminals, in_braces, in_parentheses, typed_at, parameters_at, result_by, declaration_by, next_declaration, begins_declaration, next_chain, schedule_by, whole, source_at, elements}
 use Rattle.syntax.specs.Nesting.{limit}

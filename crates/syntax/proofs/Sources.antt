@@ -3,13 +3,11 @@ use Rattle.std.proofs.Common.{◌≡◌, refl, ◌∙◌, ap, arith, false, List
 use Rattle.lexer.specs.declared.keyword.Keyword.TheVariants as keyword
 use Rattle.lexer.specs.declared.symbol.Symbol.TheVariants as symbol
 use Rattle.syntax.specs.Terminals.{Terminal, OfKeyword, OfSymbol}
-use Rattle.syntax.specs.SourceTrees.{ExpressionTree}
-use Rattle.syntax.specs.Nesting.{◌>>=◌}
+use Rattle.syntax.specs.SourceTrees.{ExpressionTree, ParameterTree, Declare, BlockTree, Empty, Then, DeclarationTree, Constant, Function, ChainTree, SourceTree}
+use Rattle.syntax.specs.Nesting.{◌>>=◌, limit}
 use Rattle.syntax.specs.ExpressionSpelling.{expression_terminals}
-use Rattle.syntax.specs.SourceTrees.{ParameterTree, Declare, BlockTree, Empty, Then, DeclarationTree, Constant, Function, ChainTree, SourceTree}
 use Rattle.syntax.specs.SourceSpelling.{assigned_before, block_before, result_before, declaration_before, chain_before, schedule_before, source_terminals}
 use Rattle.syntax.specs.SourceReading.{expression, assigned_at, block, result_by, next_declaration, closed, after_terminal, next_chain, schedule_by, whole, source_at}
-use Rattle.syntax.specs.Nesting.{limit}
 use Rattle.syntax.specs.inside.Fits.{Fits, FitsDeclaration, FitDeclarations, FitsSource}
 use Rattle.syntax.proofs.Complete.{typed_complete, parameters_complete, next_chain_complete, parameters_longer, result_longer, chain_longer, Each, IsRead, every, each_complete}
 use Rattle.syntax.proofs.Actions.{goes_on, assigned_complete, block_items, items_complete, typed_longer, initial_longer, block_longer}

@@ -3,14 +3,13 @@ use Rattle.std.proofs.Common.{◌≡◌, refl, sym, ◌∙◌, ap, subst, false,
 use Rattle.lexer.specs.declared.keyword.Keyword.TheVariants as keyword
 use Rattle.lexer.specs.declared.symbol.Symbol.TheVariants as symbol
 use Rattle.syntax.specs.Terminals.{Terminal, OfKeyword, OfSymbol}
-use Rattle.syntax.specs.SourceTrees.{ExpressionTree}
+use Rattle.syntax.specs.SourceTrees.{ExpressionTree, SourceTree}
 use Rattle.syntax.specs.ExpressionSpelling.{expression_terminals}
 use Rattle.syntax.specs.ExpressionEnds.{IsEnd}
 use Rattle.syntax.specs.ExpressionBeginnings.{Begins}
 use Rattle.syntax.proofs.ExpressionsExact.{At}
 use Rattle.syntax.proofs.FirstTerminals.{ends_expression}
 use Rattle.syntax.proofs.ExpressionReadings.{expressions_sound, expressions_complete}
-use Rattle.syntax.specs.SourceTrees.{SourceTree}
 use Rattle.syntax.specs.SourceSpelling.{source_terminals}
 use Rattle.syntax.specs.Nesting.{limit, StaysWithin}
 use Rattle.syntax.specs.inside.Fits.{Fits}

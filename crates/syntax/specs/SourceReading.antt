@@ -6,17 +6,15 @@ use Rattle.lexer.specs.declared.keyword.Keyword.TheVariants as keyword
 use Rattle.lexer.specs.declared.symbol.Symbol.TheVariants as symbol
 use Rattle.lexer.specs.Spelling.{keyword_spelling, symbol_spelling}
 use Rattle.syntax.specs.Terminals.{Terminal, Identifier, Name, Number, Label, Text, Opening, OfKeyword, OfSymbol}
-use Rattle.syntax.specs.SourceTrees.{ExpressionTree}
+use Rattle.syntax.specs.SourceTrees.{ExpressionTree, EndsTree, InitialTree, NewSet, Load, Vertices, OutDegrees, Filter, ApplyModified, Value, StatementKindTree, Declare, While, For, If, IfElse, Print, Assign, Reduce, SetEntry, ReduceEntry, AddVertex, Apply, BlockTree, Empty, Then, ParameterTree, DeclarationTree, Constant, Function, CallTree, ChainTree, SourceTree}
 use Rattle.syntax.specs.ExpressionReading.{Reader, links_by, after_by, expression_at}
-use Rattle.syntax.specs.Nesting.{◌>>=◌}
+use Rattle.syntax.specs.Nesting.{◌>>=◌, limit}
 use Rattle.syntax.specs.declared.declaration.DeclaredType.{DeclaredType}
 use Rattle.syntax.specs.declared.declaration.DeclaredType.TheVariants as type
 use Rattle.apply_options.specs.declared.setting.Setting.{Setting}
 use Rattle.apply_options.specs.declared.setting.Setting.TheVariants as setting
 use Rattle.apply_options.specs.declared.reduction.Reduction.{Reduction}
 use Rattle.apply_options.specs.declared.reduction.Reduction.TheVariants as reduction
-use Rattle.syntax.specs.Nesting.{limit}
-use Rattle.syntax.specs.SourceTrees.{EndsTree, InitialTree, NewSet, Load, Vertices, OutDegrees, Filter, ApplyModified, Value, StatementKindTree, Declare, While, For, If, IfElse, Print, Assign, Reduce, SetEntry, ReduceEntry, AddVertex, Apply, BlockTree, Empty, Then, ParameterTree, DeclarationTree, Constant, Function, CallTree, ChainTree, SourceTree}
 
 -- `{` terminal `}`
 abbrev pub in_braces : Terminal → List Terminal

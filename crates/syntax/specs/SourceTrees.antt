@@ -3,7 +3,6 @@ use Rattle.std.specs.Prelude.{ℕ, ℤ, List, Option, Bool}
 use Rattle.apply_options.specs.declared.setting.Setting.{Setting}
 use Rattle.apply_options.specs.declared.reduction.Reduction.{Reduction}
 use Rattle.syntax.specs.Terminals.{Identifier}
-
 use Rattle.syntax.specs.declared.declaration.DeclaredType.{DeclaredType}
 use Rattle.syntax.specs.declared.operators.Addition.{Addition}
 use Rattle.syntax.specs.declared.operators.Multiplication.{Multiplication}

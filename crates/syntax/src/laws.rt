@@ -1,14 +1,13 @@
 //! Laws of the grammar. The calls do nothing.
 ghost use Rattle.std.specs.Prelude.{◌≡◌, ℕ, List, [], ◌∷◌, ◌++◌, Some};
 ghost use Rattle.syntax.specs.Terminals.{Terminal};
-ghost use Rattle.syntax.specs.SourceTrees.{ExpressionTree};
+ghost use Rattle.syntax.specs.SourceTrees.{ExpressionTree, SourceTree};
 ghost use Rattle.syntax.specs.ExpressionSpelling.{expression_terminals};
 ghost use Rattle.syntax.specs.ExpressionEnds.{EndsExpression, IsEnd};
 ghost use Rattle.syntax.specs.ExpressionBeginnings.{Begins};
 ghost use Rattle.syntax.specs.Nesting.{limit, StaysWithin};
 ghost use Rattle.syntax.specs.SourceReading.{source_at};
 ghost use Rattle.syntax.specs.SourceSpelling.{source_terminals};
-ghost use Rattle.syntax.specs.SourceTrees.{SourceTree};
 ghost use Rattle.syntax.specs.ExpressionReading.{expression_at};
 
 /// The law that no two trees have the same terminals.

@@ -5,8 +5,7 @@ use Rattle.std.proofs.lemmas.Grind.{flat_map-append}
 use Rattle.std.specs.List.{flat_map, list_any}
 use Rattle.weighted_edges.specs.Edge.{Edge}
 use Rattle.tree_batch.specs.declared.batch.Entry.{Entry}
-use Rattle.tree_batch.specs.Edge.{Ends, index, ends_eq, weight_in, edge_at, Rises, IsAscending, IsWithin, numbers_from, ends_from, all_ends}
-use Rattle.tree_batch.specs.Edge.{decision, vertices_after, misfits, weight_after}
+use Rattle.tree_batch.specs.Edge.{Ends, index, ends_eq, weight_in, edge_at, Rises, IsAscending, IsWithin, numbers_from, ends_from, all_ends, decision, vertices_after, misfits, weight_after}
 use Rattle.tree_batch.specs.inside.Entry.{AreEdgesAfter}
 use Rattle.tree_batch.specs.Digraph.{Digraph, IsDigraph, is_vertex_count, graph_after}
 use Rattle.tree_batch.proofs.Rising.{ends_eq-refl, ends_eq-true, rises_from, rises_wider, rises_joined, same_edges}

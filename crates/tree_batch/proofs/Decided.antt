@@ -14,8 +14,7 @@ use Rattle.pages.specs.Updates.{AreOfBlock, EdgesAscend}
 use Rattle.pages.proofs.UpdateRuns.{ascend_in_page}
 use Rattle.vertex_blocks.specs.Changes.{BlockChange}
 use Rattle.tree_batch.specs.declared.batch.Entry.{Entry}
-use Rattle.tree_batch.specs.Edge.{Ends}
-use Rattle.tree_batch.specs.Edge.{entry_decision, decision}
+use Rattle.tree_batch.specs.Edge.{Ends, entry_decision, decision}
 use Rattle.tree_batch.specs.inside.Entry.{IsUpdateOf}
 use Rattle.tree_batch.specs.inside.BlockCuts.{IsCutAt, block_decided, AreCut, BeginsElsewhere, BeginsFrom, AreCutSoFar}
 use Rattle.tree_batch.proofs.Deciding.{option_or-none, option_or-assoc, decision-pushed}

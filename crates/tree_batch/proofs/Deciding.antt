@@ -6,8 +6,7 @@ use Rattle.std.specs.Option.{option_or}
 use Rattle.std.specs.List.{list_any, All, Contains}
 use Rattle.tree_batch.specs.declared.batch.Entry.{Entry}
 use Rattle.tree_batch.specs.declared.batch.Entry.TheVariants.{Add, Remove, Grow}
-use Rattle.tree_batch.specs.Edge.{Ends, IsWithin}
-use Rattle.tree_batch.specs.Edge.{named_by, made_by, has_weight, count_asked, most_asked, vertices_after, entry_misfits, misfits, is_between, entry_decision, decision, NoneNames}
+use Rattle.tree_batch.specs.Edge.{Ends, IsWithin, named_by, made_by, has_weight, count_asked, most_asked, vertices_after, entry_misfits, misfits, is_between, entry_decision, decision, NoneNames}
 use Rattle.tree_batch.specs.inside.Entry.{NamesWithin}
 use Rattle.tree_batch.specs.Digraph.{is_vertex_count}
 use Rattle.tree_batch.proofs.Rising.{ends_eq-refl, ends_eq-true}

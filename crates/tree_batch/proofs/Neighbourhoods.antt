@@ -12,8 +12,7 @@ use Rattle.vertex_blocks.specs.declared.block.VertexBlock.{VertexBlock}
 use Rattle.vertex_blocks.specs.Blocks.{Block, IsBlock, vertices_at, lists_of}
 use Rattle.vertex_blocks.specs.Changes.{BlockChange, IsBlockAfter}
 use Rattle.tree_batch.specs.declared.batch.Entry.{Entry}
-use Rattle.tree_batch.specs.Edge.{Ends, IsAscending}
-use Rattle.tree_batch.specs.Edge.{decision, vertices_after, misfits}
+use Rattle.tree_batch.specs.Edge.{Ends, IsAscending, decision, vertices_after, misfits}
 use Rattle.tree_batch.specs.inside.Entry.{AreEdgesAfter}
 use Rattle.tree_batch.specs.Digraph.{Digraph, IsDigraph, graph_after, is_chunk_size}
 use Rattle.tree_batch.specs.inside.Digraph.{digraph}

@@ -5,18 +5,16 @@ use Rattle.std.specs.Option.{option_or, option_map}
 use Rattle.std.specs.List.{list_any}
 use Rattle.edge_updates.specs.declared.edge_update.EdgeUpdate.{EdgeUpdate}
 use Rattle.edge_updates.specs.EdgeUpdate.{vertex_of, neighbour_of, adds}
-use Rattle.edge_updates.specs.Updates.{names, decided}
+use Rattle.edge_updates.specs.Updates.{names, decided, Ascend}
 use Rattle.edge_updates.specs.Weighted.{weighted}
 use Rattle.tail_codec.specs.Spelling.{is_one}
 use Rattle.std.specs.Map.{keys_of}
-use Rattle.edge_updates.specs.Updates.{Ascend}
 use Rattle.edge_updates.proofs.Weighted.{things_of}
 use Rattle.weighted_updates.specs.declared.weighted_update.WeightedUpdate.{WeightedUpdate}
 use Rattle.weighted_updates.specs.WeightedUpdates.{weight_said, decided_weight, pairs_in, updates_in}
 use Rattle.tree_batch.specs.declared.batch.Entry.{Entry}
 use Rattle.tree_batch.specs.declared.batch.Entry.TheVariants.{Add, Remove, Grow}
-use Rattle.tree_batch.specs.Edge.{Ends}
-use Rattle.tree_batch.specs.Edge.{has_weight}
+use Rattle.tree_batch.specs.Edge.{Ends, has_weight}
 use Rattle.tree_batch.specs.inside.Entry.{IsUpdateOf}
 
 is_one_is : (w : ℤ) → is_one w ≡ true → w ≡ pos 1

@@ -3,8 +3,7 @@ use Rattle.std.specs.Prelude.{◌≡◌, ℕ, ℤ, nat_le, nat_eq, Bool, true, �
 use Rattle.std.specs.List.{flat_map, list_any}
 use Rattle.weighted_edges.specs.Edge.{Edge}
 use Rattle.tree_batch.specs.declared.batch.Entry.{Entry}
-use Rattle.tree_batch.specs.Edge.{Ends, weight_in, edge_at, all_ends, IsWithin, IsAscending}
-use Rattle.tree_batch.specs.Edge.{vertices_after, weight_after}
+use Rattle.tree_batch.specs.Edge.{Ends, weight_in, edge_at, all_ends, IsWithin, IsAscending, vertices_after, weight_after}
 
 -- a directed graph: how many vertices it has, and its edges in ascending order
 pub record Digraph : Type 0 where

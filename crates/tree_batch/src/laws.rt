@@ -6,8 +6,7 @@ ghost use Rattle.tree_batch.specs.declared.batch.Entry.{Entry};
 ghost use Rattle.tree_batch.specs.declared.batch.Entry.TheVariants.{Grow};
 ghost use Rattle.ascending_lists.specs.Maps.{lookup};
 ghost use Rattle.weighted_edges.specs.Edge.{Edge};
-ghost use Rattle.tree_batch.specs.Edge.{Ends, weight_in, IsWithin, IsAscending};
-ghost use Rattle.tree_batch.specs.Edge.{made_by, misfits, named_by, vertices_after, NoneNames};
+ghost use Rattle.tree_batch.specs.Edge.{Ends, weight_in, IsWithin, IsAscending, made_by, misfits, named_by, vertices_after, NoneNames};
 ghost use Rattle.tree_batch.specs.Digraph.{Digraph, graph_after, IsDigraph};
 ghost use Rattle.tree_batch.specs.Neighbours.{destinations_of, sources_of};
 

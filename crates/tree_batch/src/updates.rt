@@ -7,9 +7,8 @@ ghost use Rattle.std.specs.Map.{keys_of};
 ghost use Rattle.edge_updates.specs.Updates.{Ascend};
 ghost use Rattle.edge_updates.specs.Weighted.{weighted};
 ghost use Rattle.weighted_updates.specs.WeightedUpdates.{decided_weight, pairs_in, updates_in};
-ghost use Rattle.tree_batch.specs.Edge.{Ends};
+ghost use Rattle.tree_batch.specs.Edge.{Ends, decision, has_weight};
 ghost use Rattle.tree_batch.specs.inside.Entry.{IsUpdateOf, NamesWithin};
-ghost use Rattle.tree_batch.specs.Edge.{decision, has_weight};
 ghost use Rattle.tree_batch.specs.inside.Sorted.{sorted_pairs};
 
 use crate::batch::{Batch, Entry};

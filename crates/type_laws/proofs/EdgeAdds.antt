@@ -19,10 +19,9 @@ use Rattle.expression_types.specs.declared.scope.Inside.TheVariants as inside
 use Rattle.expression_types.specs.Expression.{index_value, value_of, vector_index}
 use Rattle.expression_types.specs.ScopeTree.{found}
 use Rattle.expression_types.specs.ValueTree.{ValueTree, Integer, Condition, Vertex, Set, ErrorValue}
-use Rattle.types.specs.Checker.{CheckerTree, labelled, new_label}
+use Rattle.types.specs.Checker.{CheckerTree, labelled, new_label, condition_in, integer_in}
 use Rattle.types.specs.Initial.{InitializerTree, initializer_of}
 use Rattle.types.specs.Step.{at_own, declare_step_as, may_reduce, one_reduction, own_vertex, reduce_entry_step, reduced_as, reduction_step, same_endpoint, same_reduction, step_after, step_typed, steps_after, steps_typed, written_at, written_with}
-use Rattle.types.specs.Checker.{condition_in, integer_in}
 use Rattle.type_laws.proofs.ClearValues.{IsClear}
 use Rattle.type_laws.proofs.EntryAccess.{Body}
 use Rattle.type_laws.proofs.EntryReads.{expression_reads, index_clear}

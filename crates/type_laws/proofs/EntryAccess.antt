@@ -2,9 +2,8 @@
 use Rattle.std.proofs.Common.{◌≡◌, refl, sym, subst, ap, arith, ℕ, suc, Bool, true, false, ◌&&◌, if◌then◌else◌, List, [], ◌∷◌, ◌++◌, Option, Some, None, inl, inr}
 use Rattle.std.specs.List.{AllByRecursion, Contains}
 use Rattle.syntax.specs.Terminals.{Identifier}
-use Rattle.syntax.specs.SourceTrees.{ExpressionTree}
+use Rattle.syntax.specs.SourceTrees.{ExpressionTree, InitialTree, ParameterTree, DeclarationTree, SourceTree}
 use Rattle.syntax.specs.SourceTrees as source
-use Rattle.syntax.specs.SourceTrees.{InitialTree, ParameterTree, DeclarationTree, SourceTree}
 use Rattle.typed_tree.specs.declared.expression.Endpoint.{Endpoint}
 use Rattle.typed_tree.specs.declared.expression.Endpoint.TheVariants as endpoint
 use Rattle.typed_tree.specs.IntExpressionTree.{Entry, IntExpressionTree}
@@ -20,14 +19,13 @@ use Rattle.expression_types.specs.Operators.{entry_value, function_entry, main_e
 use Rattle.expression_types.specs.ScopeTree.{ScopeTree}
 use Rattle.expression_types.specs.ValueTree.{ValueTree, Integer, Condition, Vertex, Set, ErrorValue, condition_reads_entry, reads_entry}
 use Rattle.types.specs.Block.{action_typed, behind, closed, statements_typed}
-use Rattle.types.specs.Checker.{CheckerTree, counted, declared_in, integer_slot, labelled, restarted}
+use Rattle.types.specs.Checker.{CheckerTree, counted, declared_in, integer_slot, labelled, restarted, as_index, condition_in, integer_in, no_index}
 use Rattle.types.specs.Declaration.{DeclaredTree, FunctionKindTree, MainKind, EdgeKind, VertexKind, FilterKind, NoKind, declaration_typed, declarations_typed, inside_of, is_bool, is_vertex, kind_fits, kind_of, main_declared, opened, steps_declared, takes_nothing, is_int, takes_weight}
 use Rattle.type_laws.specs.EntryAccess.{AccessesEntriesWell, AccessesOwnVertices, ActionAccesses, BlockAccesses, ExpressionReadsAt, HasNoEntry, InitialReadsAt, IsNameAmong}
 use Rattle.types.specs.Initial.{initializer_of}
 use Rattle.types.specs.Program.{opening, program_of, set_count}
 use Rattle.types.specs.Statement.{add_vertex, assign, print, reduce, reduce_entry, set_entry}
 use Rattle.types.specs.Step.{assign_step, at_own, may_reduce, may_set, own_vertex, reduce_step, same_endpoint, set_entry_step, step_after, step_typed, steps_after, steps_typed, written_at}
-use Rattle.types.specs.Checker.{as_index, condition_in, integer_in, no_index}
 use Rattle.type_laws.proofs.Booleans.{both_true}
 use Rattle.type_laws.proofs.ClearValues.{IsClear, condition_index_is_error}
 use Rattle.type_laws.proofs.EachDeclaration.{each_declaration, main_is_declared, user_declared}

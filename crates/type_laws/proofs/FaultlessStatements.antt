@@ -8,9 +8,8 @@ use Rattle.std.specs.Str.{bytes_eq}
 use Rattle.std.proofs.lemmas.List.Folds.{list_any_at}
 use Rattle.std.proofs.lemmas.Slice.Eq.{bytes_eq-Decides}
 use Rattle.syntax.specs.Terminals.{Identifier}
-use Rattle.syntax.specs.SourceTrees.{ExpressionTree}
+use Rattle.syntax.specs.SourceTrees.{ExpressionTree, EndsTree, InitialTree}
 use Rattle.syntax.specs.SourceTrees as source
-use Rattle.syntax.specs.SourceTrees.{EndsTree, InitialTree}
 use Rattle.syntax.specs.declared.declaration.DeclaredType.{DeclaredType}
 use Rattle.syntax.specs.declared.declaration.DeclaredType.TheVariants as declared
 use Rattle.apply_options.specs.declared.reduction.Reduction.{Reduction}
@@ -24,19 +23,17 @@ use Rattle.expression_types.specs.declared.scope.Entity.TheVariants as entity
 use Rattle.expression_types.specs.declared.scope.Inside.{Inside}
 use Rattle.expression_types.specs.declared.scope.Inside.TheVariants as inside
 use Rattle.expression_types.specs.Expression.{used, value_of, vector_index}
-use Rattle.expression_types.specs.ScopeTree.{found}
+use Rattle.expression_types.specs.ScopeTree.{found, ScopeTree, declared_over}
 use Rattle.expression_types.specs.Operators.{first_condition, first_integer}
-use Rattle.expression_types.specs.ScopeTree.{ScopeTree, declared_over}
 use Rattle.expression_types.specs.ValueTree as value
 use Rattle.expression_types.specs.ValueTree.{ValueTree, condition_reads_entry, named_set, reads_entry}
 use Rattle.expression_types.specs.Faults.{WithFaults, fault_at, sure}
 use Rattle.types.specs.Block.{action_typed, behind, closed, statements_typed}
-use Rattle.types.specs.Checker.{CheckerTree, condition_slot, counted, declared_in, integer_slot, labelled, new_label, set_slot}
+use Rattle.types.specs.Checker.{CheckerTree, condition_slot, counted, declared_in, integer_slot, labelled, new_label, set_slot, as_condition, as_index, as_integer, as_members, condition_in, integer_in, no_index}
 use Rattle.types.specs.Initial as initial_value
 use Rattle.types.specs.Initial.{Absent, ApplyEndTree, Degrees, ErrorEnd, ErrorInitializer, InitializerTree, Loaded, Wrong, edge_function, end_of, ends_given, filter_function, filter_named, filtered, filtered_by, initializer_condition, initializer_integer, initializer_members, initializer_of, is_edges, is_error_end, is_wrong, lacks_weights, loaded, modified, modified_by, names_error, new_set, of_edges, reads_weight, vector_of, writes_vector}
 use Rattle.types.specs.Statement.{add_vertex, added, apply, applied, assign, assigned, declare_variable, edges_applied, has_ends, print, printed, reduce, reduce_entry, reduced, set_applied, set_entry, vertices_applied}
 use Rattle.types.specs.Statement as statement
-use Rattle.types.specs.Checker.{as_condition, as_index, as_integer, as_members, condition_in, integer_in, no_index}
 use Rattle.type_laws.specs.EntryAccess.{HasNoEntry}
 use Rattle.type_laws.specs.ExpressionTypes.{ExpressionHas, ExpressionType, IsNumber, IsTruth, NameHas, Number, Set, Truth, Vertex, type_named}
 use Rattle.type_laws.specs.KeptRules.{ActionKeeps, AppliesEdges, AppliesVertices, ApplyFits, AssignFits, AssignsNumber, AssignsSet, AssignsTruth, BlockKeeps, EndFits, EndsFit, GivesMembers, GivesNumber, GivesTruth, Modifies, SeesWeights, VariableFits}

@@ -2,9 +2,8 @@
 use Rattle.std.proofs.Common.{◌≡◌, refl, sym, subst, ℕ, Bool, true, false, if◌then◌else◌, nat_eq, List, [], ◌++◌, Option, Some, None}
 use Rattle.std.specs.Map.{lookup}
 use Rattle.syntax.specs.Terminals.{Identifier}
-use Rattle.syntax.specs.SourceTrees.{ExpressionTree}
+use Rattle.syntax.specs.SourceTrees.{ExpressionTree, InitialTree}
 use Rattle.syntax.specs.SourceTrees as source
-use Rattle.syntax.specs.SourceTrees.{InitialTree}
 use Rattle.syntax.specs.declared.declaration.DeclaredType.{DeclaredType}
 use Rattle.syntax.specs.declared.declaration.DeclaredType.TheVariants as declared
 use Rattle.apply_options.specs.declared.reduction.Reduction.{Reduction}
@@ -21,10 +20,9 @@ use Rattle.expression_types.specs.ScopeTree.{found}
 use Rattle.expression_types.specs.ValueTree as value
 use Rattle.expression_types.specs.ValueTree.{ValueTree}
 use Rattle.expression_types.specs.Faults.{WithFaults, sure}
-use Rattle.types.specs.Checker.{CheckerTree, condition_slot, declared_in, integer_slot, labelled}
+use Rattle.types.specs.Checker.{CheckerTree, condition_slot, declared_in, integer_slot, labelled, as_integer, condition_in, integer_in}
 use Rattle.types.specs.Initial.{initializer_condition, initializer_integer, initializer_of}
 use Rattle.types.specs.Step.{assign_step, assigned_step, at_own, declare_step, may_reduce, may_set, own_vertex, reduce_entry_step, reduce_step, reduced_as, reduced_step, same_endpoint, same_reduction, set_entry_step, step_after, step_typed, steps_after, steps_typed, written_at, written_with}
-use Rattle.types.specs.Checker.{as_integer, condition_in, integer_in}
 use Rattle.type_laws.specs.ExpressionTypes.{ExpressionHas, ExpressionType, IsNumber, Number, Set, Truth, Vertex}
 use Rattle.type_laws.specs.KeptRules.{ActionKeeps, AgreesWith, AssignFits, AssignsNumber, AssignsTruth, BlockKeeps, MayReduce, MaySet, ReducesEntry, VariableFits, WrittenAt}
 use Rattle.type_laws.specs.Meanings as meaning

@@ -18,9 +18,8 @@ use Rattle.expression_types.specs.declared.scope.Entity.TheVariants as entity
 use Rattle.expression_types.specs.declared.scope.Inside.{Inside}
 use Rattle.expression_types.specs.declared.scope.Inside.TheVariants as inside
 use Rattle.expression_types.specs.Expression.{as_size, as_vector, comparison_value, conjunction_value, conjuncts, disjuncts, entry_of, factors, index_lacks_value, index_value, no_vertex, primary_value, size_of, sum_value, summands, term_value, unary_value, used, used_as, value_of, vector_at}
-use Rattle.expression_types.specs.ScopeTree.{found}
+use Rattle.expression_types.specs.ScopeTree.{found, ScopeTree}
 use Rattle.expression_types.specs.Operators.{ConditionsTree, Conditions, MixedConditions, ErrorConditions, IntegersTree, Integers, MixedIntegers, ErrorIntegers, added, beside_condition, beside_integer, condition_index, entry_value, first_condition, first_integer, function_entry, given, grouped_conditions, grouped_integers, main_entry, multiplied, related_value, signed_value}
-use Rattle.expression_types.specs.ScopeTree.{ScopeTree}
 use Rattle.expression_types.specs.ValueTree.{ValueTree, Integer, Condition, Vertex, Set, ErrorValue, condition_reads_entry, is_error, named_set, named_value, named_vector, reads_entry}
 use Rattle.expression_types.specs.Faults.{WithFaults, fault_at, sure, ◌>>=◌}
 use Rattle.types.specs.Initial.{names_error}

@@ -4,9 +4,8 @@ use Rattle.std.specs.Prelude.{IsSome, is_some}
 use Rattle.syntax.specs.Terminals.{Identifier}
 use Rattle.syntax.specs.declared.operators.Prefix.TheVariants as prefix
 use Rattle.syntax.specs.SourceTrees as tree
-use Rattle.syntax.specs.SourceTrees.{ExpressionTree, PrimaryTree, UnaryTree}
+use Rattle.syntax.specs.SourceTrees.{ExpressionTree, PrimaryTree, UnaryTree, DeclarationTree, InitialTree, ParameterTree, SourceTree}
 use Rattle.syntax.specs.SourceTrees as source
-use Rattle.syntax.specs.SourceTrees.{DeclarationTree, InitialTree, ParameterTree, SourceTree}
 use Rattle.syntax.specs.declared.declaration.DeclaredType.{DeclaredType}
 use Rattle.syntax.specs.declared.declaration.DeclaredType.TheVariants as declared
 use Rattle.typed_tree.specs.declared.statement.SetValue.TheVariants as set

@@ -12,12 +12,10 @@ use Rattle.expression_types.specs.declared.scope.Entity.{Entity}
 use Rattle.expression_types.specs.declared.scope.Entity.TheVariants as entity
 use Rattle.expression_types.specs.declared.scope.Inside.{Inside}
 use Rattle.expression_types.specs.Expression.{used, used_as, value_of, vector_index}
-use Rattle.expression_types.specs.ScopeTree.{found}
-use Rattle.expression_types.specs.ScopeTree.{declared_over}
+use Rattle.expression_types.specs.ScopeTree.{found, declared_over}
 use Rattle.expression_types.specs.ValueTree as value
 use Rattle.expression_types.specs.ValueTree.{ValueTree, named_set}
-use Rattle.types.specs.Checker.{CheckerTree, counted, declared_in, labelled, new_label, with_scope}
-use Rattle.types.specs.Checker.{as_condition, as_integer, condition_in, integer_in}
+use Rattle.types.specs.Checker.{CheckerTree, counted, declared_in, labelled, new_label, with_scope, as_condition, as_integer, condition_in, integer_in}
 use Rattle.type_laws.specs.ExpressionTypes.{ExpressionHas, ExpressionType, IsNumber, IsTruth, NameHas, Set, Truth, type_named}
 use Rattle.type_laws.specs.Meanings as meaning
 use Rattle.type_laws.specs.ScopeMeanings.{meaning_of, meanings_of}

@@ -3,9 +3,8 @@ use Rattle.std.proofs.Common.{◌≡◌, ◌⊎◌, inl, inr, refl, sym, subst, 
 use Rattle.std.specs.Prelude.{is_some, slice_index_or}
 use Rattle.std.specs.Map.{lookup}
 use Rattle.syntax.specs.Terminals.{Identifier}
-use Rattle.syntax.specs.SourceTrees.{ExpressionTree}
+use Rattle.syntax.specs.SourceTrees.{ExpressionTree, InitialTree, EndsTree}
 use Rattle.syntax.specs.SourceTrees as source
-use Rattle.syntax.specs.SourceTrees.{InitialTree, EndsTree}
 use Rattle.syntax.specs.declared.declaration.DeclaredType.{DeclaredType}
 use Rattle.syntax.specs.declared.declaration.DeclaredType.TheVariants as declared
 use Rattle.apply_options.specs.declared.reduction.Reduction.{Reduction}
@@ -23,11 +22,10 @@ use Rattle.expression_types.specs.ValueTree as value
 use Rattle.expression_types.specs.ValueTree.{ValueTree, named_set, reads_entry}
 use Rattle.expression_types.specs.Faults.{WithFaults, fault_at, sure}
 use Rattle.types.specs.Block.{action_typed, behind, closed, in_place, statements_typed}
-use Rattle.types.specs.Checker.{CheckerTree, condition_slot, counted, declared_in, integer_slot, labelled, set_slot}
+use Rattle.types.specs.Checker.{CheckerTree, condition_slot, counted, declared_in, integer_slot, labelled, set_slot, as_index, as_integer, as_members, condition_in, integer_in, unread}
 use Rattle.types.specs.Initial as initial_value
 use Rattle.types.specs.Initial.{ApplyEndTree, Absent, Wrong, ErrorEnd, InitializerTree, edge_function, end_of, ends_given, filter_named, filtered, initializer_condition, initializer_integer, initializer_members, initializer_of, is_edges, is_error_end, is_wrong, modified, modified_by, names_error, new_set, of_edges, vector_of, writes_vector}
 use Rattle.types.specs.Statement.{add_vertex, added, apply, applied, edges_applied, no_action, assign, assigned, declare_variable, has_ends, print, printed, reduce, reduce_entry, reduced, set_entry}
-use Rattle.types.specs.Checker.{as_index, as_integer, as_members, condition_in, integer_in, unread}
 use Rattle.type_laws.specs.EntryAccess.{HasNoEntry}
 use Rattle.type_laws.specs.ExpressionTypes.{IsNumber, IsTruth, Set, Truth, type_named}
 use Rattle.type_laws.specs.KeptRules.{ActionKeeps, AppliesEdges, AppliesVertices, ApplyFits, AssignFits, AssignsNumber, AssignsSet, AssignsTruth, BlockKeeps, EndFits, EndsFit, GivesMembers, GivesNumber, GivesTruth, Modifies, SeesWeights, VariableFits}

@@ -12,8 +12,7 @@ use Rattle.expression_types.specs.declared.scope.Entity.{Entity}
 use Rattle.expression_types.specs.declared.scope.Entity.TheVariants as entity
 use Rattle.expression_types.specs.declared.scope.Inside.{Inside}
 use Rattle.expression_types.specs.Expression.{used, used_as}
-use Rattle.expression_types.specs.ScopeTree.{found}
-use Rattle.expression_types.specs.ScopeTree.{ScopeTree, declared_over}
+use Rattle.expression_types.specs.ScopeTree.{found, ScopeTree, declared_over}
 use Rattle.types.specs.Block.{action_typed}
 use Rattle.types.specs.Checker.{CheckerTree, condition_slot, declared_in, integer_slot, labelled, new_label, set_slot}
 use Rattle.types.specs.Initial.{InitializerTree, initializer_condition, initializer_of, initializer_integer, initializer_members}

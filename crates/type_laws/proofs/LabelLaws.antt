@@ -17,17 +17,15 @@ use Rattle.typed_tree.specs.declared.expression.Endpoint.TheVariants as endpoint
 use Rattle.typed_tree.specs.BlockTree.{BlockTree, Empty}
 use Rattle.typed_tree.specs.FunctionStatementTree.{FunctionStatementsTree, NoStep}
 use Rattle.expression_types.specs.declared.scope.Entity.TheVariants as entity
-use Rattle.expression_types.specs.ScopeTree.{found}
-use Rattle.expression_types.specs.ScopeTree.{entered}
+use Rattle.expression_types.specs.ScopeTree.{found, entered}
 use Rattle.types.specs.Block.{action_typed, behind, closed, statements_typed}
-use Rattle.types.specs.Checker.{CheckerTree, counted, declared_in, integer_slot, labelled, new_label, restarted, with_scope, without_ends}
+use Rattle.types.specs.Checker.{CheckerTree, counted, declared_in, integer_slot, labelled, new_label, restarted, with_scope, without_ends, condition_in, integer_in}
 use Rattle.types.specs.Declaration.{DeclaredTree, FunctionKindTree, MainKind, EdgeKind, VertexKind, FilterKind, NoKind, declaration_typed, declarations_typed, declare_constant_as, declare_function, declare_name, function_declared, inside_of, kind, kind_fits, main_declared, opened, parameter, parameters_declared, result_declared, steps_declared, with_main, takes_weight}
 use Rattle.types.specs.Initial.{InitializerTree, initializer_of}
 use Rattle.type_laws.specs.Labels.{block_labels, inner_labels, labels_of, own_label}
 use Rattle.types.specs.Program.{opening, program_of, set_count}
 use Rattle.types.specs.Statement.{declare_as}
 use Rattle.types.specs.Step.{declare_step_as, step_after, step_typed, steps_after, steps_typed, with_writes}
-use Rattle.types.specs.Checker.{condition_in, integer_in}
 use Rattle.type_laws.proofs.Faultless.{no_left, no_right, not_empty}
 use Rattle.type_laws.proofs.ResolvedScopes.{all_then}
 

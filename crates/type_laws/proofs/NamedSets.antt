@@ -14,24 +14,21 @@ use Rattle.syntax.specs.SourceTrees.{InitialTree}
 use Rattle.typed_tree.specs.declared.expression.VarRef.{VarRef}
 use Rattle.typed_tree.specs.declared.statement.ApplyEnds.{ApplyEnds}
 use Rattle.typed_tree.specs.declared.statement.SetValue.TheVariants as set
-use Rattle.typed_tree.specs.Independence.{function_writes}
+use Rattle.typed_tree.specs.Independence.{function_writes, are_same, name_at, or_empty}
 use Rattle.typed_tree.specs.BlockTree.{StatementKindTree, BlockTree, Empty, Then}
-use Rattle.typed_tree.specs.Independence.{are_same, name_at, or_empty}
 use Rattle.typed_tree.specs.IntExpressionTree.{IntExpressionTree}
 use Rattle.typed_tree.specs.ProgramTree.{ProgramTree}
 use Rattle.expression_types.specs.declared.scope.Entity.{Entity}
 use Rattle.expression_types.specs.declared.scope.Entity.TheVariants as entity
 use Rattle.expression_types.specs.Expression.{used, value_of, vector_index}
-use Rattle.expression_types.specs.ScopeTree.{found}
-use Rattle.expression_types.specs.ScopeTree.{ScopeTree, declared_over, sets_of, with_entity}
+use Rattle.expression_types.specs.ScopeTree.{found, ScopeTree, declared_over, sets_of, with_entity}
 use Rattle.expression_types.specs.Faults.{WithFaults}
 use Rattle.expression_types.specs.ValueTree as value
 use Rattle.expression_types.specs.ValueTree.{ValueTree, named_set}
 use Rattle.types.specs.Block.{action_typed, behind, closed, statements_typed}
-use Rattle.types.specs.Checker.{CheckerTree, condition_slot, counted, declared_in, integer_slot, labelled, new_label, set_slot}
+use Rattle.types.specs.Checker.{CheckerTree, condition_slot, counted, declared_in, integer_slot, labelled, new_label, set_slot, as_index, as_members, condition_in, integer_in}
 use Rattle.types.specs.Initial.{ApplyEndTree, InitializerTree, Typed, Members, Loaded, Degrees, ErrorInitializer, edge_function, end_of, ends_given, filter_function, filter_named, filtered, filtered_by, given_filter, initializer_condition, initializer_integer, initializer_members, initializer_of, is_edges, is_error_end, is_wrong, loaded, modified, modified_by, names_error, new_set, of_edges, vector_of, vertex_function, writes_vector, lacks_weights}
 use Rattle.types.specs.Statement.{add_vertex, added, applied, apply, assign, assigned, declare_as, edges_applied, entry_reduced, entry_set, has_ends, print, printed, reduce, reduce_entry, reduced, set_applied, set_entry, vertices_applied}
-use Rattle.types.specs.Checker.{as_index, as_members, condition_in, integer_in}
 use Rattle.type_laws.specs.AskedVectors.{AsksForWritten, ValueAsksForWritten}
 use Rattle.type_laws.specs.EachStatement.{HoldsInside, HoldsOfEach, SetNames, names_after}
 use Rattle.type_laws.specs.VisibleSets.{EndIsVisible, EndsAreVisible, IsVisible, NamesSets, SetsAreVisible, ValueIsVisible}

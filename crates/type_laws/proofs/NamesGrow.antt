@@ -12,8 +12,7 @@ use Rattle.typed_tree.specs.BlockTree.{BlockTree, Empty}
 use Rattle.typed_tree.specs.FunctionStatementTree.{FunctionStatementsTree, NoStep}
 use Rattle.expression_types.specs.declared.scope.Entity.{Entity}
 use Rattle.expression_types.specs.declared.scope.Entity.TheVariants as entity
-use Rattle.expression_types.specs.ScopeTree.{found}
-use Rattle.expression_types.specs.ScopeTree.{entered}
+use Rattle.expression_types.specs.ScopeTree.{found, entered}
 use Rattle.types.specs.Block.{action_typed, behind, closed, statements_typed}
 use Rattle.types.specs.Checker.{CheckerTree, counted, declared_in, integer_slot, labelled, new_label, with_scope}
 use Rattle.types.specs.Declaration.{FunctionKindTree, inside_of, opened, parameter, parameters_declared, result_declared, result_entity, takes_weight}

@@ -22,18 +22,16 @@ use Rattle.expression_types.specs.declared.scope.Entity.TheVariants as entity
 use Rattle.expression_types.specs.declared.scope.Inside.{Inside}
 use Rattle.expression_types.specs.declared.scope.Inside.TheVariants as inside
 use Rattle.expression_types.specs.Expression.{as_vector}
-use Rattle.expression_types.specs.ScopeTree.{found}
-use Rattle.expression_types.specs.ScopeTree.{ScopeTree, declared_over}
+use Rattle.expression_types.specs.ScopeTree.{found, ScopeTree, declared_over}
 use Rattle.expression_types.specs.ValueTree.{ValueTree, Integer, Condition, Vertex, Set, ErrorValue, condition_reads_entry, named_set, named_vector, reads_entry}
 use Rattle.expression_types.specs.Faults.{WithFaults, fault_at, sure, ◌>>=◌}
-use Rattle.types.specs.Checker.{CheckerTree, declared_in, labelled, new_label}
+use Rattle.types.specs.Checker.{CheckerTree, declared_in, labelled, new_label, as_condition, as_index, as_integer, as_members, no_index}
 use Rattle.types.specs.Declaration.{begins, literal_or_fault, wanted}
 use Rattle.types.specs.Initial.{ApplyEndTree, InitializerTree, Typed, Members, Loaded, Degrees, ErrorInitializer, edge_function, ends_given, filter_function, filtered_by, initializer_condition, initializer_integer, initializer_members, is_degrees, is_edges, is_error_end, is_sound, is_wrong, lacks_weights, loaded, modified, modified_by, names_error, new_set, of_edges, vector_of, vertex_function, writes_vector, filtered}
 use Rattle.types.specs.Literal.{literal_integer}
 use Rattle.types.specs.Program.{main_of}
 use Rattle.types.specs.Statement.{no_action, added, applied, assigned, edges_applied, printed, reduced, set_applied, vertices_applied}
 use Rattle.types.specs.Step.{assigned_step, at_own, may_reduce, may_set, one_reduction, reduced_as, reduced_step, same_endpoint, same_reduction, written_at, written_with}
-use Rattle.types.specs.Checker.{as_condition, as_index, as_integer, as_members, no_index}
 use Rattle.type_laws.specs.BrokenRules.{adds, applies, assigns_in_function, assigns_in_main, gives_bool, gives_int, gives_set, is_edge_function, is_filter, is_one, is_zero, may_be_bool, may_be_int, may_be_set, may_be_written, mixes, modifies, reduced_otherwise, reduces}
 use Rattle.type_laws.specs.ExpressionRules.{holds_entry}
 use Rattle.type_laws.specs.SourceParts.{NewName}

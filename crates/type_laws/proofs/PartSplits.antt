@@ -21,14 +21,13 @@ use Rattle.expression_types.specs.Expression.{index_value, used, value_of, vecto
 use Rattle.expression_types.specs.ScopeTree.{ScopeTree}
 use Rattle.expression_types.specs.ValueTree.{is_error}
 use Rattle.types.specs.Block.{behind, statements_typed, action_typed}
-use Rattle.types.specs.Checker.{CheckerTree, counted, declared_in, labelled, restarted, with_scope}
+use Rattle.types.specs.Checker.{CheckerTree, counted, declared_in, labelled, restarted, with_scope, as_index}
 use Rattle.types.specs.Declaration.{DeclaredTree, FunctionKindTree, MainKind, EdgeKind, VertexKind, FilterKind, NoKind, begins, declarations_typed, declaration_typed, declare_constant_as, declare_function, declare_name, declare_edges, kind, literal_or_fault, loads, next_name, only_edges, opened, parameters_declared, parameter, result_declared, result_entity, has_all}
 use Rattle.types.specs.Initial.{InitializerTree, end_of, initializer_of, is_all, is_error_end, is_loaded, is_sound, names_error}
 use Rattle.types.specs.Literal.{literal_condition, literal_integer}
 use Rattle.types.specs.Program.{main_of, opening, set_count}
 use Rattle.types.specs.Statement.{declare_as, has_ends}
 use Rattle.types.specs.Step.{declare_step_as, may_reduce, may_set, own_vertex, step_after, step_typed, steps_typed, written_at}
-use Rattle.types.specs.Checker.{as_index}
 use Rattle.type_laws.specs.BrokenRules.{begins_constant, declares_in_function, declares_in_main, is_edgeset, is_initial, is_kind}
 use Rattle.type_laws.specs.ExpressionParts as form
 use Rattle.type_laws.specs.ExpressionParts.{Form, any_faulty, faults_of_all, form_faults, parts}

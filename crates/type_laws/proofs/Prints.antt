@@ -5,12 +5,11 @@ use Rattle.syntax.specs.Terminals.{Identifier}
 use Rattle.syntax.specs.SourceTrees as source
 use Rattle.syntax.specs.SourceTrees.{ParameterTree, DeclarationTree, SourceTree}
 use Rattle.typed_tree.specs.FunctionStatementTree.{FunctionStatementsTree, NoStep}
-use Rattle.types.specs.Checker.{CheckerTree, labelled}
+use Rattle.types.specs.Checker.{CheckerTree, labelled, condition_in}
 use Rattle.types.specs.Declaration.{DeclaredTree, FunctionKindTree, declaration_typed, declarations_typed, kind_fits, kind_of, opened, steps_declared}
 use Rattle.type_laws.specs.Prints.{ActionPrintsNothing, BlockPrintsNothing, PrintsInMainAlone}
 use Rattle.types.specs.Program.{opening, program_of, set_count}
 use Rattle.types.specs.Step.{step_after, step_typed, steps_after, steps_typed}
-use Rattle.types.specs.Checker.{condition_in}
 use Rattle.type_laws.proofs.EachDeclaration.{each_declaration, user_declared}
 use Rattle.type_laws.proofs.Faultless.{no_left, no_right, not_empty}
 

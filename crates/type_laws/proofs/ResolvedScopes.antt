@@ -10,8 +10,7 @@ use Rattle.typed_tree.specs.ProgramTree.{ProgramTree}
 use Rattle.typed_tree.specs.Resolved.{VisibleTree, IsLabel, IsName, IsVertex}
 use Rattle.expression_types.specs.declared.scope.Entity.{Entity}
 use Rattle.expression_types.specs.declared.scope.Entity.TheVariants as entity
-use Rattle.expression_types.specs.ScopeTree.{found}
-use Rattle.expression_types.specs.ScopeTree.{ScopeTree, conditions_of, declared_over, integers_of, sets_of, with_entity}
+use Rattle.expression_types.specs.ScopeTree.{found, ScopeTree, conditions_of, declared_over, integers_of, sets_of, with_entity}
 use Rattle.types.specs.Checker.{CheckerTree, declared_in, labelled, new_label, with_scope, without_ends}
 use Rattle.type_laws.proofs.Faultless.{no_left, not_empty}
 use Rattle.type_laws.proofs.ResolvedValues.{EntityIsResolved, Known}

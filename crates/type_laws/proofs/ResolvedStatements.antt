@@ -18,10 +18,9 @@ use Rattle.expression_types.specs.Faults.{WithFaults}
 use Rattle.expression_types.specs.ValueTree as value
 use Rattle.expression_types.specs.ValueTree.{ValueTree, named_set}
 use Rattle.types.specs.Block.{action_typed, behind, closed, statements_typed}
-use Rattle.types.specs.Checker.{CheckerTree, condition_slot, counted, declared_in, integer_slot, labelled, set_slot}
+use Rattle.types.specs.Checker.{CheckerTree, condition_slot, counted, declared_in, integer_slot, labelled, set_slot, as_index, condition_in, integer_in}
 use Rattle.types.specs.Initial.{ApplyEndTree, InitializerTree, initializer_condition, edge_function, end_of, initializer_of, initializer_integer, is_edges, names_error, is_error_end, is_wrong, initializer_members, vertex_function, lacks_weights}
 use Rattle.types.specs.Statement.{add_vertex, added, applied, apply, assign, assigned, declare_as, edges_applied, entry_reduced, entry_set, has_ends, print, printed, reduce, reduce_entry, reduced, set_applied, set_entry, vertices_applied}
-use Rattle.types.specs.Checker.{as_index, condition_in, integer_in}
 use Rattle.type_laws.proofs.Faultless.{no_left, no_right, not_empty}
 use Rattle.type_laws.proofs.ResolvedScopes.{CheckerFits, Grows, Within, declared_before, declared_fits, declared_name, get_before, get_last, labelled_before, labelled_fits, left_fits}
 use Rattle.type_laws.proofs.ResolvedSteps.{condition_declared, integer_declared}

@@ -14,10 +14,9 @@ use Rattle.expression_types.specs.declared.scope.Entity.{Entity}
 use Rattle.expression_types.specs.declared.scope.Entity.TheVariants as entity
 use Rattle.expression_types.specs.Expression.{index_value, used, value_of, vector_index}
 use Rattle.expression_types.specs.ValueTree.{ValueTree}
-use Rattle.types.specs.Checker.{CheckerTree, condition_slot, declared_in, integer_slot, labelled}
+use Rattle.types.specs.Checker.{CheckerTree, condition_slot, declared_in, integer_slot, labelled, condition_in, integer_in}
 use Rattle.types.specs.Initial.{InitializerTree, initializer_condition, initializer_of, initializer_integer}
 use Rattle.types.specs.Step.{assign_step, assigned_step, declare_step_as, entry_step, may_reduce, may_set, own_vertex, reduce_entry_step, reduce_step, reduced_step, reduction_step, set_entry_step, step_after, step_typed, steps_after, steps_typed, written_at}
-use Rattle.types.specs.Checker.{condition_in, integer_in}
 use Rattle.type_laws.proofs.Faultless.{no_left, no_right, not_empty}
 use Rattle.type_laws.proofs.ResolvedScopes.{CheckerFits, Grows, Within, declared_before, declared_fits, declared_name, get_before, get_last, labelled_before, labelled_fits, left_fits}
 use Rattle.type_laws.proofs.ResolvedValues.{EntityIsResolved, InitializerIsResolved, MaybeVariable, ValueIsResolved, as_integer_resolved, initializer_condition_resolved, condition_in_resolved, initializer_resolved, initializer_integer_resolved, integer_in_resolved, used_resolved, value_resolved, vector_resolved}

@@ -24,9 +24,8 @@ use Rattle.expression_types.specs.declared.scope.Inside.{Inside}
 use Rattle.expression_types.specs.declared.scope.Inside.TheVariants as inside
 use Rattle.expression_types.specs.BareNames.{bare_name, comparison_name, conjunction_name, primary_name, sum_name, term_name, unary_name}
 use Rattle.expression_types.specs.Expression.{as_size, as_vector, comparison_value, conjunction_value, conjuncts, disjuncts, entry_of, factors, index_lacks_value, index_value, lacks_value, name_lacks_value, name_value, no_vertex, primary_value, size_value, sum_value, summands, term_value, unary_value, used, used_as, value_of, vector_index}
-use Rattle.expression_types.specs.ScopeTree.{found}
+use Rattle.expression_types.specs.ScopeTree.{found, ScopeTree}
 use Rattle.expression_types.specs.Operators.{Conditions, ConditionsTree, ErrorConditions, ErrorIntegers, Integers, IntegersTree, MixedConditions, MixedIntegers, added, beside_condition, beside_integer, compared_value, entry_value, equated_value, first_condition, first_integer, function_entry, given, grouped_conditions, grouped_integers, main_entry, multiplied, related_value, signed_value, unless_faulty}
-use Rattle.expression_types.specs.ScopeTree.{ScopeTree}
 use Rattle.expression_types.specs.ValueTree as value
 use Rattle.expression_types.specs.ValueTree.{ValueTree, is_error, named_value, reads_entry}
 use Rattle.expression_types.specs.Faults.{WithFaults, fault_at, sure}

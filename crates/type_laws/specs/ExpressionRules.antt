@@ -11,8 +11,7 @@ use Rattle.expression_types.specs.declared.fault.TypeRule.TheVariants as rule
 use Rattle.expression_types.specs.declared.scope.Inside.{Inside}
 use Rattle.expression_types.specs.declared.scope.Inside.TheVariants as inside
 use Rattle.expression_types.specs.Expression.{comparison_value, conjunction_value, index_value, primary_value, sum_value, term_value, unary_value, used, value_of}
-use Rattle.expression_types.specs.ScopeTree.{found}
-use Rattle.expression_types.specs.ScopeTree.{ScopeTree}
+use Rattle.expression_types.specs.ScopeTree.{found, ScopeTree}
 use Rattle.expression_types.specs.ValueTree.{ValueTree, Integer, Condition, Vertex, Set, ErrorValue, as_condition, as_integer, as_vertex, condition_reads_entry, named_set, named_value, named_vector, reads_entry}
 use Rattle.type_laws.specs.ExpressionParts.{Form, Expression, Conjunction, Comparison, Sum, Term, Unary, Primary, Index, Name, any_faulty, parts}
 

@@ -4,8 +4,7 @@ use Rattle.std.specs.Str.{bytes_eq}
 use Rattle.std.specs.Map.{lookup}
 use Rattle.apply_options.specs.declared.reduction.Reduction.{Reduction}
 use Rattle.syntax.specs.Terminals.{Identifier}
-use Rattle.syntax.specs.SourceTrees.{ExpressionTree}
-use Rattle.syntax.specs.SourceTrees.{InitialTree, EndsTree, ParameterTree, StatementKindTree, BlockTree, DeclarationTree, SourceTree}
+use Rattle.syntax.specs.SourceTrees.{ExpressionTree, InitialTree, EndsTree, ParameterTree, StatementKindTree, BlockTree, DeclarationTree, SourceTree}
 use Rattle.syntax.specs.declared.declaration.DeclaredType.{DeclaredType}
 use Rattle.syntax.specs.SourceTrees as source
 use Rattle.syntax.specs.declared.declaration.DeclaredType.TheVariants as declared

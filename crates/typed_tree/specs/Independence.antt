@@ -6,7 +6,6 @@ use Rattle.typed_tree.specs.declared.statement.VertexFilter.{VertexFilter}
 use Rattle.typed_tree.specs.ProgramTree.{ProgramTree}
 use Rattle.typed_tree.specs.declared.apply.StatementApply.{StatementApply}
 use Rattle.typed_tree.specs.declared.apply.StatementApply.TheVariants.{Vertices, Edges}
-
 use Rattle.typed_tree.specs.declared.accesses.Access.{Access}
 use Rattle.typed_tree.specs.declared.accesses.Access.TheVariants.{ReadAtVertex, ReadAtIndex, ReadSet, Write}
 use Rattle.typed_tree.specs.Fold.{Fold, gathered, function_fold, end_fold}

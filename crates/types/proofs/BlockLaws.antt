@@ -16,8 +16,7 @@ use Rattle.expression_types.specs.Faults.{WithFaults, sure, outcome, ◌>>=◌}
 use Rattle.expression_types.proofs.Steps.{bind-bind, outcome_then}
 use Rattle.types.specs.inside.Block.{StatementTree, block_typed, statement_tree, statement_typed}
 use Rattle.types.specs.Block.{action_typed, behind, closed, statements_typed}
-use Rattle.types.specs.Checker.{CheckerTree, counted, labelled}
-use Rattle.types.specs.Checker.{condition_in}
+use Rattle.types.specs.Checker.{CheckerTree, counted, labelled, condition_in}
 use Rattle.types.proofs.Sources.{statement_kind_tree-While, statement_kind_tree-If, statement_kind_tree-IfElse}
 
 -- what goes on after a block

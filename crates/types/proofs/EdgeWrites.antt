@@ -6,13 +6,12 @@ use Rattle.std.proofs.lemmas.Option.{none-some, same_Some}
 use Rattle.std.specs.List.{AllByRecursion}
 use Rattle.std.specs.Map.{lookup}
 use Rattle.syntax.specs.Terminals.{Identifier}
-use Rattle.syntax.specs.SourceTrees.{ExpressionTree}
+use Rattle.syntax.specs.SourceTrees.{ExpressionTree, ParameterTree, InitialTree, DeclarationTree, SourceTree}
 use Rattle.syntax.specs.declared.declaration.DeclaredType.{DeclaredType}
 use Rattle.syntax.specs.declared.declaration.DeclaredType.TheVariants as declared
 use Rattle.apply_options.specs.declared.reduction.Reduction.{Reduction}
 use Rattle.apply_options.specs.declared.reduction.Reduction.TheVariants as reduction
 use Rattle.syntax.specs.SourceTrees as source
-use Rattle.syntax.specs.SourceTrees.{ParameterTree, InitialTree, DeclarationTree, SourceTree}
 use Rattle.typed_tree.specs.declared.expression.Endpoint.{Endpoint}
 use Rattle.typed_tree.specs.declared.expression.Endpoint.TheVariants as endpoint
 use Rattle.typed_tree.specs.BlockTree.{BlockTree, Empty}
@@ -23,17 +22,15 @@ use Rattle.expression_types.specs.declared.scope.Entity.TheVariants as entity
 use Rattle.expression_types.specs.declared.scope.Inside.{Inside}
 use Rattle.expression_types.specs.declared.scope.Inside.TheVariants as inside
 use Rattle.expression_types.specs.Expression.{index_value, used, value_of, vector_index}
-use Rattle.expression_types.specs.ScopeTree.{found}
-use Rattle.expression_types.specs.ScopeTree.{ScopeTree, declared_over, entered}
+use Rattle.expression_types.specs.ScopeTree.{found, ScopeTree, declared_over, entered}
 use Rattle.expression_types.specs.ValueTree.{ValueTree}
-use Rattle.types.specs.Checker.{CheckerTree, integer_slot, condition_slot, declared_in, labelled, new_label, restarted, with_scope}
+use Rattle.types.specs.Checker.{CheckerTree, integer_slot, condition_slot, declared_in, labelled, new_label, restarted, with_scope, integer_in}
 use Rattle.types.specs.Block.{statements_typed}
 use Rattle.types.specs.Declaration.{DeclaredTree, FunctionKindTree, MainKind, EdgeKind, VertexKind, FilterKind, NoKind, declaration_typed, declarations_typed, declare_constant_as, declare_function, declare_name, function_of, inside_of, kind, opened, parameter, parameters_declared, result_declared, result_entity, with_main, takes_weight}
 use Rattle.types.specs.EdgeWrites.{ReducesInOneWay, SetsNoEntry, StepReduces, StepSetsNoEntry, StepsReduce}
 use Rattle.types.specs.Initial.{InitializerTree, initializer_of}
 use Rattle.types.specs.Step.{assigned_step, declare_step_as, entry_step, may_reduce, may_set, one_reduction, own_vertex, reduce_entry_step, reduced_as, reduced_step, reduction_step, same_reduction, step_after, step_typed, steps_after, steps_typed, with_writes, written_at, written_with}
 use Rattle.types.specs.Program.{opening, program_of, set_count}
-use Rattle.types.specs.Checker.{integer_in}
 
 -- what is written: each vector with its reduction
 abbrev pub Writes : Type 0

@@ -2,12 +2,11 @@
 use Rattle.std.proofs.Common.{◌≡◌, ℕ, ap, refl, rules}
 use Rattle.std.specs.Global.{Vec}
 use Rattle.syntax.specs.Terminals.{Identifier}
-use Rattle.syntax.specs.SourceTrees.{ExpressionTree}
+use Rattle.syntax.specs.SourceTrees.{ExpressionTree, While, For, If, IfElse, Then}
 use Rattle.syntax.specs.declared.statement.Statement.{Statement}
 use Rattle.syntax.specs.declared.statement.Action.{Row_of-Statement, end_of-Statement, more_of-Statement, items-the_row-Statement}
 use Rattle.syntax.specs.declared.statement.Action.TheViews as views
 use Rattle.syntax.specs.declared.statement.Action.TheViews.{the_lemmas}
-use Rattle.syntax.specs.SourceTrees.{While, For, If, IfElse, Then}
 use Rattle.syntax.specs.SourceViews.{statement_kind_tree, rows_tree, block_tree}
 
 pub rows_tree-items : {m : _} (row : Row_of-Statement m) → rows_tree row ≡ block_tree (items-the_row-Statement m row)

@@ -17,16 +17,14 @@ use Rattle.typed_tree.specs.BlockTree.{StatementKindTree, BlockTree, Empty}
 use Rattle.expression_types.specs.declared.scope.Entity.{Entity}
 use Rattle.expression_types.specs.declared.scope.Entity.TheVariants as entity
 use Rattle.expression_types.specs.Expression.{used, value_of, vector_index}
-use Rattle.expression_types.specs.ScopeTree.{found}
+use Rattle.expression_types.specs.ScopeTree.{found, ScopeTree, declared as scope_declared}
 use Rattle.expression_types.specs.Faults.{WithFaults}
-use Rattle.expression_types.specs.ScopeTree.{ScopeTree, declared as scope_declared}
 use Rattle.expression_types.specs.ValueTree.{ValueTree, Integer, Condition, Vertex, Set, ErrorValue, named_set}
 use Rattle.expression_types.proofs.FaultOffsets.{FaultsStand, both_stand, declared_stands, if_stand, used_stands, value_stands, vector_stands}
 use Rattle.types.specs.Block.{action_typed, behind, closed, in_place, statements_typed}
-use Rattle.types.specs.Checker.{CheckerTree, condition_slot, counted, declared_in, integer_slot, labelled, new_label, set_slot}
+use Rattle.types.specs.Checker.{CheckerTree, condition_slot, counted, declared_in, integer_slot, labelled, new_label, set_slot, as_index, as_integer, condition_in, integer_in}
 use Rattle.types.specs.Initial.{ApplyEndTree, InitializerTree, initializer_condition, edge_function, end_of, initializer_of, initializer_integer, is_edges, names_error, is_error_end, is_wrong, initializer_members, vertex_function, lacks_weights}
 use Rattle.types.specs.Statement.{add_vertex, added, applied, apply, assign, assigned, declare_as, edges_applied, has_ends, print, printed, reduce, reduce_entry, reduced, set_applied, set_entry, vertices_applied}
-use Rattle.types.specs.Checker.{as_index, as_integer, condition_in, integer_in}
 use Rattle.types.proofs.ValueOffsets.{as_index_stands, as_integer_stands, initializer_condition_stands, condition_in_stands, end_stands, initializer_stands, initializer_integer_stands, integer_in_stands, initializer_members_stands}
 
 -- names and labels

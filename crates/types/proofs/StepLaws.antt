@@ -13,13 +13,11 @@ use Rattle.typed_tree.specs.FunctionStatementTree.{FunctionStatementTree, Functi
 use Rattle.typed_tree.specs.BoolExpressionTree.{BoolExpressionTree}
 use Rattle.expression_types.specs.declared.fault.Fault.{Fault}
 use Rattle.expression_types.specs.declared.fault.TypeRule.TheVariants as rule
-use Rattle.expression_types.specs.Faults.{earlier}
-use Rattle.expression_types.specs.Faults.{WithFaults, sure, fault_at, outcome, ◌>>=◌}
+use Rattle.expression_types.specs.Faults.{earlier, WithFaults, sure, fault_at, outcome, ◌>>=◌}
 use Rattle.expression_types.proofs.Steps.{bind-bind, outcome_then}
-use Rattle.types.specs.Checker.{CheckerTree, labelled}
+use Rattle.types.specs.Checker.{CheckerTree, labelled, condition_in}
 use Rattle.types.specs.inside.Step.{labelled_step, steps_inside}
 use Rattle.types.specs.Step.{no_step, step_after, step_typed, steps_after, steps_typed}
-use Rattle.types.specs.Checker.{condition_in}
 use Rattle.types.proofs.Sources.{statement_kind_tree-While, statement_kind_tree-If, statement_kind_tree-IfElse}
 
 -- what goes on after a block

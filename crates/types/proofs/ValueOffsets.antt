@@ -2,11 +2,10 @@
 use Rattle.std.specs.Prelude.{IfSome}
 use Rattle.std.proofs.Common.{ℕ, zero, suc, ℤ, pos, negsuc, Bool, true, false, ◌||◌, List, [], Option, Some, None}
 use Rattle.syntax.specs.Terminals.{Terminal, Identifier}
-use Rattle.syntax.specs.SourceTrees.{ExpressionTree}
+use Rattle.syntax.specs.SourceTrees.{ExpressionTree, InitialTree}
 use Rattle.syntax.specs.ExpressionSpelling.{expression_terminals}
 use Rattle.syntax.specs.Offsets.{StandWhere, StandsWhere}
 use Rattle.syntax.specs.SourceTrees as source
-use Rattle.syntax.specs.SourceTrees.{InitialTree}
 use Rattle.syntax.specs.SourceSpelling.{initial_before}
 use Rattle.syntax.proofs.Behind.{all_left, ends_after}
 use Rattle.syntax.proofs.Offsets.{from_stands, to_stands}
@@ -20,9 +19,8 @@ use Rattle.expression_types.specs.Faults.{fault_at, sure}
 use Rattle.expression_types.specs.ScopeTree.{ScopeTree}
 use Rattle.expression_types.specs.ValueTree.{ValueTree, Integer, Condition, Vertex, Set, ErrorValue, condition_reads_entry, named_set, reads_entry}
 use Rattle.expression_types.proofs.FaultOffsets.{FaultsStand, both_stand, if_stand, used_stands, value_stands}
-use Rattle.types.specs.Checker.{CheckerTree}
+use Rattle.types.specs.Checker.{CheckerTree, as_condition, as_index, as_integer, as_members, condition_in, integer_in, no_index, unread}
 use Rattle.types.specs.Initial.{ApplyEndTree, InitializerTree, Typed, Members, Loaded, Degrees, ErrorInitializer, initializer_condition, edge_function, end_of, ends_given, filter_function, filtered, filtered_by, initializer_of, initializer_integer, is_edges, names_error, is_error_end, is_wrong, loaded, initializer_members, modified, modified_by, new_set, of_edges, vector_of, writes_vector, lacks_weights}
-use Rattle.types.specs.Checker.{as_condition, as_index, as_integer, as_members, condition_in, integer_in, no_index, unread}
 
 -- values of the type that their place wants
 pub as_integer_stands : (P : ℕ → Type 0) (at : ℕ) (v : ValueTree) → P at → FaultsStand P (as_integer at v)

@@ -6,9 +6,8 @@ use Rattle.syntax.specs.SourceTrees as source
 use Rattle.typed_tree.specs.BlockTree.{StatementKindTree, BlockTree, If, IfElse, While, For, Empty, Then}
 use Rattle.expression_types.specs.Faults.{WithFaults, sure, ◌>>=◌}
 use Rattle.expression_types.specs.declared.scope.Entity.TheVariants as entity
-use Rattle.types.specs.Checker.{CheckerTree, integer_slot, with_scope, declared_in, labelled, counted}
+use Rattle.types.specs.Checker.{CheckerTree, integer_slot, with_scope, declared_in, labelled, counted, integer_in, condition_in}
 use Rattle.types.specs.Statement.{declare_variable, assign, reduce, set_entry, reduce_entry, add_vertex, print, apply}
-use Rattle.types.specs.Checker.{integer_in, condition_in}
 
 -- a statement that declares nothing
 abbrev pub in_place : CheckerTree → WithFaults StatementKindTree → WithFaults (StatementKindTree × CheckerTree)

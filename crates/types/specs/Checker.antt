@@ -9,9 +9,8 @@ use Rattle.typed_tree.specs.BoolExpressionTree.{BoolExpressionTree, Literal}
 use Rattle.typed_tree.specs.declared.statement.SetValue.{SetValue}
 use Rattle.typed_tree.specs.declared.statement.SetValue.TheVariants as set
 use Rattle.expression_types.specs.declared.scope.Entity.{Entity}
-use Rattle.expression_types.specs.ScopeTree.{found}
+use Rattle.expression_types.specs.ScopeTree.{found, ScopeTree, declared}
 use Rattle.expression_types.specs.Faults.{WithFaults, sure, fault_at, ◌>>=◌}
-use Rattle.expression_types.specs.ScopeTree.{ScopeTree, declared}
 use Rattle.expression_types.specs.ValueTree.{ValueTree, Integer, Condition, Vertex, Set, ErrorValue, reads_entry, condition_reads_entry}
 use Rattle.expression_types.specs.Expression.{value_of}
 use Rattle.expression_types.specs.declared.fault.TypeRule.TheVariants as rule

@@ -19,8 +19,7 @@ use Rattle.expression_types.specs.Expression.{used, value_of}
 use Rattle.expression_types.specs.Faults.{WithFaults, sure, fault_at, ◌>>=◌}
 use Rattle.expression_types.specs.ScopeTree.{ScopeTree}
 use Rattle.expression_types.specs.ValueTree.{ValueTree, is_error, named_set}
-use Rattle.types.specs.Checker.{CheckerTree}
-use Rattle.types.specs.Checker.{some_integer, some_condition, as_integer, as_condition, as_members}
+use Rattle.types.specs.Checker.{CheckerTree, some_integer, some_condition, as_integer, as_condition, as_members}
 
 -- What an initial value is: an expression's value, what a set gets, the edges, the out-degrees, or one with a faulty part.
 pub data InitializerTree : Type 0 where

@@ -2,8 +2,7 @@
 use Rattle.std.specs.Prelude.{ℤ, pos, negsuc, neg_ℤ, Bool, Option, Some, None}
 use Rattle.syntax.specs.declared.operators.Prefix.TheVariants as prefix
 use Rattle.syntax.specs.SourceTrees as tree
-use Rattle.syntax.specs.SourceTrees.{ExpressionTree, UnaryTree, PrimaryTree}
-use Rattle.syntax.specs.SourceTrees.{InitialTree, NewSet, Load, Vertices, OutDegrees, Filter, ApplyModified, Value}
+use Rattle.syntax.specs.SourceTrees.{ExpressionTree, UnaryTree, PrimaryTree, InitialTree, NewSet, Load, Vertices, OutDegrees, Filter, ApplyModified, Value}
 use Rattle.syntax.specs.Nesting.{◌>>=◌}
 use Rattle.expression_types.specs.BareNames.{only_operand}
 

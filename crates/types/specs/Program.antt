@@ -10,8 +10,7 @@ use Rattle.types.specs.declared.error.CheckError.{CheckError}
 use Rattle.types.specs.declared.error.CheckError.TheVariants.{Faulty, NoMemory}
 use Rattle.expression_types.specs.declared.fault.Fault.{Fault}
 use Rattle.expression_types.specs.declared.fault.TypeRule.TheVariants as rule
-use Rattle.expression_types.specs.Faults.{least_of}
-use Rattle.expression_types.specs.Faults.{WithFaults, sure, fault_at, ◌>>=◌}
+use Rattle.expression_types.specs.Faults.{least_of, WithFaults, sure, fault_at, ◌>>=◌}
 use Rattle.expression_types.specs.ScopeTree.{empty_scope}
 use Rattle.types.specs.Checker.{without_ends}
 use Rattle.types.specs.Declaration.{DeclaredTree, declarations_typed}

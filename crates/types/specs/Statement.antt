@@ -1,11 +1,10 @@
 -- Typing of statements of main without blocks. Where one is faulty a harmless one stands in its place.
 use Rattle.std.specs.Prelude.{ℕ, Bool, ◌||◌, if◌then◌else◌, length, Option, Some, None, is_some}
 use Rattle.syntax.specs.Terminals.{Identifier}
-use Rattle.syntax.specs.SourceTrees.{ExpressionTree}
+use Rattle.syntax.specs.SourceTrees.{ExpressionTree, EndsTree, InitialTree}
 use Rattle.syntax.specs.declared.declaration.DeclaredType.{DeclaredType}
 use Rattle.syntax.specs.declared.declaration.DeclaredType.TheVariants as declared
 use Rattle.apply_options.specs.declared.reduction.Reduction.{Reduction}
-use Rattle.syntax.specs.SourceTrees.{EndsTree, InitialTree}
 use Rattle.typed_tree.specs.declared.expression.VarRef.{VarRef}
 use Rattle.typed_tree.specs.IntExpressionTree.{IntExpressionTree, Parameter}
 use Rattle.typed_tree.specs.BlockTree.{StatementKindTree, DeclareInteger, DeclareCondition, SetInteger, SetCondition, ReduceInteger, SetEntry, ReduceEntry, DeclareSet, AssignSet, AddVertex, PrintInteger, PrintCondition, ApplyVertex, ApplyEdges}
@@ -16,9 +15,8 @@ use Rattle.expression_types.specs.Expression.{used, value_of, vector_index}
 use Rattle.expression_types.specs.Faults.{WithFaults, sure, fault_at, ◌>>=◌}
 use Rattle.expression_types.specs.ScopeTree.{ScopeTree}
 use Rattle.expression_types.specs.ValueTree.{ValueTree, Integer, Condition, Vertex, Set, ErrorValue, named_set}
-use Rattle.types.specs.Checker.{CheckerTree, integer_slot, condition_slot, set_slot, declared_in}
+use Rattle.types.specs.Checker.{CheckerTree, integer_slot, condition_slot, set_slot, declared_in, some_integer, as_integer, as_index, integer_in}
 use Rattle.types.specs.Initial.{InitializerTree, ApplyEndTree, initializer_of, end_of, is_wrong, is_error_end, ends_given, names_error, is_edges, lacks_weights, edge_function, vertex_function, initializer_integer, initializer_condition, initializer_members}
-use Rattle.types.specs.Checker.{some_integer, as_integer, as_index, integer_in}
 
 -- what stands in place of a faulty statement
 abbrev pub no_action : StatementKindTree

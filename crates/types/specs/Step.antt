@@ -4,9 +4,8 @@ use Rattle.std.specs.Map.{lookup}
 use Rattle.apply_options.specs.declared.reduction.Reduction.{Reduction}
 use Rattle.apply_options.specs.declared.reduction.Reduction.TheVariants as reduction
 use Rattle.syntax.specs.Terminals.{Identifier}
-use Rattle.syntax.specs.SourceTrees.{ExpressionTree}
+use Rattle.syntax.specs.SourceTrees.{ExpressionTree, InitialTree}
 use Rattle.syntax.specs.declared.declaration.DeclaredType.{DeclaredType}
-use Rattle.syntax.specs.SourceTrees.{InitialTree}
 use Rattle.syntax.specs.declared.declaration.DeclaredType.TheVariants as declared
 use Rattle.syntax.specs.SourceTrees as source
 use Rattle.typed_tree.specs.declared.expression.Endpoint.{Endpoint}
@@ -23,9 +22,8 @@ use Rattle.expression_types.specs.ValueTree.{ValueTree, Integer, Condition, Vert
 use Rattle.expression_types.specs.declared.fault.TypeRule.TheVariants as rule
 use Rattle.expression_types.specs.declared.scope.Entity.TheVariants as entity
 use Rattle.expression_types.specs.declared.scope.Inside.TheVariants as inside
-use Rattle.types.specs.Checker.{CheckerTree, integer_slot, condition_slot, with_scope, declared_in, labelled}
+use Rattle.types.specs.Checker.{CheckerTree, integer_slot, condition_slot, with_scope, declared_in, labelled, as_integer, integer_in, condition_in}
 use Rattle.types.specs.Initial.{InitializerTree, end_of, initializer_of, initializer_integer, initializer_condition}
-use Rattle.types.specs.Checker.{as_integer, integer_in, condition_in}
 
 -- what stands in place of a faulty statement
 abbrev pub no_step : FunctionStatementTree

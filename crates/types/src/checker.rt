@@ -4,8 +4,7 @@ ghost use Rattle.expression_types.specs.declared.scope.Entity.TheVariants.{LoopV
 ghost use Rattle.expression_types.specs.Faults.{ReportsFaults};
 ghost use Rattle.expression_types.specs.ScopeTree.{Keeps};
 ghost use Rattle.types.specs.inside.Checker.{checker_of};
-ghost use Rattle.types.specs.Checker.{condition_slot as slot_of_condition, counted};
-ghost use Rattle.types.specs.Checker.{declared_in, integer_slot as slot_of_integer, labelled, set_slot as slot_of_set};
+ghost use Rattle.types.specs.Checker.{condition_slot as slot_of_condition, counted, declared_in, integer_slot as slot_of_integer, labelled, set_slot as slot_of_set};
 
 use crate::quoted_names::between_ends;
 use crate::reductions::Reductions;

@@ -3,14 +3,12 @@ ghost use Rattle.std.specs.Prelude.{◌≡◌, Some, OnOk};
 ghost use Rattle.syntax.specs.SourceViews.{ends_tree, initial_tree};
 ghost use Rattle.typed_tree.specs.IntExpressionTree.{int_expression_tree};
 ghost use Rattle.typed_tree.specs.FunctionStatementTree.{function_statement_tree};
-ghost use Rattle.expression_types.specs.Faults.{earlier};
-ghost use Rattle.expression_types.specs.Faults.{ReportsFaults, outcome};
+ghost use Rattle.expression_types.specs.Faults.{earlier, ReportsFaults, outcome};
 ghost use Rattle.expression_types.specs.ScopeTree.{Keeps};
 ghost use Rattle.expression_types.specs.ValueTree.{value_tree};
 ghost use Rattle.types.specs.inside.Checker.{checker_of};
 ghost use Rattle.types.specs.inside.Initializer.{initializer_tree};
-ghost use Rattle.types.specs.Step.{assign_step, assigned_step, declare_step, declare_step_as, entry_step, may_reduce, may_set, no_add, no_apply, no_step};
-ghost use Rattle.types.specs.Step.{one_reduction, own_vertex, reduce_entry_step, reduce_step, reduced_step, reduction_step, same_endpoint, same_reduction, set_entry_step, written_at};
+ghost use Rattle.types.specs.Step.{assign_step, assigned_step, declare_step, declare_step_as, entry_step, may_reduce, may_set, no_add, no_apply, no_step, one_reduction, own_vertex, reduce_entry_step, reduce_step, reduced_step, reduction_step, same_endpoint, same_reduction, set_entry_step, written_at};
 ghost use Rattle.types.specs.inside.Variables.{step_variable_as};
 
 use crate::checker::{Checker, declare};

@@ -3,13 +3,11 @@ ghost use Rattle.std.specs.Prelude.{◌≡◌, ◌||◌, Some};
 ghost use Rattle.syntax.specs.SourceViews.{ends_tree, initial_tree};
 ghost use Rattle.typed_tree.specs.BoolExpressionTree.{bool_expression_tree};
 ghost use Rattle.typed_tree.specs.IntExpressionTree.{int_expression_tree};
-ghost use Rattle.expression_types.specs.Faults.{ReportsFaults, outcome};
+ghost use Rattle.expression_types.specs.Faults.{ReportsFaults, outcome, earlier};
 ghost use Rattle.types.specs.inside.Checker.{checker_of};
 ghost use Rattle.types.specs.inside.Initializer.{apply_end_tree, initializer_tree};
 ghost use Rattle.types.specs.inside.Applies.{apply_named, apply_tree};
-ghost use Rattle.expression_types.specs.Faults.{earlier};
-ghost use Rattle.types.specs.Initial.{ErrorInitializer, initializer_condition, edge_function, end_of, ends_given, filter_function, filter_named, filtered, initializer_of, given_filter, initializer_integer, is_all, is_degrees, is_edges};
-ghost use Rattle.types.specs.Initial.{is_loaded, is_sound, names_error, is_error_end, is_wrong, lacks_weights, loaded, initializer_members, modified as vertices_modified, new_set, of_edges, reads_weight, vertex_function, writes_vector};
+ghost use Rattle.types.specs.Initial.{ErrorInitializer, initializer_condition, edge_function, end_of, ends_given, filter_function, filter_named, filtered, initializer_of, given_filter, initializer_integer, is_all, is_degrees, is_edges, is_loaded, is_sound, names_error, is_error_end, is_wrong, lacks_weights, loaded, initializer_members, modified as vertices_modified, new_set, of_edges, reads_weight, vertex_function, writes_vector};
 
 use crate::checker::Checker;
 use crate::wanted::{condition_of, integer_of, members_of};

@@ -2,8 +2,7 @@
 ghost use Rattle.std.specs.Prelude.{◌≡◌};
 ghost use Rattle.syntax.specs.ExpressionViews.{primary_of, unary_of};
 ghost use Rattle.syntax.specs.SourceViews.{initial_tree};
-ghost use Rattle.types.specs.Literal.{expression_integer, expression_truth, literal_condition, literal_integer};
-ghost use Rattle.types.specs.Literal.{negated, primary_number, primary_truth, unary_number, unary_truth};
+ghost use Rattle.types.specs.Literal.{expression_integer, expression_truth, literal_condition, literal_integer, negated, primary_number, primary_truth, unary_number, unary_truth};
 
 use expression_types::lone_operand;
 use syntax::{Expression, Initial, Prefix, Primary, Unary};

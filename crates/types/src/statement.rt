@@ -4,15 +4,13 @@ ghost use Rattle.std.specs.Option.{option_map};
 ghost use Rattle.syntax.specs.SourceViews.{ends_tree, initial_tree};
 ghost use Rattle.typed_tree.specs.BlockTree.{statement_kind_tree};
 ghost use Rattle.typed_tree.specs.IntExpressionTree.{int_expression_tree};
-ghost use Rattle.expression_types.specs.Faults.{earlier};
-ghost use Rattle.expression_types.specs.Faults.{ReportsFaults, outcome};
+ghost use Rattle.expression_types.specs.Faults.{earlier, ReportsFaults, outcome};
 ghost use Rattle.expression_types.specs.ScopeTree.{Keeps};
 ghost use Rattle.expression_types.specs.ValueTree.{value_tree};
 ghost use Rattle.types.specs.inside.Checker.{checker_of};
 ghost use Rattle.types.specs.inside.Initializer.{apply_end_tree, initializer_tree};
 ghost use Rattle.types.specs.Initial.{edge_function, names_error, vertex_function};
-ghost use Rattle.types.specs.Statement.{add_vertex as vertex_added, added, applied, apply as apply_statement, assign as assignment, assigned, declare_as, declare_variable as variable_declared, edges_applied, entry_reduced};
-ghost use Rattle.types.specs.Statement.{entry_set, has_ends as ends_are_written, no_action, print as print_statement, printed, reduce as reduction_statement, reduce_entry as entry_reduction, reduced, set_entry as entry_setting, vertices_applied};
+ghost use Rattle.types.specs.Statement.{add_vertex as vertex_added, added, applied, apply as apply_statement, assign as assignment, assigned, declare_as, declare_variable as variable_declared, edges_applied, entry_reduced, entry_set, has_ends as ends_are_written, no_action, print as print_statement, printed, reduce as reduction_statement, reduce_entry as entry_reduction, reduced, set_entry as entry_setting, vertices_applied};
 ghost use Rattle.types.specs.inside.Variables.{variable_as};
 
 use crate::checker::{Checker, declare};

@@ -7,8 +7,7 @@ use Rattle.tree_batch.specs.Digraph.{Digraph, empty_graph, graph_through}
 use Rattle.version_list.specs.declared.step.Step.TheVariants.{Commit}
 use Rattle.version_list.specs.declared.step.Reply.TheVariants.{Refused, Version}
 use Rattle.version_list.specs.declared.step.Done.{Done}
-use Rattle.version_list.specs.Machine.{State, lacks_room, newest_graph, newest_number, opened, reply_to, state_after, version_graph}
-use Rattle.version_list.specs.Machine.{commits_of}
+use Rattle.version_list.specs.Machine.{State, lacks_room, newest_graph, newest_number, opened, reply_to, state_after, version_graph, commits_of}
 use Rattle.version_list.specs.Timeline.{IsLegal, replay}
 use Rattle.version_list.proofs.Commits.{replay_commits, replay_opening}
 

@@ -10,9 +10,8 @@ use Rattle.version_list.specs.declared.step.Step.TheVariants.{Commit, Acquire, R
 use Rattle.version_list.specs.declared.step.Reply.{Reply}
 use Rattle.version_list.specs.declared.step.Reply.TheVariants.{Version, Ticket, Released, Trimmed, Refused}
 use Rattle.version_list.specs.declared.step.Done.{Done}
-use Rattle.version_list.specs.Machine.{State, changed, lacks_room, newest_graph, reply_to, state_after}
+use Rattle.version_list.specs.Machine.{State, changed, lacks_room, newest_graph, reply_to, state_after, committed_by, commits_of}
 use Rattle.version_list.specs.Timeline.{IsAccepted, IsLegal, replay}
-use Rattle.version_list.specs.Machine.{committed_by, commits_of}
 
 commit_adds : (s : State) (batch : List Entry) → IsAccepted (reply_to s (Commit batch)) → (state_after s (Commit batch)).batches ≡ s.batches ++ batch ∷ []
 commit_adds s batch accepted = elim (cases_Bool (misfits (newest_graph s).vertices batch)) [

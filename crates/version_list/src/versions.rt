@@ -1,7 +1,6 @@
 //! The versions of a graph, and the history of the accepted steps.
 
-ghost use Rattle.std.specs.Prelude.{◌≡◌, Ok, ◌+◌, ◌^◌, ◌≤◌, ◌<◌, if◌then◌else◌, IfOk};
-ghost use Rattle.std.specs.Prelude.{IfErr, IfSome, MatchOption, None, OnOk, List, length, vec_len, vec_capacity};
+ghost use Rattle.std.specs.Prelude.{◌≡◌, Ok, ◌+◌, ◌^◌, ◌≤◌, ◌<◌, if◌then◌else◌, IfOk, IfErr, IfSome, MatchOption, None, OnOk, List, length, vec_len, vec_capacity};
 ghost use Rattle.std.specs.Option.{option_copied};
 ghost use Rattle.indexmap.specs.IndexMap.{IsUnchanged, index_map_len};
 ghost use Rattle.tree_batch.specs.declared.batch.Entry.{Entry};
@@ -10,8 +9,7 @@ ghost use Rattle.tree_batch.specs.Digraph.{graph_after};
 ghost use Rattle.version_list.specs.declared.error.VersionError.TheVariants.{VertexRange, NotHeld, HistoryFull, NoMemory};
 ghost use Rattle.version_list.specs.declared.step.Step.TheVariants.{Commit, Acquire, Release};
 ghost use Rattle.version_list.specs.declared.step.Reply.TheVariants as reply;
-ghost use Rattle.version_list.specs.Machine.{lacks_room, lacks_steps, newest_number, number_asked, version_graph};
-ghost use Rattle.version_list.specs.Machine.{is_kept, kept_graph, ticket_graph, ticket_version, is_open, reply_to};
+ghost use Rattle.version_list.specs.Machine.{lacks_room, lacks_steps, newest_number, number_asked, version_graph, is_kept, kept_graph, ticket_graph, ticket_version, is_open, reply_to};
 ghost use Rattle.version_list.specs.Timeline.{IsLegal, replay, Opens, Accepts, Answers, Runs};
 ghost use Rattle.version_list.specs.inside.Timeline.{Takes};
 ghost use Rattle.version_list.specs.Prepared.{IsPrepared, IsPreparedAcquire, Prepares};

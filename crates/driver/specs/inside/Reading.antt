@@ -4,9 +4,8 @@ use Rattle.std.specs.Global.{Vec}
 use Rattle.std.specs.declared.io.Error.{Error}
 use Rattle.plans.specs.declared.plan.Plan.{Plan}
 use Rattle.driver.specs.declared.error.ServeError.{ServeError}
-use Rattle.driver.specs.Reading.{FailsRead, HoldsPlan, IsNoProgram, HoldPrograms, LacksProgram}
+use Rattle.driver.specs.Reading.{FailsRead, HoldsPlan, IsNoProgram, HoldPrograms, LacksProgram, tree_of}
 use Rattle.driver.specs.declared.compiled_plan.CompiledPlan.{CompiledPlan}
-use Rattle.driver.specs.Reading.{tree_of}
 
 -- what is read of the file of this name
 abbrev pub ReadsWhole : (List ℕ → Type 0) → (Error → Type 0) → List ℕ → Result (Vec ℕ) ServeError → Type 0

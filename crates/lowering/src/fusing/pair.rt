@@ -3,8 +3,7 @@ ghost use Rattle.std.specs.Prelude.{◌≡◌, false, IfOk};
 ghost use Rattle.std.specs.Option.{option_map};
 ghost use Rattle.typed_tree.specs.BlockTree.{statement_kind_tree, block_tree};
 ghost use Rattle.typed_tree.specs.ProgramTree.{program_tree};
-ghost use Rattle.plans.specs.Fusing.{fusion_role_of, fused_edges as edges_done, is_with as does_fuse};
-ghost use Rattle.plans.specs.Fusing.{together as done_together, fused_vertices as vertices_done, with_next};
+ghost use Rattle.plans.specs.Fusing.{fusion_role_of, fused_edges as edges_done, is_with as does_fuse, together as done_together, fused_vertices as vertices_done, with_next};
 ghost use Rattle.plans.specs.inside.Parts.{edge_apply_tree, fused_pair_tree, vertex_apply_tree};
 
 use crate::fusing::applies::{edge_apply_of, vertex_apply_of};

@@ -4,10 +4,9 @@ use Rattle.lexer.specs.declared.keyword.Keyword.{Keyword}
 use Rattle.lexer.specs.declared.keyword.Keyword.TheVariants as keyword
 use Rattle.lexer.specs.declared.symbol.Symbol.TheVariants as symbol
 use Rattle.syntax.specs.Terminals.{Terminal, Identifier, OfKeyword, OfSymbol}
-use Rattle.syntax.specs.SourceTrees.{ExpressionTree}
+use Rattle.syntax.specs.SourceTrees.{ExpressionTree, StatementKindTree, Declare, While, For, If, IfElse, Print, BlockTree}
 use Rattle.syntax.specs.ExpressionReading.{Reader}
 use Rattle.syntax.specs.Nesting.{◌>>=◌}
-use Rattle.syntax.specs.SourceTrees.{StatementKindTree, Declare, While, For, If, IfElse, Print, BlockTree}
 use Rattle.syntax.specs.SourceReading.{expression, typed_at, assigned_at, ended_at, name_at, after_terminal, closed, no_block, block_at, action_by}
 use Rattle.parser.specs.declared.block.Opening.{Opening}
 use Rattle.parser.specs.declared.block.Opening.TheVariants as opening

@@ -7,9 +7,8 @@ use Rattle.algorithm_meaning.specs.Loop.{forget_beyond}
 use Rattle.algorithm_meaning.specs.declared.state.LoopCounter.{LoopCounter}
 use Rattle.plans.specs.Machine.{Configuration, At, Ended, faulty, act}
 use Rattle.plans.specs.declared.operation.PlanOperation.{PlanOperation}
-use Rattle.plans.specs.Operation.{IsFor}
+use Rattle.plans.specs.Operation.{IsFor, AreFunctionKernels}
 use Rattle.plans.specs.declared.functions.FunctionKernels.{FunctionKernels}
-use Rattle.plans.specs.Operation.{AreFunctionKernels}
 use Rattle.plans.specs.Instruction.{OperationTree}
 use Rattle.plans.specs.declared.instruction.Instruction.{Instruction}
 use Rattle.plans.specs.declared.operation.PlanOperation.TheVariants as op

@@ -4,13 +4,12 @@ use Rattle.std.specs.Borrow.{Bor}
 use Rattle.std.specs.Map.{lookup}
 use Rattle.typed_tree.specs.BlockTree.{BlockTree}
 use Rattle.schedule.specs.declared.site.Site.{Site}
-use Rattle.schedule.specs.Schedule.{site_of}
+use Rattle.schedule.specs.Schedule.{site_of, index_from}
 use Rattle.std.specs.Str.{bytes_eq}
 use Rattle.expression_types.specs.ScopeTree.{found}
 use Rattle.schedule.specs.declared.error.ScheduleRule.{ScheduleRule}
 use Rattle.schedule.specs.declared.error.ScheduleError.{ScheduleError}
 use Rattle.schedule.specs.declared.error.ScheduleError.TheVariants.{Faulty, NoMemory}
-use Rattle.schedule.specs.Schedule.{index_from}
 use Rattle.apply_options.specs.ScheduleTree.{ScheduleTree}
 
 abbrev pub first_of : {T : Type 0} → Option T → Option T → Option T

@@ -4,9 +4,8 @@ use Rattle.version_list.specs.Machine.{State}
 use Rattle.version_list.specs.Timeline.{Timeline}
 use Rattle.version_list.specs.declared.error.VersionError.{VersionError}
 use Rattle.version_list.specs.declared.error.VersionError.TheVariants.{VertexRange, BadChunkSize, NotKept, NotHeld, HistoryFull, NoMemory}
-use Rattle.shared_graph.specs.Histories.{ReaderState, Shows}
+use Rattle.shared_graph.specs.Histories.{ReaderState, Shows, steps_of, own, state_at}
 use Rattle.shared_graph.specs.declared.entry.Entry.{Entry}
-use Rattle.shared_graph.specs.Histories.{steps_of, own, state_at}
 
 -- the versions have the last entries of this history, those since the last trim, begin in its replay up to these, and stand in its replay
 pub record IsTimelineOf (base : State) (log : List Entry) (t : Timeline) : Type 0 where

@@ -5,8 +5,7 @@ use Rattle.edge_updates.specs.declared.edge_update.EdgeUpdate.{EdgeUpdate}
 use Rattle.edge_updates.specs.EdgeUpdate.{vertex_of, neighbour_of}
 use Rattle.weighted_updates.specs.WeightedUpdates.{weight_said}
 use Rattle.tree_batch.specs.declared.batch.Entry.{Entry}
-use Rattle.tree_batch.specs.Edge.{IsWithin, Ends, weight_in, IsAscending}
-use Rattle.tree_batch.specs.Edge.{named_by, made_by, weight_after}
+use Rattle.tree_batch.specs.Edge.{IsWithin, Ends, weight_in, IsAscending, named_by, made_by, weight_after}
 
 -- the ends that an entry names, if it names some, are below n
 abbrev pub NamesWithin : ℕ → Entry → Type 0

@@ -6,9 +6,8 @@ use Rattle.typed_tree.specs.ProgramTree.{ProgramTree, program_tree}
 use Rattle.apply_options.specs.ScheduleTree.{ScheduleTree}
 use Rattle.plans.specs.declared.functions.FunctionKernels.{FunctionKernels}
 use Rattle.plans.specs.declared.instruction.Instruction.{Instruction}
-use Rattle.plans.specs.Plan.{plan_of}
+use Rattle.plans.specs.Plan.{plan_of, ArePartsOf}
 use Rattle.plans.specs.inside.Lowered.{AreLowered}
-use Rattle.plans.specs.Plan.{ArePartsOf}
 use Rattle.plans.specs.Operation.{AreInstructions}
 use Rattle.lowering.proofs.PlanLines.{written_instructions}
 use Rattle.lowering.proofs.plan.lower.Goals as goal

@@ -1,8 +1,7 @@
 -- Proofs of `flags_of_end`, src/edge_apply.rt.
 use Rattle.std.proofs.Common.{map, slice_get}
 use Rattle.typed_tree.specs.FunctionStatementTree.{function_tree}
-use Rattle.algorithm_meaning.specs.Function.{result_of}
-use Rattle.algorithm_meaning.specs.Function.{steps_of}
+use Rattle.algorithm_meaning.specs.Function.{result_of, steps_of}
 use Rattle.algorithm_meaning.specs.Value.{members_of}
 use Rattle.plain_run.proofs.Flags.{flag_of_vertex, flag_of_member}
 use Rattle.plain_run.proofs.edge_apply.flags_of_end.Goals as goal

@@ -5,9 +5,8 @@ use Rattle.typed_tree.specs.BoolExpressionTree.{bool_expression_tree}
 use Rattle.typed_tree.specs.IntExpressionTree.{int_expression_tree}
 use Rattle.typed_tree.specs.ProgramTree.{program_tree}
 use Rattle.typed_tree.proofs.Chains.{bool_expression_tree-Connect}
-use Rattle.plan_text.specs.Expressions.{comparison_word, condition_words, connective_word, integer_words}
+use Rattle.plan_text.specs.Expressions.{comparison_word, condition_words, connective_word, integer_words, spaced}
 use Rattle.plan_text.specs.inside.Rows.{connected_words, times}
-use Rattle.plan_text.specs.Expressions.{spaced}
 use Rattle.plan_text.proofs.Rows.{bool_expression_tree-Not, words_connected, words_turned}
 use Rattle.plan_text.proofs.Spaces.{put_after, still_left}
 use Rattle.plan_text.proofs.expressions.+conditions.Goals as goal

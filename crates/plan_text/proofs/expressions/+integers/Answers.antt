@@ -4,9 +4,8 @@ use Rattle.std.proofs.lemmas.Result.{on_ok_weaker}
 use Rattle.typed_tree.specs.IntExpressionTree.{int_expression_tree}
 use Rattle.typed_tree.specs.ProgramTree.{program_tree}
 use Rattle.typed_tree.proofs.Chains.{int_expression_tree-Arithmetic}
-use Rattle.plan_text.specs.Expressions.{entry_word, integer_words, operator_word}
+use Rattle.plan_text.specs.Expressions.{entry_word, integer_words, operator_word, spaced}
 use Rattle.plan_text.specs.inside.Rows.{operand_words, times}
-use Rattle.plan_text.specs.Expressions.{spaced}
 use Rattle.plan_text.proofs.Rows.{int_expression_tree-Entry, int_expression_tree-Negative, words_negated, words_operands}
 use Rattle.plan_text.proofs.Spaces.{put_after, still_left}
 use Rattle.plan_text.proofs.expressions.+integers.Goals as goal

@@ -2,8 +2,7 @@
 use Rattle.std.proofs.Common.{◌≡◌, ◌∙◌, [], ap, subst, refl, sym, true, map, rules}
 use Rattle.clap.specs.Kinds.{HasKind}
 use Rattle.clap.specs.Words.{App, HasMatchesOf, app_of, fault_of, is_simple_and_free}
-use Rattle.requests.specs.Asked.{HasFewWorkers, found_request}
-use Rattle.requests.specs.Asked.{command_line}
+use Rattle.requests.specs.Asked.{HasFewWorkers, found_request, command_line}
 use Rattle.requests.proofs.Found.{few_workers, told, told_memory}
 use Rattle.requests.proofs.reading.request.Goals as goal
 

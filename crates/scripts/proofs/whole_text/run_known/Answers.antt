@@ -1,7 +1,6 @@
 -- Proofs of `run_known`, src/whole_text.rt.
 use Rattle.std.proofs.Common.{◌≡◌, ◌≤◌, ◌∙◌, ℕ, Bool, true, List, [], length, take, ap, sym, subst}
-use Rattle.scripts.specs.Script.{Input, input, bytes_written_by, RunsScript}
-use Rattle.scripts.specs.Script.{RunsText}
+use Rattle.scripts.specs.Script.{Input, input, bytes_written_by, RunsScript, RunsText}
 use Rattle.scripts.proofs.TextLaws.{unread, read, runs_text}
 use Rattle.scripts.proofs.whole_text.run_known.Goals as goal
 

@@ -1,7 +1,6 @@
 -- Proofs of `last_entry_decides`, src/laws.rt.
 use Rattle.std.proofs.Common.{unwrap_or, ◌∷◌, ◌++◌, ◌∙◌, ap}
-use Rattle.tree_batch.specs.Edge.{weight_in}
-use Rattle.tree_batch.specs.Edge.{vertices_after, weight_after}
+use Rattle.tree_batch.specs.Edge.{weight_in, vertices_after, weight_after}
 use Rattle.tree_batch.proofs.AllEdges.{weight_within}
 use Rattle.tree_batch.proofs.Deciding.{last_decides, none_decides}
 use Rattle.tree_batch.proofs.laws.last_entry_decides.Goals as goal

@@ -2,8 +2,7 @@ use Rattle.std.proofs.Common.{◌≡◌, ◌≤◌, [], length, take, vec_len}
 use Rattle.std.specs.Vec.{vec_capacity}
 use Rattle.edge_updates.specs.Weighted.{weighted}
 use Rattle.weighted_updates.specs.WeightedUpdates.{decided_weight}
-use Rattle.tree_batch.specs.Edge.{Ends}
-use Rattle.tree_batch.specs.Edge.{decision}
+use Rattle.tree_batch.specs.Edge.{Ends, decision}
 use Rattle.tree_batch.proofs.updates.unsorted.Given as goal
 
 abbrev pub invariant-loop-entry : goal.invariant-loop-entry

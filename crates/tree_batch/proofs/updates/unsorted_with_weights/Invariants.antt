@@ -1,8 +1,7 @@
 use Rattle.std.proofs.Common.{◌≡◌, ◌≤◌, length, take, vec_len}
 use Rattle.std.specs.Vec.{vec_capacity}
 use Rattle.weighted_updates.specs.WeightedUpdates.{decided_weight, pairs_in}
-use Rattle.tree_batch.specs.Edge.{Ends}
-use Rattle.tree_batch.specs.Edge.{decision}
+use Rattle.tree_batch.specs.Edge.{Ends, decision}
 use Rattle.tree_batch.proofs.updates.unsorted_with_weights.Given as goal
 
 abbrev pub invariant-loop-entry : goal.invariant-loop-entry

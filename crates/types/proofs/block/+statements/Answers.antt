@@ -12,8 +12,7 @@ use Rattle.expression_types.specs.ScopeTree.{Keeps, left}
 use Rattle.expression_types.proofs.Steps.{outcome_then}
 use Rattle.types.specs.Block.{action_typed, closed, statements_typed}
 use Rattle.types.specs.inside.Checker.{checker_of}
-use Rattle.types.specs.Checker.{counted, declared_in, integer_slot, labelled, with_scope}
-use Rattle.types.specs.Checker.{integer_in}
+use Rattle.types.specs.Checker.{counted, declared_in, integer_slot, labelled, with_scope, integer_in}
 use Rattle.types.proofs.BlockLaws.{while_typed, if_typed, if_else_typed, statement_on}
 use Rattle.types.proofs.Kept.{keeps_on, keeps_same, left_again}
 use Rattle.types.proofs.Sources as sources

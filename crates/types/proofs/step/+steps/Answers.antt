@@ -13,8 +13,7 @@ use Rattle.expression_types.specs.ScopeTree.{left}
 use Rattle.expression_types.proofs.Steps.{outcome_then}
 use Rattle.types.specs.Step.{no_step, step_typed, steps_after, steps_typed}
 use Rattle.types.specs.inside.Checker.{checker_of}
-use Rattle.types.specs.Checker.{declared_in, integer_slot, with_scope}
-use Rattle.types.specs.Checker.{integer_in}
+use Rattle.types.specs.Checker.{declared_in, integer_slot, with_scope, integer_in}
 use Rattle.types.proofs.StepLaws.{while_step, if_step, if_else_step, step_on}
 use Rattle.types.proofs.Kept.{keeps_on, keeps_same, left_again}
 use Rattle.types.proofs.Sources as sources

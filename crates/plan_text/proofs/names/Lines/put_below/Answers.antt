@@ -2,9 +2,8 @@
 use Rattle.std.proofs.Common.{◌∷◌, [], ◌++◌, codes, ap, ◌∙◌}
 use Rattle.std.proofs.lemmas.Result.{on_ok_weaker}
 use Rattle.typed_tree.specs.ProgramTree.{program_tree}
-use Rattle.plan_text.specs.Expressions.{name_at}
+use Rattle.plan_text.specs.Expressions.{name_at, bracketed, spaced}
 use Rattle.plan_text.specs.Lines.{end_name}
-use Rattle.plan_text.specs.Expressions.{bracketed, spaced}
 use Rattle.plan_text.proofs.Spaces.{absurd_cons, bracket_closed, put_after}
 use Rattle.plan_text.proofs.names.Lines.put_below.Goals as goal
 

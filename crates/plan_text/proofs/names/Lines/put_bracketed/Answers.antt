@@ -3,8 +3,7 @@ use Rattle.std.proofs.Common.{◌∷◌, [], ◌++◌, ap, ◌∙◌}
 use Rattle.std.proofs.lemmas.Result.{on_ok_weaker}
 use Rattle.typed_tree.specs.IntExpressionTree.{int_expression_tree}
 use Rattle.typed_tree.specs.ProgramTree.{program_tree}
-use Rattle.plan_text.specs.Expressions.{integer_words}
-use Rattle.plan_text.specs.Expressions.{spaced}
+use Rattle.plan_text.specs.Expressions.{integer_words, spaced}
 use Rattle.plan_text.proofs.Rows.{integer_words_some}
 use Rattle.plan_text.proofs.Spaces.{bracket_closed}
 use Rattle.plan_text.proofs.names.Lines.put_bracketed.Goals as goal

@@ -1,7 +1,6 @@
 use Rattle.std.proofs.Common.{◌≡◌, ◌++◌, drop, map}
 use Rattle.typed_tree.specs.ProgramTree.{program_tree}
-use Rattle.plan_text.specs.Expressions.{vector_at}
-use Rattle.plan_text.specs.Expressions.{spaced}
+use Rattle.plan_text.specs.Expressions.{vector_at, spaced}
 use Rattle.plan_text.proofs.names.Lines.put_vectors.Given as goal
 
 -- with what is left to put it is what was to be put

@@ -2,8 +2,7 @@
 use Rattle.std.proofs.Common.{ℤ, List, slice_get, refl, ap, sym, subst, ◌∙◌}
 use Rattle.std.specs.List.{filter}
 use Rattle.typed_tree.specs.ProgramTree.{ProgramTree}
-use Rattle.algorithm_meaning.specs.Function.{filtered, result_of}
-use Rattle.algorithm_meaning.specs.Function.{steps_of}
+use Rattle.algorithm_meaning.specs.Function.{filtered, result_of, steps_of}
 use Rattle.algorithm_meaning.specs.State.{GraphValue, StateValue}
 use Rattle.algorithm_meaning.specs.Value.{members_of}
 use Rattle.algorithm_meaning.specs.VertexSets.{members_for}
@@ -11,8 +10,7 @@ use Rattle.kernels.specs.Registers.{HasSizes}
 use Rattle.kernels.specs.declared.kernel.FilterKernel.{FilterKernel}
 use Rattle.kernels.specs.Kernels.{IsFilterKernel}
 use Rattle.plans.specs.declared.set_expression.SetExpression.{SetExpression}
-use Rattle.plans.specs.Operation.{AreFunctionKernels}
-use Rattle.plans.specs.Operation.{set_value}
+use Rattle.plans.specs.Operation.{AreFunctionKernels, set_value}
 use Rattle.vertex_sets.specs.VertexSet.{VertexSubset}
 use Rattle.run_state.specs.State.{RunState}
 use Rattle.run_state.proofs.Runs.{has_sizes, if_ok_more}

@@ -2,8 +2,7 @@
 use Rattle.std.proofs.Common.{◌≡◌, arith}
 use Rattle.std.proofs.lemmas.Grind.{common_steps}
 use Rattle.replies.specs.declared.line_reply.LineReply.TheVariants as line_reply
-use Rattle.replies.specs.ReplyText.{edges_text}
-use Rattle.replies.specs.ReplyText.{line_text}
+use Rattle.replies.specs.ReplyText.{edges_text, line_text}
 use Rattle.scripts.specs.Replies.{graph_of, listing_text}
 use Rattle.replies.proofs.SendingLaws.{emits_as}
 use Rattle.scripts.proofs.open_graph.OpenGraph.list.Goals as goal

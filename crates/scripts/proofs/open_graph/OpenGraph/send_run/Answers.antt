@@ -4,10 +4,9 @@ use Rattle.std.specs.Option.{option_map, IfSome}
 use Rattle.version_flats.specs.VersionFlats.{IsKept}
 use Rattle.replies.specs.declared.line_reply.LineReply.TheVariants as line_reply
 use Rattle.algorithm_meaning.specs.declared.outcome.Outcome.{Outcome}
-use Rattle.replies.specs.ReplyText.{outcome_text, is_fault}
+use Rattle.replies.specs.ReplyText.{outcome_text, is_fault, line_text}
 use Rattle.tree_batch.specs.Digraph.{Digraph}
 use Rattle.scripts.specs.Replies.{Answer, OpenState, graph_of, meaning_on, ran as ran_on}
-use Rattle.replies.specs.ReplyText.{line_text}
 use Rattle.scripts.proofs.ProgramLaws.{is_at}
 use Rattle.scripts.proofs.RunReplies.{on_ok_where, either_first, either_second, runs, runs_by_too_many, runs_nowhere}
 use Rattle.replies.proofs.SendingLaws.{emits_none, emits_as}
