@@ -121,7 +121,8 @@ edges_commute r vector v functions sets before by_one n first second =
     (all_or_none r (first.1 == v) (for_vector vector (all_give functions sets before first)) (by_one first))
     (all_or_none r (second.1 == v) (for_vector vector (all_give functions sets before second)) (by_one second))
 
-either_order : (r : Reduction) (functions : List FunctionStatementsTree) (sets : List SetBinding) (before : List (List ℤ)) (edges others : List Edge) (vectors : List (List ℤ)) (vector v : ℕ) (b : Bool)
+either_order : (r : Reduction) (functions : List FunctionStatementsTree) (sets : List SetBinding) (before : List (List ℤ)) (edges others : List Edge) (vectors : List (List ℤ)) (vector v : ℕ)
+    (b : Bool)
     → nat_lt v (length (slice_index_or vectors vector [])) ≡ b → IsGivenBy r vector functions sets before → IsPermutation edges others
     → entry (after_edges functions sets before edges vectors) vector v ≡ entry (after_edges functions sets before others vectors) vector v
 either_order r functions sets before edges others vectors vector v true is by_one same =

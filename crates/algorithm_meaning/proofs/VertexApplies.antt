@@ -1,7 +1,8 @@
 -- Vertex applies leave other vertices alone.
 use Rattle.std.proofs.Common.{◌≡◌, ℕ, ◌==◌, ℤ, Bool, true, false, cond, ◌||◌, List, [], ◌∷◌, ap, sym, ◌∙◌, refl}
 use Rattle.std.proofs.lemmas.Bool.{false≢true}
-use Rattle.typed_tree.specs.FunctionStatementTree.{FunctionStatementTree, DeclareInteger, DeclareCondition, SetInteger, SetCondition, ReduceInteger, SetEntry, ReduceEntry, If, IfElse, FunctionStatementsTree, NoStep, StepThen}
+use Rattle.typed_tree.specs.FunctionStatementTree.{FunctionStatementTree, DeclareInteger, DeclareCondition, SetInteger, SetCondition, ReduceInteger, SetEntry, ReduceEntry, If, IfElse}
+use Rattle.typed_tree.specs.FunctionStatementTree.{FunctionStatementsTree, NoStep, StepThen}
 use Rattle.algorithm_meaning.specs.declared.contribution.Writing.TheVariants.{AtOnce}
 use Rattle.algorithm_meaning.specs.declared.state.SetBinding.{SetBinding}
 use Rattle.algorithm_meaning.specs.Arithmetic.{reduced}
@@ -29,7 +30,8 @@ mutual
   source_after_step sets (If c body) w =
       either_source (truth w.vectors sets w.scope c) (after_block w (after_steps AtOnce sets body w)) w w.scope.source (source_after_steps sets body w) refl
   source_after_step sets (IfElse c body other) w =
-      either_source (truth w.vectors sets w.scope c) (after_block w (after_steps AtOnce sets body w)) (after_block w (after_steps AtOnce sets other w)) w.scope.source (source_after_steps sets body w) (source_after_steps sets other w)
+      either_source (truth w.vectors sets w.scope c) (after_block w (after_steps AtOnce sets body w)) (after_block w (after_steps AtOnce sets other w)) w.scope.source (source_after_steps sets body w)
+      (source_after_steps sets other w)
 
   source_after_steps : (sets : List SetBinding) (steps : FunctionStatementsTree) (w : WorkValue) → (after_steps AtOnce sets steps w).scope.source ≡ w.scope.source
   source_after_steps sets NoStep w = refl
@@ -55,7 +57,8 @@ mutual
   entry_after_step sets (If c body) w vector v apart =
       either_entry (truth w.vectors sets w.scope c) (after_block w (after_steps AtOnce sets body w)) w vector v (entry w.vectors vector v) (entry_after_steps sets body w vector v apart) refl
   entry_after_step sets (IfElse c body other) w vector v apart =
-      either_entry (truth w.vectors sets w.scope c) (after_block w (after_steps AtOnce sets body w)) (after_block w (after_steps AtOnce sets other w)) vector v (entry w.vectors vector v) (entry_after_steps sets body w vector v apart) (entry_after_steps sets other w vector v apart)
+      either_entry (truth w.vectors sets w.scope c) (after_block w (after_steps AtOnce sets body w)) (after_block w (after_steps AtOnce sets other w)) vector v (entry w.vectors vector v)
+      (entry_after_steps sets body w vector v apart) (entry_after_steps sets other w vector v apart)
 
   entry_after_steps : (sets : List SetBinding) (steps : FunctionStatementsTree) (w : WorkValue) (vector v : ℕ) → (w.scope.source == v) ≡ false
       → entry (after_steps AtOnce sets steps w).vectors vector v ≡ entry w.vectors vector v

@@ -1,5 +1,6 @@
 -- What operators give. An int is a number of 64 bits with a sign.
-use Rattle.std.specs.Prelude.{◌≡◌, zero, suc, ◌<◌, unsigned_abs, ℤ, pos, negsuc, neg_ℤ, ◌+ℤ◌, ◌-ℤ◌, ◌*ℤ◌, Bool, true, false, not, int_lt, ◌&&◌, ◌||◌, int_div, int_rem}
+use Rattle.std.specs.Prelude.{◌≡◌, zero, suc, ◌<◌, unsigned_abs, ℤ, pos, negsuc, neg_ℤ, ◌+ℤ◌, ◌-ℤ◌, ◌*ℤ◌, Bool, true, false, not, int_lt, ◌&&◌, ◌||◌, int_div}
+use Rattle.std.specs.Prelude.{int_rem}
 use Rattle.std.specs.Int.{int_wrap, int_min, int_max, w64}
 use Rattle.typed_tree.specs.declared.expression.Operator.{Operator}
 use Rattle.typed_tree.specs.declared.expression.Operator.TheVariants as operator

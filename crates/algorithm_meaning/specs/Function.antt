@@ -1,8 +1,10 @@
--- Statements of functions. One definition does for all functions: what a statement writes changes the vectors at once in a vertex function, and is collected in an edge function, which reads the vectors as they were.
+-- Statements of functions. One definition does for all functions: what a statement writes changes the vectors at once in a vertex function, and is collected in
+-- an edge function, which reads the vectors as they were.
 use Rattle.std.specs.Prelude.{ℕ, ℤ, List, [], ◌∷◌, ◌++◌, if◌then◌else◌, Option, Some, None, Bool, false, slice_index_or, slice_get}
 use Rattle.std.specs.List.{filter}
 use Rattle.apply_options.specs.declared.reduction.Reduction.{Reduction}
-use Rattle.typed_tree.specs.FunctionStatementTree.{FunctionStatementTree, DeclareInteger, DeclareCondition, SetInteger, SetCondition, ReduceInteger, SetEntry, ReduceEntry, If, IfElse, FunctionStatementsTree, NoStep, StepThen, FunctionTree}
+use Rattle.typed_tree.specs.FunctionStatementTree.{FunctionStatementTree, DeclareInteger, DeclareCondition, SetInteger, SetCondition, ReduceInteger, SetEntry}
+use Rattle.typed_tree.specs.FunctionStatementTree.{ReduceEntry, If, IfElse, FunctionStatementsTree, NoStep, StepThen, FunctionTree}
 use Rattle.algorithm_meaning.specs.declared.contribution.Contribution.{Contribution}
 use Rattle.algorithm_meaning.specs.declared.contribution.Writing.{Writing}
 use Rattle.algorithm_meaning.specs.declared.state.SetBinding.{SetBinding}

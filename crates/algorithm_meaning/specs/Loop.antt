@@ -38,7 +38,8 @@ abbrev pub take_turn : ℕ → StateValue → (StateValue → Stand) → Stand
 take_turn zero s go = Over s TurnsOver
 take_turn (suc n) s go = go (record s { turns = n })
 
--- A loop over a value that goes on to the next. As long as the test holds the body runs, and takes a turn. It is read with a number k that is no less than the turns that are left.
+-- A loop over a value that goes on to the next. As long as the test holds the body runs, and takes a turn. It is read with a number k that is no less than the
+-- turns that are left.
 abbrev pub loop : {A : Type 0} → (A → StateValue → Option Bool) → (A → StateValue → Stand) → (A → A) → (number k : ℕ) → A → StateValue → Stand
 loop test body next number zero a s =
     with_value (test a s) number s (λ b. choose b (Over s TurnsOver) (Live s))

@@ -190,7 +190,8 @@ cut_found k index xs s within is =
       back = sym (ap (above k) whole ∙ above_it k (drop (index + 1) xs) 0 (take index xs) up);
     }
 
-pub cut_missed : (k low index : ℕ) (xs : List ℕ) → AscendsFrom low xs → index ≤ length xs → ((i : ℕ) → i < index → get_or xs i 0 < k) → ((i : ℕ) → index ≤ i → i < length xs → k < get_or xs i 0) → Cuts k xs (take index xs) false (drop index xs)
+pub cut_missed : (k low index : ℕ) (xs : List ℕ) → AscendsFrom low xs → index ≤ length xs → ((i : ℕ) → i < index → get_or xs i 0 < k) → ((i : ℕ) → index ≤ i → i < length xs → k < get_or xs i 0)
+    → Cuts k xs (take index xs) false (drop index xs)
 cut_missed k low zero [] s le under over = record { front = refl; there = refl; back = refl }
 cut_missed k low zero (x ∷ xs) s le under over =
     let lt : k < x = over 0 (omega arith) (omega arith) in

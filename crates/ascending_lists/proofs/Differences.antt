@@ -61,14 +61,16 @@ back_only k low (x ∷ r) ys le s =
     ap (λ v. one_of (has x ys) x v) (back_only k (x + 1) r ys (omega arith) s.2) ∙ ap (λ h. one_of h x (difference r (above k ys))) (sym (has_above x k ys lt))
 
 -- cut at an element of the first
-pub difference_at : (k low : ℕ) (l r ys : List ℕ) → AscendsFrom low (l ++ k ∷ r) → difference (l ++ k ∷ r) ys ≡ difference l (below k ys) ++ (if has k ys then difference r (above k ys) else k ∷ difference r (above k ys))
+pub difference_at : (k low : ℕ) (l r ys : List ℕ) → AscendsFrom low (l ++ k ∷ r)
+    → difference (l ++ k ∷ r) ys ≡ difference l (below k ys) ++ (if has k ys then difference r (above k ys) else k ∷ difference r (above k ys))
 difference_at k low l r ys s =
     difference_append l (k ∷ r) ys
     ∙ ap (λ v. v ++ difference (k ∷ r) ys) (front_only k r low l ys s)
     ∙ ap (λ v. difference l (below k ys) ++ one_of (has k ys) k v) (back_only k (k + 1) r ys (omega arith) (after_it k r low l s))
 
 -- cut at an element of the second
-pub difference_by : (k low' : ℕ) (l r : List ℕ) → AscendsFrom low' (l ++ k ∷ r) → (low : ℕ) (xs : List ℕ) → AscendsFrom low xs → difference xs (l ++ k ∷ r) ≡ difference (below k xs) l ++ difference (above k xs) r
+pub difference_by : (k low' : ℕ) (l r : List ℕ) → AscendsFrom low' (l ++ k ∷ r) → (low : ℕ) (xs : List ℕ) → AscendsFrom low xs
+    → difference xs (l ++ k ∷ r) ≡ difference (below k xs) l ++ difference (above k xs) r
 difference_by k low' l r t low [] s = refl
 difference_by k low' l r t low (x ∷ xs) s =
     elim (cases_order x k) [

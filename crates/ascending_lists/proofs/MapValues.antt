@@ -6,7 +6,8 @@ use Rattle.ascending_lists.proofs.MapOrder.{lookup_below}
 
 module _ {V : Type 0} where
   -- after a first key that they share, two lists have the same values
-  values_after : (h : ℕ) (x y : ℕ × V) (xs ys : List (ℕ × V)) → x.0 ≡ y.0 → Rises (x.0 + 1) h xs → Rises (y.0 + 1) h ys → ((k : ℕ) → lookup k (x ∷ xs) ≡ lookup k (y ∷ ys)) → (j : ℕ) → lookup j xs ≡ lookup j ys
+  values_after : (h : ℕ) (x y : ℕ × V) (xs ys : List (ℕ × V)) → x.0 ≡ y.0 → Rises (x.0 + 1) h xs → Rises (y.0 + 1) h ys → ((k : ℕ) → lookup k (x ∷ xs) ≡ lookup k (y ∷ ys)) → (j : ℕ)
+      → lookup j xs ≡ lookup j ys
   values_after h x y xs ys e s t same j =
       elim (cases_eq x.0 j) [
         | inl here ↦ lookup_below (x.0 + 1) h xs j s (omega arith) ∙ sym (lookup_below (y.0 + 1) h ys j t (omega arith))

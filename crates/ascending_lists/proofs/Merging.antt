@@ -1,6 +1,7 @@
 -- Two lists that are merged element by element.
 use Rattle.std.specs.Int.{from_bool}
-use Rattle.std.proofs.Common.{◌≡◌, ℕ, ◌+◌, ◌<◌, ◌≤◌, Bool, true, false, ◌||◌, if◌then◌else◌, ltb, leb, ◌⊎◌, inl, inr, min, List, [], ◌∷◌, ◌++◌, length, take, drop, get_or, set, refl, sym, ◌∙◌, ap, append_assoc, length-drop, arith}
+use Rattle.std.proofs.Common.{◌≡◌, ℕ, ◌+◌, ◌<◌, ◌≤◌, Bool, true, false, ◌||◌, if◌then◌else◌, ltb, leb, ◌⊎◌, inl, inr, min, List, [], ◌∷◌, ◌++◌, length, take, drop, get_or, set, refl, sym, ◌∙◌, ap}
+use Rattle.std.proofs.Common.{append_assoc, length-drop, arith}
 use Rattle.std.proofs.Math.Seq.{take-append_seam}
 use Rattle.std.proofs.lemmas.Bool.{cases_order, cases_lt, lt-ltb, le-ltb, le-leb, lt-leb}
 use Rattle.std.proofs.lemmas.List.{append-nil, drop_more, take_more_set, take-set-le}
@@ -46,7 +47,8 @@ or_true true = refl
 or_true false = refl
 
 -- how many elements are taken of each list, and whether one is written
-module _ (op : Operation) (all : List ℕ) (xs ys list : List ℕ) (i j k : ℕ) (within : i < length xs) (within' : j < length ys) (room : k < length list) (m : IsMerging op all (take k list) (drop i xs) (drop j ys)) where
+module _ (op : Operation) (all : List ℕ) (xs ys list : List ℕ) (i j k : ℕ) (within : i < length xs) (within' : j < length ys) (room : k < length list)
+    (m : IsMerging op all (take k list) (drop i xs) (drop j ys)) where
   abbrev x : ℕ
   x = get_or xs i 0
 
@@ -85,7 +87,8 @@ module _ (op : Operation) (all : List ℕ) (xs ys list : List ℕ) (i j k : ℕ)
         | inl e ↦
             let low : min x y ≡ x = omega arith in
             rw (le-ltb x y (omega (arith, e)), le-leb x y (omega (arith, e)), le-leb y x (omega (arith, e)), low, or_false (takes_second op)) (record {
-              whole = ap (λ v. v ++ combined op (drop (i + 1) xs) (drop (j + 1) ys)) (put x (takes_second op)) ∙ append_assoc (take k list) (written (takes_second op) x) (combined op (drop (i + 1) xs) (drop (j + 1) ys))
+              whole = ap (λ v. v ++ combined op (drop (i + 1) xs) (drop (j + 1) ys)) (put x (takes_second op))
+              ∙ append_assoc (take k list) (written (takes_second op) x) (combined op (drop (i + 1) xs) (drop (j + 1) ys))
                   ∙ ap (λ v. take k list ++ v) (sym (equal op x y (drop (i + 1) xs) (drop (j + 1) ys) e left.2 right.2)) ∙ whole;
               left = later x (drop (i + 1) xs) left;
               right = later y (drop (j + 1) ys) right;
@@ -102,7 +105,8 @@ module _ (op : Operation) (all : List ℕ) (xs ys list : List ℕ) (i j k : ℕ)
           | inr gt ↦
               let low : min x y ≡ y = omega arith in
               rw (le-ltb x y (omega arith), lt-leb x y gt, le-leb y x (omega arith), low, or_false (takes_second op), none i, cells) (record {
-                whole = ap (λ v. v ++ combined op (x ∷ drop (i + 1) xs) (drop (j + 1) ys)) (put y (takes_second op)) ∙ append_assoc (take k list) (written (takes_second op) y) (combined op (x ∷ drop (i + 1) xs) (drop (j + 1) ys))
+                whole = ap (λ v. v ++ combined op (x ∷ drop (i + 1) xs) (drop (j + 1) ys)) (put y (takes_second op))
+                ∙ append_assoc (take k list) (written (takes_second op) y) (combined op (x ∷ drop (i + 1) xs) (drop (j + 1) ys))
                     ∙ ap (λ v. take k list ++ v) (sym (greater op x y (drop (i + 1) xs) (drop (j + 1) ys) gt left)) ∙ whole;
                 left = left;
                 right = later y (drop (j + 1) ys) right;
@@ -111,13 +115,15 @@ module _ (op : Operation) (all : List ℕ) (xs ys list : List ℕ) (i j k : ℕ)
       ]
 
   -- what is left to write
-  pub less_left : k + from_bool (takes_second op || ltb x y) + most op (length (drop (i + from_bool (leb x y)) xs)) (length (drop (j + from_bool (leb y x)) ys)) ≤ k + most op (length (drop i xs)) (length (drop j ys))
+  pub less_left : k + from_bool (takes_second op || ltb x y) + most op (length (drop (i + from_bool (leb x y)) xs)) (length (drop (j + from_bool (leb y x)) ys)) ≤ k + most op (length (drop i xs))
+      (length (drop j ys))
   less_left =
       let n = length-drop i xs in
       let n' = length-drop (i + 1) xs in
       let m = length-drop j ys in
       let m' = length-drop (j + 1) ys in
-      elim op as (λ o. k + from_bool (takes_second o || ltb x y) + most o (length (drop (i + from_bool (leb x y)) xs)) (length (drop (j + from_bool (leb y x)) ys)) ≤ k + most o (length (drop i xs)) (length (drop j ys))) [
+      elim op as (λ o. k + from_bool (takes_second o || ltb x y) + most o (length (drop (i + from_bool (leb x y)) xs)) (length (drop (j + from_bool (leb y x)) ys)) ≤ k + most o (length (drop i xs))
+      (length (drop j ys))) [
         | Union ↦ elim (cases_lt y x) [
           | inl gt ↦ rw (lt-leb x y gt, le-leb y x (omega arith), none i) (omega (arith, n, m, m'))
           | inr le ↦ elim (cases_lt x y) [

@@ -81,7 +81,8 @@ module _ (b : ℕ) where
   append_nothing : (p r : List (ℕ × ℤ)) → r ≡ [] → p ++ r ≡ p
   append_nothing p r e = rw e (append-nil p)
 
-  tail_again : (c : ℕ × HeadValue) (cs : List (ℕ × HeadValue)) → IsChunk b c → All (IsChunk b) cs → (c.0, head_value c.1.weight (based_list (Some c.0) (before_head b (c.1.tail.entries ++ entries_of cs)))) ≡ c
+  tail_again : (c : ℕ × HeadValue) (cs : List (ℕ × HeadValue)) → IsChunk b c → All (IsChunk b) cs
+      → (c.0, head_value c.1.weight (based_list (Some c.0) (before_head b (c.1.tail.entries ++ entries_of cs)))) ≡ c
   tail_again (k, v) cs is each =
       let e : before_head b (v.tail.entries ++ entries_of cs) ≡ v.tail.entries =
       before_more v.tail.entries (entries_of cs) is.tail ∙ append_nothing v.tail.entries _ (before_chunks cs each) in

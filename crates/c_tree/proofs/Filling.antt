@@ -1,5 +1,6 @@
 -- Blocks that are filled from the front, column by column.
-use Rattle.std.proofs.Common.{◌≡◌, ℕ, ℤ, ◌+◌, ◌-◌, ◌<◌, ◌≤◌, inl, inr, min, List, [], ◌∷◌, ◌++◌, map, length, take, drop, set, refl, sym, ◌∙◌, ap, add-one, append_assoc, length-append, length-drop, arith}
+use Rattle.std.proofs.Common.{◌≡◌, ℕ, ℤ, ◌+◌, ◌-◌, ◌<◌, ◌≤◌, inl, inr, min, List, [], ◌∷◌, ◌++◌, map, length, take, drop, set, refl, sym, ◌∙◌, ap, add-one, append_assoc, length-append, length-drop}
+use Rattle.std.proofs.Common.{arith}
 use Rattle.std.proofs.Math.Seq.{take-add}
 use Rattle.std.proofs.lemmas.Bool.{cases_lt}
 use Rattle.std.proofs.lemmas.List.{drop-drop, drop_at, take_at, drop_all, drop-append-le, take-append-le, length-take-le, length-map, map-append, drop-map, set_split}
@@ -35,7 +36,8 @@ module _ {X : Type 0} (f : ℕ × ℤ → X) where
         ]
 
   -- more entries were read
-  pub filled_more : (n : ℕ) (whole t others : List (ℕ × ℤ)) (old block : List X) (m : ℕ) (rest : List (ℕ × ℤ)) (new : List X) → IsFilled n whole (t ++ others) old block → m ≡ min (length block - n) (length t) → new ≡ take n block ++ (take m (map f t) ++ drop (n + m) block) → rest ≡ drop m t → IsFilled (n + m) whole (rest ++ others) old new
+  pub filled_more : (n : ℕ) (whole t others : List (ℕ × ℤ)) (old block : List X) (m : ℕ) (rest : List (ℕ × ℤ)) (new : List X) → IsFilled n whole (t ++ others) old block
+      → m ≡ min (length block - n) (length t) → new ≡ take n block ++ (take m (map f t) ++ drop (n + m) block) → rest ≡ drop m t → IsFilled (n + m) whole (rest ++ others) old new
   filled_more n whole t others old block m rest new filled fits is left =
       let some : m ≤ length t = omega arith in
       let front : take n block ≡ take n (map f whole) = filled_front n whole (t ++ others) old block filled in
@@ -44,7 +46,8 @@ module _ {X : Type 0} (f : ℕ × ℤ → X) where
       let next : drop n (map f whole) ≡ map f t ++ map f others =
       drop-map f n whole ∙ ap (map f) (sym filled.left) ∙ map-append f t others in
       let more : take (n + m) (map f whole) ≡ take n (map f whole) ++ take m (map f t) =
-      take-add n m (map f whole) ∙ ap (λ v. take n (map f whole) ++ take m v) next ∙ ap (λ v. take n (map f whole) ++ v) (take-append-le m (map f t) (map f others) (omega (arith, some, length-map t f))) in
+      take-add n m (map f whole) ∙ ap (λ v. take n (map f whole) ++ take m v) next
+      ∙ ap (λ v. take n (map f whole) ++ v) (take-append-le m (map f t) (map f others) (omega (arith, some, length-map t f))) in
       let after : rest ++ others ≡ drop (n + m) whole =
       ap (λ v. v ++ others) left ∙ sym (drop-append-le m t others some) ∙ ap (drop m) filled.left ∙ drop-drop m n whole in
       let long : length (t ++ others) ≡ length whole - n = ap length filled.left ∙ length-drop n whole in
@@ -55,16 +58,19 @@ module _ {X : Type 0} (f : ℕ × ℤ → X) where
         within = omega (arith, filled.within, length-append t others);
       }
 
-  pub filled_one : (n : ℕ) (whole : List (ℕ × ℤ)) (e : ℕ × ℤ) (others : List (ℕ × ℤ)) (old block new : List X) → IsFilled n whole (e ∷ others) old block → n < length block → new ≡ set block n (f e) → IsFilled (n + 1) whole others old new
+  pub filled_one : (n : ℕ) (whole : List (ℕ × ℤ)) (e : ℕ × ℤ) (others : List (ℕ × ℤ)) (old block new : List X) → IsFilled n whole (e ∷ others) old block → n < length block → new ≡ set block n (f e)
+      → IsFilled (n + 1) whole others old new
   filled_one n whole e others old block new filled lt is =
       filled_more n whole (e ∷ []) others old block 1 [] new filled (omega arith) (is ∙ set_split block n (f e) lt ∙ rw add-one refl) refl
 
-  pub filled_read : (n : ℕ) (whole t others : List (ℕ × ℤ)) (old block : List X) (next : ℕ) (rest : List (ℕ × ℤ)) (new : List X) → IsFilled n whole (t ++ others) old block → IsRead f n t block next rest new → IsFilled next whole (rest ++ others) old new
+  pub filled_read : (n : ℕ) (whole t others : List (ℕ × ℤ)) (old block : List X) (next : ℕ) (rest : List (ℕ × ℤ)) (new : List X) → IsFilled n whole (t ++ others) old block
+      → IsRead f n t block next rest new → IsFilled next whole (rest ++ others) old new
   filled_read n whole t others old block next rest new filled r =
       rw r.after (filled_more n whole t others old block r.count rest new filled r.fits r.block r.left)
 
   -- where the block is not full, the tail was read whole
-  pub read_whole : (n : ℕ) (t : List (ℕ × ℤ)) (old : List X) (next : ℕ) (rest : List (ℕ × ℤ)) (new : List X) → n ≤ length old → IsRead f n t old next rest new → length new ≡ length old → next < length new → rest ≡ []
+  pub read_whole : (n : ℕ) (t : List (ℕ × ℤ)) (old : List X) (next : ℕ) (rest : List (ℕ × ℤ)) (new : List X) → n ≤ length old → IsRead f n t old next rest new → length new ≡ length old
+      → next < length new → rest ≡ []
   read_whole n t old next rest new room r same lt =
       let all : length t ≤ r.count = omega (arith, r.fits, r.after) in
       r.left ∙ drop_all r.count t all

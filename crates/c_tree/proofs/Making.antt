@@ -48,7 +48,8 @@ module _ (b : ℕ) (list : List (ℕ × ℤ)) (h : ℕ × ℤ) (after next : Lis
   pub next_shorter : length next < length list
   next_shorter = rw (is, cells) (omega (arith, from_head_shorter b after))
 
-  pub one_chunk : (vs new : List (ℕ × HeadValue)) (v : HeadValue) (es : List (ℕ × ℤ)) → before_head b list ≡ [] → v ≡ head_value h.1 (based_list (Some h.0) (before_head b after)) → new ≡ vs ++ (h.0, v) ∷ [] → vs ++ chunks_of b list ≡ chunks_of b es → new ++ chunks_of b next ≡ chunks_of b es
+  pub one_chunk : (vs new : List (ℕ × HeadValue)) (v : HeadValue) (es : List (ℕ × ℤ)) → before_head b list ≡ [] → v ≡ head_value h.1 (based_list (Some h.0) (before_head b after))
+      → new ≡ vs ++ (h.0, v) ∷ [] → vs ++ chunks_of b list ≡ chunks_of b es → new ++ chunks_of b next ≡ chunks_of b es
   one_chunk vs new v es cut at_head more whole =
       let head = head_first b h after (ap (before_head b) (sym cells) ∙ cut) in
       let rest : chunks_of b next ≡ chunks_of b after = ap (chunks_of b) is ∙ chunks_from_head b after in

@@ -67,7 +67,8 @@ no_chunk b loose t part e =
 pub only_loose : (b : ℕ) (loose : BasedList) (cs : List (ℕ × HeadValue)) → IsPart b loose cs → HasNoHead b (together loose cs) → loose.entries ≡ together loose cs
 only_loose b loose [] part none = sym (append-nil loose.entries)
 only_loose b loose (c ∷ cs) part none =
-    let later : HasNoHead b (entries_of (c ∷ cs)) = all_right (λ k. is_head b k ≡ false) (keys_of loose.entries) (keys_of (entries_of (c ∷ cs))) (rw (← keys_append loose.entries (entries_of (c ∷ cs))) none) in
+    let later : HasNoHead b (entries_of (c ∷ cs)) = all_right (λ k. is_head b k ≡ false) (keys_of loose.entries) (keys_of (entries_of (c ∷ cs)))
+    (rw (← keys_append loose.entries (entries_of (c ∷ cs))) none) in
     let plain : is_head b c.0 ≡ false = All-head (λ k. is_head b k ≡ false) c.0 (keys_of (c.1.tail.entries ++ entries_of cs)) later in
     absurd (both_ways (is_head b c.0) plain (All-head (IsChunk b) c cs part.each).head)
 
@@ -92,7 +93,8 @@ pub loose_part : (b : ℕ) (loose : BasedList) → Ascends None (keys_of loose.e
 loose_part b loose s none = record { ascending = rw (append-nil loose.entries) s; front = none; each = All-nil (IsChunk b) }
 
 -- pieces with a head between them
-module _ (b : ℕ) (p : BasedList) (ps : List (ℕ × HeadValue)) (k : ℕ) (w : ℤ) (q : BasedList) (qs : List (ℕ × HeadValue)) (left : IsPart b p ps) (right : IsPart b q qs) (head : is_head b k ≡ true) (s : Ascends None (keys_of (together p ps ++ (k, w) ∷ together q qs))) where
+module _ (b : ℕ) (p : BasedList) (ps : List (ℕ × HeadValue)) (k : ℕ) (w : ℤ) (q : BasedList) (qs : List (ℕ × HeadValue)) (left : IsPart b p ps) (right : IsPart b q qs) (head : is_head b k ≡ true)
+    (s : Ascends None (keys_of (together p ps ++ (k, w) ∷ together q qs))) where
   abbrev at_head : HeadValue
   at_head = head_value w (based_list (Some k) q.entries)
 
@@ -127,12 +129,15 @@ module _ (b : ℕ) (p : BasedList) (ps qs : List (ℕ × HeadValue)) (left : IsP
   more_part = record { ascending = rw (together_more p ps qs) s; front = left.front; each = all_append (IsChunk b) ps qs left.each right }
 
 -- parts as values, with a head between them
-pub over_head : (front : List (ℕ × ℤ)) (k : ℕ) (w : ℤ) (o : ChunkedSet) (b : ℕ) (q : BasedList) (qs : Balanced HeadValue) → in_chunks b q qs ≡ o → Ascends None (keys_of (front ++ (k, w) ∷ o.entries)) → Ascends (Some k) (keys_of q.entries)
+pub over_head : (front : List (ℕ × ℤ)) (k : ℕ) (w : ℤ) (o : ChunkedSet) (b : ℕ) (q : BasedList) (qs : Balanced HeadValue) → in_chunks b q qs ≡ o → Ascends None (keys_of (front ++ (k, w) ∷ o.entries))
+    → Ascends (Some k) (keys_of q.entries)
 over_head front k w o b q qs e s =
     let t : Ascends None (keys_of (front ++ (k, w) ∷ together q qs.entries)) = rw (ap (λ (v : ChunkedSet). v.entries) e) s in
     keys_front (k + 1) q.entries (entries_of qs.entries) (keys_after (k, w) (together q qs.entries) 0 front t)
 
-module _ (b b' : ℕ) (p : BasedList) (ps : Balanced HeadValue) (k : ℕ) (w : ℤ) (q : BasedList) (qs : Balanced HeadValue) (left : IsPart b p ps.entries) (right : IsPart b' q qs.entries) (s o : ChunkedSet) (e : in_chunks b p ps ≡ s) (f : in_chunks b' q qs ≡ o) (sizes : o.chunk_size ≡ s.chunk_size) (head : is_head s.chunk_size k ≡ true) (up : Ascends None (keys_of (s.entries ++ (k, w) ∷ o.entries))) (v : HeadValue) (is : v ≡ head_value w (based_list (Some k) q.entries)) where
+module _ (b b' : ℕ) (p : BasedList) (ps : Balanced HeadValue) (k : ℕ) (w : ℤ) (q : BasedList) (qs : Balanced HeadValue) (left : IsPart b p ps.entries) (right : IsPart b' q qs.entries)
+    (s o : ChunkedSet) (e : in_chunks b p ps ≡ s) (f : in_chunks b' q qs ≡ o) (sizes : o.chunk_size ≡ s.chunk_size) (head : is_head s.chunk_size k ≡ true)
+    (up : Ascends None (keys_of (s.entries ++ (k, w) ∷ o.entries))) (v : HeadValue) (is : v ≡ head_value w (based_list (Some k) q.entries)) where
   same_size : b' ≡ b
   same_size = ap (λ (c : ChunkedSet). c.chunk_size) f ∙ sizes ∙ sym (ap (λ (c : ChunkedSet). c.chunk_size) e)
 
@@ -162,7 +167,9 @@ module _ (b b' : ℕ) (p : BasedList) (ps : Balanced HeadValue) (k : ℕ) (w : �
       })
 
 -- parts after parts, of which the first have all that stands before the heads of the second
-module _ (b b' : ℕ) (p : BasedList) (ps : Balanced HeadValue) (q : BasedList) (qs : Balanced HeadValue) (left : IsPart b p ps.entries) (right : IsPart b' q qs.entries) (s o front : ChunkedSet) (f : in_chunks b' q qs ≡ o) (sizes : o.chunk_size ≡ s.chunk_size) (up : Ascends None (keys_of (s.entries ++ o.entries))) (e : in_chunks b p ps ≡ front) (is : IsSetOf (s.entries ++ q.entries) s.chunk_size front) where
+module _ (b b' : ℕ) (p : BasedList) (ps : Balanced HeadValue) (q : BasedList) (qs : Balanced HeadValue) (left : IsPart b p ps.entries) (right : IsPart b' q qs.entries) (s o front : ChunkedSet)
+    (f : in_chunks b' q qs ≡ o) (sizes : o.chunk_size ≡ s.chunk_size) (up : Ascends None (keys_of (s.entries ++ o.entries))) (e : in_chunks b p ps ≡ front)
+    (is : IsSetOf (s.entries ++ q.entries) s.chunk_size front) where
   size_one : b ≡ s.chunk_size
   size_one = ap (λ (c : ChunkedSet). c.chunk_size) e ∙ is.chunk_size
 
@@ -189,7 +196,8 @@ module _ (b b' : ℕ) (p : BasedList) (ps : Balanced HeadValue) (q : BasedList) 
       rw made (record { entries = rw d (together_more p ps.entries qs.entries ∙ whole_two); chunk_size = size_one })
 
 -- more entries may stand before the heads of parts that come after others
-pub more_ascends : (es : List (ℕ × ℤ)) (o : ChunkedSet) (b : ℕ) (q : BasedList) (qs : Balanced HeadValue) → in_chunks b q qs ≡ o → Ascends None (keys_of (es ++ o.entries)) → Ascends None (keys_of (es ++ q.entries))
+pub more_ascends : (es : List (ℕ × ℤ)) (o : ChunkedSet) (b : ℕ) (q : BasedList) (qs : Balanced HeadValue) → in_chunks b q qs ≡ o → Ascends None (keys_of (es ++ o.entries))
+    → Ascends None (keys_of (es ++ q.entries))
 more_ascends es o b q qs e s =
     let t : Ascends None (keys_of (es ++ together q qs.entries)) = rw (ap (λ (c : ChunkedSet). c.entries) e) s in
     keys_front 0 (es ++ q.entries) (entries_of qs.entries) (rw (append_assoc es q.entries (entries_of qs.entries)) t)
@@ -205,7 +213,8 @@ module _ (s l : ChunkedSet) (k : ℕ) (w : ℤ) (r : ChunkedSet) (root : IsRoot 
   pub more_join : Ascends None (keys_of (l.entries ++ (k, w) ∷ (r.entries ++ more)))
   more_join = ascends_from 0 (least base) (keys_of (l.entries ++ (k, w) ∷ (r.entries ++ more))) (omega arith) (rw with_root at up)
 
-  pub more_whole : (right new : ChunkedSet) → IsSetOf (r.entries ++ more) r.chunk_size right → IsSetOf (l.entries ++ (k, w) ∷ right.entries) l.chunk_size new → IsSetOf (s.entries ++ more) s.chunk_size new
+  pub more_whole : (right new : ChunkedSet) → IsSetOf (r.entries ++ more) r.chunk_size right → IsSetOf (l.entries ++ (k, w) ∷ right.entries) l.chunk_size new
+      → IsSetOf (s.entries ++ more) s.chunk_size new
   more_whole right new e f = record {
     entries = f.entries ∙ ap (λ v. l.entries ++ (k, w) ∷ v) e.entries ∙ sym with_root;
     chunk_size = f.chunk_size ∙ root.left_size;

@@ -23,7 +23,8 @@ least_after-joined : (e : ℕ × ℤ) (r : List (ℕ × ℤ)) (low : ℕ) (l : L
 least_after-joined e r low [] = refl
 least_after-joined e r low (x ∷ l) = least_after-joined e r (x.0 + 1) l
 
-module _ (prefix : BasedList) (t l : Balanced HeadValue) (k : ℕ) (v : HeadValue) (r : Balanced HeadValue) (fork : IsFork t l k v r) (ascending : Ascends prefix.base (keys_of (together prefix t.entries))) (over : All StandsOverItsHead t.entries) where
+module _ (prefix : BasedList) (t l : Balanced HeadValue) (k : ℕ) (v : HeadValue) (r : Balanced HeadValue) (fork : IsFork t l k v r)
+    (ascending : Ascends prefix.base (keys_of (together prefix t.entries))) (over : All StandsOverItsHead t.entries) where
   whole : together prefix t.entries ≡ together prefix l.entries ++ (k, v.weight) ∷ together v.tail r.entries
   whole = ap (together prefix) fork.entries ∙ together_at prefix l.entries k v r.entries
 
@@ -60,13 +61,16 @@ module _ (prefix : BasedList) (t l : Balanced HeadValue) (k : ℕ) (v : HeadValu
       (omega (arith, all, length-append l.entries ((k, v) ∷ r.entries)), omega (arith, all, length-append l.entries ((k, v) ∷ r.entries)))
 
   -- the bytes of the left side, of the head, and of what stands after it
-  module _ (front : BasedList) (bytes own : List ℕ) (left : SpellsUpTo prefix.base (together prefix l.entries) front bytes) (fits : weight_number v.weight < 2 ^ 64) (entry : SpellsNumbers (entry_numbers (k - least_after (least front.base) (keys_of front.entries)) v.weight) own) where
-    pub spelled_whole : (more : List ℕ) (last : BasedList) → SpellsUpTo v.tail.base (together v.tail r.entries) last more → SpellsUpTo prefix.base (together prefix t.entries) last (bytes ++ (own ++ more))
+  module _ (front : BasedList) (bytes own : List ℕ) (left : SpellsUpTo prefix.base (together prefix l.entries) front bytes) (fits : weight_number v.weight < 2 ^ 64)
+      (entry : SpellsNumbers (entry_numbers (k - least_after (least front.base) (keys_of front.entries)) v.weight) own) where
+    pub spelled_whole : (more : List ℕ) (last : BasedList) → SpellsUpTo v.tail.base (together v.tail r.entries) last more
+    → SpellsUpTo prefix.base (together prefix t.entries) last (bytes ++ (own ++ more))
     spelled_whole more last right =
         let after : least v.tail.base ≡ k + 1 = ap least root_over in
         rw whole
         (record {
-          spells = spells-joined (least prefix.base) (together prefix l.entries) (k, v.weight) (together v.tail r.entries) bytes own more left.spells root_fits.0 root_fits.1 fits (rw left.after at entry) (rw after at right.spells);
+          spells = spells-joined (least prefix.base) (together prefix l.entries) (k, v.weight) (together v.tail r.entries) bytes own more left.spells root_fits.0 root_fits.1 fits
+          (rw left.after at entry) (rw after at right.spells);
           after = right.after ∙ ap (λ n. least_after n (keys_of (together v.tail r.entries))) after ∙ sym_after;
         })
       where
@@ -78,6 +82,8 @@ three : (old one two new a b c : List ℕ) → one ≡ old ++ a → two ≡ one 
 three old one two new a b c is is' is'' =
     is'' ∙ ap (λ v. v ++ c) (is' ∙ ap (λ v. v ++ b) is) ∙ append_assoc (old ++ a) b c ∙ append_assoc old a (b ++ c)
 
-pub appended_after : {T E : Type 0} (P Q : T → List ℕ → Type 0) (old one two a b : List ℕ) → one ≡ old ++ a → two ≡ one ++ b → (x : Result T E) (new : List ℕ) → IsAppended two x P new → ((t : T) (c : List ℕ) → P t c → Q t (a ++ (b ++ c))) → IsAppended old x Q new
-appended_after P Q old one two a b is is' (Ok t) new last so = record { more = a ++ (b ++ last.more); behind = three old one two new a b last.more is is' last.behind; bytes = so t last.more last.bytes }
+pub appended_after : {T E : Type 0} (P Q : T → List ℕ → Type 0) (old one two a b : List ℕ) → one ≡ old ++ a → two ≡ one ++ b → (x : Result T E) (new : List ℕ) → IsAppended two x P new
+    → ((t : T) (c : List ℕ) → P t c → Q t (a ++ (b ++ c))) → IsAppended old x Q new
+appended_after P Q old one two a b is is' (Ok t) new last so = record { more = a ++ (b ++ last.more); behind = three old one two new a b last.more is is' last.behind; bytes =
+    so t last.more last.bytes }
 appended_after P Q old one two a b is is' (Err e) new last so = record { more = a ++ (b ++ last.more); behind = three old one two new a b last.more is is' last.behind; bytes = tt }

@@ -28,7 +28,8 @@ module _ {X : Type 0} (P : X → Type 0) where
   all_right (x ∷ xs) ys each = all_right xs ys (All-tail P x (xs ++ ys) each)
 
 -- chunks on both sides of one
-pub together_at : (prefix : BasedList) (l : List (ℕ × HeadValue)) (k : ℕ) (v : HeadValue) (r : List (ℕ × HeadValue)) → together prefix (l ++ (k, v) ∷ r) ≡ together prefix l ++ (k, v.weight) ∷ together v.tail r
+pub together_at : (prefix : BasedList) (l : List (ℕ × HeadValue)) (k : ℕ) (v : HeadValue) (r : List (ℕ × HeadValue))
+    → together prefix (l ++ (k, v) ∷ r) ≡ together prefix l ++ (k, v.weight) ∷ together v.tail r
 together_at prefix l k v r =
     ap (λ es. prefix.entries ++ es) (entries_append l ((k, v) ∷ r))
     ∙ sym (append_assoc prefix.entries (entries_of l) ((k, v.weight) ∷ (v.tail.entries ++ entries_of r)))
@@ -41,7 +42,8 @@ pub record IsWhere (k : ℕ) (whole es : List (ℕ × ℤ)) : Type 0 where
 pub starts : (k : ℕ) (whole es : List (ℕ × ℤ)) → es ≡ whole → Ascends None (keys_of es) → IsWhere k whole es
 starts k whole es same up = record { map = entries_rise 0 es (omega arith) up; same = ap (lookup k) same }
 
-module _ (k : ℕ) (whole : List (ℕ × ℤ)) (tail : BasedList) (t l : Balanced HeadValue) (h : ℕ) (v : HeadValue) (r : Balanced HeadValue) (fork : IsFork t l h v r) (is : IsWhere k whole (together tail t.entries)) where
+module _ (k : ℕ) (whole : List (ℕ × ℤ)) (tail : BasedList) (t l : Balanced HeadValue) (h : ℕ) (v : HeadValue) (r : Balanced HeadValue) (fork : IsFork t l h v r)
+    (is : IsWhere k whole (together tail t.entries)) where
   es : List (ℕ × ℤ)
   es = together tail l.entries
 
@@ -73,7 +75,8 @@ module _ (k : ℕ) (whole : List (ℕ × ℤ)) (tail : BasedList) (t l : Balance
   at_head e = sym (ap (λ j. lookup j (es ++ (h, v.weight) ∷ rs)) e ∙ lookup_here 0 (2 ^ 32) es h v.weight rs is'.map) ∙ is'.same
 
 -- where no chunk is left, what is at a key stands in the tail
-pub stands_in_tail : (k : ℕ) (whole : List (ℕ × ℤ)) (tail : BasedList) (t : Balanced HeadValue) (found : Option ℤ) → t ≡ empty → IsWhere k whole (together tail t.entries) → found ≡ lookup k tail.entries → found ≡ lookup k whole
+pub stands_in_tail : (k : ℕ) (whole : List (ℕ × ℤ)) (tail : BasedList) (t : Balanced HeadValue) (found : Option ℤ) → t ≡ empty → IsWhere k whole (together tail t.entries)
+    → found ≡ lookup k tail.entries → found ≡ lookup k whole
 stands_in_tail k whole tail t found none is held =
     let list : together tail t.entries ≡ tail.entries =
     ap (λ (d : Balanced HeadValue). together tail d.entries) none ∙ append-nil tail.entries in

@@ -6,7 +6,8 @@ use Rattle.std.proofs.lemmas.List.Elements.{All-nil, All-cons}
 use Rattle.std.specs.List.{All, AllByRecursion, list_all}
 use Rattle.schedule.specs.Reduction.{Reduction}
 use Rattle.schedule.specs.Reduction.TheVariants.{Min}
-use Rattle.schedule.specs.FunctionStatementTree.{FunctionTree, FunctionStatementTree, DeclareInteger, DeclareCondition, SetInteger, SetCondition, ReduceInteger, SetEntry, ReduceEntry, If, IfElse, FunctionStatementsTree, NoStep, StepThen}
+use Rattle.schedule.specs.FunctionStatementTree.{FunctionTree, FunctionStatementTree, DeclareInteger, DeclareCondition, SetInteger, SetCondition, ReduceInteger, SetEntry, ReduceEntry, If, IfElse}
+use Rattle.schedule.specs.FunctionStatementTree.{FunctionStatementsTree, NoStep, StepThen}
 use Rattle.schedule.specs.ProgramTree.{ProgramTree}
 use Rattle.types.specs.EdgeWrites.{StepReduces, StepsReduce, ReducesInOneWay, SetsNoEntry}
 use Rattle.parser.specs.SourceTrees.{SourceTree}
@@ -49,7 +50,9 @@ either_given : (P : ℕ → Reduction → Type 0) (b : Bool) (v w : WorkValue) �
 either_given P true v w h k = h
 either_given P false v w h k = k
 
-module _ (P : ℕ → Reduction → Type 0) (sets : List SetBinding) (writing : _) (sets_nothing : (vector : ℕ) (n : ℤ) (w : WorkValue) → after_set writing vector n w ≡ w) (gives_number : (vector : ℕ) (r : Reduction) (n : ℤ) (w : WorkValue) → after_reduce writing vector r n w ≡ record w { given = w.given ++ record { vector = vector; reduction = r; number = n } ∷ [] }) where
+module _ (P : ℕ → Reduction → Type 0) (sets : List SetBinding) (writing : _) (sets_nothing : (vector : ℕ) (n : ℤ) (w : WorkValue) → after_set writing vector n w ≡ w)
+    (gives_number : (vector : ℕ) (r : Reduction) (n : ℤ) (w : WorkValue) → after_reduce writing vector r n w ≡ record w { given =
+    w.given ++ record { vector = vector; reduction = r; number = n } ∷ [] }) where
   mutual
     step_gives : (step : FunctionStatementTree) (w : WorkValue) → ((vector : ℕ) (by : Reduction) → StepReduces vector by step → P vector by) → AreGiven P w.given
         → AreGiven P (after_step writing sets step w).given

@@ -1,5 +1,6 @@
 -- Each step at the claim word keeps its rule.
-use Rattle.std.proofs.Common.{◌≡◌, ◌≢◌, ℕ, zero, suc, ◌+◌, ◌-◌, ◌%◌, ◌^◌, ◌<◌, ◌≤◌, List, [], ◌∷◌, ◌++◌, length, length-append, set, sym, refl, ap, ◌∙◌, subst, mod-eq_of_lt, ⊎_elim, arith, slice_index, slice_set}
+use Rattle.std.proofs.Common.{◌≡◌, ◌≢◌, ℕ, zero, suc, ◌+◌, ◌-◌, ◌%◌, ◌^◌, ◌<◌, ◌≤◌, List, [], ◌∷◌, ◌++◌, length, length-append, set, sym, refl, ap, ◌∙◌, subst, mod-eq_of_lt, ⊎_elim, arith}
+use Rattle.std.proofs.Common.{slice_index, slice_set}
 use Rattle.std.proofs.lemmas.Bool.Decides.{nat_tests}
 use mathlib.Core.Option.{some, some-injective, some-ne-none}
 use lib.ListN.{get_elem?}
@@ -42,7 +43,8 @@ alone f views id v at all none le =
     let rights = total_set (λ u. u.rights) views id v z at in
     let sum = total_set f views id v z at in
     let most = total_le f (λ u. u.rights) (set views id z)
-    (λ j u e. ⊎_elim (λ (is : (j ≡ id) × (z ≡ u)). subst (λ (y : ClaimView). f y ≤ y.rights) is.1 (omega arith)) (λ (is : (j ≢ id) × (get_elem? views j ≡ some u)). le j u is.1) (at_set views id j z u e)) in
+    (λ j u e. ⊎_elim (λ (is : (j ≡ id) × (z ≡ u)). subst (λ (y : ClaimView). f y ≤ y.rights) is.1 (omega arith)) (λ (is : (j ≢ id) × (get_elem? views j ≡ some u)). le j u is.1)
+    (at_set views id j z u e)) in
     omega arith
 
 abbrev Fits : ℕ → ClaimView → Type 0
@@ -148,7 +150,8 @@ dismisses id v other u s h at apart there =
     let spent : ClaimView = claim_view 0 [] 0 in
     let views : List ClaimView = set s.views id both in
     let all = h.2 in
-    let was : get_elem? s.views other ≡ some u = ⊎_elim (λ (is : (other ≡ id) × (both ≡ u)). absurd (apart is.0)) (λ (is : (other ≢ id) × (get_elem? s.views other ≡ some u)). is.1) (at_set s.views id other both u there) in
+    let was : get_elem? s.views other ≡ some u = ⊎_elim (λ (is : (other ≡ id) × (both ≡ u)). absurd (apart is.0)) (λ (is : (other ≢ id) × (get_elem? s.views other ≡ some u)). is.1)
+    (at_set s.views id other both u there) in
     let mine = all.3 id v at in
     let theirs = all.3 other u was in
     let total_both = λ (f : ClaimView → ℕ). total_set f s.views id v both at in

@@ -1,5 +1,6 @@
 -- What was found grows piece by piece.
-use Rattle.std.proofs.Common.{◌≡◌, ℕ, zero, suc, ◌+◌, ◌<◌, ◌≤◌, Bool, true, false, cond, eqb, ltb, Option, Some, option_to_list, List, [], ◌∷◌, ◌++◌, length, length-append, sym, refl, ap, ◌∙◌, subst, arith, slice_get, slice_index_or, Result, Ok, Err, IfOk, IfSome, Vec, Global, vec_len, MatchOption, None, ◌-◌}
+use Rattle.std.proofs.Common.{◌≡◌, ℕ, zero, suc, ◌+◌, ◌<◌, ◌≤◌, Bool, true, false, cond, eqb, ltb, Option, Some, option_to_list, List, [], ◌∷◌, ◌++◌, length, length-append, sym, refl, ap, ◌∙◌, subst}
+use Rattle.std.proofs.Common.{arith, slice_get, slice_index_or, Result, Ok, Err, IfOk, IfSome, Vec, Global, vec_len, MatchOption, None, ◌-◌}
 use Rattle.std.specs.List.{All}
 use Rattle.std.proofs.lemmas.List.{map-append}
 use Rattle.std.proofs.lemmas.List.Elements.{All-push, All-append, All-pop}

@@ -77,7 +77,8 @@ pub none_left : {X : Type 0} (r : Option X) (n : ℕ) → ((x : X) → r ≡ Som
 none_left None n not_some is = dite (dec_lt 0 n) (λ some. absurd (let e = is.1 some in cc)) (λ none. omega arith)
 none_left (Some x) n not_some is = absurd (not_some x refl)
 
-pub hired_more : (n : ℕ) (v w : ClaimView) → v ≡ claim_view (all_rights - n * worker_rights) [] 0 → w ≡ claim_view (v.rights - worker_rights) [] v.next → w ≡ claim_view (all_rights - (n + 1) * worker_rights) [] 0
+pub hired_more : (n : ℕ) (v w : ClaimView) → v ≡ claim_view (all_rights - n * worker_rights) [] 0 → w ≡ claim_view (v.rights - worker_rights) [] v.next
+    → w ≡ claim_view (all_rights - (n + 1) * worker_rights) [] 0
 hired_more n v w was is =
     let rights : (all_rights - n * worker_rights) - worker_rights ≡ all_rights - (n + 1) * worker_rights = omega arith in
     is ∙ ap (λ (u : ClaimView). claim_view (u.rights - worker_rights) [] u.next) was ∙ ap (λ (r : ℕ). claim_view r [] 0) rights

@@ -23,7 +23,8 @@ passed limit r i (suc k) (d ∷ ds) below =
     ∙ ap₂ (λ a b. limited_ends limit a b (drop k ds)) sum index
 
 -- a run that does not reach the limit
-pub cuts_run : (limit : ℕ) (ds : List ℕ) (r s k w n : ℕ) (es : List ℕ) → s < length ds → w ≡ weight (slice_range ds s (s + k)) → n ≡ r + w → n < limit → CutsOn limit ds r s es n (min (s + k) (length ds)) es
+pub cuts_run : (limit : ℕ) (ds : List ℕ) (r s k w n : ℕ) (es : List ℕ) → s < length ds → w ≡ weight (slice_range ds s (s + k)) → n ≡ r + w → n < limit
+    → CutsOn limit ds r s es n (min (s + k) (length ds)) es
 cuts_run limit ds r s k w n es inside is sum below =
     let part : s + k - s ≡ k = omega arith in
     let run : w ≡ weight (take k (drop s ds)) = is ∙ ap (λ j. weight (take j (drop s ds))) part in

@@ -1,5 +1,6 @@
 -- Laws of the numbers that digits stand for.
-use Rattle.std.proofs.Common.{◌≡◌, ℕ, ℤ, pos, negsuc, neg_ℤ, drop, FitsSigned, sym, subst, inl, inr, ◌+◌, ◌-◌, ◌*◌, ◌^◌, ◌<◌, ◌≤◌, ◌&&◌, true, false, List, [], ◌∷◌, ◌++◌, Some, None, length, take, replicate, get_or, decimal, zero, suc, refl, ◌∙◌, ap, arith, rules, length-append}
+use Rattle.std.proofs.Common.{◌≡◌, ℕ, ℤ, pos, negsuc, neg_ℤ, drop, FitsSigned, sym, subst, inl, inr, ◌+◌, ◌-◌, ◌*◌, ◌^◌, ◌<◌, ◌≤◌, ◌&&◌, true, false, List, [], ◌∷◌, ◌++◌, Some, None, length, take}
+use Rattle.std.proofs.Common.{replicate, get_or, decimal, zero, suc, refl, ◌∙◌, ap, arith, rules, length-append}
 use Rattle.std.specs.Char.{is_ascii_digit}
 use Rattle.std.specs.Fmt.{signed_decimal}
 use Rattle.std.specs.Int.{w64}
@@ -82,7 +83,8 @@ decimal-IsReadBack limit n below wide =
     number_of-zeros limit n (decimal n) below (digits_decimal digits_model n wide) (digits_value-decimal digits_model n wide) (decimal_nonempty n wide)
 
 -- one digit more takes the number to 2 ^ 64 or past it
-pub too_large : (bytes : List ℕ) (i number : ℕ) → i < length bytes → BeginsWithDigits bytes i × (value_of (take i bytes) ≡ number) → is_ascii_digit (get_or bytes i 0) ≡ true → 2 ^ 64 ≤ number * 10 + (get_or bytes i 0 - 48) → AreLeadingDigits bytes None
+pub too_large : (bytes : List ℕ) (i number : ℕ) → i < length bytes → BeginsWithDigits bytes i × (value_of (take i bytes) ≡ number) → is_ascii_digit (get_or bytes i 0) ≡ true
+    → 2 ^ 64 ≤ number * 10 + (get_or bytes i 0 - 48) → AreLeadingDigits bytes None
 too_large bytes i number within front digit large = (
   i + 1,
   (omega arith, digits_more bytes i within front.0.1 digit),

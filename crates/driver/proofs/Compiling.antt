@@ -24,7 +24,8 @@ pub record Compiles (holds : List ℕ → List ℕ → Type 0) (fails : List ℕ
   pub fails_on : (e : ServeError) → LacksProgram holds fails left e → LacksProgram holds fails all e
 
 -- no file was compiled yet
-pub nothing_compiled : (holds : List ℕ → List ℕ → Type 0) (fails : List ℕ → Error → Type 0) (all : List (List ℕ)) (compiled : List CompiledPlan) → compiled ≡ [] → Compiles holds fails all all (map tree_of compiled)
+pub nothing_compiled : (holds : List ℕ → List ℕ → Type 0) (fails : List ℕ → Error → Type 0) (all : List (List ℕ)) (compiled : List CompiledPlan) → compiled ≡ []
+    → Compiles holds fails all all (map tree_of compiled)
 nothing_compiled holds fails all compiled none =
     subst (λ (ps : List CompiledPlan). Compiles holds fails all all (map tree_of ps)) (sym none) (record { goes_on = λ more rest. rest; fails_on = λ e lacks. lacks })
 
@@ -35,7 +36,8 @@ all_compiled holds fails all left programs c none =
     subst (HoldPrograms holds all) (append-nil programs) (c.goes_on [] (subst (λ names. HoldPrograms holds names []) (sym none) tt))
 
 -- one more file was compiled
-one_compiled : (holds : List ℕ → List ℕ → Type 0) (fails : List ℕ → Error → Type 0) (all left : List (List ℕ)) (programs : List ProgramTree) (name : List ℕ) (p : ProgramTree) → Compiles holds fails all (name ∷ left) programs → HoldsProgram (holds name) p
+one_compiled : (holds : List ℕ → List ℕ → Type 0) (fails : List ℕ → Error → Type 0) (all left : List (List ℕ)) (programs : List ProgramTree) (name : List ℕ) (p : ProgramTree)
+    → Compiles holds fails all (name ∷ left) programs → HoldsProgram (holds name) p
     → Compiles holds fails all left (programs ++ p ∷ [])
 one_compiled holds fails all left programs name p c held = record {
   goes_on = λ more rest. subst (HoldPrograms holds all) (sym (append_assoc programs (p ∷ []) more)) (c.goes_on (p ∷ more) (held, rest));
@@ -43,7 +45,8 @@ one_compiled holds fails all left programs name p c held = record {
 }
 
 -- the file at an index was compiled
-pub compiled_at : (holds : List ℕ → List ℕ → Type 0) (fails : List ℕ → Error → Type 0) (all : List (List ℕ)) (names : List (Bor (List ℕ))) (index : ℕ) (none : Bor (List ℕ)) (compiled new : List CompiledPlan) (p : CompiledPlan) → index < length names
+pub compiled_at : (holds : List ℕ → List ℕ → Type 0) (fails : List ℕ → Error → Type 0) (all : List (List ℕ)) (names : List (Bor (List ℕ))) (index : ℕ) (none : Bor (List ℕ))
+    (compiled new : List CompiledPlan) (p : CompiledPlan) → index < length names
     → Compiles holds fails all (map (λ n. n.now) (drop index names)) (map tree_of compiled) → HoldsProgram (holds (get_or names index none).now) (tree_of p) → new ≡ compiled ++ p ∷ []
     → Compiles holds fails all (map (λ n. n.now) (drop (index + 1) names)) (map tree_of new)
 compiled_at holds fails all names index none compiled new p within c held is =
@@ -53,8 +56,10 @@ compiled_at holds fails all names index none compiled new p within c held is =
     (one_compiled holds fails all left (map tree_of compiled) (get_or names index none).now (tree_of p) first held)
 
 -- the file at an index is no program
-pub lacks_at : (holds : List ℕ → List ℕ → Type 0) (fails : List ℕ → Error → Type 0) (all : List (List ℕ)) (names : List (Bor (List ℕ))) (index : ℕ) (none : Bor (List ℕ)) (compiled : List CompiledPlan) (e : ServeError) → index < length names
-    → Compiles holds fails all (map (λ n. n.now) (drop index names)) (map tree_of compiled) → IsNoProgram (holds (get_or names index none).now) (fails (get_or names index none).now) (get_or names index none).now e
+pub lacks_at : (holds : List ℕ → List ℕ → Type 0) (fails : List ℕ → Error → Type 0) (all : List (List ℕ)) (names : List (Bor (List ℕ))) (index : ℕ) (none : Bor (List ℕ)) (compiled : List CompiledPlan)
+    (e : ServeError) → index < length names
+    → Compiles holds fails all (map (λ n. n.now) (drop index names)) (map tree_of compiled)
+    → IsNoProgram (holds (get_or names index none).now) (fails (get_or names index none).now) (get_or names index none).now e
     → LacksProgram holds fails all e
 lacks_at holds fails all names index none compiled e within c lacks =
     let first = subst (λ (ns : List (Bor (List ℕ))). Compiles holds fails all (map (λ n. n.now) ns) (map tree_of compiled)) (drop_more names index none within) c in
@@ -66,5 +71,6 @@ lacks_memory holds fails [] = refl
 lacks_memory holds fails (name ∷ names) = inl tt
 
 -- memory ran out after some files
-pub memory_ends : (holds : List ℕ → List ℕ → Type 0) (fails : List ℕ → Error → Type 0) (all left : List (List ℕ)) (programs : List ProgramTree) → Compiles holds fails all left programs → LacksProgram holds fails all NoMemory
+pub memory_ends : (holds : List ℕ → List ℕ → Type 0) (fails : List ℕ → Error → Type 0) (all left : List (List ℕ)) (programs : List ProgramTree) → Compiles holds fails all left programs
+    → LacksProgram holds fails all NoMemory
 memory_ends holds fails all left programs c = c.fails_on NoMemory (lacks_memory holds fails left)

@@ -43,7 +43,8 @@ pub record IsRaceOf (holds : List ℕ → List ℕ → Type 0) (script : List �
   pub run_by : MayRun workers race.runs.items
 
 -- all of the text of a race was written, with no failure
-pub record TellsRace (holds : List ℕ → List ℕ → Type 0) (script : List ℕ) (names : List (List ℕ)) (workers turns : ℕ) (before after : Written) (faulted : Bool) : Type 0 where
+pub record TellsRace (holds : List ℕ → List ℕ → Type 0) (script : List ℕ) (names : List (List ℕ)) (workers turns : ℕ) (before after : Written)
+    (faulted : Bool) : Type 0 where
   pub race : Race
   pub is_race : IsRaceOf holds script names workers turns race
   pub bytes_written : after.bytes_written ≡ before.bytes_written ++ race_text race
@@ -55,7 +56,8 @@ abbrev pub EndsWriting : Written → Written → ServeError → Type 0
 EndsWriting before after e = ((e ≡ NoMemory) × (after.failures ≡ before.failures)) ⊎ ((e ≡ WriteFailed) × (before.failures < after.failures))
 
 -- a beginning of the text of a race was written before memory ran out or the writer failed
-pub record BeginsRace (holds : List ℕ → List ℕ → Type 0) (script : List ℕ) (names : List (List ℕ)) (workers turns : ℕ) (before after : Written) (e : ServeError) : Type 0 where
+pub record BeginsRace (holds : List ℕ → List ℕ → Type 0) (script : List ℕ) (names : List (List ℕ)) (workers turns : ℕ) (before after : Written)
+    (e : ServeError) : Type 0 where
   pub race : Race
   pub is_race : IsRaceOf holds script names workers turns race
   pub part : TakesBeginning (race_text race) before after
@@ -74,7 +76,8 @@ pub record RefusesRaceOf (holds : List ℕ → List ℕ → Type 0) (script : Li
   pub outcome : e ≡ of_race name error
 
 -- the files of these names may hold programs, and the one of the script cannot be read or holds no script of a race
-pub record LacksRaceScript (holds : List ℕ → List ℕ → Type 0) (fails : List ℕ → Error → Type 0) (script : List ℕ) (names : List (List ℕ)) (e : ServeError) : Type 0 where
+pub record LacksRaceScript (holds : List ℕ → List ℕ → Type 0) (fails : List ℕ → Error → Type 0) (script : List ℕ) (names : List (List ℕ))
+    (e : ServeError) : Type 0 where
   pub programs : List ProgramTree
   pub compiled : HoldPrograms holds names programs
   pub cause : FailsRead (fails script) script e ⊎ RefusesScript (holds script) script e
@@ -85,18 +88,21 @@ LacksRace holds fails script names workers e =
     LacksProgram holds fails names e ⊎ (LacksRaceScript holds fails script names e ⊎ (RefusesRaceOf holds script names workers e ⊎ (e ≡ NoMemory)))
 
 -- nothing was written, since there was no race
-pub record TellsNoRace (holds : List ℕ → List ℕ → Type 0) (fails : List ℕ → Error → Type 0) (script : List ℕ) (names : List (List ℕ)) (workers : ℕ) (before after : Written) (e : ServeError) : Type 0 where
+pub record TellsNoRace (holds : List ℕ → List ℕ → Type 0) (fails : List ℕ → Error → Type 0) (script : List ℕ) (names : List (List ℕ)) (workers : ℕ)
+    (before after : Written) (e : ServeError) : Type 0 where
   pub untouched : after ≡ before
   pub cause : LacksRace holds fails script names workers e
 
 -- what a race of files comes to
-abbrev pub RacesFiles : (List ℕ → List ℕ → Type 0) → (List ℕ → Error → Type 0) → List ℕ → List (List ℕ) → (workers turns : ℕ) → Written → Written → Result Bool ServeError → Type 0
+abbrev pub RacesFiles : (List ℕ → List ℕ → Type 0) → (List ℕ → Error → Type 0) → List ℕ → List (List ℕ) → (workers turns : ℕ) → Written → Written
+    → Result Bool ServeError → Type 0
 RacesFiles holds fails script names workers turns before after (Ok faulted) = TellsRace holds script names workers turns before after faulted
 RacesFiles holds fails script names workers turns before after (Err e) =
     TellsNoRace holds fails script names workers before after e ⊎ BeginsRace holds script names workers turns before after e
 
 -- the race of the files was done, with this status at the end; the standard input was not read
-pub record ServesRace (holds : List ℕ → List ℕ → Type 0) (fails : List ℕ → Error → Type 0) (script : List ℕ) (names : List (List ℕ)) (workers turns : ℕ) (old new : Input) (before after : Written) (status : ℕ) : Type 0 where
+pub record ServesRace (holds : List ℕ → List ℕ → Type 0) (fails : List ℕ → Error → Type 0) (script : List ℕ) (names : List (List ℕ)) (workers turns : ℕ)
+    (old new : Input) (before after : Written) (status : ℕ) : Type 0 where
   pub ended : Result Bool ServeError
   pub races : RacesFiles holds fails script names workers turns before after ended
   pub ending : status ≡ status_of_end ended

@@ -70,7 +70,8 @@ LacksProgram holds fails (name ∷ names) e =
     IsNoProgram (holds name) (fails name) name e ⊎ ((p : ProgramTree) × (HoldsProgram (holds name) p × LacksProgram holds fails names e))
 
 -- the files of these names may hold programs, and the one of the script cannot be read
-pub record LacksScript (holds : List ℕ → List ℕ → Type 0) (fails : List ℕ → Error → Type 0) (script : List ℕ) (names : List (List ℕ)) (e : ServeError) : Type 0 where
+pub record LacksScript (holds : List ℕ → List ℕ → Type 0) (fails : List ℕ → Error → Type 0) (script : List ℕ) (names : List (List ℕ))
+    (e : ServeError) : Type 0 where
   pub programs : List ProgramTree
   pub compiled : HoldPrograms holds names programs
   pub failed : FailsRead (fails script) script e

@@ -87,7 +87,8 @@ PrintsPlan holds fails name before after (Ok faulted) = TellsPlan holds before a
 PrintsPlan holds fails name before after (Err e) = TellsNothing holds fails name before after e ⊎ BeginsPlan holds before after e
 
 -- the files may hold these programs and this script, which was run with them and ended so
-pub record RunsScriptOf (holds : List ℕ → List ℕ → Type 0) (script : List ℕ) (names : List (List ℕ)) (before after : Written) (ended : Result Bool ServeError) : Type 0 where
+pub record RunsScriptOf (holds : List ℕ → List ℕ → Type 0) (script : List ℕ) (names : List (List ℕ)) (before after : Written)
+    (ended : Result Bool ServeError) : Type 0 where
   pub programs : List ProgramTree
   pub compiled : HoldPrograms holds names programs
   pub text : List ℕ
@@ -97,7 +98,8 @@ pub record RunsScriptOf (holds : List ℕ → List ℕ → Type 0) (script : Lis
   pub ending : ended ≡ end_of script_ended
 
 -- no script was run, and nothing was written, since some file has no program, or that of the script cannot be read
-pub record RunsNone (holds : List ℕ → List ℕ → Type 0) (fails : List ℕ → Error → Type 0) (script : List ℕ) (names : List (List ℕ)) (before after : Written) (e : ServeError) : Type 0 where
+pub record RunsNone (holds : List ℕ → List ℕ → Type 0) (fails : List ℕ → Error → Type 0) (script : List ℕ) (names : List (List ℕ)) (before after : Written)
+    (e : ServeError) : Type 0 where
   pub untouched : after ≡ before
   pub cause : LacksProgram holds fails names e ⊎ LacksScript holds fails script names e
 
@@ -108,7 +110,8 @@ RunsFiles holds fails script names before after (Err e) =
     RunsNone holds fails script names before after e ⊎ RunsScriptOf holds script names before after (Err e)
 
 -- the files may hold these programs, and the standard input was run as a script with them, which ended so
-pub record RunsStreamOf (holds : List ℕ → List ℕ → Type 0) (names : List (List ℕ)) (old new : Input) (before after : Written) (ended : Result Bool ServeError) : Type 0 where
+pub record RunsStreamOf (holds : List ℕ → List ℕ → Type 0) (names : List (List ℕ)) (old new : Input) (before after : Written)
+    (ended : Result Bool ServeError) : Type 0 where
   pub programs : List ProgramTree
   pub compiled : HoldPrograms holds names programs
   pub script_ended : Result Bool ScriptError
@@ -116,13 +119,15 @@ pub record RunsStreamOf (holds : List ℕ → List ℕ → Type 0) (names : List
   pub ending : ended ≡ end_of script_ended
 
 -- nothing was read from the standard input or written, since some file has no program
-pub record RunsNoStream (holds : List ℕ → List ℕ → Type 0) (fails : List ℕ → Error → Type 0) (names : List (List ℕ)) (old new : Input) (before after : Written) (e : ServeError) : Type 0 where
+pub record RunsNoStream (holds : List ℕ → List ℕ → Type 0) (fails : List ℕ → Error → Type 0) (names : List (List ℕ)) (old new : Input) (before after : Written)
+    (e : ServeError) : Type 0 where
   pub unread : new ≡ old
   pub untouched : after ≡ before
   pub cause : LacksProgram holds fails names e
 
 -- what running the standard input, with the programs in files, comes to
-abbrev pub RunsStream : (List ℕ → List ℕ → Type 0) → (List ℕ → Error → Type 0) → List (List ℕ) → Input → Input → Written → Written → Result Bool ServeError → Type 0
+abbrev pub RunsStream : (List ℕ → List ℕ → Type 0) → (List ℕ → Error → Type 0) → List (List ℕ) → Input → Input → Written → Written → Result Bool ServeError
+    → Type 0
 RunsStream holds fails names old new before after (Ok faulted) = RunsStreamOf holds names old new before after (Ok faulted)
 RunsStream holds fails names old new before after (Err e) =
     RunsNoStream holds fails names old new before after e ⊎ RunsStreamOf holds names old new before after (Err e)
@@ -134,34 +139,39 @@ pub record ServesInput (old new : Input) (before after : Written) (status : ℕ)
   pub ending : status ≡ status_of_end ended
 
 -- the program in the file of this name was checked, with this status at the end; the standard input was not read
-pub record ServesCheck (holds : List ℕ → List ℕ → Type 0) (fails : List ℕ → Error → Type 0) (name : List ℕ) (old new : Input) (before after : Written) (status : ℕ) : Type 0 where
+pub record ServesCheck (holds : List ℕ → List ℕ → Type 0) (fails : List ℕ → Error → Type 0) (name : List ℕ) (old new : Input) (before after : Written)
+    (status : ℕ) : Type 0 where
   pub ended : Result Bool ServeError
   pub checks : ChecksFile (holds name) (fails name) name before after ended
   pub ending : status ≡ status_of_end ended
   pub unread : new ≡ old
 
 -- the plan of the program in the file of this name was printed, with this status at the end; the standard input was not read
-pub record ServesPlan (holds : List ℕ → List ℕ → Type 0) (fails : List ℕ → Error → Type 0) (name : List ℕ) (old new : Input) (before after : Written) (status : ℕ) : Type 0 where
+pub record ServesPlan (holds : List ℕ → List ℕ → Type 0) (fails : List ℕ → Error → Type 0) (name : List ℕ) (old new : Input) (before after : Written)
+    (status : ℕ) : Type 0 where
   pub ended : Result Bool ServeError
   pub prints : PrintsPlan (holds name) (fails name) name before after ended
   pub ending : status ≡ status_of_end ended
   pub unread : new ≡ old
 
 -- the files were run, with this status at the end; the standard input was not read
-pub record ServesFiles (holds : List ℕ → List ℕ → Type 0) (fails : List ℕ → Error → Type 0) (script : List ℕ) (names : List (List ℕ)) (old new : Input) (before after : Written) (status : ℕ) : Type 0 where
+pub record ServesFiles (holds : List ℕ → List ℕ → Type 0) (fails : List ℕ → Error → Type 0) (script : List ℕ) (names : List (List ℕ)) (old new : Input)
+    (before after : Written) (status : ℕ) : Type 0 where
   pub ended : Result Bool ServeError
   pub runs : RunsFiles holds fails script names before after ended
   pub ending : status ≡ status_of_end ended
   pub unread : new ≡ old
 
 -- the standard input was run with the programs in files, with this status at the end
-pub record ServesStream (holds : List ℕ → List ℕ → Type 0) (fails : List ℕ → Error → Type 0) (names : List (List ℕ)) (old new : Input) (before after : Written) (status : ℕ) : Type 0 where
+pub record ServesStream (holds : List ℕ → List ℕ → Type 0) (fails : List ℕ → Error → Type 0) (names : List (List ℕ)) (old new : Input) (before after : Written)
+    (status : ℕ) : Type 0 where
   pub ended : Result Bool ServeError
   pub runs : RunsStream holds fails names old new before after ended
   pub ending : status ≡ status_of_end ended
 
 -- what running a script comes to: that of the name `-` is the standard input, another one is a file
-abbrev pub ServesScript : (is_stream : Bool) → (List ℕ → List ℕ → Type 0) → (List ℕ → Error → Type 0) → List ℕ → List (List ℕ) → Input → Input → Written → Written → ℕ → Type 0
+abbrev pub ServesScript : (is_stream : Bool) → (List ℕ → List ℕ → Type 0) → (List ℕ → Error → Type 0) → List ℕ → List (List ℕ) → Input → Input → Written
+    → Written → ℕ → Type 0
 ServesScript true holds fails script names old new before after status = ServesStream holds fails names old new before after status
 ServesScript false holds fails script names old new before after status = ServesFiles holds fails script names old new before after status
 
@@ -176,7 +186,8 @@ Serves holds fails (request.Race script names workers turns) old new before afte
     ServesRace holds fails script.now (map (λ n. n.now) names.items) workers turns old new before after status
 
 -- the words are without a fault, and what they ask for was done
-pub record RunsRequest (holds : List ℕ → List ℕ → Type 0) (fails : List ℕ → Error → Type 0) (words : List (List ℕ)) (old new : Input) (before after : Written) (status : ℕ) : Type 0 where
+pub record RunsRequest (holds : List ℕ → List ℕ → Type 0) (fails : List ℕ → Error → Type 0) (words : List (List ℕ)) (old new : Input) (before after : Written)
+    (status : ℕ) : Type 0 where
   pub request : Request
   pub quiet : fault_of command_line words ≡ []
   pub read : asked_by request ≡ request_of words

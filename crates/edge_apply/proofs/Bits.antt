@@ -35,5 +35,6 @@ both_parts v a stop false l = grind (arith, nat_tests)
 pub passing_more : (test : ℕ → Bool) (v a stop : ℕ) → a ≤ stop → (test v && nat_lt v a) || is_member v (filter test (range_with_len a (stop - a))) ≡ test v && nat_lt v stop
 passing_more test v a stop l =
     let whole : a + (stop - a) ≡ stop = omega (arith, l) in
-    ap (λ (b : Bool). (test v && nat_lt v a) || b) (member_filtered test v (range_with_len a (stop - a)) ∙ ap (λ (b : Bool). b && test v) (member_in_row v a (stop - a) ∙ ap (λ (k : ℕ). nat_le a v && nat_lt v k) whole))
+    ap (λ (b : Bool). (test v && nat_lt v a) || b) (member_filtered test v (range_with_len a (stop - a))
+    ∙ ap (λ (b : Bool). b && test v) (member_in_row v a (stop - a) ∙ ap (λ (k : ℕ). nat_le a v && nat_lt v k) whole))
     ∙ both_parts v a stop (test v) l

@@ -6,7 +6,8 @@ use Rattle.std.specs.Map.{keys_of, values_of}
 use Rattle.edge_fold.specs.Contributions.{entries_of}
 
 -- what is read is written at the front, and counts where it passes
-pub one_more : {X : Type 0} (p : X → Bool) (xs ys : List X) (k i : ℕ) (x : X) (n : ℕ) (b : Bool) → FiltersInPlace p xs ys k i → i < length ys → p x ≡ b → x ≡ get_or ys i x → (b ≡ true → n ≡ k + 1) → (b ≡ false → n ≡ k)
+pub one_more : {X : Type 0} (p : X → Bool) (xs ys : List X) (k i : ℕ) (x : X) (n : ℕ) (b : Bool) → FiltersInPlace p xs ys k i → i < length ys → p x ≡ b → x ≡ get_or ys i x → (b ≡ true → n ≡ k + 1)
+    → (b ≡ false → n ≡ k)
     → FiltersInPlace p xs (set ys k x) n (i + 1)
 one_more p xs ys k i x n true at l is here counts stays = subst (λ (m : ℕ). FiltersInPlace p xs (set ys k x) m (i + 1)) (sym (counts refl)) (FiltersInPlace-more_set at l is here)
 one_more p xs ys k i x n false at l is here counts stays =

@@ -1,5 +1,6 @@
 -- Lists of vertices: those with edges, those that pass, and parts of them.
-use Rattle.std.proofs.Common.{◌≡◌, append_assoc, ℕ, zero, suc, ◌+◌, ◌-◌, ◌<◌, ◌≤◌, ◌==◌, ℤ, Bool, true, false, cond, ◌&&◌, ◌||◌, Some, unwrap_or, List, [], ◌∷◌, ◌++◌, length, get_or, refl, sym, ap, ◌∙◌, arith}
+use Rattle.std.proofs.Common.{◌≡◌, append_assoc, ℕ, zero, suc, ◌+◌, ◌-◌, ◌<◌, ◌≤◌, ◌==◌, ℤ, Bool, true, false, cond, ◌&&◌, ◌||◌, Some, unwrap_or, List, [], ◌∷◌, ◌++◌, length, get_or, refl, sym, ap}
+use Rattle.std.proofs.Common.{◌∙◌, arith}
 use Rattle.std.proofs.lemmas.Bool.{false≢true}
 use Rattle.std.proofs.lemmas.Bool.Decides.{nat_tests}
 use Rattle.std.proofs.lemmas.List.{append-nil}
@@ -45,7 +46,8 @@ rises_firsts low high (d ∷ ds) up = (up.0, rises_firsts (d.0 + 1) high ds up.1
 pub degrees_rise : (neighbours : ℕ → List (ℕ × ℤ)) (ds : List (ℕ × ℕ)) → AreDegreesOf neighbours ds → Rises 0 (firsts ds)
 degrees_rise neighbours ds are = rises_firsts 0 _ ds are.map
 
-listed_at : (u : ℕ) (d : ℕ × ℕ) (ds : List (ℕ × ℕ)) (b : Bool) → 0 < unwrap_or (cond b (Some d.1) (lookup u ds)) 0 → (0 < unwrap_or (lookup u ds) 0 → is_member u (firsts ds) ≡ true) → b || is_member u (firsts ds) ≡ true
+listed_at : (u : ℕ) (d : ℕ × ℕ) (ds : List (ℕ × ℕ)) (b : Bool) → 0 < unwrap_or (cond b (Some d.1) (lookup u ds)) 0 → (0 < unwrap_or (lookup u ds) 0 → is_member u (firsts ds) ≡ true)
+    → b || is_member u (firsts ds) ≡ true
 listed_at u d ds true l more = refl
 listed_at u d ds false l more = more l
 

@@ -25,11 +25,13 @@ parts_push x (g ∷ fs) f =
     let first = changes_of x g.out.vectors.items in
     ap (λ cs. first ++ cs) (parts_push x fs f) ∙ sym (append_assoc first (changes_in_parts x fs) (changes_of x f.out.vectors.items))
 
-pub parts_next : (x : ℕ) (fs : List (Found Changes)) (i : ℕ) (f : Found Changes) → i < length fs → f ≡ get_or fs i f → changes_in_parts x (take (i + 1) fs) ≡ changes_in_parts x (take i fs) ++ changes_of x f.out.vectors.items
+pub parts_next : (x : ℕ) (fs : List (Found Changes)) (i : ℕ) (f : Found Changes) → i < length fs → f ≡ get_or fs i f
+    → changes_in_parts x (take (i + 1) fs) ≡ changes_in_parts x (take i fs) ++ changes_of x f.out.vectors.items
 parts_next x fs i f l is =
     ap (changes_in_parts x) (take_more fs i f l ∙ ap (λ (g : Found Changes). take i fs ++ g ∷ []) (sym is)) ∙ parts_push x (take i fs) f
 
-pub no_changes_next : (x : ℕ) (fs : List (Found Changes)) (i : ℕ) (f : Found Changes) → i < length fs → f ≡ get_or fs i f → changes_in_parts x (take i fs) ≡ [] → changes_of x f.out.vectors.items ≡ [] → changes_in_parts x (take (i + 1) fs) ≡ []
+pub no_changes_next : (x : ℕ) (fs : List (Found Changes)) (i : ℕ) (f : Found Changes) → i < length fs → f ≡ get_or fs i f → changes_in_parts x (take i fs) ≡ [] → changes_of x f.out.vectors.items ≡ []
+    → changes_in_parts x (take (i + 1) fs) ≡ []
 no_changes_next x fs i f l is before here = parts_next x fs i f l is ∙ ap (λ cs. cs ++ changes_of x f.out.vectors.items) before ∙ here
 
 -- a vector that is not there has no change
@@ -42,7 +44,8 @@ own_changes : (v x : ℕ) (fs : List (Found Changes)) (b : Bool) → (v == x) �
 own_changes v x fs true is = ap (λ (y : ℕ). changes_in_parts y fs) (same v x is)
 own_changes v x fs false is = refl
 
-pub have_more : (x : ℕ) (fs : List (Found Changes)) (vs : List VectorChanges) (c : VectorChanges) → c.changes.items ≡ changes_in_parts c.vector fs → changes_or x vs (changes_in_parts x fs) ≡ changes_in_parts x fs
+pub have_more : (x : ℕ) (fs : List (Found Changes)) (vs : List VectorChanges) (c : VectorChanges) → c.changes.items ≡ changes_in_parts c.vector fs
+    → changes_or x vs (changes_in_parts x fs) ≡ changes_in_parts x fs
     → changes_or x (vs ++ c ∷ []) (changes_in_parts x fs) ≡ changes_in_parts x fs
 have_more x fs vs c own have =
     changes_or-push x vs c (changes_in_parts x fs)
@@ -68,7 +71,8 @@ other_at v x vs false is there none = refl
 pub another : (v x : ℕ) (vs : List VectorChanges) → is_named v vs ≡ true → is_named x vs ≡ false → (v == x) ≡ false
 another v x vs there none = other_at v x vs (v == x) refl there none
 
-pub others_next : (x : ℕ) (ds : List VectorChanges) (i : ℕ) (d : VectorChanges) → i < length ds → d ≡ get_or ds i d → (d.vector == x) ≡ false → changes_of x (take i ds) ≡ [] → changes_of x (take (i + 1) ds) ≡ []
+pub others_next : (x : ℕ) (ds : List VectorChanges) (i : ℕ) (d : VectorChanges) → i < length ds → d ≡ get_or ds i d → (d.vector == x) ≡ false → changes_of x (take i ds) ≡ []
+    → changes_of x (take (i + 1) ds) ≡ []
 others_next x ds i d l is off before =
     ap (changes_of x) (take_more ds i d l ∙ ap (λ (e : VectorChanges). take i ds ++ e ∷ []) (sym is))
     ∙ changes_or-push x (take i ds) d []
@@ -77,7 +81,8 @@ others_next x ds i d l is off before =
 
 -- parts that are found in their order, each with the changes of its range
 parts_from : (x k : ℕ) (told : ℕ → List EntryChange) (fs : List (Found Changes))
-    → ((j : ℕ) → j < length fs → (f : Found Changes) × (slice_get fs j ≡ Some f) × (changes_of x f.out.vectors.items ≡ told (k + j + 1))) → changes_in_parts x fs ≡ flat_map told (range_with_len (k + 1) (length fs))
+    → ((j : ℕ) → j < length fs → (f : Found Changes) × (slice_get fs j ≡ Some f) × (changes_of x f.out.vectors.items ≡ told (k + j + 1)))
+    → changes_in_parts x fs ≡ flat_map told (range_with_len (k + 1) (length fs))
 parts_from x k told [] all = refl
 parts_from x k told (f ∷ fs) all =
     let first = all 0 (omega arith) in

@@ -73,7 +73,8 @@ three_ranges old new low high n l k =
     ap (λ m. changed_from old new 0 m) whole
     ∙ changed_from-append old new 0 low (high - low + (n - high))
     ∙ ap (λ s. changed_from old new 0 low ++ changed_from old new s (high - low + (n - high))) first
-    ∙ ap (λ cs. changed_from old new 0 low ++ cs) (changed_from-append old new low (high - low) (n - high) ∙ ap (λ s. changed_from old new low (high - low) ++ changed_from old new s (n - high)) second)
+    ∙ ap (λ cs. changed_from old new 0 low ++ cs) (changed_from-append old new low (high - low) (n - high)
+    ∙ ap (λ s. changed_from old new low (high - low) ++ changed_from old new s (n - high)) second)
 
 -- where the entries stay but in a range, the changes are those of the range
 pub only_range : (old part new : ℕ → ℤ) (low high n : ℕ) → low ≤ high → high ≤ n → ((v : ℕ) → v < n → part v ≡ cond (is_between low high v) (new v) (old v))
@@ -81,13 +82,15 @@ pub only_range : (old part new : ℕ → ℤ) (low high n : ℕ) → low ≤ hig
 only_range old part new low high n l k is =
     let out = λ (v : ℕ) (b : v < n) (o : (v < low) ⊎ (high ≤ v)). is v b ∙ ap (λ (c : Bool). cond c (new v) (old v)) (outside_test low high v o) in
     three_ranges old part low high n l k
-    ∙ ap (λ cs. cs ++ (changed_from old part low (high - low) ++ changed_from old part high (n - high))) (nothing_changed old part 0 low (λ u a b. out u (omega (arith, b, l, k)) (inl (omega (arith, b)))))
+    ∙ ap (λ cs. cs ++ (changed_from old part low (high - low) ++ changed_from old part high (n - high)))
+    (nothing_changed old part 0 low (λ u a b. out u (omega (arith, b, l, k)) (inl (omega (arith, b)))))
     ∙ ap (λ cs. changed_from old part low (high - low) ++ cs) (nothing_changed old part high (n - high) (λ u a b. out u (omega (arith, b, k)) (inr a)))
     ∙ append-nil (changed_from old part low (high - low))
     ∙ changed_alike old part new low (high - low) (λ u a b. is u (omega (arith, b, l, k)) ∙ ap (λ (c : Bool). cond c (new u) (old u)) (within_test low high u a (omega (arith, b, l))))
 
 -- an apply to the edges to the vertices of a range changes what one to all edges changes there
-pub changed_between : (n low high x : ℕ) (r : Reduction) (m : StateValue) (steps : List FunctionStatementsTree) (es : List Edge) → IsGivenBy r x steps m.sets m.vectors → n ≤ length (slice_index_or m.vectors x []) → low ≤ high → high ≤ n
+pub changed_between : (n low high x : ℕ) (r : Reduction) (m : StateValue) (steps : List FunctionStatementsTree) (es : List Edge) → IsGivenBy r x steps m.sets m.vectors
+    → n ≤ length (slice_index_or m.vectors x []) → low ≤ high → high ≤ n
     → changed n (entry m.vectors x) (entry (after_edges steps m.sets m.vectors (filter (λ e. is_between low high e.1) es) m.vectors) x)
     ≡ changed_from (entry m.vectors x) (entry (after_edges steps m.sets m.vectors es m.vectors) x) low (high - low)
 changed_between n low high x r m steps es by long l k =
@@ -100,11 +103,13 @@ changed_between n low high x r m steps es by long l k =
     (λ v b. sym (entries_after r x v m steps (is_between low high) es by (omega (arith, b, long))) ∙ ap (λ (y : ℤ). cond (is_between low high v) y (old v)) (all v b))
 
 -- an apply to edges that give vertices the same
-pub changed_by_alike : (n x : ℕ) (r : Reduction) (m : StateValue) (steps : List FunctionStatementsTree) (es fs : List Edge) → IsGivenBy r x steps m.sets m.vectors → n ≤ length (slice_index_or m.vectors x [])
+pub changed_by_alike : (n x : ℕ) (r : Reduction) (m : StateValue) (steps : List FunctionStatementsTree) (es fs : List Edge) → IsGivenBy r x steps m.sets m.vectors
+    → n ≤ length (slice_index_or m.vectors x [])
     → ((v : ℕ) (k : ℤ) → reduced_at r v k (given_on x (all_given m steps) es) ≡ reduced_at r v k (given_on x (all_given m steps) fs))
     → changed n (entry m.vectors x) (entry (after_edges steps m.sets m.vectors es m.vectors) x) ≡ changed n (entry m.vectors x) (entry (after_edges steps m.sets m.vectors fs m.vectors) x)
 changed_by_alike n x r m steps es fs by long alike =
     let old = entry m.vectors x in
     let new = λ (gs : List Edge). entry (after_edges steps m.sets m.vectors gs m.vectors) x in
-    let all = λ (gs : List Edge) (v : ℕ) (b : v < n). entries_after r x v m steps (λ _. true) gs by (omega (arith, b, long)) ∙ ap (λ (hs : List Edge). new hs v) (filter_all (λ _. true) gs (λ e. refl)) in
+    let all = λ (gs : List Edge) (v : ℕ) (b : v < n). entries_after r x v m steps (λ _. true) gs by (omega (arith, b, long))
+    ∙ ap (λ (hs : List Edge). new hs v) (filter_all (λ _. true) gs (λ e. refl)) in
     changed_alike old (new es) (new fs) 0 n (λ v a b. let inside : v < n = omega (arith, b) in sym (all es v inside) ∙ alike v (old v) ∙ all fs v inside)

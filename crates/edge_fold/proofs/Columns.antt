@@ -53,15 +53,18 @@ given_by_column x y d r number g same (e ∷ es) =
 pub equal : (m n : ℕ) → (m == n) ≡ true → m ≡ n
 equal m n h = grind (arith, nat_tests)
 
-pub joined_at : (r s : Reduction) (v : ℕ) (h : ℤ) (gs hs : List (ℕ × ℤ)) (b : Bool) → (b ≡ true → s ≡ r) → reduced_at s v h gs ≡ reduced_at s v h hs → reduced_at r v h (cond b gs []) ≡ reduced_at r v h (cond b hs [])
+pub joined_at : (r s : Reduction) (v : ℕ) (h : ℤ) (gs hs : List (ℕ × ℤ)) (b : Bool) → (b ≡ true → s ≡ r) → reduced_at s v h gs ≡ reduced_at s v h hs
+    → reduced_at r v h (cond b gs []) ≡ reduced_at r v h (cond b hs [])
 joined_at r s v h gs hs true own all = subst (λ (t : Reduction). reduced_at t v h gs ≡ reduced_at t v h hs) (own refl) all
 joined_at r s v h gs hs false own all = refl
 
 -- to join what is sent is to join what the edges give
-pub together_given : (r : Reduction) (x d v : ℕ) (h : ℤ) (contribution : SourceContribution) (g : Edge → List (ℕ × Reduction × ℤ)) (ss : List ℕ) (es : List (ℕ × ℤ)) → IsReducedContribution contribution g ss → (contribution.vector ≡ x → contribution.reduction ≡ r) → firsts es ≡ ss
+pub together_given : (r : Reduction) (x d v : ℕ) (h : ℤ) (contribution : SourceContribution) (g : Edge → List (ℕ × Reduction × ℤ)) (ss : List ℕ) (es : List (ℕ × ℤ))
+    → IsReducedContribution contribution g ss → (contribution.vector ≡ x → contribution.reduction ≡ r) → firsts es ≡ ss
     → reduced_at r v h (cond (contribution.vector == x) (each_given contribution.number (d ∷ [])) []) ≡ reduced_at r v h (given_on x g (column d es))
 together_given r x d v h contribution g ss es is own keys =
-    joined_at r contribution.reduction v h (each_given contribution.number (d ∷ [])) (numbers_given is.number d ss) (contribution.vector == x) (λ at. own (equal contribution.vector x at)) (is.all d v h)
+    joined_at r contribution.reduction v h (each_given contribution.number (d ∷ [])) (numbers_given is.number d ss) (contribution.vector == x) (λ at. own (equal contribution.vector x at))
+    (is.all d v h)
     ∙ sym (ap (λ (gs : List (ℕ × ℤ)). reduced_at r v h gs) (given_by_column x contribution.vector d contribution.reduction is.number g is.each es
     ∙ ap (λ (us : List ℕ). cond (contribution.vector == x) (numbers_given is.number d us) []) keys))
 
@@ -87,8 +90,10 @@ waiting_into d n k ss ts ys zs us l m long filled copied =
     ∙ unit_pairs-append (take n ss) (take n ts) us (replicate (length us) d) (length-take-le n ss l ∙ sym (length-take-le n ts m))
     ∙ ap (λ es. pairs (take n ss) (take n ts) [] ++ es) (pairs-column d us [])
 
-pub weighted_into : (d n k : ℕ) (ss ts ys zs us : List ℕ) (qs vs ws : List ℤ) → n ≤ length ss → n ≤ length ts → n ≤ length qs → length ws ≡ length us → length zs ≡ length us → zs ≡ replicate (length us) d → ys ≡ us → vs ≡ ws
-    → pairs (take (n + length us) (put_mid n k ss ys)) (take (n + length us) (put_mid n k ts zs)) (take (n + length us) (put_mid n k qs vs)) ≡ pairs (take n ss) (take n ts) (take n qs) ++ column d (entries_of us ws)
+pub weighted_into : (d n k : ℕ) (ss ts ys zs us : List ℕ) (qs vs ws : List ℤ) → n ≤ length ss → n ≤ length ts → n ≤ length qs → length ws ≡ length us → length zs ≡ length us
+    → zs ≡ replicate (length us) d → ys ≡ us → vs ≡ ws
+    → pairs (take (n + length us) (put_mid n k ss ys)) (take (n + length us) (put_mid n k ts zs)) (take (n + length us) (put_mid n k qs vs)) ≡ pairs (take n ss) (take n ts) (take n qs)
+    ++ column d (entries_of us ws)
 weighted_into d n k ss ts ys zs us qs vs ws l m o same long filled copied weighed =
     let even : length ys ≡ length us = ap length copied in
     let level : length vs ≡ length us = ap length weighed ∙ same in

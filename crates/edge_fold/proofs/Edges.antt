@@ -1,5 +1,6 @@
 -- What is given on edges.
-use Rattle.std.proofs.Common.{◌≡◌, ℕ, suc, ◌+◌, ◌<◌, ◌≤◌, ◌==◌, ℤ, Bool, true, false, cond, List, [], ◌∷◌, ◌++◌, length, get_or, take, replicate, append_assoc, Option, Some, None, refl, sym, ap, ◌∙◌, subst, arith}
+use Rattle.std.proofs.Common.{◌≡◌, ℕ, suc, ◌+◌, ◌<◌, ◌≤◌, ◌==◌, ℤ, Bool, true, false, cond, List, [], ◌∷◌, ◌++◌, length, get_or, take, replicate, append_assoc, Option, Some, None, refl, sym, ap, ◌∙◌}
+use Rattle.std.proofs.Common.{subst, arith}
 use Rattle.std.proofs.lemmas.List.{length-take-le, map-append}
 use Rattle.std.proofs.lemmas.Slice.{take-put_mid}
 use borrow.Rule.Slice.PartMut.{put_mid}
@@ -124,7 +125,8 @@ two_of first second (a ∷ []) are = absurd are
 two_of first second (a ∷ b ∷ []) are = record { a = a; b = b; both = refl; kernel = are.0; other = are.1 }
 two_of first second (a ∷ b ∷ c ∷ cs) are = absurd are
 
-pub two_functions : (first : EdgeKernel) (second : Option (Bor EdgeKernel)) (s : Bor EdgeKernel) (steps : List FunctionStatementsTree) → second ≡ Some s → AreKernels first second steps → AreTwo first s.now steps
+pub two_functions : (first : EdgeKernel) (second : Option (Bor EdgeKernel)) (s : Bor EdgeKernel) (steps : List FunctionStatementsTree) → second ≡ Some s → AreKernels first second steps
+    → AreTwo first s.now steps
 two_functions first second s steps e are = two_of first s steps (subst (λ (o : Option (Bor EdgeKernel)). AreKernels first o steps) e are)
 
 -- pairs in a row
@@ -134,7 +136,8 @@ unit_pairs-append [] (l ∷ ls) cs ds e = absurd (omega (arith, e))
 unit_pairs-append (k ∷ ks) [] cs ds e = absurd (omega (arith, e))
 unit_pairs-append (k ∷ ks) (l ∷ ls) cs ds e = ap (λ es. (k, l, unit_weight) ∷ es) (unit_pairs-append ks ls cs ds (omega (arith, e)))
 
-pub pairs-append : (ks ls : List ℕ) (ws : List ℤ) (cs ds : List ℕ) (vs : List ℤ) → length ks ≡ length ls → length ws ≡ length ls → pairs (ks ++ cs) (ls ++ ds) (ws ++ vs) ≡ pairs ks ls ws ++ pairs cs ds vs
+pub pairs-append : (ks ls : List ℕ) (ws : List ℤ) (cs ds : List ℕ) (vs : List ℤ) → length ks ≡ length ls → length ws ≡ length ls
+    → pairs (ks ++ cs) (ls ++ ds) (ws ++ vs) ≡ pairs ks ls ws ++ pairs cs ds vs
 pairs-append [] [] [] cs ds vs e f = refl
 pairs-append [] [] (w ∷ ws) cs ds vs e f = absurd (omega (arith, f))
 pairs-append [] (l ∷ ls) ws cs ds vs e f = absurd (omega (arith, e))
@@ -164,8 +167,10 @@ waiting_more s n k ss ts ys zs ds l m long filled copied =
     ∙ unit_pairs-append (take n ss) (take n ts) (replicate (length ds) s) ds (length-take-le n ss l ∙ sym (length-take-le n ts m))
     ∙ ap (λ es. pairs (take n ss) (take n ts) [] ++ es) (pairs-replicate s ds [])
 
-pub weighted_more : (s n k : ℕ) (ss ts ys zs ds : List ℕ) (qs vs ws : List ℤ) → n ≤ length ss → n ≤ length ts → n ≤ length qs → length ws ≡ length ds → length ys ≡ length ds → ys ≡ replicate (length ds) s → zs ≡ ds → vs ≡ ws
-    → pairs (take (n + length ds) (put_mid n k ss ys)) (take (n + length ds) (put_mid n k ts zs)) (take (n + length ds) (put_mid n k qs vs)) ≡ pairs (take n ss) (take n ts) (take n qs) ++ row s (entries_of ds ws)
+pub weighted_more : (s n k : ℕ) (ss ts ys zs ds : List ℕ) (qs vs ws : List ℤ) → n ≤ length ss → n ≤ length ts → n ≤ length qs → length ws ≡ length ds → length ys ≡ length ds
+    → ys ≡ replicate (length ds) s → zs ≡ ds → vs ≡ ws
+    → pairs (take (n + length ds) (put_mid n k ss ys)) (take (n + length ds) (put_mid n k ts zs)) (take (n + length ds) (put_mid n k qs vs)) ≡ pairs (take n ss) (take n ts) (take n qs)
+    ++ row s (entries_of ds ws)
 weighted_more s n k ss ts ys zs ds qs vs ws l m o same long filled copied weighed =
     let even : length zs ≡ length ds = ap length copied in
     let level : length vs ≡ length ds = ap length weighed ∙ same in

@@ -38,7 +38,8 @@ over_first r f d v h n (e ∷ es) =
     over_first r f d v h (reduced r n (f e.0 e.1)) es
     ∙ ap (λ (y : ℤ). reduced_at r v y (entry_numbers_given f d es)) (grouped r h n (f e.0 e.1) (d == v))
 
-pub is_reduced_over : (r : Reduction) (f : ℕ → ℤ → ℤ) (s : ℕ) (w : ℤ) (all ss : List ℕ) (weights ws : List ℤ) (n first : ℤ) → all ≡ s ∷ ss → weights ≡ w ∷ ws → first ≡ f s w → n ≡ reduced_over r f first (entries_of ss ws)
+pub is_reduced_over : (r : Reduction) (f : ℕ → ℤ → ℤ) (s : ℕ) (w : ℤ) (all ss : List ℕ) (weights ws : List ℤ) (n first : ℤ) → all ≡ s ∷ ss → weights ≡ w ∷ ws → first ≡ f s w
+    → n ≡ reduced_over r f first (entries_of ss ws)
     → IsReducedOver r f (entries_of all weights) n
 is_reduced_over r f s w all ss weights ws n first whole weighed begins is d v h =
     ap (λ (y : ℤ). reduced_at r v h ((d, y) ∷ [])) (is ∙ ap (λ (y : ℤ). reduced_over r f y (entries_of ss ws)) begins)
@@ -54,8 +55,10 @@ weighed_column x y d r number g same (e ∷ es) =
     ∙ one_for y x d (number e.0 e.1) (y == x) (entry_numbers_given number d es) (given_on x g (column d es)) (weighed_column x y d r number g same es)
 
 -- to join what is sent is to join what the edges of a column give
-pub weighed_together : (r : Reduction) (x d v : ℕ) (h : ℤ) (contribution : SourceContribution) (g : Edge → List (ℕ × Reduction × ℤ)) (es : List (ℕ × ℤ)) → IsEntryContribution contribution g es → (contribution.vector ≡ x → contribution.reduction ≡ r)
+pub weighed_together : (r : Reduction) (x d v : ℕ) (h : ℤ) (contribution : SourceContribution) (g : Edge → List (ℕ × Reduction × ℤ)) (es : List (ℕ × ℤ)) → IsEntryContribution contribution g es
+    → (contribution.vector ≡ x → contribution.reduction ≡ r)
     → reduced_at r v h (cond (contribution.vector == x) (each_given contribution.number (d ∷ [])) []) ≡ reduced_at r v h (given_on x g (column d es))
 weighed_together r x d v h contribution g es is own =
-    joined_at r contribution.reduction v h (each_given contribution.number (d ∷ [])) (entry_numbers_given is.number d es) (contribution.vector == x) (λ at. own (equal contribution.vector x at)) (is.all d v h)
+    joined_at r contribution.reduction v h (each_given contribution.number (d ∷ [])) (entry_numbers_given is.number d es) (contribution.vector == x) (λ at. own (equal contribution.vector x at))
+    (is.all d v h)
     ∙ sym (ap (λ (gs : List (ℕ × ℤ)). reduced_at r v h gs) (weighed_column x contribution.vector d contribution.reduction is.number g is.each es))

@@ -1,5 +1,6 @@
 -- Filled vertices: those that all have entries, whose marks nobody asks for.
-use Rattle.std.proofs.Common.{◌≡◌, ℕ, ◌+◌, ◌<◌, ◌==◌, ◌||◌, nat_lt, ℤ, pos, Bool, true, false, cond, List, [], ◌∷◌, ◌++◌, length, take, drop, get_or, set, refl, sym, ap, ap₂, ◌∙◌, arith, take_all, if◌then◌else◌, inl, inr}
+use Rattle.std.proofs.Common.{◌≡◌, ℕ, ◌+◌, ◌<◌, ◌==◌, ◌||◌, nat_lt, ℤ, pos, Bool, true, false, cond, List, [], ◌∷◌, ◌++◌, length, take, drop, get_or, set, refl, sym, ap, ap₂, ◌∙◌, arith, take_all}
+use Rattle.std.proofs.Common.{if◌then◌else◌, inl, inr}
 use Rattle.std.proofs.lemmas.Bool.{cases_lt, le-ltb, lt-ltb, ne_eqb}
 use Rattle.std.proofs.lemmas.List.{append-nil, drop_all, drop_more}
 use Rattle.apply_options.specs.declared.reduction.Reduction.{Reduction}
@@ -48,7 +49,8 @@ combined_all s r v h y (g ∷ gs) =
     ap (λ (z : ℤ). reduced_at r v z gs) (combined_once s r h y g.1 (g.0 == v)) ∙ combined_all s r v h (cond (g.0 == v) (reduced r y g.1) y) gs
 
 -- the entry at a vertex, whether it is marked or not
-pub joined_either : (s : FoldStart) (r : Reduction) (v : ℕ) (o x y : ℤ) (some all : List (ℕ × ℤ)) (b : Bool) → reduced_at r v x some ≡ reduced_at r v y all → (b ≡ false → reduced_at r v o some ≡ reduced_at r v o all)
+pub joined_either : (s : FoldStart) (r : Reduction) (v : ℕ) (o x y : ℤ) (some all : List (ℕ × ℤ)) (b : Bool) → reduced_at r v x some ≡ reduced_at r v y all
+    → (b ≡ false → reduced_at r v o some ≡ reduced_at r v o all)
     → reduced_at r v (if b then combined s r o x else o) some ≡ reduced_at r v (if b then combined s r o y else o) all
 joined_either s r v o x y some all true here off = combined_all s r v o x some ∙ ap (combined s r o) here ∙ sym (combined_all s r v o y all)
 joined_either s r v o x y some all false here off = off refl

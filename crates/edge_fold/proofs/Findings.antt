@@ -1,5 +1,6 @@
 -- What is found in slots.
-use Rattle.std.proofs.Common.{◌≡◌, ℕ, zero, suc, ◌+◌, ◌<◌, ◌==◌, ℤ, Bool, true, false, cond, ◌||◌, if◌then◌else◌, List, [], ◌∷◌, ◌++◌, length, take, get_or, Contains, refl, sym, ap, ◌∙◌, arith, ◌⊎◌, inl, inr, subst, append_assoc, IsTrue, ◌↔◌}
+use Rattle.std.proofs.Common.{◌≡◌, ℕ, zero, suc, ◌+◌, ◌<◌, ◌==◌, ℤ, Bool, true, false, cond, ◌||◌, if◌then◌else◌, List, [], ◌∷◌, ◌++◌, length, take, get_or, Contains, refl, sym, ap, ◌∙◌, arith, ◌⊎◌}
+use Rattle.std.proofs.Common.{inl, inr, subst, append_assoc, IsTrue, ◌↔◌}
 use Rattle.std.proofs.lemmas.Bool.Decides.{nat_tests}
 use Rattle.std.proofs.lemmas.Bool.{false≢true}
 use Rattle.std.specs.List.{filter}
@@ -82,7 +83,8 @@ changes_or-skip x y (d ∷ ds) new rest named =
     (λ on off. apart_numbers d.vector x y on off)
     (λ off. not_its_own x y ds new rest off)
 
-named_push_at : (x : ℕ) (d : VectorChanges) (ds : List VectorChanges) (c : VectorChanges) (b : Bool) → b || is_named x ds ≡ false → (is_named x ds ≡ false → is_named x (ds ++ c ∷ []) ≡ false) → b || is_named x (ds ++ c ∷ []) ≡ false
+named_push_at : (x : ℕ) (d : VectorChanges) (ds : List VectorChanges) (c : VectorChanges) (b : Bool) → b || is_named x ds ≡ false → (is_named x ds ≡ false → is_named x (ds ++ c ∷ []) ≡ false)
+    → b || is_named x (ds ++ c ∷ []) ≡ false
 named_push_at x d ds c true none more = absurd (false≢true (sym none))
 named_push_at x d ds c false none more = more none
 
@@ -104,7 +106,8 @@ named_push x (d ∷ ds) c none off = named_push_at x d ds c (d.vector == x) none
 pub apart_push : (cs : List VectorChanges) (c : VectorChanges) → is_named c.vector cs ≡ false → AreApart cs → AreApart (cs ++ c ∷ [])
 apart_push [] c none apart = (refl, tt)
 apart_push (d ∷ ds) c none apart =
-    (named_push d.vector ds c apart.0 (turned d.vector c.vector (first_off (d.vector == c.vector) (is_named c.vector ds) none)), apart_push ds c (rest_off (d.vector == c.vector) (is_named c.vector ds) none) apart.1)
+    (named_push d.vector ds c apart.0 (turned d.vector c.vector (first_off (d.vector == c.vector) (is_named c.vector ds) none)),
+    apart_push ds c (rest_off (d.vector == c.vector) (is_named c.vector ds) none) apart.1)
 
 -- kept vertices
 choose : {A B C : Type 0} → A ⊎ B → (A → C) → (B → C) → C
@@ -128,7 +131,8 @@ pub among_kept : (p : ℕ → Bool) (xs : List ℕ) (v : ℕ) → Contains (filt
 among_kept p [] v has = has
 among_kept p (x ∷ xs) v has = among_at p x v xs (p x) (among_kept p xs v) has
 
-kept_if : (p : ℕ → Bool) (x v : ℕ) (xs : List ℕ) (b : Bool) → p x ≡ b → p v ≡ true → (Contains xs v → Contains (filter p xs) v) → Contains (x ∷ xs) v → Contains (cond b (x ∷ filter p xs) (filter p xs)) v
+kept_if : (p : ℕ → Bool) (x v : ℕ) (xs : List ℕ) (b : Bool) → p x ≡ b → p v ≡ true → (Contains xs v → Contains (filter p xs) v) → Contains (x ∷ xs) v
+    → Contains (cond b (x ∷ filter p xs) (filter p xs)) v
 kept_if p x v xs true is on more has =
     choose (first_or_later x v xs has) (λ e. subst (λ (y : ℕ). Contains (x ∷ filter p xs) y) (sym e) (contains_first x (filter p xs))) (λ h. contains_later x v (filter p xs) (more h))
 kept_if p x v xs false is on more has = choose (first_or_later x v xs has) (λ e. absurd (false≢true (sym is ∙ sym (ap p e) ∙ on))) more

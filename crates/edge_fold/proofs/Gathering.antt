@@ -1,5 +1,6 @@
 -- What slots have, gathered.
-use Rattle.std.proofs.Common.{◌≡◌, ℕ, zero, suc, append_assoc, ◌+◌, ◌<◌, ◌≤◌, ◌==◌, ℤ, pos, Bool, true, false, cond, List, [], ◌∷◌, ◌++◌, length, get_or, take, nat_lt, refl, sym, ap, ◌∙◌, subst, arith}
+use Rattle.std.proofs.Common.{◌≡◌, ℕ, zero, suc, append_assoc, ◌+◌, ◌<◌, ◌≤◌, ◌==◌, ℤ, pos, Bool, true, false, cond, List, [], ◌∷◌, ◌++◌, length, get_or, take, nat_lt, refl, sym, ap, ◌∙◌, subst}
+use Rattle.std.proofs.Common.{arith}
 use Rattle.std.proofs.lemmas.Bool.Decides.{nat_tests}
 use Rattle.std.proofs.lemmas.Bool.{false≢true}
 use Rattle.std.proofs.lemmas.List.{append-nil, take_more}
@@ -37,7 +38,8 @@ either_way : (q : Bool) (n : ℤ) → n ≡ cond q n n
 either_way true n = refl
 either_way false n = refl
 
-number_there : (r : Reduction) (v k : ℕ) (n y : ℤ) (b q : Bool) → (k == v) ≡ q → reduced_at r v n (numbers_of (cond b (record { vertex = k; number = y } ∷ []) [])) ≡ cond q (cond b (reduced r n y) n) n
+number_there : (r : Reduction) (v k : ℕ) (n y : ℤ) (b q : Bool) → (k == v) ≡ q → reduced_at r v n (numbers_of (cond b (record { vertex = k; number = y } ∷ []) [])) ≡ cond q
+    (cond b (reduced r n y) n) n
 number_there r v k n y true q e = ap (λ (c : Bool). cond c (reduced r n y) n) e
 number_there r v k n y false q e = either_way q n
 
@@ -93,15 +95,18 @@ is_gathered_by-push r x [] g all own = (own, tt)
 is_gathered_by-push r x (f ∷ fs) g all own = (all.0, is_gathered_by-push r x fs g all.1 own)
 
 -- a slot whose vector has one before it
-hidden_at : {A : Type 0} (of : VectorAccumulator → A) (ss : List VectorAccumulator) (s : VectorAccumulator) (x : ℕ) (d : A) (q : Bool) → (s.vector == x) ≡ q → index_in s.vector ss < length ss → of_slot of ss x (cond q (of s) d) ≡ of_slot of ss x d
+hidden_at : {A : Type 0} (of : VectorAccumulator → A) (ss : List VectorAccumulator) (s : VectorAccumulator) (x : ℕ) (d : A) (q : Bool) → (s.vector == x) ≡ q → index_in s.vector ss < length ss
+    → of_slot of ss x (cond q (of s) d) ≡ of_slot of ss x d
 hidden_at of ss s x d true e l = of_slot-there of ss x (of s) d (let own = same s.vector x e in subst (λ (k : ℕ). index_in k ss < length ss) own l)
 hidden_at of ss s x d false e l = refl
 
-pub hidden_slot : {A : Type 0} (of : VectorAccumulator → A) (ss : List VectorAccumulator) (s : VectorAccumulator) (x : ℕ) (d : A) → index_in s.vector ss < length ss → of_slot of (ss ++ s ∷ []) x d ≡ of_slot of ss x d
+pub hidden_slot : {A : Type 0} (of : VectorAccumulator → A) (ss : List VectorAccumulator) (s : VectorAccumulator) (x : ℕ) (d : A) → index_in s.vector ss < length ss
+    → of_slot of (ss ++ s ∷ []) x d ≡ of_slot of ss x d
 hidden_slot of ss s x d l = of_slot-push of ss s x d ∙ hidden_at of ss s x d (s.vector == x) refl l
 
 -- a slot that is the first of its vector
-pub first_slot : {A : Type 0} (of : VectorAccumulator → A) (ss : List VectorAccumulator) (s : VectorAccumulator) (x : ℕ) (d : A) (q : Bool) → (s.vector == x) ≡ q → length ss ≤ index_in s.vector ss → of_slot of ss x (cond q (of s) d) ≡ cond q (of s) (of_slot of ss x d)
+pub first_slot : {A : Type 0} (of : VectorAccumulator → A) (ss : List VectorAccumulator) (s : VectorAccumulator) (x : ℕ) (d : A) (q : Bool) → (s.vector == x) ≡ q → length ss ≤ index_in s.vector ss
+    → of_slot of ss x (cond q (of s) d) ≡ cond q (of s) (of_slot of ss x d)
 first_slot of ss s x d true e l = of_slot-none of ss x (of s) (let own = same s.vector x e in subst (λ (k : ℕ). length ss ≤ index_in k ss) own l)
 first_slot of ss s x d false e l = refl
 
@@ -109,7 +114,8 @@ alike : (t : Bool) (h : ℤ) → cond t h h ≡ h
 alike true h = refl
 alike false h = refl
 
-gathered_at : (r : Reduction) (x v : ℕ) (h y : ℤ) (t : Bool) (ss : List VectorAccumulator) (s : VectorAccumulator) (ns : List (ℕ × ℤ)) (q : Bool) → (s.vector == x) ≡ q → length ss ≤ index_in s.vector ss
+gathered_at : (r : Reduction) (x v : ℕ) (h y : ℤ) (t : Bool) (ss : List VectorAccumulator) (s : VectorAccumulator) (ns : List (ℕ × ℤ)) (q : Bool) → (s.vector == x) ≡ q
+    → length ss ≤ index_in s.vector ss
     → y ≡ cond t (held_in_with (combined start.Unit r) ss x v h) h
     → ((n : ℤ) → reduced_at r v n ns ≡ cond t (onto r s.entries v n) n)
     → reduced_at r v y (cond q ns []) ≡ cond t (cond q (onto r s.entries v h) (held_in_with (combined start.Unit r) ss x v h)) h
@@ -119,7 +125,8 @@ gathered_at r x v h y t ss s ns true e l was numbers =
     ap (λ (n : ℤ). reduced_at r v n ns) (was ∙ ap (λ (n : ℤ). cond t n h) none ∙ alike t h) ∙ numbers h
 gathered_at r x v h y t ss s ns false e l was numbers = was
 
-pub gathered_more : (r : Reduction) (x v : ℕ) (h : ℤ) (t : Bool) (ss : List VectorAccumulator) (s : VectorAccumulator) (gs : List GatheredIn) (g : GatheredIn) → g.vector ≡ s.vector → length ss ≤ index_in s.vector ss
+pub gathered_more : (r : Reduction) (x v : ℕ) (h : ℤ) (t : Bool) (ss : List VectorAccumulator) (s : VectorAccumulator) (gs : List GatheredIn) (g : GatheredIn) → g.vector ≡ s.vector
+    → length ss ≤ index_in s.vector ss
     → reduced_at r v h (gathered_for x gs) ≡ cond t (held_in_with (combined start.Unit r) ss x v h) h
     → ((n : ℤ) → reduced_at r v n (numbers_of g.numbers.items) ≡ cond t (onto r s.entries v n) n)
     → reduced_at r v h (gathered_for x (gs ++ g ∷ [])) ≡ cond t (held_in_with (combined start.Unit r) (ss ++ s ∷ []) x v h) h
@@ -135,7 +142,8 @@ gathered_more r x v h t ss s gs g own l was numbers =
 apart : (m n : ℕ) → (m == n) ≡ false → m ≡ n → ⊥
 apart m n h e = absurd (false≢true (sym h ∙ ap (λ k. k == n) e ∙ same_test n))
 
-gathered_by_at : (r : Reduction) (x : ℕ) (ss : List VectorAccumulator) (s : VectorAccumulator) (gs : List GatheredIn) (g : GatheredIn) (q : Bool) → (s.vector == x) ≡ q → g.vector ≡ s.vector → g.reduction ≡ s.reduction → length ss ≤ index_in s.vector ss
+gathered_by_at : (r : Reduction) (x : ℕ) (ss : List VectorAccumulator) (s : VectorAccumulator) (gs : List GatheredIn) (g : GatheredIn) (q : Bool) → (s.vector == x) ≡ q → g.vector ≡ s.vector
+    → g.reduction ≡ s.reduction → length ss ≤ index_in s.vector ss
     → (reduction_in ss x r ≡ r → IsGatheredBy r x gs) → cond q s.reduction (reduction_in ss x r) ≡ r → IsGatheredBy r x (gs ++ g ∷ [])
 gathered_by_at r x ss s gs g true e own by l was now =
     let at = same s.vector x e in
@@ -143,7 +151,8 @@ gathered_by_at r x ss s gs g true e own by l was now =
     is_gathered_by-push r x gs g (was none) (λ _. by ∙ now)
 gathered_by_at r x ss s gs g false e own by l was now = is_gathered_by-push r x gs g (was now) (λ i. absurd (apart s.vector x e (sym own ∙ i)))
 
-pub gathered_by_more : (r : Reduction) (x : ℕ) (ss : List VectorAccumulator) (s : VectorAccumulator) (gs : List GatheredIn) (g : GatheredIn) → g.vector ≡ s.vector → g.reduction ≡ s.reduction → length ss ≤ index_in s.vector ss
+pub gathered_by_more : (r : Reduction) (x : ℕ) (ss : List VectorAccumulator) (s : VectorAccumulator) (gs : List GatheredIn) (g : GatheredIn) → g.vector ≡ s.vector → g.reduction ≡ s.reduction
+    → length ss ≤ index_in s.vector ss
     → (reduction_in ss x r ≡ r → IsGatheredBy r x gs) → reduction_in (ss ++ s ∷ []) x r ≡ r → IsGatheredBy r x (gs ++ g ∷ [])
 gathered_by_more r x ss s gs g own by l was now =
     let of = λ (s : VectorAccumulator). s.reduction in

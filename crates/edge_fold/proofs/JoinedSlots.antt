@@ -43,7 +43,8 @@ joined_more f x r a b c gs hs one more = record {
 }
 
 -- what is given otherwise, if entries reduced with it are the same
-pub joined_alike : (f : ApplyContext) (x : ℕ) (r : Reduction) (a b : VectorAccumulators) (gs hs : List (ℕ × ℤ)) → ((v : ℕ) (n : ℤ) → reduced_at r v n gs ≡ reduced_at r v n hs) → HaveJoined f x r a b gs → HaveJoined f x r a b hs
+pub joined_alike : (f : ApplyContext) (x : ℕ) (r : Reduction) (a b : VectorAccumulators) (gs hs : List (ℕ × ℤ)) → ((v : ℕ) (n : ℤ) → reduced_at r v n gs ≡ reduced_at r v n hs)
+    → HaveJoined f x r a b gs → HaveJoined f x r a b hs
 joined_alike f x r a b gs hs same one = record {
   entries = λ v h. one.entries v h ∙ same v (held_in_with (combined f.start r) (active a) x v (first_entry f x v h));
   reduction = one.reduction;
@@ -66,7 +67,8 @@ along f x y v q r k a b h o gs own by begins from joined =
 same_number : (r : Reduction) (v : ℕ) (n : ℤ) (gs : List (ℕ × ℤ)) → gs ≡ [] → reduced_at r v n gs ≡ n
 same_number r v n gs none = ap (λ (hs : List (ℕ × ℤ)). reduced_at r v n hs) none
 
-pub joined_slot : (f : ApplyContext) (x y p : ℕ) (r : Reduction) (before now after : VectorAccumulators) (was t : VectorAccumulator) (gs : List (ℕ × ℤ)) → active after ≡ take now.used (set now.slots.items p t)
+pub joined_slot : (f : ApplyContext) (x y p : ℕ) (r : Reduction) (before now after : VectorAccumulators) (was t : VectorAccumulator) (gs : List (ℕ × ℤ))
+    → active after ≡ take now.used (set now.slots.items p t)
     → p ≡ index_in y (active now) → p < now.used → now.used ≤ length now.slots.items → was ≡ get_or now.slots.items p was → t.vector ≡ was.vector → t.reduction ≡ was.reduction
     → ((combine : ℤ → ℤ → ℤ) (x v : ℕ) (h : ℤ) → held_in_with combine (active now) x v h ≡ held_in_with combine (active before) x v h)
     → (reduction_in (active before) x r ≡ r → reduction_in (active now) x r ≡ r)
@@ -94,7 +96,8 @@ joined_slot f x y p r before now after was t gs is index inside few slot vector 
     }
 
 -- edges that are joined at once, before those that wait, if to reduce with what is joined is to reduce with what they give
-pub folded_before_alike : (f : ApplyContext) (m : StateValue) (steps : List FunctionStatementsTree) (es more : List Edge) (a b : Scratch) (x : ℕ) (r : Reduction) (gs : List (ℕ × ℤ)) → waiting f.weighted b.pairs ≡ waiting f.weighted a.pairs
+pub folded_before_alike : (f : ApplyContext) (m : StateValue) (steps : List FunctionStatementsTree) (es more : List Edge) (a b : Scratch) (x : ℕ) (r : Reduction) (gs : List (ℕ × ℤ))
+    → waiting f.weighted b.pairs ≡ waiting f.weighted a.pairs
     → HaveJoined f x r a.slots b.slots gs → ((v : ℕ) (n : ℤ) → v < f.vertices → reduced_at r v n gs ≡ reduced_at r v n (given_on x (all_given m steps) more))
     → HasFoldedFor f m steps es a x r → HasFoldedFor f m steps (es ++ more) b x r
 folded_before_alike f m steps es more a b x r gs same joined alike has = record {
@@ -108,7 +111,8 @@ folded_before_alike f m steps es more a b x r gs same joined alike has = record 
   reduction = joined.reduction has.reduction;
 }
 
-pub folded_before : (f : ApplyContext) (m : StateValue) (steps : List FunctionStatementsTree) (es more : List Edge) (a b : Scratch) (x : ℕ) (r : Reduction) → waiting f.weighted b.pairs ≡ waiting f.weighted a.pairs
+pub folded_before : (f : ApplyContext) (m : StateValue) (steps : List FunctionStatementsTree) (es more : List Edge) (a b : Scratch) (x : ℕ) (r : Reduction)
+    → waiting f.weighted b.pairs ≡ waiting f.weighted a.pairs
     → HaveJoined f x r a.slots b.slots (given_on x (all_given m steps) more) → HasFoldedFor f m steps es a x r → HasFoldedFor f m steps (es ++ more) b x r
 folded_before f m steps es more a b x r same joined has = folded_before_alike f m steps es more a b x r (given_on x (all_given m steps) more) same joined (λ v n l. refl) has
 
@@ -125,7 +129,8 @@ folded_nothing f m steps none s x r empty waits joined = record {
 }
 
 -- edges that wait
-pub folded_later : (f : ApplyContext) (m : StateValue) (steps : List FunctionStatementsTree) (es more : List Edge) (a b : Scratch) (x : ℕ) (r : Reduction) (w : Bool) → f.weighted ≡ w → b.slots ≡ a.slots → waiting w b.pairs ≡ waiting w a.pairs ++ more
+pub folded_later : (f : ApplyContext) (m : StateValue) (steps : List FunctionStatementsTree) (es more : List Edge) (a b : Scratch) (x : ℕ) (r : Reduction) (w : Bool) → f.weighted ≡ w
+    → b.slots ≡ a.slots → waiting w b.pairs ≡ waiting w a.pairs ++ more
     → HasFoldedFor f m steps es a x r → HasFoldedFor f m steps (es ++ more) b x r
 folded_later f m steps es more a b x r w counts same waits has = record {
   entries = λ v h l.
@@ -145,7 +150,8 @@ pub old_entries : (f : ApplyContext) (m : StateValue) (x v : ℕ) (r : Reduction
     → reduced_at r v (held_in ss x v (entry m.vectors x v)) gs ≡ reduced_at r v (entry m.vectors x v) hs
 old_entries f m x v r ss gs hs old vectors has =
     let o = entry m.vectors x v in
-    let then = subst (λ (k : FoldStart). reduced_at r v (held_in_with (combined k r) ss x v (seed k (entry f.vectors.now.vectors x v) o)) gs ≡ reduced_at r v (seed k (entry f.vectors.now.vectors x v) o) hs) old has in
+    let then = subst (λ (k : FoldStart). reduced_at r v (held_in_with (combined k r) ss x v (seed k (entry f.vectors.now.vectors x v) o)) gs ≡ reduced_at r v
+    (seed k (entry f.vectors.now.vectors x v) o) hs) old has in
     subst (λ (vs : List (List ℤ)). reduced_at r v (held_in ss x v (entry vs x v)) gs ≡ reduced_at r v (entry vs x v) hs) vectors then
 
 -- new entries that began with the unit, and are combined with a number

@@ -89,7 +89,8 @@ edges_numbers r x v m steps by n (e ∷ es) =
     let g = all_given m steps in
     reduced_all-append n here more
     ∙ edges_numbers r x v m steps by (reduced_all n here) es
-    ∙ ap (λ (k : ℤ). reduced_at r v k (given_on x g es)) (edge_numbers r x v e.1 n cs (by e) ∙ ap (λ (gs : List (ℕ × Reduction × ℤ)). reduced_at r v n (for_vector x e.1 gs)) (sym (all_given_is m steps e)))
+    ∙ ap (λ (k : ℤ). reduced_at r v k (given_on x g es)) (edge_numbers r x v e.1 n cs (by e)
+    ∙ ap (λ (gs : List (ℕ × Reduction × ℤ)). reduced_at r v n (for_vector x e.1 gs)) (sym (all_given_is m steps e)))
     ∙ sym (reduced_at-append r v n (for_vector x e.1 (g e)) (given_on x g es))
 
 -- the edges to another vertex do not matter

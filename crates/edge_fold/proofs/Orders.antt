@@ -61,7 +61,8 @@ one_by_one : (es : List Edge) → flat_map (λ e. e ∷ []) es ≡ es
 one_by_one [] = refl
 one_by_one (e ∷ es) = ap (λ fs. e ∷ fs) (one_by_one es)
 
-pub edges_in_any_order : (f : ApplyContext) (m : StateValue) (steps : List FunctionStatementsTree) (es fs : List Edge) (s : Scratch) → IsPermutation es fs → HasFolded f m steps es s → HasFolded f m steps fs s
+pub edges_in_any_order : (f : ApplyContext) (m : StateValue) (steps : List FunctionStatementsTree) (es fs : List Edge) (s : Scratch) → IsPermutation es fs → HasFolded f m steps es s
+    → HasFolded f m steps fs s
 edges_in_any_order f m steps es fs s same has =
     folded_alike f m steps es fs s
     (λ x v r n.

@@ -51,7 +51,8 @@ one_given f m steps edge gs are alone gives =
     ap (λ (ss : List FunctionStatementsTree). all_given m ss edge) one.alone ∙ append-nil (given_in m one.a edge) ∙ gives one.a one.kernel
 
 -- what a statement gives along a row
-pub joined_contribution : (f : ApplyContext) (x : ℕ) (r : Reduction) (a b : VectorAccumulators) (source : ℕ) (contribution : SourceContribution) (gives : Edge → List (ℕ × Reduction × ℤ)) (es : List (ℕ × ℤ))
+pub joined_contribution : (f : ApplyContext) (x : ℕ) (r : Reduction) (a b : VectorAccumulators) (source : ℕ) (contribution : SourceContribution) (gives : Edge → List (ℕ × Reduction × ℤ))
+    (es : List (ℕ × ℤ))
     → ((d : ℕ) (w : ℤ) → gives (source, d, w) ≡ (contribution.vector, contribution.reduction, contribution.number) ∷ []) → ((edge : Edge) → IsBy r x (gives edge))
     → ((contribution.vector ≡ x → contribution.reduction ≡ r) → HaveJoined f x r a b (cond (contribution.vector == x) (each_given contribution.number (firsts es)) []))
     → HaveJoined f x r a b (given_on x gives (row source es))
@@ -61,13 +62,16 @@ joined_contribution f x r a b source contribution gives es each by joined =
     (λ v n. sym (ap (λ gs. reduced_at r v n gs) (contribution_row x contribution.vector source contribution.reduction contribution.number gives each es)))
     (joined own.0)
 
-pub joined_weighed : (f : ApplyContext) (m : StateValue) (x : ℕ) (r : Reduction) (a b : VectorAccumulators) (source : ℕ) (given : EntryContribution) (gives : Edge → List (ℕ × Reduction × ℤ)) (es : List (ℕ × ℤ))
+pub joined_weighed : (f : ApplyContext) (m : StateValue) (x : ℕ) (r : Reduction) (a b : VectorAccumulators) (source : ℕ) (given : EntryContribution) (gives : Edge → List (ℕ × Reduction × ℤ))
+    (es : List (ℕ × ℤ))
     → f.vectors.now.vectors ≡ m.vectors → IsEntryOf m given gives → ((edge : Edge) → IsBy r x (gives edge))
-    → ((given.vector ≡ x → given.reduction ≡ r) → HaveJoined f x r a b (cond (given.vector == x) (each_weighed (λ w. arithmetic given.operator (entry f.vectors.now.vectors given.from source) w) es) []))
+    → ((given.vector ≡ x → given.reduction ≡ r) → HaveJoined f x r a b (cond (given.vector == x)
+    (each_weighed (λ w. arithmetic given.operator (entry f.vectors.now.vectors given.from source) w) es) []))
     → HaveJoined f x r a b (given_on x gives (row source es))
 joined_weighed f m x r a b source given gives es vectors is by joined =
     let number = λ (w : ℤ). arithmetic given.operator (entry f.vectors.now.vectors given.from source) w in
-    let each = λ (d : ℕ) (w : ℤ). is (source, d, w) ∙ ap (λ (vs : List (List ℤ)). (let gs : List (ℕ × Reduction × ℤ) = (given.vector, given.reduction, arithmetic given.operator (entry vs given.from source) w) ∷ [] in gs)) (sym vectors) in
+    let each = λ (d : ℕ) (w : ℤ). is (source, d, w) ∙ ap (λ (vs : List (List ℤ)).
+    (let gs : List (ℕ × Reduction × ℤ) = (given.vector, given.reduction, arithmetic given.operator (entry vs given.from source) w) ∷ [] in gs)) (sym vectors) in
     let own : IsBy r x ((given.vector, given.reduction, number (pos 0)) ∷ []) = subst (λ (gs : List (ℕ × Reduction × ℤ)). IsBy r x gs) (each 0 (pos 0)) (by (source, 0, pos 0)) in
     joined_alike f x r a b (cond (given.vector == x) (each_weighed number es) []) (given_on x gives (row source es))
     (λ v n. sym (ap (λ gs. reduced_at r v n gs) (weighed_row x given.vector source given.reduction number gives each es)))
@@ -85,7 +89,8 @@ joined_together f x r a b d contribution gives es is by joined =
     (joined own.0)
 
 -- one statement after the other
-joined_pair : (f : ApplyContext) (x : ℕ) (r : Reduction) (a b c : VectorAccumulators) (all first second : Edge → List (ℕ × Reduction × ℤ)) (es : List Edge) → ((edge : Edge) → all edge ≡ first edge ++ second edge)
+joined_pair : (f : ApplyContext) (x : ℕ) (r : Reduction) (a b c : VectorAccumulators) (all first second : Edge → List (ℕ × Reduction × ℤ)) (es : List Edge)
+    → ((edge : Edge) → all edge ≡ first edge ++ second edge)
     → HaveJoined f x r a b (given_on x first es) → HaveJoined f x r b c (given_on x second es) → HaveJoined f x r a c (given_on x all es)
 joined_pair f x r a b c all first second es each one other =
     let ones = given_on x first es in
@@ -95,17 +100,21 @@ joined_pair f x r a b c all first second es each one other =
     ∙ ap (λ gs. reduced_at r v n gs) (sym (on_same x all (λ edge. first edge ++ second edge) each es)))
     (joined_more f x r a b c ones others one other)
 
-by_first : (r : Reduction) (x : ℕ) (all first second : Edge → List (ℕ × Reduction × ℤ)) → ((edge : Edge) → all edge ≡ first edge ++ second edge) → ((edge : Edge) → IsBy r x (all edge)) → (edge : Edge) → IsBy r x (first edge)
+by_first : (r : Reduction) (x : ℕ) (all first second : Edge → List (ℕ × Reduction × ℤ)) → ((edge : Edge) → all edge ≡ first edge ++ second edge) → ((edge : Edge) → IsBy r x (all edge)) → (edge : Edge)
+    → IsBy r x (first edge)
 by_first r x all first second each by edge = IsBy-left r x (first edge) (second edge) (subst (λ (gs : List (ℕ × Reduction × ℤ)). IsBy r x gs) (each edge) (by edge))
 
-by_second : (r : Reduction) (x : ℕ) (all first second : Edge → List (ℕ × Reduction × ℤ)) → ((edge : Edge) → all edge ≡ first edge ++ second edge) → ((edge : Edge) → IsBy r x (all edge)) → (edge : Edge) → IsBy r x (second edge)
+by_second : (r : Reduction) (x : ℕ) (all first second : Edge → List (ℕ × Reduction × ℤ)) → ((edge : Edge) → all edge ≡ first edge ++ second edge) → ((edge : Edge) → IsBy r x (all edge))
+    → (edge : Edge) → IsBy r x (second edge)
 by_second r x all first second each by edge = IsBy-right r x (first edge) (second edge) (subst (λ (gs : List (ℕ × Reduction × ℤ)). IsBy r x gs) (each edge) (by edge))
 
 -- what is sent was joined to slots, at a destination
 abbrev pub HasJoinedContribution : ApplyContext → SourceContribution → (d : ℕ) → (before after : VectorAccumulators) → Type 0
-HasJoinedContribution f contribution d a b = (x : ℕ) (r : Reduction) → (contribution.vector ≡ x → contribution.reduction ≡ r) → HaveJoined f x r a b (cond (contribution.vector == x) (each_given contribution.number (d ∷ [])) [])
+HasJoinedContribution f contribution d a b = (x : ℕ) (r : Reduction) → (contribution.vector ≡ x → contribution.reduction ≡ r)
+    → HaveJoined f x r a b (cond (contribution.vector == x) (each_given contribution.number (d ∷ [])) [])
 
-pub folded_pair_into : (f : ApplyContext) (m : StateValue) (steps : List FunctionStatementsTree) (p : ContributionPair) (d : ℕ) (es : List (ℕ × ℤ)) (edges : List Edge) (a b : Scratch) (between : VectorAccumulators)
+pub folded_pair_into : (f : ApplyContext) (m : StateValue) (steps : List FunctionStatementsTree) (p : ContributionPair) (d : ℕ) (es : List (ℕ × ℤ)) (edges : List Edge) (a b : Scratch)
+    (between : VectorAccumulators)
     → b.pairs ≡ a.pairs → ArePairContributions p (all_given m steps) es
     → HasJoinedContribution f p.first d a.slots between → HasJoinedContribution f p.second d between b.slots
     → HasFolded f m steps edges a → HasFolded f m steps (edges ++ column d es) b
@@ -123,7 +132,8 @@ any_weights number d [] ws = refl
 any_weights number d (s ∷ ss) [] = ap (λ (gs : List (ℕ × ℤ)). (d, number s) ∷ gs) (any_weights number d ss [])
 any_weights number d (s ∷ ss) (w ∷ ws) = ap (λ (gs : List (ℕ × ℤ)). (d, number s) ∷ gs) (any_weights number d ss ws)
 
-pub of_sources : (contribution : SourceContribution) (gives : Edge → List (ℕ × Reduction × ℤ)) (ss : List ℕ) (ws : List ℤ) → IsReducedContribution contribution gives ss → IsEntryContribution contribution gives (entries_of ss ws)
+pub of_sources : (contribution : SourceContribution) (gives : Edge → List (ℕ × Reduction × ℤ)) (ss : List ℕ) (ws : List ℤ) → IsReducedContribution contribution gives ss
+    → IsEntryContribution contribution gives (entries_of ss ws)
 of_sources contribution gives ss ws is = record {
   number = λ s w. is.number s;
   each = is.each;

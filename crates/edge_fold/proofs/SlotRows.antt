@@ -20,12 +20,14 @@ alike : {A : Type 0} (b : Bool) (y d : A) → (b ≡ true → y ≡ d) → cond 
 alike true y d e = e refl
 alike false y d e = refl
 
-of_slot-append : {A : Type 0} (of : VectorAccumulator → A) (ss : List VectorAccumulator) (s : VectorAccumulator) (x : ℕ) (d : A) → ((s.vector == x) ≡ true → of s ≡ d) → of_slot of (ss ++ s ∷ []) x d ≡ of_slot of ss x d
+of_slot-append : {A : Type 0} (of : VectorAccumulator → A) (ss : List VectorAccumulator) (s : VectorAccumulator) (x : ℕ) (d : A) → ((s.vector == x) ≡ true → of s ≡ d)
+    → of_slot of (ss ++ s ∷ []) x d ≡ of_slot of ss x d
 of_slot-append of [] s x d clean = alike (s.vector == x) (of s) d clean
 of_slot-append of (t ∷ ts) s x d clean = ap (λ y. cond (t.vector == x) (of t) y) (of_slot-append of ts s x d clean)
 
 -- a slot after the others has it only where there was none
-pub of_slot-push : {A : Type 0} (of : VectorAccumulator → A) (ss : List VectorAccumulator) (s : VectorAccumulator) (x : ℕ) (d : A) → of_slot of (ss ++ s ∷ []) x d ≡ of_slot of ss x (cond (s.vector == x) (of s) d)
+pub of_slot-push : {A : Type 0} (of : VectorAccumulator → A) (ss : List VectorAccumulator) (s : VectorAccumulator) (x : ℕ) (d : A)
+    → of_slot of (ss ++ s ∷ []) x d ≡ of_slot of ss x (cond (s.vector == x) (of s) d)
 of_slot-push of [] s x d = refl
 of_slot-push of (t ∷ ts) s x d = ap (λ y. cond (t.vector == x) (of t) y) (of_slot-push of ts s x d)
 
@@ -76,7 +78,8 @@ later_changed f x y k own now was true off e more others = sym (others (other_st
 later_changed f x y k own now was false off e more others = more
 
 -- by cases of whether the first slot is that of the index
-set_at : {A : Type 0} (of : VectorAccumulator → A) (f : A → A) (dflt : A) (x y : ℕ) (s : VectorAccumulator) (ss : List VectorAccumulator) (t d : VectorAccumulator) (b : Bool) → (s.vector == x) ≡ b → cond b 0 (suc (index_in x ss)) < suc (length ss) → t.vector ≡ x
+set_at : {A : Type 0} (of : VectorAccumulator → A) (f : A → A) (dflt : A) (x y : ℕ) (s : VectorAccumulator) (ss : List VectorAccumulator) (t d : VectorAccumulator) (b : Bool) → (s.vector == x) ≡ b
+    → cond b 0 (suc (index_in x ss)) < suc (length ss) → t.vector ≡ x
     → ((x == y) ≡ true → of t ≡ f (of (get_or (s ∷ ss) (cond b 0 (suc (index_in x ss))) d)))
     → ((x == y) ≡ false → (z : A) → f z ≡ z)
     → (index_in x ss < length ss → ((x == y) ≡ true → of t ≡ f (of (get_or ss (index_in x ss) d))) → of_slot of (set ss (index_in x ss) t) y dflt ≡ f (of_slot of ss y dflt))
@@ -130,7 +133,8 @@ pushed ss new k s e is =
     ap (take (k + 1)) is ∙ take_all (k + 1) (ss ++ s ∷ []) (omega (arith, e, long)) ∙ ap (λ (ts : List VectorAccumulator). ts ++ s ∷ []) (sym (take_all k ss (omega (arith, e))))
 
 -- what a vector's slot has after a change at the index of a slot, if the first slots are in use
-pub of_slot-change : {A : Type 0} (of : VectorAccumulator → A) (f : A → A) (dflt : A) (x y k p : ℕ) (ss : List VectorAccumulator) (t d : VectorAccumulator) → p ≡ index_in x (take k ss) → p < k → k ≤ length ss → t.vector ≡ x
+pub of_slot-change : {A : Type 0} (of : VectorAccumulator → A) (f : A → A) (dflt : A) (x y k p : ℕ) (ss : List VectorAccumulator) (t d : VectorAccumulator) → p ≡ index_in x (take k ss) → p < k
+    → k ≤ length ss → t.vector ≡ x
     → ((x == y) ≡ true → of t ≡ f (of (get_or ss p d)))
     → ((x == y) ≡ false → (z : A) → f z ≡ z)
     → of_slot of (take k (set ss p t)) y dflt ≡ f (of_slot of (take k ss) y dflt)
@@ -150,16 +154,19 @@ first_vector ss x k p d e l few =
     ∙ vector_there (take k ss) x d (omega (arith, e, l, long))
 
 -- what a vector has is what the slot at its index has
-slot_at : {A : Type 0} (of : VectorAccumulator → A) (s : VectorAccumulator) (ss : List VectorAccumulator) (x : ℕ) (rest : A) (d : VectorAccumulator) (b : Bool) → cond b 0 (suc (index_in x ss)) < suc (length ss)
+slot_at : {A : Type 0} (of : VectorAccumulator → A) (s : VectorAccumulator) (ss : List VectorAccumulator) (x : ℕ) (rest : A) (d : VectorAccumulator) (b : Bool)
+    → cond b 0 (suc (index_in x ss)) < suc (length ss)
     → (index_in x ss < length ss → rest ≡ of (get_or ss (index_in x ss) d)) → cond b (of s) rest ≡ of (get_or (s ∷ ss) (cond b 0 (suc (index_in x ss))) d)
 slot_at of s ss x rest d true l more = refl
 slot_at of s ss x rest d false l more = more (omega (arith, l))
 
-of_slot-index : {A : Type 0} (of : VectorAccumulator → A) (ss : List VectorAccumulator) (x : ℕ) (y : A) (d : VectorAccumulator) → index_in x ss < length ss → of_slot of ss x y ≡ of (get_or ss (index_in x ss) d)
+of_slot-index : {A : Type 0} (of : VectorAccumulator → A) (ss : List VectorAccumulator) (x : ℕ) (y : A) (d : VectorAccumulator) → index_in x ss < length ss
+    → of_slot of ss x y ≡ of (get_or ss (index_in x ss) d)
 of_slot-index of [] x y d l = absurd (omega (arith, l))
 of_slot-index of (s ∷ ss) x y d l = slot_at of s ss x (of_slot of ss x y) d (s.vector == x) l (of_slot-index of ss x y d)
 
-pub first_slot : {A : Type 0} (of : VectorAccumulator → A) (ss : List VectorAccumulator) (x k p : ℕ) (y : A) (d : VectorAccumulator) → p ≡ index_in x (take k ss) → p < k → k ≤ length ss → of_slot of (take k ss) x y ≡ of (get_or ss p d)
+pub first_slot : {A : Type 0} (of : VectorAccumulator → A) (ss : List VectorAccumulator) (x k p : ℕ) (y : A) (d : VectorAccumulator) → p ≡ index_in x (take k ss) → p < k → k ≤ length ss
+    → of_slot of (take k ss) x y ≡ of (get_or ss p d)
 first_slot of ss x k p y d e l few =
     let long = length-take-le k ss few in
     of_slot-index of (take k ss) x y d (omega (arith, e, l, long))

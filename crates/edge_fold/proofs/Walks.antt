@@ -51,7 +51,8 @@ walk_more f edges_of all left part rest start s t in_row parts more w = record {
       (more m steps (es ++ edges_of w.done) are (w.folded m steps es are has));
 }
 
-pub walk_done : {K : Type 0} (f : ApplyContext) (edges_of : List K → List Edge) (all left : List K) (start s : Scratch) → left ≡ [] → HasWalked f edges_of all left start s → FoldsMore f (edges_of all) start s
+pub walk_done : {K : Type 0} (f : ApplyContext) (edges_of : List K → List Edge) (all left : List K) (start s : Scratch) → left ≡ [] → HasWalked f edges_of all left start s
+    → FoldsMore f (edges_of all) start s
 walk_done f edges_of all left start s none w m steps es are has =
     let whole = sym (append-nil w.done) ∙ ap (λ ks. w.done ++ ks) (sym none) ∙ w.split in
     folded_along f m steps (es ++ edges_of w.done) (es ++ edges_of all) s (ap (λ ks. es ++ edges_of ks) whole) (w.folded m steps es are has)

@@ -45,9 +45,11 @@ waiting weighted p = pairs (take p.count p.sources) (take p.count p.destinations
 
 -- for a vector to which the functions give by one reduction: the new entries of the graph's vertices, reduced with what the
 -- pairs that wait give, are the first ones reduced with what these edges give
-pub record HasFoldedFor (f : ApplyContext) (m : StateValue) (steps : List FunctionStatementsTree) (edges : List Edge) (s : Scratch) (x : ℕ) (r : Reduction) : Type 0 where
+pub record HasFoldedFor (f : ApplyContext) (m : StateValue) (steps : List FunctionStatementsTree) (edges : List Edge) (s : Scratch) (x : ℕ)
+    (r : Reduction) : Type 0 where
   pub entries : (v : ℕ) (h : ℤ) → v < f.vertices
-      → reduced_at r v (held_in_with (combined f.start r) (active s.slots) x v (first_entry f x v h)) (given_on x (all_given m steps) (waiting f.weighted s.pairs))
+      → reduced_at r v (held_in_with (combined f.start r) (active s.slots) x v (first_entry f x v h))
+      (given_on x (all_given m steps) (waiting f.weighted s.pairs))
       ≡ reduced_at r v (first_entry f x v h) (given_on x (all_given m steps) edges)
   pub reduction : reduction_in (active s.slots) x r ≡ r
 

@@ -27,7 +27,8 @@ IsGatheredBy r x (g ∷ gs) = (g.vector ≡ x → g.reduction ≡ r) × IsGather
 
 -- for a vector to which the functions give by one reduction: to reduce a number with what is gathered is to reduce it with
 -- what these edges give, at each of n vertices
-pub record AreGatheredFor (vertices : ℕ) (m : StateValue) (steps : List FunctionStatementsTree) (edges : List Edge) (g : Gathered) (x : ℕ) (r : Reduction) : Type 0 where
+pub record AreGatheredFor (vertices : ℕ) (m : StateValue) (steps : List FunctionStatementsTree) (edges : List Edge) (g : Gathered) (x : ℕ)
+    (r : Reduction) : Type 0 where
   pub reduction : IsGatheredBy r x g.vectors.items
   pub numbers : (v : ℕ) (h : ℤ) → v < vertices → reduced_at r v h (gathered_for x g.vectors.items) ≡ reduced_at r v h (given_on x (all_given m steps) edges)
 

@@ -40,7 +40,8 @@ pub transposed_none : (old : List EdgeUpdate) → AreTransposedSoFar old old 0
 transposed_none old = record { transposed = tt; rest = refl; len = refl }
 
 -- one more is transposed
-pub transposed_more : (old now : List EdgeUpdate) (i : ℕ) (d y : EdgeUpdate) → i < length now → AreTransposedSoFar old now i → IsTransposed (get_or now i d) y → AreTransposedSoFar old (set now i y) (i + 1)
+pub transposed_more : (old now : List EdgeUpdate) (i : ℕ) (d y : EdgeUpdate) → i < length now → AreTransposedSoFar old now i → IsTransposed (get_or now i d) y
+    → AreTransposedSoFar old (set now i y) (i + 1)
 transposed_more old now i d y lt so_far t =
     let len : length now ≡ length old = so_far.len in
     let split : get_or now i d ∷ drop (i + 1) now ≡ get_or old i d ∷ drop (i + 1) old = sym (drop_more now i d lt) ∙ so_far.rest ∙ drop_more old i d (omega arith) in

@@ -19,10 +19,13 @@ use Rattle.expression_types.specs.declared.scope.Entity.{Entity}
 use Rattle.expression_types.specs.declared.scope.Entity.TheVariants as entity
 use Rattle.expression_types.specs.declared.scope.Inside.{Inside}
 use Rattle.expression_types.specs.declared.scope.Inside.TheVariants as inside
-use Rattle.expression_types.specs.Expression.{as_size, as_vector, comparison_value, conjunction_value, conjuncts, disjuncts, entry_of, factors, index_as, index_lacks_value, index_value, name_value, no_vertex, primary_value, size_of, size_value, sum_value, summands, term_value, unary_value, used, used_as, value_of, vector_at, vector_index}
+use Rattle.expression_types.specs.Expression.{as_size, as_vector, comparison_value, conjunction_value, conjuncts, disjuncts, entry_of, factors, index_as, index_lacks_value, index_value, name_value}
+use Rattle.expression_types.specs.Expression.{no_vertex, primary_value, size_of, size_value, sum_value, summands, term_value, unary_value, used, used_as, value_of, vector_at, vector_index}
 use Rattle.expression_types.specs.ScopeTree.{found, ScopeTree, declared, declared_over}
 use Rattle.expression_types.specs.Faults.{WithFaults, fault_at, sure}
-use Rattle.expression_types.specs.Operators.{IntegersTree, Integers, MixedIntegers, ErrorIntegers, ConditionsTree, Conditions, MixedConditions, ErrorConditions, condition_index, entry_value, first_condition, first_integer, function_entry, given, grouped_conditions, grouped_integers, integer_index, main_entry, related_value, signed_value, unless_faulty}
+use Rattle.expression_types.specs.Operators.{IntegersTree, Integers, MixedIntegers, ErrorIntegers, ConditionsTree, Conditions, MixedConditions, ErrorConditions, condition_index, entry_value}
+use Rattle.expression_types.specs.Operators.{first_condition, first_integer, function_entry, given, grouped_conditions, grouped_integers, integer_index, main_entry, related_value, signed_value}
+use Rattle.expression_types.specs.Operators.{unless_faulty}
 use Rattle.expression_types.specs.ValueTree.{ValueTree, Integer, Condition, Vertex, Set, ErrorValue, condition_reads_entry, is_error, named_set, named_value, named_vector, reads_entry}
 
 -- P holds of the offset of each fault

@@ -78,7 +78,8 @@ conjuncts_row scope at left first [] = refl
 conjuncts_row scope at left first (m ∷ more) =
     λ i. comparison_value scope at first >>= λ v.
     (conjuncts_row scope at (beside_condition connective.And left (first_condition v)) (comparison_of m) more
-    ∙ row_first (comparison_value scope at (comparison_of m)) (λ w. beside_condition connective.And (beside_condition connective.And left (first_condition v)) (first_condition w)) (conjunction_step scope at) more) i
+    ∙ row_first (comparison_value scope at (comparison_of m)) (λ w. beside_condition connective.And (beside_condition connective.And left (first_condition v)) (first_condition w))
+    (conjunction_step scope at) more) i
 
 pub conjunction_begins : (scope : ScopeTree) (at : ℕ) (first : ComparisonTree) (more : List Comparison) (old new : Option Fault) (v : ValueTree)
     → (length more == 0) ≡ false → outcome old (comparison_value scope at first) ≡ (v, new)
@@ -101,7 +102,8 @@ disjuncts_row scope at left first [] = refl
 disjuncts_row scope at left first (m ∷ more) =
     λ i. conjunction_value scope at first >>= λ v.
     (disjuncts_row scope at (beside_condition connective.Or left (first_condition v)) (conjunction_of m) more
-    ∙ row_first (conjunction_value scope at (conjunction_of m)) (λ w. beside_condition connective.Or (beside_condition connective.Or left (first_condition v)) (first_condition w)) (expression_step scope at) more) i
+    ∙ row_first (conjunction_value scope at (conjunction_of m)) (λ w. beside_condition connective.Or (beside_condition connective.Or left (first_condition v)) (first_condition w))
+    (expression_step scope at) more) i
 
 pub expression_begins : (scope : ScopeTree) (at : ℕ) (first : ConjunctionTree) (more : List Conjunction) (old new : Option Fault) (v : ValueTree)
     → (length more == 0) ≡ false → outcome old (conjunction_value scope at first) ≡ (v, new)

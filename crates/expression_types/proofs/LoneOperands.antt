@@ -10,7 +10,8 @@ use Rattle.syntax.specs.declared.expression.Conjunction.{Conjunction}
 use Rattle.syntax.specs.ExpressionDepth.{expression_depth, unary_depth}
 use Rattle.syntax.specs.ExpressionViews.{behind, unary_of, term_from, sum_from, conjunction_from, expression_from}
 use Rattle.syntax.specs.inside.ExpressionViews.{term_of, comparison_of, conjunction_of}
-use Rattle.syntax.specs.SourceTrees.{ExpressionTree, ConjunctionTree, ComparisonTree, TermTree, UnaryTree, PrimaryTree, LastConjunction, ConjunctionThen, LastComparison, ComparisonThen, OneSum, TwoSums, LastTerm, TermThen, LastUnary, UnaryThen, Bare}
+use Rattle.syntax.specs.SourceTrees.{ExpressionTree, ConjunctionTree, ComparisonTree, TermTree, UnaryTree, PrimaryTree, LastConjunction, ConjunctionThen, LastComparison, ComparisonThen, OneSum}
+use Rattle.syntax.specs.SourceTrees.{TwoSums, LastTerm, TermThen, LastUnary, UnaryThen, Bare}
 use Rattle.syntax.specs.Terminals.{Identifier}
 use Rattle.expression_types.specs.BareNames.{bare_name, only_unary, only_term, only_comparison, only_operand, unary_name}
 

@@ -4,7 +4,9 @@ use Rattle.std.specs.Prelude.{ℕ, Bool, false, if◌then◌else◌, is_some, no
 use Rattle.syntax.specs.declared.operators.Addition.{Addition}
 use Rattle.syntax.specs.declared.operators.Multiplication.{Multiplication}
 use Rattle.syntax.specs.Terminals.{Identifier}
-use Rattle.syntax.specs.SourceTrees.{ExpressionTree, ConjunctionTree, ComparisonTree, SumTree, TermTree, UnaryTree, PrimaryTree, LastConjunction, ConjunctionThen, LastComparison, ComparisonThen, OneSum, TwoSums, LastTerm, TermThen, LastUnary, UnaryThen, Bare, Signed, Literal, Truth, Variable, Entry, Size, Parentheses}
+use Rattle.syntax.specs.SourceTrees.{ExpressionTree, ConjunctionTree, ComparisonTree, SumTree, TermTree, UnaryTree, PrimaryTree, LastConjunction}
+use Rattle.syntax.specs.SourceTrees.{ConjunctionThen, LastComparison, ComparisonThen, OneSum, TwoSums, LastTerm, TermThen, LastUnary, UnaryThen, Bare, Signed}
+use Rattle.syntax.specs.SourceTrees.{Literal, Truth, Variable, Entry, Size, Parentheses}
 use Rattle.typed_tree.specs.declared.expression.Connective.TheVariants as connective
 use Rattle.typed_tree.specs.declared.expression.VarRef.{VarRef}
 use Rattle.typed_tree.specs.IntExpressionTree as integer
@@ -18,7 +20,8 @@ use Rattle.expression_types.specs.BareNames.{bare_name}
 use Rattle.expression_types.specs.ScopeTree.{found, ScopeTree}
 use Rattle.expression_types.specs.Faults.{WithFaults, sure, fault_at, ◌>>=◌}
 use Rattle.expression_types.specs.ValueTree.{ValueTree, Integer, Condition, ErrorValue, is_error, named_value, named_vector, named_set}
-use Rattle.expression_types.specs.Operators.{added, multiplied, given, unless_faulty, IntegersTree, ConditionsTree, first_integer, first_condition, beside_integer, beside_condition, grouped_integers, grouped_conditions, related_value, signed_value, entry_value}
+use Rattle.expression_types.specs.Operators.{added, multiplied, given, unless_faulty, IntegersTree, ConditionsTree, first_integer, first_condition}
+use Rattle.expression_types.specs.Operators.{beside_integer, beside_condition, grouped_integers, grouped_conditions, related_value, signed_value, entry_value}
 
 -- what a used name is: it has to be visible
 abbrev pub used_as : Identifier → Option Entity → WithFaults Entity

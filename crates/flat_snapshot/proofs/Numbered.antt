@@ -58,7 +58,8 @@ numbered_list k u (e ∷ es) = elim (cases_eq e.0 u) [
 ]
 
 -- the list of a vertex stands in its block
-pub list_in : (v k i : ℕ) (bs : List (Option Block)) (d : Option Block) → AreBlocks bs → v / 64 ≡ k + i → i < length bs → neighbours_of v (lists_in k bs) ≡ neighbours_of (v % 64) (vertices_at (get_or bs i d))
+pub list_in : (v k i : ℕ) (bs : List (Option Block)) (d : Option Block) → AreBlocks bs → v / 64 ≡ k + i → i < length bs
+    → neighbours_of v (lists_in k bs) ≡ neighbours_of (v % 64) (vertices_at (get_or bs i d))
 list_in v k i [] d are at lt = absurd (omega (arith, lt))
 list_in v k zero (b ∷ bs) d are at lt =
     let is : 64 * k + v % 64 ≡ v = omega arith in

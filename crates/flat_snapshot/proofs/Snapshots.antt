@@ -58,7 +58,8 @@ degrees_made neighbours bs are = record {
 }
 
 -- the flat of a graph
-pub flat_made : (g : Digraph) (n m : ℕ) (out into : List (ℕ × Block)) → IsDigraph g → n ≡ g.vertices → m ≡ length g.edges → AreBlocksOf (λ u. destinations_of u g.edges) out → edges_of (lists_of out) ≡ g.edges → AreBlocksOf (λ v. sources_of v g.edges) into → IsFlat n m (lists_of out) (lists_of into)
+pub flat_made : (g : Digraph) (n m : ℕ) (out into : List (ℕ × Block)) → IsDigraph g → n ≡ g.vertices → m ≡ length g.edges → AreBlocksOf (λ u. destinations_of u g.edges) out
+    → edges_of (lists_of out) ≡ g.edges → AreBlocksOf (λ v. sources_of v g.edges) into → IsFlat n m (lists_of out) (lists_of into)
 flat_made g n m out into ok vertices count outs same ins =
     let whole : IsDigraph (digraph g.vertices g.edges) = record { count = ok.count; ascending = ok.ascending; within = ok.within } in
     record {

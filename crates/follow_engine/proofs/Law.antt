@@ -46,7 +46,8 @@ abbrev passes : (from to : ℕ → Bool) → Edge → Bool
 passes from to e = from e.0 && to e.1
 
 -- listed edges whose sources do not pass may be left out
-without_listed : (x v : ℕ) (steps : List FunctionStatementsTree) (m : StateValue) (from to : ℕ → Bool) (listed : List (ℕ × ℕ)) (es : List Edge) → ((u : ℕ) → is_listed listed u v ≡ true → from u ≡ false)
+without_listed : (x v : ℕ) (steps : List FunctionStatementsTree) (m : StateValue) (from to : ℕ → Bool) (listed : List (ℕ × ℕ)) (es : List Edge)
+    → ((u : ℕ) → is_listed listed u v ≡ true → from u ≡ false)
     → gets x v steps m (edges_between from to es) ≡ gets x v steps m (filter (passes from to) (filter (unlisted listed) es))
 without_listed x v steps m from to listed es none =
     gets_filtered x v steps m (passes from to) (λ e. passes from to e && unlisted listed e) es
@@ -60,7 +61,8 @@ without_listed x v steps m from to listed es none =
     still_passes false b c off = refl
 
 -- the column of a vertex that is not touched
-column_same : (first : EdgeKernel) (second : Option (Bor EdgeKernel)) (steps : List FunctionStatementsTree) (now was : StateValue) (from from_was to to_was : ℕ → Bool) (listed : List (ℕ × ℕ)) (es fs : List Edge) (x v : ℕ)
+column_same : (first : EdgeKernel) (second : Option (Bor EdgeKernel)) (steps : List FunctionStatementsTree) (now was : StateValue) (from from_was to to_was : ℕ → Bool) (listed : List (ℕ × ℕ))
+    (es fs : List Edge) (x v : ℕ)
     → AreAlike first second steps now was listed es fs → IsUntouched now was from from_was to to_was es listed v
     → gets x v steps now (edges_between from to es) ≡ gets x v steps was (edges_between from_was to_was fs)
 column_same first second steps now was from from_was to to_was listed es fs x v alike quiet =
@@ -76,7 +78,8 @@ column_same first second steps now was from from_was to to_was listed es fs x v 
     ∙ sym (without_listed x v steps was from_was to_was listed fs (λ u is. (quiet.unlisted u is).1))
 
 -- and its entries
-pub entry_same : (first : EdgeKernel) (second : Option (Bor EdgeKernel)) (steps : List FunctionStatementsTree) (now was : StateValue) (from from_was to to_was : ℕ → Bool) (listed : List (ℕ × ℕ)) (es fs : List Edge) (x v : ℕ)
+pub entry_same : (first : EdgeKernel) (second : Option (Bor EdgeKernel)) (steps : List FunctionStatementsTree) (now was : StateValue) (from from_was to to_was : ℕ → Bool) (listed : List (ℕ × ℕ))
+    (es fs : List Edge) (x v : ℕ)
     → AreAlike first second steps now was listed es fs → IsUntouched now was from from_was to to_was es listed v
     → v < length (slice_index_or now.vectors x []) → v < length (slice_index_or was.vectors x [])
     → entry (after_edges steps now.sets now.vectors (edges_between from to es) now.vectors) x v ≡ entry (after_edges steps was.sets was.vectors (edges_between from_was to_was fs) was.vectors) x v

@@ -101,7 +101,8 @@ change_same old new a b v first second =
 no_change : (old new : ℕ → ℤ) (v : ℕ) → new v ≡ old v → change_at old new v ≡ []
 no_change old new v is = ap (λ (b : Bool). one_or_none b v (new v)) (ap (int_equal (old v)) is ∙ equal_itself (old v))
 
-split_at : (test : ℕ → Bool) (old new found was became : ℕ → ℤ) (v : ℕ) (fs cs all : List EntryChange) → SplitsAt test old new found was became v → BeginsFrom (v + 1) fs → BeginsFrom (v + 1) (kept test cs)
+split_at : (test : ℕ → Bool) (old new found was became : ℕ → ℤ) (v : ℕ) (fs cs all : List EntryChange) → SplitsAt test old new found was became v → BeginsFrom (v + 1) fs
+    → BeginsFrom (v + 1) (kept test cs)
     → merged fs (kept test cs) ≡ all → merged (change_at old found v ++ fs) (kept test (change_at was became v ++ cs)) ≡ change_at old new v ++ all
 split_at test old new found was became v fs cs all (inl (on, is)) first second more =
     ap (merged (change_at old found v ++ fs)) (left_out test v (became v) (int_equal (was v) (became v)) cs on)

@@ -29,7 +29,8 @@ pub record DifferOnlyIn (d : Differences) (now was : Apply) : Type 0 where
   pub destinations : AreEndsBut d.destinations.now now.to was.to
   pub kernels : (steps : List FunctionStatementsTree) → AreKernels now.first.now now.second steps → AreKernels was.first.now was.second steps
   pub local : are_local now.first.now now.second ≡ true
-  pub long : (x : ℕ) → now.flat.now.vertices ≤ length (slice_index_or now.vectors.now.vectors x []) → was.flat.now.vertices ≤ length (slice_index_or was.vectors.now.vectors x [])
+  pub long : (x : ℕ) → now.flat.now.vertices ≤ length (slice_index_or now.vectors.now.vectors x [])
+      → was.flat.now.vertices ≤ length (slice_index_or was.vectors.now.vectors x [])
 
 -- an apply may follow the record of a former one
 pub record CanFollow (now : Apply) (former : FormerApply) (d : Differences) : Type 0 where

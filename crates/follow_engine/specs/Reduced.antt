@@ -21,7 +21,9 @@ IsGivenAlways r x steps = (k : StateValue) → IsGivenBy r x steps k.sets k.vect
 -- the changes are those of the apply (`AreChangesOf`), for each vector to which the functions give by one reduction in every
 -- state: so they may be those of an apply over other vectors
 abbrev pub AreChangesReduced : Apply → List VectorChanges → Type 0
-AreChangesReduced a cs = (m : StateValue) (steps : List FunctionStatementsTree) (from to : ℕ → Bool) → a.vectors.now.vectors ≡ m.vectors → HasSizes a.sizes.now m
+AreChangesReduced a cs = (m : StateValue) (steps : List FunctionStatementsTree) (from to : ℕ → Bool) → a.vectors.now.vectors ≡ m.vectors
+    → HasSizes a.sizes.now m
     → AreKernels a.first.now a.second steps → IsEndTest a.from m from → IsEndTest a.to m to
     → (x : ℕ) (r : Reduction) → IsGivenAlways r x steps → a.flat.now.vertices ≤ length (slice_index_or m.vectors x [])
-    → changes_of x cs ≡ changed a.flat.now.vertices (entry m.vectors x) (entry (after_edges steps m.sets m.vectors (edges_between from to a.flat.now.edges) m.vectors) x)
+    → changes_of x cs ≡ changed a.flat.now.vertices (entry m.vectors x)
+    (entry (after_edges steps m.sets m.vectors (edges_between from to a.flat.now.edges) m.vectors) x)

@@ -13,7 +13,8 @@ use Rattle.follow_engine.specs.Work.{edges_to, marking_work}
 
 -- of some vertices those that the second end of an apply lets through
 abbrev pub AreChosen : Apply → (vertices chosen : List ℕ) → Type 0
-AreChosen a vertices chosen = (m : StateValue) (to : ℕ → Bool) → a.vectors.now.vectors ≡ m.vectors → HasSizes a.sizes.now m → IsEndTest a.to m to → chosen ≡ filter to vertices
+AreChosen a vertices chosen = (m : StateValue) (to : ℕ → Bool) → a.vectors.now.vectors ≡ m.vectors → HasSizes a.sizes.now m → IsEndTest a.to m to
+    → chosen ≡ filter to vertices
 
 -- so many edges go to those reached destinations that the second end lets through
 pub record IsPullWork (now was : Apply) (d : Differences) (work : ℕ) : Type 0 where

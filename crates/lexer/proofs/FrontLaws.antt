@@ -1,5 +1,6 @@
 -- Laws of what stands at the front of bytes: the first piece of a given length, and faults.
-use Rattle.std.proofs.Common.{◌≡◌, ◌≢◌, ℕ, pos, ◌+◌, ◌<◌, ◌≤◌, inl, inr, true, false, List, [], ◌∷◌, ◌++◌, length, take, drop, get_or, zero, suc, refl, sym, ◌∙◌, ap, subst, arith, append_assoc, length-append}
+use Rattle.std.proofs.Common.{◌≡◌, ◌≢◌, ℕ, pos, ◌+◌, ◌<◌, ◌≤◌, inl, inr, true, false, List, [], ◌∷◌, ◌++◌, length, take, drop, get_or, zero, suc, refl, sym, ◌∙◌, ap, subst, arith, append_assoc}
+use Rattle.std.proofs.Common.{length-append}
 use Rattle.std.specs.Char.{is_ascii_digit}
 use Rattle.std.specs.Str.{all_ascii_digits}
 use Rattle.std.proofs.lemmas.Bool.{cases_lt, false≢true}
@@ -17,7 +18,8 @@ use Rattle.lexer.proofs.ShapeLaws.{PieceShape, piece_shape, piece_nonempty}
 use Rattle.lexer.proofs.LongestLaws.{run_unique, every_word_byte, white_longest, number_longest, comment_longest, word_longest, reduction_longest, label_longest, text_longest, IsNoReduction, IsNoPair}
 
 -- the longest piece of these bytes is the first of so many
-pub first_of : (kind : PieceKind) (bytes text rest : List ℕ) (len : ℕ) → bytes ≡ text ++ rest → len ≡ length text → 0 < len → IsLongest (record { kind = kind; text = text }) rest → IsSmall kind → IsFirst kind bytes len
+pub first_of : (kind : PieceKind) (bytes text rest : List ℕ) (len : ℕ) → bytes ≡ text ++ rest → len ≡ length text → 0 < len → IsLongest (record { kind = kind; text = text }) rest → IsSmall kind
+    → IsFirst kind bytes len
 first_of kind bytes text rest len whole is some longest small =
     let front : take len bytes ≡ text = ap (λ n. take n bytes) is ∙ ap (take (length text)) whole ∙ take-append_seam text rest in
     let back : drop len bytes ≡ rest = ap (λ n. drop n bytes) is ∙ ap (drop (length text)) whole ∙ drop-append_seam text rest in
@@ -37,7 +39,8 @@ front_shape kind b bytes (c ∷ front) rest same piece =
     subst (λ d. PieceShape (class_of d) (c ∷ front)) head (piece_shape kind (c ∷ front) piece)
 
 -- a # with no name and # after it
-pub label_fault : (inside name rest : List ℕ) → inside ≡ name ++ rest → Every is_word_byte name → EndsRun is_word_byte rest → ((others : List ℕ) → rest ≡ 35 ∷ others → IsName name → ⊥) → BeginsBadByte (35 ∷ inside)
+pub label_fault : (inside name rest : List ℕ) → inside ≡ name ++ rest → Every is_word_byte name → EndsRun is_word_byte rest → ((others : List ℕ) → rest ≡ 35 ∷ others → IsName name → ⊥)
+    → BeginsBadByte (35 ∷ inside)
 label_fault inside name rest whole all ends none = (
   λ same. absurd (omega arith),
   λ other front others same piece.
@@ -48,7 +51,8 @@ label_fault inside name rest whole all ends none = (
 )
 
 -- a quote with no other after it
-pub quote_fault : (inside front rest : List ℕ) → inside ≡ front ++ rest → Every is_quotable front → EndsRun is_quotable rest → ((others : List ℕ) → rest ≢ 34 ∷ others) → BeginsUnfinishedText (34 ∷ inside)
+pub quote_fault : (inside front rest : List ℕ) → inside ≡ front ++ rest → Every is_quotable front → EndsRun is_quotable rest → ((others : List ℕ) → rest ≢ 34 ∷ others)
+    → BeginsUnfinishedText (34 ∷ inside)
 quote_fault inside front rest whole all ends none = (
   refl,
   λ other text others same piece.
@@ -95,7 +99,8 @@ digits_end (b ∷ bytes) =
       | false ↦ λ other. ([], b ∷ bytes, refl, refl, other)
     ] refl
 
-pub large_number : (bytes digits rest : List ℕ) → bytes ≡ digits ++ rest → all_ascii_digits digits ≡ true → EndsRun is_ascii_digit rest → 9223372036854775807 < value_of digits → BeginsLargeNumber bytes
+pub large_number : (bytes digits rest : List ℕ) → bytes ≡ digits ++ rest → all_ascii_digits digits ≡ true → EndsRun is_ascii_digit rest → 9223372036854775807 < value_of digits
+    → BeginsLargeNumber bytes
 large_number bytes [] rest whole all ends large = absurd (omega arith)
 large_number bytes (d ∷ digits) rest whole all ends large =
     (d ∷ digits, rest, whole, number_longest (d ∷ digits) rest (omega arith) all ends, large)
@@ -150,14 +155,16 @@ word_some [] word = absurd word
 word_some (b ∷ text) word = omega arith
 
 -- the first piece is a word
-pub word_first : (kind : PieceKind) (bytes text rest : List ℕ) (len : ℕ) → IsRun is_word_byte bytes len → text ≡ take len bytes → rest ≡ drop len bytes → IsWord text → IsPiece kind text → IsNoReduction text rest → IsSmall kind → IsFirst kind bytes len
+pub word_first : (kind : PieceKind) (bytes text rest : List ℕ) (len : ℕ) → IsRun is_word_byte bytes len → text ≡ take len bytes → rest ≡ drop len bytes → IsWord text → IsPiece kind text
+    → IsNoReduction text rest → IsSmall kind → IsFirst kind bytes len
 word_first kind bytes text rest len run front back word is none small =
     let long : len ≡ length text = cut_length len bytes text run.0 front in
     first_of kind bytes text rest len (cut_whole len bytes text rest front back) long (omega (arith, word_some text word))
     (word_longest kind text rest word is (subst (EndsRun is_word_byte) (sym back) run.2) none) small
 
 -- the first piece is min= or max=
-pub reduction_first : (symbol : Symbol) (bytes text rest others : List ℕ) (len : ℕ) → len ≤ length bytes → text ≡ take len bytes → rest ≡ drop len bytes → IsWord text → symbol_spelling symbol ≡ text ++ 61 ∷ [] → rest ≡ 61 ∷ others → IsFirst (Lexeme (kind.Symbol symbol)) bytes (len + 1)
+pub reduction_first : (symbol : Symbol) (bytes text rest others : List ℕ) (len : ℕ) → len ≤ length bytes → text ≡ take len bytes → rest ≡ drop len bytes → IsWord text
+    → symbol_spelling symbol ≡ text ++ 61 ∷ [] → rest ≡ 61 ∷ others → IsFirst (Lexeme (kind.Symbol symbol)) bytes (len + 1)
 reduction_first symbol bytes text rest others len within front back word spelled begins =
     let long : len ≡ length text = cut_length len bytes text within front in
     let whole : bytes ≡ (text ++ 61 ∷ []) ++ others =
@@ -166,7 +173,8 @@ reduction_first symbol bytes text rest others len within front back word spelled
     (omega arith) (reduction_longest symbol text others word spelled) tt
 
 -- the first piece is a label, or a text in quotes
-enclosed_whole : (mark : ℕ) (inside front rest others : List ℕ) (len : ℕ) → front ≡ take len inside → rest ≡ drop len inside → rest ≡ mark ∷ others → mark ∷ inside ≡ (mark ∷ front ++ mark ∷ []) ++ others
+enclosed_whole : (mark : ℕ) (inside front rest others : List ℕ) (len : ℕ) → front ≡ take len inside → rest ≡ drop len inside → rest ≡ mark ∷ others
+    → mark ∷ inside ≡ (mark ∷ front ++ mark ∷ []) ++ others
 enclosed_whole mark inside front rest others len is_front is_rest begins =
     ap (λ t. mark ∷ t) (cut_whole len inside front rest is_front is_rest ∙ ap (λ r. front ++ r) begins ∙ sym (append_assoc front (mark ∷ []) others))
 
@@ -174,18 +182,21 @@ enclosed_length : (mark : ℕ) (inside front : List ℕ) (len : ℕ) → len ≤
 enclosed_length mark inside front len within is_front =
     omega (arith, cut_length len inside front within is_front, length-append front (mark ∷ []))
 
-pub label_first : (inside name rest others : List ℕ) (len : ℕ) → len ≤ length inside → name ≡ take len inside → rest ≡ drop len inside → rest ≡ 35 ∷ others → IsName name → IsFirst (Lexeme kind.Label) (35 ∷ inside) (len + 2)
+pub label_first : (inside name rest others : List ℕ) (len : ℕ) → len ≤ length inside → name ≡ take len inside → rest ≡ drop len inside → rest ≡ 35 ∷ others → IsName name
+    → IsFirst (Lexeme kind.Label) (35 ∷ inside) (len + 2)
 label_first inside name rest others len within front back begins is_name =
     first_of (Lexeme kind.Label) (35 ∷ inside) (35 ∷ name ++ 35 ∷ []) others (len + 2) (enclosed_whole 35 inside name rest others len front back begins)
     (enclosed_length 35 inside name len within front) (omega arith) (label_longest name others is_name) tt
 
-pub text_first : (inside text rest others : List ℕ) (len : ℕ) → len ≤ length inside → text ≡ take len inside → rest ≡ drop len inside → rest ≡ 34 ∷ others → Every is_quotable (take len inside) → IsFirst (Lexeme kind.Text) (34 ∷ inside) (len + 2)
+pub text_first : (inside text rest others : List ℕ) (len : ℕ) → len ≤ length inside → text ≡ take len inside → rest ≡ drop len inside → rest ≡ 34 ∷ others → Every is_quotable (take len inside)
+    → IsFirst (Lexeme kind.Text) (34 ∷ inside) (len + 2)
 text_first inside text rest others len within front back begins all =
     first_of (Lexeme kind.Text) (34 ∷ inside) (34 ∷ text ++ 34 ∷ []) others (len + 2) (enclosed_whole 34 inside text rest others len front back begins)
     (enclosed_length 34 inside text len within front) (omega arith) (text_longest text others (subst (Every is_quotable) (sym front) all)) tt
 
 -- neither a label nor a text in quotes
-pub no_label : (inside name rest : List ℕ) (len : ℕ) → IsRun is_word_byte inside len → name ≡ take len inside → rest ≡ drop len inside → ((others : List ℕ) → rest ≡ 35 ∷ others → IsName name → ⊥) → BeginsBadByte (35 ∷ inside)
+pub no_label : (inside name rest : List ℕ) (len : ℕ) → IsRun is_word_byte inside len → name ≡ take len inside → rest ≡ drop len inside → ((others : List ℕ) → rest ≡ 35 ∷ others → IsName name → ⊥)
+    → BeginsBadByte (35 ∷ inside)
 no_label inside name rest len run front back none =
     label_fault inside name rest (cut_whole len inside name rest front back)
     (subst (Every is_word_byte) (sym front) run.1) (subst (EndsRun is_word_byte) (sym back) run.2) none
@@ -208,7 +219,9 @@ digits_some bytes zero some digit ends = absurd (false≢true (sym (ends some) �
 digits_some bytes (suc len) some digit ends = omega arith
 
 -- the first piece is a number, as far as its size allows
-pub number_first : (bytes : List ℕ) (len : ℕ) → 0 < length bytes → is_ascii_digit (get_or bytes 0 0) ≡ true → len ≤ length bytes → all_ascii_digits (take len bytes) ≡ true → (len < length bytes → is_ascii_digit (get_or bytes len 0) ≡ false) → IsSmall (Lexeme (kind.Number (pos (value_of (take len bytes))))) → IsFirst (Lexeme (kind.Number (pos (value_of (take len bytes))))) bytes len
+pub number_first : (bytes : List ℕ) (len : ℕ) → 0 < length bytes → is_ascii_digit (get_or bytes 0 0) ≡ true → len ≤ length bytes → all_ascii_digits (take len bytes) ≡ true
+    → (len < length bytes → is_ascii_digit (get_or bytes len 0) ≡ false) → IsSmall (Lexeme (kind.Number (pos (value_of (take len bytes)))))
+    → IsFirst (Lexeme (kind.Number (pos (value_of (take len bytes))))) bytes len
 number_first bytes len some digit within digits ends small =
     let long : len ≡ length (take len bytes) = cut_length len bytes _ within refl in
     let any : 0 < len = digits_some bytes len some digit ends in

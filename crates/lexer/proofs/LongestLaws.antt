@@ -61,7 +61,8 @@ every_digit (b ∷ text) digits =
     let parts = and_parts (is_ascii_digit b) (all_ascii_digits text) digits in
     (parts.0, every_digit text parts.1)
 
-pub number_longest : (text rest : List ℕ) → 0 < length text → all_ascii_digits text ≡ true → EndsRun is_ascii_digit rest → IsLongest (record { kind = Lexeme (kind.Number (pos (value_of text))); text = text }) rest
+pub number_longest : (text rest : List ℕ) → 0 < length text → all_ascii_digits text ≡ true → EndsRun is_ascii_digit rest
+    → IsLongest (record { kind = Lexeme (kind.Number (pos (value_of text))); text = text }) rest
 number_longest [] rest some all ends = absurd (omega arith)
 number_longest (b ∷ text) rest some all ends = record {
   is = (some, all, refl);
@@ -101,14 +102,16 @@ every_word_byte [] word = absurd word
 every_word_byte (b ∷ text) word = (letter-word_byte b word.0, word.1)
 
 -- a word that goes on into a symbol is min or max, and = follows it
-into_reduction : (symbol : Symbol) (word name more others rest : List ℕ) → Every is_word_byte word → EndsRun is_word_byte rest → Every is_word_byte name → symbol_spelling symbol ≡ name ++ 61 ∷ [] → rest ≡ more ++ others → word ++ more ≡ name ++ 61 ∷ [] → IsNoReduction word rest → ⊥
+into_reduction : (symbol : Symbol) (word name more others rest : List ℕ) → Every is_word_byte word → EndsRun is_word_byte rest → Every is_word_byte name → symbol_spelling symbol ≡ name ++ 61 ∷ []
+    → rest ≡ more ++ others → word ++ more ≡ name ++ 61 ∷ [] → IsNoReduction word rest → ⊥
 into_reduction symbol word name more others rest all ends all_name spelled same longer none =
     let regrouped : word ++ rest ≡ name ++ (61 ∷ others) =
     ap (λ r. word ++ r) same ∙ sym (append_assoc word more others) ∙ ap (λ t. t ++ others) longer ∙ append_assoc name (61 ∷ []) others in
     let cut = run_unique is_word_byte word name rest (61 ∷ others) all all_name ends refl regrouped in
     none symbol others cut.1 (spelled ∙ ap (λ w. w ++ 61 ∷ []) (sym cut.0))
 
-word_alone : (b : ℕ) (text more others rest : List ℕ) → IsWord (b ∷ text) → EndsRun is_word_byte rest → IsNoReduction (b ∷ text) rest → rest ≡ more ++ others → PieceShape Letter (b ∷ text ++ more) → more ≡ []
+word_alone : (b : ℕ) (text more others rest : List ℕ) → IsWord (b ∷ text) → EndsRun is_word_byte rest → IsNoReduction (b ∷ text) rest → rest ≡ more ++ others → PieceShape Letter (b ∷ text ++ more)
+    → more ≡ []
 word_alone b text more others rest word ends none same (inl longer) =
     run_longest is_word_byte text more others rest longer.1 ends same
 word_alone b text more others rest word ends none same (inr (inl min)) =
@@ -117,7 +120,8 @@ word_alone b text more others rest word ends none same (inr (inr max)) =
     absurd (into_reduction symbol.MaxAssign (b ∷ text) (codes "max") more others rest (every_word_byte (b ∷ text) word) ends (refl, (refl, (refl, tt))) refl same max none)
 
 -- a word, as far as it goes
-pub word_longest : (kind : PieceKind) (text rest : List ℕ) → IsWord text → IsPiece kind text → EndsRun is_word_byte rest → IsNoReduction text rest → IsLongest (record { kind = kind; text = text }) rest
+pub word_longest : (kind : PieceKind) (text rest : List ℕ) → IsWord text → IsPiece kind text → EndsRun is_word_byte rest → IsNoReduction text rest
+    → IsLongest (record { kind = kind; text = text }) rest
 word_longest kind [] rest word is ends none = absurd word
 word_longest kind (b ∷ text) rest word is ends none = record {
   is = is;
@@ -141,7 +145,8 @@ reduction_alone text more four (inl word) = absurd (no_word text more word)
 reduction_alone text more four (inr longer) =
     nil_of_length more (omega (arith, reduction_length _ longer, length-append (text ++ 61 ∷ []) more))
 
-pub reduction_longest : (symbol : Symbol) (text rest : List ℕ) → IsWord text → symbol_spelling symbol ≡ text ++ 61 ∷ [] → IsLongest (record { kind = Lexeme (kind.Symbol symbol); text = text ++ 61 ∷ [] }) rest
+pub reduction_longest : (symbol : Symbol) (text rest : List ℕ) → IsWord text → symbol_spelling symbol ≡ text ++ 61 ∷ []
+    → IsLongest (record { kind = Lexeme (kind.Symbol symbol); text = text ++ 61 ∷ [] }) rest
 reduction_longest symbol [] rest word spelled = absurd word
 reduction_longest symbol (b ∷ text) rest word spelled =
     let letter : class_of b ≡ Letter = class_of-letter b word.0 in
@@ -181,7 +186,8 @@ pair_alone : (a b : ℕ) (more : List ℕ) → (a ≡ 47 → b ≡ 47 → ⊥) �
 pair_alone a b more no_comment (inl comment) = absurd (no_comment (cc (comment.2)) (cc (comment.2)))
 pair_alone a b more no_comment (inr symbol) = nil_of_length more (omega (arith, symbol.0.1))
 
-pub pair_longest : (symbol : Symbol) (a b : ℕ) (rest : List ℕ) → class_of a ≡ Punctuation → symbol_spelling symbol ≡ a ∷ b ∷ [] → (a ≡ 47 → b ≡ 47 → ⊥) → IsLongest (record { kind = Lexeme (kind.Symbol symbol); text = a ∷ b ∷ [] }) rest
+pub pair_longest : (symbol : Symbol) (a b : ℕ) (rest : List ℕ) → class_of a ≡ Punctuation → symbol_spelling symbol ≡ a ∷ b ∷ [] → (a ≡ 47 → b ≡ 47 → ⊥)
+    → IsLongest (record { kind = Lexeme (kind.Symbol symbol); text = a ∷ b ∷ [] }) rest
 pair_longest symbol a b rest mark spelled no_comment = record {
   is = sym spelled;
   longest = λ other more others same piece.
@@ -200,7 +206,8 @@ single_alone a (b ∷ more) others rest none same (inr (bound, symbol, is)) =
     let two : more ≡ [] = nil_of_length more (omega (arith, bound.1)) in
     absurd ((none b (more ++ others) same).0 symbol (sym is ∙ ap (λ m. a ∷ b ∷ m) two))
 
-pub single_longest : (symbol : Symbol) (a : ℕ) (rest : List ℕ) → class_of a ≡ Punctuation → symbol_spelling symbol ≡ a ∷ [] → IsNoPair a rest → IsLongest (record { kind = Lexeme (kind.Symbol symbol); text = a ∷ [] }) rest
+pub single_longest : (symbol : Symbol) (a : ℕ) (rest : List ℕ) → class_of a ≡ Punctuation → symbol_spelling symbol ≡ a ∷ [] → IsNoPair a rest
+    → IsLongest (record { kind = Lexeme (kind.Symbol symbol); text = a ∷ [] }) rest
 single_longest symbol a rest mark spelled none = record {
   is = sym spelled;
   longest = λ other more others same piece.

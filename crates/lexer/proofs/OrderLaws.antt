@@ -10,7 +10,8 @@ bytes_of-append : (ps qs : List Piece) → bytes_of (ps ++ qs) ≡ bytes_of ps +
 bytes_of-append [] qs = refl
 bytes_of-append (p ∷ ps) qs = ap (λ t. p.text ++ t) (bytes_of-append ps qs) ∙ sym (append_assoc p.text (bytes_of ps) (bytes_of qs))
 
-all_gaps-append : (ps qs : List Piece) → AllByRecursion (λ gap. IsGap gap.kind × IsPiece gap.kind gap.text) ps → AllByRecursion (λ gap. IsGap gap.kind × IsPiece gap.kind gap.text) qs → AllByRecursion (λ gap. IsGap gap.kind × IsPiece gap.kind gap.text) (ps ++ qs)
+all_gaps-append : (ps qs : List Piece) → AllByRecursion (λ gap. IsGap gap.kind × IsPiece gap.kind gap.text) ps → AllByRecursion (λ gap. IsGap gap.kind × IsPiece gap.kind gap.text) qs
+    → AllByRecursion (λ gap. IsGap gap.kind × IsPiece gap.kind gap.text) (ps ++ qs)
 all_gaps-append [] qs gaps more = more
 all_gaps-append (p ∷ ps) qs gaps more = (gaps.0, all_gaps-append ps qs gaps.1 more)
 
@@ -32,9 +33,11 @@ slice_between a b c from to at_from at_to =
 
 -- the pieces, after a front and some gaps, are in order
 abbrev InOrder : List ℕ → List Piece → Type 0
-InOrder text pieces = (front gap : List ℕ) (from at : ℕ) → AreGaps gap → text ≡ front ++ (gap ++ bytes_of pieces) → from ≡ length front → at ≡ from + length gap → AreInOrder text from (tokens_from at pieces)
+InOrder text pieces = (front gap : List ℕ) (from at : ℕ) → AreGaps gap → text ≡ front ++ (gap ++ bytes_of pieces) → from ≡ length front → at ≡ from + length gap
+    → AreInOrder text from (tokens_from at pieces)
 
-in_order_piece : (kind : PieceKind) (bytes : List ℕ) (pieces : List Piece) (text front gap : List ℕ) (from at : ℕ) → IsPiece kind bytes → InOrder text pieces → AreGaps gap → text ≡ front ++ (gap ++ (bytes ++ bytes_of pieces)) → from ≡ length front → at ≡ from + length gap → AreInOrder text from (tokens_from at (record { kind = kind; text = bytes } ∷ pieces))
+in_order_piece : (kind : PieceKind) (bytes : List ℕ) (pieces : List Piece) (text front gap : List ℕ) (from at : ℕ) → IsPiece kind bytes → InOrder text pieces → AreGaps gap
+    → text ≡ front ++ (gap ++ (bytes ++ bytes_of pieces)) → from ≡ length front → at ≡ from + length gap → AreInOrder text from (tokens_from at (record { kind = kind; text = bytes } ∷ pieces))
 in_order_piece (Lexeme kind) bytes pieces text front gap from at is go gaps whole at_from at_at =
     let between : slice_of text (record { start = from; end = at }) ≡ gap =
     ap (λ t. slice_of t (record { start = from; end = at })) whole ∙ slice_between front gap (bytes ++ bytes_of pieces) from at at_from (omega arith) in

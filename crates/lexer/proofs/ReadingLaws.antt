@@ -1,5 +1,6 @@
 -- Laws of how a text reads: how far it is read, and that it reads in one way.
-use Rattle.std.proofs.Common.{◌≡◌, ℕ, pos, ◌+◌, ◌≤◌, ◌⊎◌, inl, inr, List, [], ◌∷◌, ◌++◌, Result, Ok, Err, length, take, drop, refl, sym, ◌∙◌, ap, subst, arith, append_assoc, length-append, length-drop, append-nil}
+use Rattle.std.proofs.Common.{◌≡◌, ℕ, pos, ◌+◌, ◌≤◌, ◌⊎◌, inl, inr, List, [], ◌∷◌, ◌++◌, Result, Ok, Err, length, take, drop, refl, sym, ◌∙◌, ap, subst, arith, append_assoc, length-append}
+use Rattle.std.proofs.Common.{length-drop, append-nil}
 use Rattle.std.proofs.lemmas.Int.{ints}
 use Rattle.std.proofs.lemmas.List.{take-append-drop, length-take, drop-drop, drop_all}
 use Rattle.decimal.specs.Numbers.{value_of}
@@ -8,7 +9,8 @@ use Rattle.lexer.specs.declared.error.LexError.TheVariants.{BadByte, NumberTooLa
 use Rattle.lexer.specs.declared.token.Token.{Token}
 use Rattle.lexer.specs.declared.token.TokenKind.TheVariants as kind
 use Rattle.lexer.specs.inside.Runs.{IsFirst}
-use Rattle.lexer.specs.Tokens.{PieceKind, White, Comment, Lexeme, IsGap, IsPiece, Piece, IsLongest, bytes_of, AreLongest, IsSmall, AreSmall, IsReadUpTo, token_of, tokens_from, HasTokens, BeginsNoPiece, BeginsBadByte, BeginsUnfinishedText, BeginsLargeNumber, FaultsAt, Reads}
+use Rattle.lexer.specs.Tokens.{PieceKind, White, Comment, Lexeme, IsGap, IsPiece, Piece, IsLongest, bytes_of, AreLongest, IsSmall, AreSmall, IsReadUpTo, token_of, tokens_from, HasTokens}
+use Rattle.lexer.specs.Tokens.{BeginsNoPiece, BeginsBadByte, BeginsUnfinishedText, BeginsLargeNumber, FaultsAt, Reads}
 use Rattle.lexer.proofs.KindLaws.{kind_unique}
 use Rattle.lexer.proofs.ShapeLaws.{piece_nonempty}
 
@@ -52,7 +54,8 @@ AreSmall-more : (pieces : List Piece) (piece : Piece) → AreSmall pieces → Is
 AreSmall-more [] piece small last = (last, tt)
 AreSmall-more (p ∷ pieces) piece small last = (small.0, AreSmall-more pieces piece small.1 last)
 
-tokens_from-more : (at : ℕ) (pieces : List Piece) (piece : Piece) → tokens_from at (pieces ++ piece ∷ []) ≡ tokens_from at pieces ++ token_of piece.kind (at + length (bytes_of pieces)) (at + length (bytes_of pieces) + length piece.text)
+tokens_from-more : (at : ℕ) (pieces : List Piece) (piece : Piece) → tokens_from at (pieces ++ piece ∷ []) ≡ tokens_from at pieces
+    ++ token_of piece.kind (at + length (bytes_of pieces)) (at + length (bytes_of pieces) + length piece.text)
 tokens_from-more at [] piece =
     append-nil (token_of piece.kind at (at + length piece.text))
     ∙ ap (λ n. token_of piece.kind n (n + length piece.text)) (omega arith)
@@ -63,7 +66,8 @@ tokens_from-more at (p ∷ pieces) piece =
     ∙ sym (append_assoc front (tokens_from (at + length p.text) pieces) _)
     ∙ ap (λ n. (front ++ tokens_from (at + length p.text) pieces) ++ token_of piece.kind n (n + length piece.text)) from
 
-pub read_more : (text : List ℕ) (at : ℕ) (tokens : List Token) (kind : PieceKind) (len : ℕ) → IsReadTo text at tokens → IsFirst kind (drop at text) len → IsReadTo text (at + len) (tokens ++ token_of kind at (at + len))
+pub read_more : (text : List ℕ) (at : ℕ) (tokens : List Token) (kind : PieceKind) (len : ℕ) → IsReadTo text at tokens → IsFirst kind (drop at text) len
+    → IsReadTo text (at + len) (tokens ++ token_of kind at (at + len))
 read_more text at tokens kind len before first =
     let piece : Piece = record { kind = kind; text = take len (drop at text) } in
     let rest : drop len (drop at text) ≡ drop (at + len) text = drop-drop len at text in

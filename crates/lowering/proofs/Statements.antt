@@ -31,7 +31,8 @@ module _ (p : ProgramTree) (s : ScheduleTree) where
   has_put_next whole a b c d is_done number label action rest before puts =
       let company = fusion_role_of p s d is_done label action rest in
       let own = plan_in company s number label d (plan p s (length b) d number label action) in
-      let size_of : length own ≡ size_in company (size p s d action) = length_in company s number label d (plan p s (length b) d number label action) (size p s d action) (length-plan p s action (length b) d number label) in
+      let size_of : length own ≡ size_in company (size p s d action) = length_in company s number label d (plan p s (length b) d number label action) (size p s d action)
+      (length-plan p s action (length b) d number label) in
       let to : length c ≡ length b + size_in company (size p s d action) = puts_length p b c own puts ∙ ap (λ n. length b + n) size_of in
       record {
         done = before.done ++ own;

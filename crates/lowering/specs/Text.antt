@@ -3,7 +3,8 @@ use Rattle.std.specs.Prelude.{◌≡◌, ℕ, ◌+◌, List, [], ◌∷◌, ◌+
 use Rattle.typed_tree.specs.ProgramTree.{ProgramTree}
 use Rattle.apply_options.specs.declared.apply_schedule.ApplySchedule.{ApplySchedule}
 use Rattle.apply_options.specs.ScheduleTree.{ScheduleTree}
-use Rattle.plans.specs.Instruction.{ResultTree, Dropped, Declared, Assigned, EdgePartTree, OperationTree, Do, ApplyEdgesTogether, ApplyVerticesTogether, Unless, Enter, UnlessBelow, Advance, Turn, Jump, End, InstructionTree}
+use Rattle.plans.specs.Instruction.{ResultTree, Dropped, Declared, Assigned, EdgePartTree, OperationTree, Do, ApplyEdgesTogether, ApplyVerticesTogether, Unless}
+use Rattle.plans.specs.Instruction.{Enter, UnlessBelow, Advance, Turn, Jump, End, InstructionTree}
 use Rattle.plans.specs.Plan.{plan_of}
 use Rattle.plan_text.specs.declared.applied_function.ChangedSet.{ChangedSet}
 use Rattle.plan_text.specs.declared.applied_function.AppliedFunction.{AppliedFunction}

@@ -1,12 +1,14 @@
 -- What a run has printed are lines, and its sets have vertices, statement by statement.
-use Rattle.std.proofs.Common.{◌≡◌, ℕ, zero, suc, ◌<◌, nat_lt, Bool, true, false, ℤ, pos, negsuc, List, [], ◌∷◌, ◌++◌, map, take, Option, Some, None, slice_get, is_some, inl, inr, refl, sym, ap, ◌∙◌, arith, append_assoc}
+use Rattle.std.proofs.Common.{◌≡◌, ℕ, zero, suc, ◌<◌, nat_lt, Bool, true, false, ℤ, pos, negsuc, List, [], ◌∷◌, ◌++◌, map, take, Option, Some, None, slice_get, is_some, inl, inr, refl, sym, ap, ◌∙◌}
+use Rattle.std.proofs.Common.{arith, append_assoc}
 use Rattle.std.proofs.lemmas.Bool.{cases_Bool, false≢true, ltb-true}
 use Rattle.std.proofs.lemmas.List.{append-nil}
 use Rattle.std.specs.Option.{option_and_then}
 use Rattle.std.specs.List.{AllByRecursion, concat}
 use Rattle.typed_tree.specs.declared.statement.SetValue.{SetValue}
 use Rattle.typed_tree.specs.declared.statement.SetValue.TheVariants as set
-use Rattle.typed_tree.specs.BlockTree.{StatementKindTree, DeclareInteger, DeclareCondition, SetInteger, SetCondition, ReduceInteger, SetEntry, ReduceEntry, DeclareSet, AssignSet, AddVertex, PrintInteger, PrintCondition, ApplyVertex, ApplyEdges, If, IfElse, While, For, BlockTree, Empty, Then}
+use Rattle.typed_tree.specs.BlockTree.{StatementKindTree, DeclareInteger, DeclareCondition, SetInteger, SetCondition, ReduceInteger, SetEntry, ReduceEntry, DeclareSet, AssignSet, AddVertex}
+use Rattle.typed_tree.specs.BlockTree.{PrintInteger, PrintCondition, ApplyVertex, ApplyEdges, If, IfElse, While, For, BlockTree, Empty, Then}
 use Rattle.typed_tree.specs.ProgramTree.{ProgramTree}
 use Rattle.algorithm_meaning.specs.declared.outcome.End.TheVariants.{TurnsOver}
 use Rattle.algorithm_meaning.specs.declared.state.Depth.{Depth}
@@ -146,7 +148,8 @@ module _ (p : ProgramTree) (g : GraphValue) where
         (λ v found. record {
           printed = is.printed;
           sets = changed_sets g.vertices s.sets slot.index (inserted v (members_of (slice_get s.sets slot.index))) is.sets
-              (inserted_vertices g.vertices v (members_of (slice_get s.sets slot.index)) (found_below g.vertices v (int_value_in g.vertices e s) found) (members_are g.vertices s.sets slot.index is.sets));
+              (inserted_vertices g.vertices v (members_of (slice_get s.sets slot.index)) (found_below g.vertices v (int_value_in g.vertices e s) found)
+              (members_are g.vertices s.sets slot.index is.sets));
         })
     action_sound (PrintInteger e) number s is =
         value_sound g.vertices (int_value_in g.vertices e s) number s _ is (λ x. record { printed = printed_line s.text (integer_line x) is.printed (inl (x, refl)); sets = is.sets })

@@ -8,7 +8,8 @@ use Rattle.typed_tree.specs.declared.statement.SetValue.TheVariants as set
 use Rattle.typed_tree.specs.declared.statement.VertexFilter.{VertexFilter}
 use Rattle.typed_tree.specs.declared.statement.VertexFilter.TheVariants.{Members, Function}
 use Rattle.typed_tree.specs.FunctionStatementTree.{FunctionTree}
-use Rattle.typed_tree.specs.BlockTree.{StatementKindTree, DeclareInteger, DeclareCondition, SetInteger, SetCondition, ReduceInteger, SetEntry, ReduceEntry, DeclareSet, AssignSet, AddVertex, PrintInteger, PrintCondition, ApplyVertex, ApplyEdges, If, IfElse, While, For, BlockTree, Empty, Then}
+use Rattle.typed_tree.specs.BlockTree.{StatementKindTree, DeclareInteger, DeclareCondition, SetInteger, SetCondition, ReduceInteger, SetEntry, ReduceEntry, DeclareSet, AssignSet, AddVertex}
+use Rattle.typed_tree.specs.BlockTree.{PrintInteger, PrintCondition, ApplyVertex, ApplyEdges, If, IfElse, While, For, BlockTree, Empty, Then}
 use Rattle.typed_tree.specs.ProgramTree.{ProgramTree}
 use Rattle.algorithm_meaning.specs.declared.outcome.End.{End}
 use Rattle.algorithm_meaning.specs.declared.outcome.End.TheVariants.{Finished, TurnsOver, Fault}
@@ -34,7 +35,8 @@ Follows d (Over s TurnsOver) x = Unit {0}
 Follows d (Over s (Fault number statement)) x = x ≡ Over (plus d s) (Fault number statement)
 
 module _ (d : ℕ) where
-  value_follows : {A : Type 0} (o : Option A) (number : ℕ) (s : StateValue) (go more : A → Stand) → ((x : A) → Follows d (go x) (more x)) → Follows d (with_value o number s go) (with_value o number (plus d s) more)
+  value_follows : {A : Type 0} (o : Option A) (number : ℕ) (s : StateValue) (go more : A → Stand) → ((x : A) → Follows d (go x) (more x))
+      → Follows d (with_value o number s go) (with_value o number (plus d s) more)
   value_follows None number s go more each = refl
   value_follows (Some x) number s go more each = each x
 
@@ -59,12 +61,14 @@ module _ (d : ℕ) where
   turn_follows (suc n) s go more each = subst (λ (m : ℕ). Follows d (go (record s { turns = n })) (take_turn m (plus d s) more)) (sym (suc-add n d)) (each (record s { turns = n }))
 
   -- a loop at its test
-  stops : (number : ℕ) (s : StateValue) (o : Option Bool) (x : Stand) → Follows d (with_value o number s (λ b. choose b (Over s TurnsOver) (Live s))) (with_value o number (plus d s) (λ b. choose b x (Live (plus d s))))
+  stops : (number : ℕ) (s : StateValue) (o : Option Bool) (x : Stand) → Follows d (with_value o number s (λ b. choose b (Over s TurnsOver) (Live s)))
+      (with_value o number (plus d s) (λ b. choose b x (Live (plus d s))))
   stops number s None x = refl
   stops number s (Some true) x = tt
   stops number s (Some false) x = refl
 
-  goes : (number : ℕ) (s : StateValue) (o : Option Bool) (x y : Stand) → Follows d x y → Follows d (with_value o number s (λ b. choose b x (Live s))) (with_value o number (plus d s) (λ b. choose b y (Live (plus d s))))
+  goes : (number : ℕ) (s : StateValue) (o : Option Bool) (x y : Stand) → Follows d x y
+      → Follows d (with_value o number s (λ b. choose b x (Live s))) (with_value o number (plus d s) (λ b. choose b y (Live (plus d s))))
   goes number s None x y is = refl
   goes number s (Some true) x y is = is
   goes number s (Some false) x y is = refl
@@ -83,7 +87,8 @@ module _ (d : ℕ) where
     loop_follows (suc k) (suc l) le a s =
         let go : StateValue → Stand = λ t. then_do (body a t) (loop test body next number k (next a)) in
         let more : StateValue → Stand = λ t. then_do (body a t) (loop test body next number l (next a)) in
-        let each_turn = λ (t : StateValue). then_follows (body a t) (body a (plus d t)) (loop test body next number k (next a)) (loop test body next number l (next a)) (each a t) (loop_follows k l (omega (arith, le)) (next a)) in
+        let each_turn = λ (t : StateValue). then_follows (body a t) (body a (plus d t)) (loop test body next number k (next a)) (loop test body next number l (next a)) (each a t)
+        (loop_follows k l (omega (arith, le)) (next a)) in
         subst (λ (o : Option Bool). Follows d (loop test body next number (suc k) a s) (with_value o number (plus d s) (λ b. choose b (take_turn (s.turns + d) (plus d s) more) (Live (plus d s)))))
         (sym (same a s)) (goes number s (test a s) (take_turn s.turns s go) (take_turn (s.turns + d) (plus d s) more) (turn_follows s.turns s go more each_turn))
 
@@ -98,8 +103,10 @@ module _ (d : ℕ) where
 
   matching_same : (filters : List FunctionTree) (g : GraphValue) (s : StateValue) (ends : ApplyEnds) → matching filters g (plus d s) ends ≡ matching filters g s ends
   matching_same filters g s ends =
-      filter_agree (λ (e : Edge). is_end filters g (plus d s) ends.from e.0 && is_end filters g (plus d s) ends.to e.1) (λ (e : Edge). is_end filters g s ends.from e.0 && is_end filters g s ends.to e.1)
-      (λ (e : Edge). ap (λ (b : Bool). b && is_end filters g (plus d s) ends.to e.1) (end_same filters g s ends.from e.0) ∙ ap (λ (b : Bool). is_end filters g s ends.from e.0 && b) (end_same filters g s ends.to e.1))
+      filter_agree (λ (e : Edge). is_end filters g (plus d s) ends.from e.0 && is_end filters g (plus d s) ends.to e.1)
+      (λ (e : Edge). is_end filters g s ends.from e.0 && is_end filters g s ends.to e.1)
+      (λ (e : Edge). ap (λ (b : Bool). b && is_end filters g (plus d s) ends.to e.1) (end_same filters g s ends.from e.0)
+      ∙ ap (λ (b : Bool). is_end filters g s ends.from e.0 && b) (end_same filters g s ends.to e.1))
       g.edges
 
   apply_same : (filters functions : List FunctionTree) (g : GraphValue) (ends : ApplyEnds) (indices : List ℕ) (s : StateValue)
@@ -157,7 +164,8 @@ module _ (d : ℕ) where
 
       block_follows : (b : BlockTree) (s : StateValue) → Follows d (after_all p g b s) (after_all p g b (plus d s))
       block_follows Empty s = refl
-      block_follows (Then number label a rest) s = then_follows (after p g number a s) (after p g number a (plus d s)) (after_all p g rest) (after_all p g rest) (action_follows a number s) (block_follows rest)
+      block_follows (Then number label a rest) s = then_follows (after p g number a s) (after p g number a (plus d s)) (after_all p g rest) (after_all p g rest) (action_follows a number s)
+      (block_follows rest)
 
     shown_same : (turns : ℕ) (s : StateValue) (end : End) → shown p (turns + d) (plus d s) end ≡ shown p turns s end
     shown_same turns s end = let left : turns + d - (s.turns + d) ≡ turns - s.turns = omega arith in ap (λ (n : ℕ). record (shown p turns s end) { turns = n }) left

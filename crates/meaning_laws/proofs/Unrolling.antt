@@ -1,7 +1,8 @@
 -- Turns never grow, and so the number with which a loop is read says nothing.
 use Rattle.std.proofs.Common.{◌≡◌, ℕ, zero, suc, ◌+◌, ◌≤◌, Bool, true, false, int_lt, Option, Some, None, refl, sym, ap, ◌∙◌, arith, le_refl}
 use Rattle.typed_tree.specs.BoolExpressionTree.{BoolExpressionTree}
-use Rattle.typed_tree.specs.BlockTree.{StatementKindTree, DeclareInteger, DeclareCondition, SetInteger, SetCondition, ReduceInteger, SetEntry, ReduceEntry, DeclareSet, AssignSet, AddVertex, PrintInteger, PrintCondition, ApplyVertex, ApplyEdges, If, IfElse, While, For, BlockTree, Empty, Then}
+use Rattle.typed_tree.specs.BlockTree.{StatementKindTree, DeclareInteger, DeclareCondition, SetInteger, SetCondition, ReduceInteger, SetEntry, ReduceEntry, DeclareSet, AssignSet, AddVertex}
+use Rattle.typed_tree.specs.BlockTree.{PrintInteger, PrintCondition, ApplyVertex, ApplyEdges, If, IfElse, While, For, BlockTree, Empty, Then}
 use Rattle.typed_tree.specs.ProgramTree.{ProgramTree}
 use Rattle.algorithm_meaning.specs.declared.outcome.End.TheVariants.{Finished, TurnsOver, Fault}
 use Rattle.algorithm_meaning.specs.declared.state.Depth.{Depth}
@@ -38,12 +39,14 @@ leave_falls n depth (Over s Finished) is = tt
 leave_falls n depth (Over s TurnsOver) is = is
 leave_falls n depth (Over s (Fault number statement)) is = tt
 
-module _ {A : Type 0} (test : A → StateValue → Option Bool) (body : A → StateValue → Stand) (next : A → A) (number : ℕ) (each : (n : ℕ) (a : A) (s : StateValue) → s.turns ≤ n → Falls n (body a s)) where
+module _ {A : Type 0} (test : A → StateValue → Option Bool) (body : A → StateValue → Stand) (next : A → A) (number : ℕ)
+    (each : (n : ℕ) (a : A) (s : StateValue) → s.turns ≤ n → Falls n (body a s)) where
   turn_falls : (j n k : ℕ) (a : A) (s : StateValue) → j ≤ suc k → j ≤ n → s.turns ≡ j → ((m : ℕ) (t : StateValue) → t.turns ≤ k → t.turns ≤ m → Falls m (loop test body next number k (next a) t))
       → Falls n (take_turn j s (λ t. then_do (body a t) (loop test body next number k (next a))))
   turn_falls zero n k a s le within is rest = is
   turn_falls (suc j) n k a s le within is rest =
-      then_falls j n (body a (record s { turns = j })) (loop test body next number k (next a)) (each j a (record s { turns = j }) (omega arith)) (λ t below. rest n t (omega (arith, below, le)) (omega (arith, below, within)))
+      then_falls j n (body a (record s { turns = j })) (loop test body next number k (next a)) (each j a (record s { turns = j }) (omega arith))
+      (λ t below. rest n t (omega (arith, below, le)) (omega (arith, below, within)))
 
   loop_falls : (k n : ℕ) (a : A) (s : StateValue) → s.turns ≤ k → s.turns ≤ n → Falls n (loop test body next number k a s)
   loop_falls zero n a s le within = value_falls n (test a s) number s (λ b. choose b (Over s TurnsOver) (Live s)) (λ b. choice_falls n b (Over s TurnsOver) (Live s) (omega (arith, le)) within)

@@ -1,5 +1,6 @@
 -- Pages that are built up vertex by vertex.
-use Rattle.std.proofs.Common.{◌≡◌, ◌≢◌, ℕ, zero, suc, ◌+◌, ◌-◌, ◌<◌, ◌≤◌, ◌⊎◌, inl, inr, List, [], ◌∷◌, ◌++◌, length, get_or, take, drop, slice_range, refl, sym, ◌∙◌, ap, subst, arith, add-one, append_assoc, get_or-drop, length-drop, ℤ}
+use Rattle.std.proofs.Common.{◌≡◌, ◌≢◌, ℕ, zero, suc, ◌+◌, ◌-◌, ◌<◌, ◌≤◌, ◌⊎◌, inl, inr, List, [], ◌∷◌, ◌++◌, length, get_or, take, drop, slice_range, refl, sym, ◌∙◌, ap, subst, arith, add-one}
+use Rattle.std.proofs.Common.{append_assoc, get_or-drop, length-drop, ℤ}
 use Rattle.std.proofs.lemmas.Bool.{cases_lt, cases_eq, ne_eqb, eq-eqb}
 use Rattle.std.proofs.lemmas.List.{append-nil, take_all, take_more}
 use Rattle.ascending_lists.specs.Maps.{Rises}
@@ -144,7 +145,8 @@ module _ (es : List (ℕ × List (ℕ × ℤ))) (map : Rises 0 64 es) (some_each
   ]
 
   -- a run that is carried over builds up what is between
-  pub carried : (f : ℕ → List (ℕ × ℤ)) (low high : ℕ) → low ≤ high → ((u : ℕ) → low ≤ u → u < high → f u ≡ neighbours_of u es) → built f low ++ slice_range es (count_below low es) (count_below high es) ≡ built f high
+  pub carried : (f : ℕ → List (ℕ × ℤ)) (low high : ℕ) → low ≤ high → ((u : ℕ) → low ≤ u → u < high → f u ≡ neighbours_of u es)
+      → built f low ++ slice_range es (count_below low es) (count_below high es) ≡ built f high
   carried f low zero le same =
       let zero_is : low ≡ 0 = omega arith in
       let none : count_below low es - count_below low es ≡ 0 = omega arith in

@@ -1,5 +1,6 @@
 -- Entries cut at a key.
-use Rattle.std.proofs.Common.{◌≡◌, ℕ, ℤ, zero, suc, ◌+◌, ◌-◌, ◌<◌, ◌≤◌, Some, None, List, [], ◌∷◌, ◌++◌, pos, length, get_or, take, drop, slice_range, refl, sym, ◌∙◌, ap, arith, get_or-drop, length-drop}
+use Rattle.std.proofs.Common.{◌≡◌, ℕ, ℤ, zero, suc, ◌+◌, ◌-◌, ◌<◌, ◌≤◌, Some, None, List, [], ◌∷◌, ◌++◌, pos, length, get_or, take, drop, slice_range, refl, sym, ◌∙◌, ap, arith, get_or-drop}
+use Rattle.std.proofs.Common.{length-drop}
 use Rattle.std.specs.Map.{keys_of}
 use Rattle.std.specs.Option.{option_or}
 use Rattle.std.proofs.lemmas.Bool.{lt-ltb, le-ltb}
@@ -9,17 +10,21 @@ use Rattle.ascending_lists.specs.MapOperations.{entries_below, entries_above}
 use Rattle.ascending_lists.proofs.MapCuts.{lookup_append, lookup_first, nothing_below, nothing_above}
 
 -- the entries before an index, where they are those below a key
-below_is : (k n : ℕ) (ys : List (ℕ × ℤ)) → ((i : ℕ) → i < n → i < length ys → get_or (keys_of ys) i 0 < k) → ((i : ℕ) → n ≤ i → i < length ys → k ≤ get_or (keys_of ys) i 0) → take n ys ≡ entries_below k ys
+below_is : (k n : ℕ) (ys : List (ℕ × ℤ)) → ((i : ℕ) → i < n → i < length ys → get_or (keys_of ys) i 0 < k) → ((i : ℕ) → n ≤ i → i < length ys → k ≤ get_or (keys_of ys) i 0)
+    → take n ys ≡ entries_below k ys
 below_is k zero [] under over = refl
 below_is k zero (y ∷ ys) under over = rw (le-ltb y.0 k (over 0 (omega arith) (omega arith))) (below_is k zero ys (λ i lt _. absurd (omega arith)) (λ i le lt. over (suc i) (omega arith) (omega arith)))
 below_is k (suc n) [] under over = refl
 below_is k (suc n) (y ∷ ys) under over =
-    rw (lt-ltb y.0 k (under 0 (omega arith) (omega arith))) (ap (λ zs. y ∷ zs) (below_is k n ys (λ i lt in_list. under (suc i) (omega arith) (omega arith)) (λ i le lt. over (suc i) (omega arith) (omega arith))))
+    rw (lt-ltb y.0 k (under 0 (omega arith) (omega arith))) (ap (λ zs. y ∷ zs) (below_is k n ys (λ i lt in_list. under (suc i) (omega arith) (omega arith))
+    (λ i le lt. over (suc i) (omega arith) (omega arith))))
 
 -- those from an index on, where they are those above it
-above_is : (k n : ℕ) (ys : List (ℕ × ℤ)) → ((i : ℕ) → i < n → i < length ys → get_or (keys_of ys) i 0 ≤ k) → ((i : ℕ) → n ≤ i → i < length ys → k < get_or (keys_of ys) i 0) → drop n ys ≡ entries_above k ys
+above_is : (k n : ℕ) (ys : List (ℕ × ℤ)) → ((i : ℕ) → i < n → i < length ys → get_or (keys_of ys) i 0 ≤ k) → ((i : ℕ) → n ≤ i → i < length ys → k < get_or (keys_of ys) i 0)
+    → drop n ys ≡ entries_above k ys
 above_is k zero [] under over = refl
-above_is k zero (y ∷ ys) under over = rw (lt-ltb k y.0 (over 0 (omega arith) (omega arith))) (ap (λ zs. y ∷ zs) (above_is k zero ys (λ i lt _. absurd (omega arith)) (λ i le lt. over (suc i) (omega arith) (omega arith))))
+above_is k zero (y ∷ ys) under over = rw (lt-ltb k y.0 (over 0 (omega arith) (omega arith)))
+    (ap (λ zs. y ∷ zs) (above_is k zero ys (λ i lt _. absurd (omega arith)) (λ i le lt. over (suc i) (omega arith) (omega arith))))
 above_is k (suc n) [] under over = refl
 above_is k (suc n) (y ∷ ys) under over =
     rw (le-ltb k y.0 (under 0 (omega arith) (omega arith))) (above_is k n ys (λ i lt in_list. under (suc i) (omega arith) (omega arith)) (λ i le lt. over (suc i) (omega arith) (omega arith)))
@@ -29,13 +34,15 @@ module _ (k from j : ℕ) (xs : List (ℕ × ℤ)) (le : from ≤ j) where
   at : (i : ℕ) → get_or (keys_of (drop from xs)) i 0 ≡ get_or (keys_of xs) (from + i) 0
   at i = ap (λ ys. get_or ys i 0) (sym (drop-map (λ e. e.0) from xs)) ∙ get_or-drop from (keys_of xs) i 0
 
-  pub cut_below : ((i : ℕ) → from ≤ i → i < j → i < length xs → get_or (keys_of xs) i 0 < k) → ((i : ℕ) → j ≤ i → i < length xs → k ≤ get_or (keys_of xs) i 0) → slice_range xs from j ≡ entries_below k (drop from xs)
+  pub cut_below : ((i : ℕ) → from ≤ i → i < j → i < length xs → get_or (keys_of xs) i 0 < k) → ((i : ℕ) → j ≤ i → i < length xs → k ≤ get_or (keys_of xs) i 0)
+      → slice_range xs from j ≡ entries_below k (drop from xs)
   cut_below under over =
       below_is k (j - from) (drop from xs)
       (λ i lt in_list. omega (arith, at i, under (from + i) (omega arith) (omega arith) (omega (arith, length-drop from xs))))
       (λ i ge in_list. omega (arith, at i, over (from + i) (omega arith) (omega (arith, length-drop from xs))))
 
-  pub cut_above : ((i : ℕ) → from ≤ i → i < j → i < length xs → get_or (keys_of xs) i 0 ≤ k) → ((i : ℕ) → j ≤ i → i < length xs → k < get_or (keys_of xs) i 0) → drop j xs ≡ entries_above k (drop from xs)
+  pub cut_above : ((i : ℕ) → from ≤ i → i < j → i < length xs → get_or (keys_of xs) i 0 ≤ k) → ((i : ℕ) → j ≤ i → i < length xs → k < get_or (keys_of xs) i 0)
+      → drop j xs ≡ entries_above k (drop from xs)
   cut_above under over =
       let back : from + (j - from) ≡ j = omega arith in
       ap (λ n. drop n xs) (sym back) ∙ sym (drop-drop (j - from) from xs)

@@ -36,7 +36,8 @@ same_after first w (suc n) m bytes bytes' le same =
     let k : ℕ = m - w in
     let up : w + k ≡ m = omega arith in
     let here : take w bytes ≡ take w bytes' = sym (take-take w m bytes (omega arith)) ∙ ap (take w) same ∙ take-take w m bytes' (omega arith) in
-    let rest : take k (drop w bytes) ≡ take k (drop w bytes') = sym (drop-take w k bytes) ∙ ap (λ j. drop w (take j bytes)) up ∙ ap (drop w) same ∙ sym (ap (λ j. drop w (take j bytes')) up) ∙ drop-take w k bytes' in
+    let rest : take k (drop w bytes) ≡ take k (drop w bytes') = sym (drop-take w k bytes) ∙ ap (λ j. drop w (take j bytes)) up ∙ ap (drop w) same ∙ sym (ap (λ j. drop w (take j bytes')) up)
+    ∙ drop-take w k bytes' in
     rw (here, same_after first w n k (drop w bytes) (drop w bytes') (omega arith) rest) refl
 
 same_list : (first w n m : ℕ) (bytes bytes' : List ℕ) → 0 < n → w * (n - 1) ≤ m → take m bytes ≡ take m bytes' → list_of first w n bytes ≡ list_of first w n bytes'
@@ -51,7 +52,8 @@ same_front w n m bytes bytes' some le same =
     let k : ℕ = m - 4 in
     let up : 4 + k ≡ m = omega arith in
     let first : take 4 bytes ≡ take 4 bytes' = sym (take-take 4 m bytes (omega arith)) ∙ ap (take 4) same ∙ take-take 4 m bytes' (omega arith) in
-    let rest : take k (drop 4 bytes) ≡ take k (drop 4 bytes') = sym (drop-take 4 k bytes) ∙ ap (λ j. drop 4 (take j bytes)) up ∙ ap (drop 4) same ∙ sym (ap (λ j. drop 4 (take j bytes')) up) ∙ drop-take 4 k bytes' in
+    let rest : take k (drop 4 bytes) ≡ take k (drop 4 bytes') = sym (drop-take 4 k bytes) ∙ ap (λ j. drop 4 (take j bytes)) up ∙ ap (drop 4) same ∙ sym (ap (λ j. drop 4 (take j bytes')) up)
+    ∙ drop-take 4 k bytes' in
     ap (λ b. list_of (number_of b) w n (drop 4 bytes)) first ∙ same_list (number_of (take 4 bytes')) w n k (drop 4 bytes) (drop 4 bytes') some (omega arith) rest
 
 -- one element more
@@ -79,7 +81,8 @@ pub elements_one : (w : ℕ) (bytes : List ℕ) (x : ℕ) → x < 2 ^ 32 → tak
 elements_one w bytes x small is = ap (λ b. number_of b ∷ []) is ∙ ap (λ n. n ∷ []) (number_written x small)
 
 -- One list more is written: what stands before the new offset stays.
-pub element_written : (w n m x : ℕ) (old new xs : List ℕ) → 0 < n → w ≤ 4 → m ≡ 4 + w * (n - 1) → n < length xs → AscendsFrom 0 xs → span_of xs < 2 ^ (8 * w) → x ≡ get_or xs n 0 - get_or xs 0 0 → take m new ≡ take m old → take 4 (drop m new) ≡ to_le_bytes w32 x → elements_in w n old ≡ take n xs → elements_in w (n + 1) new ≡ take (n + 1) xs
+pub element_written : (w n m x : ℕ) (old new xs : List ℕ) → 0 < n → w ≤ 4 → m ≡ 4 + w * (n - 1) → n < length xs → AscendsFrom 0 xs → span_of xs < 2 ^ (8 * w) → x ≡ get_or xs n 0 - get_or xs 0 0
+    → take m new ≡ take m old → take 4 (drop m new) ≡ to_le_bytes w32 x → elements_in w n old ≡ take n xs → elements_in w (n + 1) new ≡ take (n + 1) xs
 element_written w n m x old new xs some width at within ascends wide is front part so_far =
     let low : get_or xs 0 0 ≤ get_or xs n 0 = rises 0 xs ascends 0 n (omega arith) within in
     let high : get_or xs n 0 ≤ get_or xs (length xs - 1) 0 = rises 0 xs ascends n (length xs - 1) (omega arith) (omega arith) in

@@ -26,18 +26,21 @@ size_small bytes e is =
     omega (arith, mul-le e.width e.last 4 255 is.width (omega (arith, is.few)), mul-le (weight_size e.weights) (e.last + 1) 8 256 (weight_small e.weights) (omega (arith, is.few)))
 
 -- a list depends on its own bytes alone
-pub same_keys : (bytes bytes' : List ℕ) (e e' : ListEntry) → e'.width ≡ e.width → e'.last ≡ e.last → take (size_of e) (drop e'.start bytes') ≡ take (size_of e) (drop e.start bytes) → keys_at bytes' e' ≡ keys_at bytes e
+pub same_keys : (bytes bytes' : List ℕ) (e e' : ListEntry) → e'.width ≡ e.width → e'.last ≡ e.last → take (size_of e) (drop e'.start bytes') ≡ take (size_of e) (drop e.start bytes)
+    → keys_at bytes' e' ≡ keys_at bytes e
 same_keys bytes bytes' e e' width last same =
     let one : e.last + 1 - 1 ≡ e.last = omega arith in
     let room : 4 + e.width * (e.last + 1 - 1) ≤ size_of e = omega (arith, ap (λ k. e.width * k) one) in
     ap (λ w. elements_in w (e'.last + 1) (drop e'.start bytes')) width ∙ ap (λ k. elements_in e.width (k + 1) (drop e'.start bytes')) last
     ∙ same_front e.width (e.last + 1) (size_of e) (drop e'.start bytes') (drop e.start bytes) (omega arith) room same
 
-pub same_list : (bytes bytes' : List ℕ) (e e' : ListEntry) → e'.width ≡ e.width → e'.last ≡ e.last → e'.weights ≡ e.weights → take (size_of e) (drop e'.start bytes') ≡ take (size_of e) (drop e.start bytes) → list_at bytes' e' ≡ list_at bytes e
+pub same_list : (bytes bytes' : List ℕ) (e e' : ListEntry) → e'.width ≡ e.width → e'.last ≡ e.last → e'.weights ≡ e.weights
+    → take (size_of e) (drop e'.start bytes') ≡ take (size_of e) (drop e.start bytes) → list_at bytes' e' ≡ list_at bytes e
 same_list bytes bytes' e e' width last weights same =
     let n : ℕ = weight_size e.weights * (e.last + 1) in
     let position : keys_size e' ≡ keys_size e = ap (λ w. 4 + w * e'.last) width ∙ ap (λ k. 4 + e.width * k) last in
-    let part : take n (drop (keys_size e) (drop e'.start bytes')) ≡ take n (drop (keys_size e) (drop e.start bytes)) = middle_stays (keys_size e) n (size_of e) (drop e'.start bytes') (drop e.start bytes) refl same in
+    let part : take n (drop (keys_size e) (drop e'.start bytes')) ≡ take n (drop (keys_size e) (drop e.start bytes)) =
+    middle_stays (keys_size e) n (size_of e) (drop e'.start bytes') (drop e.start bytes) refl same in
     ap (λ xs. weighted xs (weights_at bytes' e')) (same_keys bytes bytes' e e' width last same)
     ∙ ap (weighted (keys_at bytes e))
     (ap (λ v. weights_from v (e'.last + 1) (drop (keys_size e') (drop e'.start bytes'))) weights
@@ -106,7 +109,9 @@ written_back n old new same all =
 
 -- a list that was written after others
 module _ (es : List ListEntry) (bytes bytes' : List ℕ) (e : ListEntry) (xs : List ℕ) (ys : List (ℕ × ℤ)) (listed : AreListed 0 bytes es) (ends : end_of 0 es + 3 ≡ length bytes) where
-  pub stored : e.start ≡ end_of 0 es → e.last < 256 → (0 < e.width) × (e.width ≤ 4) → AscendsFrom 0 xs → length bytes' ≡ length bytes + size_of e → take (end_of 0 es) bytes' ≡ take (end_of 0 es) bytes → keys_at bytes' e ≡ xs → list_at bytes' e ≡ ys → AreListed 0 bytes' (es ++ e ∷ []) × (end_of 0 (es ++ e ∷ []) + 3 ≡ length bytes') × (lists_in bytes' (es ++ e ∷ []) ≡ lists_in bytes es ++ (e.vertex, ys) ∷ [])
+  pub stored : e.start ≡ end_of 0 es → e.last < 256 → (0 < e.width) × (e.width ≤ 4) → AscendsFrom 0 xs → length bytes' ≡ length bytes + size_of e → take (end_of 0 es) bytes' ≡ take (end_of 0 es) bytes
+      → keys_at bytes' e ≡ xs → list_at bytes' e ≡ ys → AreListed 0 bytes' (es ++ e ∷ []) × (end_of 0 (es ++ e ∷ []) + 3 ≡ length bytes')
+      × (lists_in bytes' (es ++ e ∷ []) ≡ lists_in bytes es ++ (e.vertex, ys) ∷ [])
   stored start few width ascends long front keys list =
       let is : IsListed bytes' e = record { wide = width.0; width = width.1; few = few; within = omega (arith, start, ends, long); ascends = subst (AscendsFrom 0) (sym keys) ascends } in
       let stay = lists_stay (end_of 0 es) bytes bytes' front (omega (arith, ends, long)) 0 es listed (omega arith) in (

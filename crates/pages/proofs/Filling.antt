@@ -1,7 +1,8 @@
 -- Blocks that are filled from a list, upward and downward.
 use Rattle.std.proofs.Common.{◌≡◌, ℕ, ◌+◌, ◌-◌, ◌<◌, ◌≤◌, List, [], ◌∷◌, ◌++◌, map, reverse, length, get_or, slice_set, take, drop, refl, sym, ◌∙◌, ap, arith, get_or-drop, length-drop}
 use borrow.Rule.Slice.PartMut.{put_mid}
-use Rattle.std.proofs.lemmas.List.{append-nil, drop_all, drop_more, set_at, take_more, take_more_set, get_or-reverse, get_or-take, length-take, length-take-le, length-reverse, length-map, take-take, take-append-drop, drop-take, reverse-append, map_push, take_at, drop_at, take-map, drop-map}
+use Rattle.std.proofs.lemmas.List.{append-nil, drop_all, drop_more, set_at, take_more, take_more_set, get_or-reverse, get_or-take, length-take, length-take-le, length-reverse, length-map, take-take}
+use Rattle.std.proofs.lemmas.List.{take-append-drop, drop-take, reverse-append, map_push, take_at, drop_at, take-map, drop-map}
 
 -- one element more of the list is in the block
 pub written : (whole block : List ℕ) (n x : ℕ) → n < length whole → n < length block → x ≡ get_or whole n 0 → take n block ≡ take n whole → take (n + 1) (slice_set block n x) ≡ take (n + 1) whole
@@ -17,7 +18,9 @@ down_at xs end i index within is =
     sym (get_or-reverse (take end xs) i 0 (omega (arith, all)) ∙ ap (λ k. get_or (take end xs) k 0) position ∙ get_or-take end xs index 0 (omega arith))
 
 -- the first element, and the others after it
-pub first_filled : (block xs ys : List ℕ) (first : ℕ) → 0 < length block → length block ≤ length xs → first ≡ get_or xs 0 0 → ys ≡ take (length (take (length (slice_set block 0 first) - 1) (drop 1 (slice_set block 0 first)))) (drop 1 xs) → put_mid 1 (length (slice_set block 0 first) - 1) (slice_set block 0 first) ys ≡ take (length block) xs
+pub first_filled : (block xs ys : List ℕ) (first : ℕ) → 0 < length block → length block ≤ length xs → first ≡ get_or xs 0 0
+    → ys ≡ take (length (take (length (slice_set block 0 first) - 1) (drop 1 (slice_set block 0 first)))) (drop 1 xs)
+    → put_mid 1 (length (slice_set block 0 first) - 1) (slice_set block 0 first) ys ≡ take (length block) xs
 first_filled [] xs ys first some room is rest = absurd (omega arith)
 first_filled (b ∷ bs) [] ys first some room is rest = absurd (omega arith)
 first_filled (b ∷ bs) (x ∷ xs) ys first some room is rest =
@@ -28,7 +31,8 @@ first_filled (b ∷ bs) (x ∷ xs) ys first some room is rest =
     rw (none, is, same) (ap (λ zs. x ∷ zs) (append-nil (take (length bs) xs)))
 
 -- the first element, after the others
-pub last_filled : (block ys zs : List ℕ) (n p x : ℕ) → length block ≡ n → 0 < n → length zs ≡ n → p ≡ n - 1 → ys ≡ take p zs → x ≡ get_or zs (n - 1) 0 → slice_set (ys ++ drop (n - 1) block) (n - 1) x ≡ take n zs
+pub last_filled : (block ys zs : List ℕ) (n p x : ℕ) → length block ≡ n → 0 < n → length zs ≡ n → p ≡ n - 1 → ys ≡ take p zs → x ≡ get_or zs (n - 1) 0
+    → slice_set (ys ++ drop (n - 1) block) (n - 1) x ≡ take n zs
 last_filled block ys zs n p x long some all at is last =
     let rest : drop (n - 1) block ≡ get_or block (n - 1) 0 ∷ drop (n - 1 + 1) block = drop_more block (n - 1) 0 (omega arith) in
     let none : drop (n - 1 + 1) block ≡ [] = drop_all (n - 1 + 1) block (omega arith) in
@@ -82,7 +86,8 @@ module _ {X Y : Type 0} (f : X → Y) (list now : List X) (block part : List Y) 
       column_filled (drop at (map f list)) (omega (arith, within, length-drop at (map f list), length-map list f)) is
       ∙ ap (take n) (drop-map f at list ∙ ap (map f) seen)
 
-  pub filled_down : (left : ℕ) → reverse (take left list) ≡ now → left ≤ length list → n ≤ left → part ≡ take (length (take n block)) (reverse (take left (map f list))) → take n (part ++ drop n block) ≡ take n (map f now)
+  pub filled_down : (left : ℕ) → reverse (take left list) ≡ now → left ≤ length list → n ≤ left → part ≡ take (length (take n block)) (reverse (take left (map f list)))
+      → take n (part ++ drop n block) ≡ take n (map f now)
   filled_down left seen within le is =
       let long : length (reverse (take left (map f list))) ≡ left = length-reverse (take left (map f list)) ∙ length-take-le left (map f list) (omega (arith, within, length-map list f)) in
       column_filled (reverse (take left (map f list))) (omega (arith, long)) is

@@ -1,5 +1,6 @@
 -- Pages that are built from keys.
-use Rattle.std.proofs.Common.{◌≡◌, ◌≢◌, ℕ, zero, suc, ◌+◌, ◌*◌, ◌/◌, ◌%◌, ◌^◌, ◌<◌, ◌≤◌, inl, inr, List, [], ◌∷◌, ◌++◌, map, length, get_or, take, drop, refl, sym, ◌∙◌, ap, subst, arith, append_assoc, ℤ}
+use Rattle.std.proofs.Common.{◌≡◌, ◌≢◌, ℕ, zero, suc, ◌+◌, ◌*◌, ◌/◌, ◌%◌, ◌^◌, ◌<◌, ◌≤◌, inl, inr, List, [], ◌∷◌, ◌++◌, map, length, get_or, take, drop, refl, sym, ◌∙◌, ap, subst, arith, append_assoc}
+use Rattle.std.proofs.Common.{ℤ}
 use Rattle.std.proofs.lemmas.Bool.{cases_eq, ne_eqb, eq-eqb}
 use Rattle.std.proofs.lemmas.List.{append-nil, take-append-drop, get_or-take, length-map, length-take, length-take-le}
 use Rattle.edge_updates.specs.Weighted.{weighted}
@@ -46,7 +47,8 @@ rebuilt s (k ∷ ks) (w ∷ ws) all =
     rw (here, rebuilt s ks ws (λ i lt. all (suc i) (omega arith))) refl
 
 -- their neighbours ascend
-run_ascends : (block s low : ℕ) (ks : List ℕ) → AreKeysOf block low ks → ((i : ℕ) → i < length ks → get_or ks i 0 / 2 ^ 32 ≡ s) → (n : ℕ) → s * 2 ^ 32 + n ≤ low → AscendsFrom n (map (λ k. k % 2 ^ 32) ks)
+run_ascends : (block s low : ℕ) (ks : List ℕ) → AreKeysOf block low ks → ((i : ℕ) → i < length ks → get_or ks i 0 / 2 ^ 32 ≡ s) → (n : ℕ) → s * 2 ^ 32 + n ≤ low
+    → AscendsFrom n (map (λ k. k % 2 ^ 32) ks)
 run_ascends block s low [] keys all n le = tt
 run_ascends block s low (k ∷ ks) keys all n le =
     let at : k / 2 ^ 32 ≡ s = all 0 (omega arith) in
@@ -58,7 +60,8 @@ keys_front block low (suc n) [] s = tt
 keys_front block low (suc n) (k ∷ ks) s = (s.0, s.1, s.2, keys_front block (k + 1) n ks s.3)
 
 -- after them come those of greater sources
-keys_behind : (block s low n : ℕ) (ks : List ℕ) → AreKeysOf block low ks → s * 2 ^ 32 ≤ low → n ≤ length ks → ((i : ℕ) → i < n → get_or ks i 0 / 2 ^ 32 ≡ s) → (n < length ks → get_or ks n 0 / 2 ^ 32 ≢ s) → AreKeysOf block ((s + 1) * 2 ^ 32) (drop n ks)
+keys_behind : (block s low n : ℕ) (ks : List ℕ) → AreKeysOf block low ks → s * 2 ^ 32 ≤ low → n ≤ length ks → ((i : ℕ) → i < n → get_or ks i 0 / 2 ^ 32 ≡ s)
+    → (n < length ks → get_or ks n 0 / 2 ^ 32 ≢ s) → AreKeysOf block ((s + 1) * 2 ^ 32) (drop n ks)
 keys_behind block s low zero [] keys le within run ends = tt
 keys_behind block s low zero (k ∷ ks) keys le within run ends =
     let other : k / 2 ^ 32 ≢ s = ends (omega arith) in
@@ -82,7 +85,9 @@ fewer t (suc n) (k ∷ ks) = elim (cases_eq (k / 2 ^ 32) t) [
 ]
 
 -- A run of keys in front, with a first one.
-module _ (block : ℕ) (keys : List ℕ) (weights : List ℤ) (page : List (ℕ × List (ℕ × ℤ))) (rest : List ℕ) (ws : List ℤ) (is : IsLoading block keys weights page rest ws) (n s : ℕ) (within : n ≤ length rest) (run : (i : ℕ) → i < n → get_or rest i 0 / 2 ^ 32 ≡ s) (ends : n < length rest → get_or rest n 0 / 2 ^ 32 ≢ s) (k : ℕ) (others : List ℕ) (first : rest ≡ k ∷ others) (at : k / 2 ^ 32 ≡ s) where
+module _ (block : ℕ) (keys : List ℕ) (weights : List ℤ) (page : List (ℕ × List (ℕ × ℤ))) (rest : List ℕ) (ws : List ℤ) (is : IsLoading block keys weights page rest ws) (n s : ℕ)
+    (within : n ≤ length rest) (run : (i : ℕ) → i < n → get_or rest i 0 / 2 ^ 32 ≡ s) (ends : n < length rest → get_or rest n 0 / 2 ^ 32 ≢ s) (k : ℕ) (others : List ℕ) (first : rest ≡ k ∷ others)
+    (at : k / 2 ^ 32 ≡ s) where
   head : AreKeysOf block ((64 * block + is.next) * 2 ^ 32) (k ∷ others)
   head = subst (AreKeysOf block ((64 * block + is.next) * 2 ^ 32)) first is.coming
 
@@ -127,7 +132,8 @@ module _ (block : ℕ) (keys : List ℕ) (weights : List ℤ) (page : List (ℕ 
       let xs : List (ℕ × ℤ) = weighted (map (λ x. x % 2 ^ 32) (take n rest)) (take n ws) in
       let run_of : ℕ → List (ℕ × ℤ) = λ j. map (λ e. (j * 2 ^ 32 + e.0, e.1)) xs in
       let next : (s + 1) * 2 ^ 32 ≡ (64 * block + (u + 1)) * 2 ^ 32 = ap (λ j. j * 2 ^ 32) (omega (arith, vertex_is)) in
-      let these : run_of (64 * block + u) ++ [] ≡ take n (weighted rest ws) = append-nil (run_of (64 * block + u)) ∙ ap run_of vertex_is ∙ rebuilt s (take n rest) (take n ws) all_run ∙ sym (take_weighted n rest ws) in
+      let these : run_of (64 * block + u) ++ [] ≡ take n (weighted rest ws) = append-nil (run_of (64 * block + u)) ∙ ap run_of vertex_is ∙ rebuilt s (take n rest) (take n ws) all_run
+      ∙ sym (take_weighted n rest ws) in
       record {
         next = u + 1;
         within = omega arith;
@@ -141,5 +147,6 @@ module _ (block : ℕ) (keys : List ℕ) (weights : List ℤ) (page : List (ℕ 
       }
 
 -- at the end the page has all edges
-pub all_loaded : (block : ℕ) (keys : List ℕ) (weights : List ℤ) (page : List (ℕ × List (ℕ × ℤ))) (rest : List ℕ) (others : List ℤ) → IsLoading block keys weights page rest others → rest ≡ [] → edges_of block page ≡ weighted keys weights
+pub all_loaded : (block : ℕ) (keys : List ℕ) (weights : List ℤ) (page : List (ℕ × List (ℕ × ℤ))) (rest : List ℕ) (others : List ℤ) → IsLoading block keys weights page rest others → rest ≡ []
+    → edges_of block page ≡ weighted keys weights
 all_loaded block keys weights page rest others is none = sym (append-nil (edges_of block page)) ∙ ap (λ ks. edges_of block page ++ weighted ks others) (sym none) ∙ is.whole

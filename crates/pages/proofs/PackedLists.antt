@@ -16,7 +16,8 @@ pub lent_view : (w n : ℕ) (v : WeightWidth) (bytes : List ℕ) → IsPackedIn 
 lent_view w n v bytes is = rw (mask_of w is.view.view.some is.view.view.width) is.view
 
 -- a list that was written, and then its weights after it
-module _ (w : ℕ) (v : WeightWidth) (mid new xs : List ℕ) (some : 0 < length xs) (keys : elements_in w (length xs) mid ≡ xs) (front : take (4 + w * (length xs - 1)) new ≡ take (4 + w * (length xs - 1)) mid) where
+module _ (w : ℕ) (v : WeightWidth) (mid new xs : List ℕ) (some : 0 < length xs) (keys : elements_in w (length xs) mid ≡ xs)
+    (front : take (4 + w * (length xs - 1)) new ≡ take (4 + w * (length xs - 1)) mid) where
   keys_written : elements_in w (length xs) new ≡ xs
   keys_written = same_front w (length xs) (4 + w * (length xs - 1)) new mid some (omega arith) front ∙ keys
 

@@ -58,7 +58,8 @@ absent u a h (e ∷ es) s same = elim (cases_lt e.0 u) [
 ]
 
 -- where one more is, the list of the vertex stands at that index
-pub present : (u a h : ℕ) (es : List (ℕ × List (ℕ × ℤ))) → Rises a h es → count_below (u + 1) es ≡ count_below u es + 1 → (count_below u es < length es) × ((get_or es (count_below u es) (0, [])).1 ≡ neighbours_of u es)
+pub present : (u a h : ℕ) (es : List (ℕ × List (ℕ × ℤ))) → Rises a h es → count_below (u + 1) es ≡ count_below u es + 1 → (count_below u es < length es)
+    × ((get_or es (count_below u es) (0, [])).1 ≡ neighbours_of u es)
 present u a h [] s more = absurd (omega arith)
 present u a h (e ∷ es) s more = elim (cases_lt e.0 u) [
   | inl lt ↦
@@ -115,7 +116,8 @@ module _ {V : Type 0} (bits : ℕ) (es : List (ℕ × V)) (ok : IsIndex bits es)
   marks_with : (j : ℕ) → j ≤ 64 → count_below j all ≡ count_ones ((1 * 2 ^ v + bits) % 2 ^ j)
   marks_with j le = elim (cases_lt v j) [
     | inl after ↦
-        omega (arith, below_push_here j es (v, x) after, below_end j 0 v es rises (omega arith), below_end v 0 v es rises (omega arith), ok.marks v (omega arith), mark_counted bits v j (ok.small v rises) after)
+        omega (arith, below_push_here j es (v, x) after, below_end j 0 v es rises (omega arith), below_end v 0 v es rises (omega arith), ok.marks v (omega arith),
+        mark_counted bits v j (ok.small v rises) after)
     | inr before ↦ below_push_not j es (v, x) before ∙ ok.marks j le ∙ ap count_ones (sym (mark_above bits v j before))
   ]
 

@@ -75,7 +75,8 @@ module _ (bytes : List ℕ) where
   lists_length (e ∷ es) = omega (arith, lists_length es)
 
   -- the list of the entry at an index
-  pub listed_at : (position : ℕ) (es : List ListEntry) (i : ℕ) (e : ListEntry) → AreListed position bytes es → i < length es → e ≡ get_or es i e → IsListed bytes e × (get_or (lists_in bytes es) i (0, []) ≡ (e.vertex, list_at bytes e))
+  pub listed_at : (position : ℕ) (es : List ListEntry) (i : ℕ) (e : ListEntry) → AreListed position bytes es → i < length es → e ≡ get_or es i e → IsListed bytes e
+      × (get_or (lists_in bytes es) i (0, []) ≡ (e.vertex, list_at bytes e))
   listed_at position [] i e ok lt is = absurd (omega arith)
   listed_at position (x ∷ es) zero e ok lt is = rw is (ok.1, refl)
   listed_at position (x ∷ es) (suc i) e ok lt is = listed_at (position + size_of x) es i e ok.2 (omega arith) is

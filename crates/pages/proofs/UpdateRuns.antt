@@ -1,5 +1,6 @@
 -- Updates by vertices.
-use Rattle.std.proofs.Common.{◌≡◌, ◌≢◌, ℕ, ℤ, pos, ◌+◌, ◌*◌, ◌/◌, ◌%◌, ◌^◌, ◌<◌, ◌≤◌, inl, inr, List, [], ◌∷◌, ◌++◌, length, get_or, take, drop, refl, sym, ◌∙◌, ap, subst, arith, append_assoc, get_or-drop, length-drop}
+use Rattle.std.proofs.Common.{◌≡◌, ◌≢◌, ℕ, ℤ, pos, ◌+◌, ◌*◌, ◌/◌, ◌%◌, ◌^◌, ◌<◌, ◌≤◌, inl, inr, List, [], ◌∷◌, ◌++◌, length, get_or, take, drop, refl, sym, ◌∙◌, ap, subst, arith, append_assoc}
+use Rattle.std.proofs.Common.{get_or-drop, length-drop}
 use Rattle.std.specs.Map.{keys_of}
 use Rattle.std.proofs.lemmas.Bool.{cases_eq, ne_eqb, eq-eqb}
 use Rattle.std.proofs.lemmas.List.{append-nil, drop_more, take_more}
@@ -93,7 +94,8 @@ above_run v (u ∷ us) d s ends =
     let other : vertex_in_page u.0 ≢ v = ends (omega arith) in
     (omega (arith, s.0, neighbour_small u.0), s.1)
 
-pub run_ends : (v n : ℕ) (us : List (EdgeUpdate × ℤ)) (d : EdgeUpdate × ℤ) → IsRun v us n → (n < length us → vertex_in_page (get_or us n d).0 ≢ v) → (take n us ≡ updates_of v us) × EdgesAscend ((v + 1) * 2 ^ 24) (drop n us)
+pub run_ends : (v n : ℕ) (us : List (EdgeUpdate × ℤ)) (d : EdgeUpdate × ℤ) → IsRun v us n → (n < length us → vertex_in_page (get_or us n d).0 ≢ v) → (take n us ≡ updates_of v us)
+    × EdgesAscend ((v + 1) * 2 ^ 24) (drop n us)
 run_ends v n us d is ends =
     let first : (0 < length (drop n us)) → vertex_in_page (get_or (drop n us) 0 d).0 ≢ v = λ some at. ends (omega (arith, length-drop n us)) (first_is ∙ at) in
     let rest : EdgesAscend ((v + 1) * 2 ^ 24) (drop n us) = above_run v (drop n us) d is.coming first in

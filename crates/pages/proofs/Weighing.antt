@@ -1,5 +1,6 @@
 -- Weights in bytes: by their indices, as they are written, and in columns.
-use Rattle.std.proofs.Common.{◌≡◌, ℕ, zero, suc, ◌+◌, ◌-◌, ◌*◌, ◌<◌, ◌≤◌, ℤ, pos, List, [], ◌∷◌, ◌++◌, replicate, length, get_or, slice_set, take, drop, inl, inr, refl, sym, ◌∙◌, ap, subst, arith, add-one}
+use Rattle.std.proofs.Common.{◌≡◌, ℕ, zero, suc, ◌+◌, ◌-◌, ◌*◌, ◌<◌, ◌≤◌, ℤ, pos, List, [], ◌∷◌, ◌++◌, replicate, length, get_or, slice_set, take, drop, inl, inr, refl, sym, ◌∙◌, ap, subst, arith}
+use Rattle.std.proofs.Common.{add-one}
 use Rattle.std.proofs.lemmas.Bool.{cases_eq}
 use Rattle.std.proofs.lemmas.List.{drop-drop, drop-take, take_more_set}
 use Rattle.edge_updates.specs.Weighted.{weighted}
@@ -57,7 +58,8 @@ same_weights v (suc n) m bytes bytes' le same =
     let room : s + s * n ≤ m = omega (arith, le, next_position s n) in
     let k : ℕ = m - s in
     let up : s + k ≡ m = omega (arith, room) in
-    let rest : take k (drop s bytes) ≡ take k (drop s bytes') = sym (drop-take s k bytes) ∙ ap (λ j. drop s (take j bytes)) up ∙ ap (drop s) same ∙ sym (ap (λ j. drop s (take j bytes')) up) ∙ drop-take s k bytes' in
+    let rest : take k (drop s bytes) ≡ take k (drop s bytes') = sym (drop-take s k bytes) ∙ ap (λ j. drop s (take j bytes)) up ∙ ap (drop s) same ∙ sym (ap (λ j. drop s (take j bytes')) up)
+    ∙ drop-take s k bytes' in
     ap (λ w. w ∷ weights_from v n (drop s bytes)) (same_weight v m bytes bytes' (omega (arith, room)) same)
     ∙ ap (λ ws. weight_in v bytes' ∷ ws) (same_weights v n k (drop s bytes) (drop s bytes') (omega (arith, room, up)) rest)
 
@@ -77,11 +79,13 @@ column_more (suc n) [] = ap (λ v. pos 1 ∷ v) (column_more n [])
 column_more (suc n) (w ∷ ws) = ap (λ v. w ∷ v) (column_more n ws)
 
 -- a weight more is written: those before it stay
-pub weight_written : (v : WeightWidth) (n position at : ℕ) (w : ℤ) (old new : List ℕ) (ws : List ℤ) → at ≡ position + weight_size v * n → take at new ≡ take at old → weight_in v (drop at new) ≡ w → w ≡ get_or ws n (pos 1) → weights_from v n (drop position old) ≡ column_of n ws → weights_from v (n + 1) (drop position new) ≡ column_of (n + 1) ws
+pub weight_written : (v : WeightWidth) (n position at : ℕ) (w : ℤ) (old new : List ℕ) (ws : List ℤ) → at ≡ position + weight_size v * n → take at new ≡ take at old → weight_in v (drop at new) ≡ w
+    → w ≡ get_or ws n (pos 1) → weights_from v n (drop position old) ≡ column_of n ws → weights_from v (n + 1) (drop position new) ≡ column_of (n + 1) ws
 weight_written v n position at w old new ws is front put this so_far =
     let s : ℕ = weight_size v in
     let here : drop (s * n) (drop position new) ≡ drop at new = drop-drop (s * n) position new ∙ ap (λ p. drop p new) (sym is) in
-    let before : weights_from v n (drop position new) ≡ column_of n ws = same_weights v n (s * n) (drop position new) (drop position old) (omega arith) (middle_stays position (s * n) at new old is front) ∙ so_far in
+    let before : weights_from v n (drop position new) ≡ column_of n ws = same_weights v n (s * n) (drop position new) (drop position old) (omega arith)
+    (middle_stays position (s * n) at new old is front) ∙ so_far in
     ap (λ k. weights_from v k (drop position new)) (add-one n)
     ∙ weights_more v n (drop position new)
     ∙ ap (λ us. us ++ weight_in v (drop (s * n) (drop position new)) ∷ []) before
@@ -90,7 +94,8 @@ weight_written v n position at w old new ws is front put this so_far =
     ∙ ap (λ k. column_of k ws) (sym (add-one n))
 
 -- a weight more is read into a block
-pub weight_filled : (v : WeightWidth) (n start position : ℕ) (x : ℤ) (bytes : List ℕ) (block : List ℤ) → n < length block → position ≡ start + weight_size v * n → x ≡ weight_in v (drop position bytes) → take n block ≡ weights_from v n (drop start bytes) → take (n + 1) (slice_set block n x) ≡ weights_from v (n + 1) (drop start bytes)
+pub weight_filled : (v : WeightWidth) (n start position : ℕ) (x : ℤ) (bytes : List ℕ) (block : List ℤ) → n < length block → position ≡ start + weight_size v * n → x ≡ weight_in v (drop position bytes)
+    → take n block ≡ weights_from v n (drop start bytes) → take (n + 1) (slice_set block n x) ≡ weights_from v (n + 1) (drop start bytes)
 weight_filled v n start position x bytes block lt is read so_far =
     let s : ℕ = weight_size v in
     let here : drop position bytes ≡ drop (s * n) (drop start bytes) = ap (λ p. drop p bytes) is ∙ sym (drop-drop (s * n) start bytes) in

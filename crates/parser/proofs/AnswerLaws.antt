@@ -36,45 +36,77 @@ same_terminals text tokens others a b = ap (terminals_of text) (same_tokens text
 
 pub one_answer : (text : List ℕ) (answer other : Result SourceTree ParseError) → Parses text answer → Parses text other → without_place answer ≡ without_place other
 one_answer text (Ok sx) (Ok sy) a b = ap Ok (sym (a.only sy (same_terminals text a.tokens b.tokens a.reads b.reads ∙ b.spelled)))
-one_answer text (Ok sx) (Err (BadByte y)) a b = let e : ◌≡◌ {A = Result (List Token) LexError} (Ok a.tokens) (Err (lexer.BadByte y)) = reads_unique text (Ok a.tokens) (Err (lexer.BadByte y)) a.reads b in cc
-one_answer text (Ok sx) (Err (NumberTooLarge y)) a b = let e : ◌≡◌ {A = Result (List Token) LexError} (Ok a.tokens) (Err (lexer.NumberTooLarge y)) = reads_unique text (Ok a.tokens) (Err (lexer.NumberTooLarge y)) a.reads b in cc
-one_answer text (Ok sx) (Err (UnfinishedText y)) a b = let e : ◌≡◌ {A = Result (List Token) LexError} (Ok a.tokens) (Err (lexer.UnfinishedText y)) = reads_unique text (Ok a.tokens) (Err (lexer.UnfinishedText y)) a.reads b in cc
+one_answer text (Ok sx) (Err (BadByte y)) a b = let e : ◌≡◌ {A = Result (List Token) LexError} (Ok a.tokens) (Err (lexer.BadByte y)) =
+    reads_unique text (Ok a.tokens) (Err (lexer.BadByte y)) a.reads b in cc
+one_answer text (Ok sx) (Err (NumberTooLarge y)) a b = let e : ◌≡◌ {A = Result (List Token) LexError} (Ok a.tokens) (Err (lexer.NumberTooLarge y)) =
+    reads_unique text (Ok a.tokens) (Err (lexer.NumberTooLarge y)) a.reads b in cc
+one_answer text (Ok sx) (Err (UnfinishedText y)) a b = let e : ◌≡◌ {A = Result (List Token) LexError} (Ok a.tokens) (Err (lexer.UnfinishedText y)) =
+    reads_unique text (Ok a.tokens) (Err (lexer.UnfinishedText y)) a.reads b in cc
 one_answer text (Ok sx) (Err (Unexpected y)) a b = absurd (b.none sx (sym (same_terminals text a.tokens b.tokens a.reads b.reads) ∙ a.spelled))
-one_answer text (Ok sx) (Err (TooDeep y)) a b = absurd (stays_or_passes text 0 a.tokens y a.within (subst (λ tokens. PassesAt text 0 tokens y) (sym (same_tokens text a.tokens b.tokens a.reads b.reads)) b.passes))
+one_answer text (Ok sx) (Err (TooDeep y)) a b = absurd (stays_or_passes text 0 a.tokens y a.within
+    (subst (λ tokens. PassesAt text 0 tokens y) (sym (same_tokens text a.tokens b.tokens a.reads b.reads)) b.passes))
 one_answer text (Ok sx) (Err NoMemory) a b = absurd b
-one_answer text (Err (BadByte x)) (Ok sy) a b = let e : ◌≡◌ {A = Result (List Token) LexError} (Err (lexer.BadByte x)) (Ok b.tokens) = reads_unique text (Err (lexer.BadByte x)) (Ok b.tokens) a b.reads in cc
-one_answer text (Err (BadByte x)) (Err (BadByte y)) a b = let e : ◌≡◌ {A = Result (List Token) LexError} (Err (lexer.BadByte x)) (Err (lexer.BadByte y)) = reads_unique text (Err (lexer.BadByte x)) (Err (lexer.BadByte y)) a b in cc
-one_answer text (Err (BadByte x)) (Err (NumberTooLarge y)) a b = let e : ◌≡◌ {A = Result (List Token) LexError} (Err (lexer.BadByte x)) (Err (lexer.NumberTooLarge y)) = reads_unique text (Err (lexer.BadByte x)) (Err (lexer.NumberTooLarge y)) a b in cc
-one_answer text (Err (BadByte x)) (Err (UnfinishedText y)) a b = let e : ◌≡◌ {A = Result (List Token) LexError} (Err (lexer.BadByte x)) (Err (lexer.UnfinishedText y)) = reads_unique text (Err (lexer.BadByte x)) (Err (lexer.UnfinishedText y)) a b in cc
-one_answer text (Err (BadByte x)) (Err (Unexpected y)) a b = let e : ◌≡◌ {A = Result (List Token) LexError} (Err (lexer.BadByte x)) (Ok b.tokens) = reads_unique text (Err (lexer.BadByte x)) (Ok b.tokens) a b.reads in cc
-one_answer text (Err (BadByte x)) (Err (TooDeep y)) a b = let e : ◌≡◌ {A = Result (List Token) LexError} (Err (lexer.BadByte x)) (Ok b.tokens) = reads_unique text (Err (lexer.BadByte x)) (Ok b.tokens) a b.reads in cc
+one_answer text (Err (BadByte x)) (Ok sy) a b = let e : ◌≡◌ {A = Result (List Token) LexError} (Err (lexer.BadByte x)) (Ok b.tokens) =
+    reads_unique text (Err (lexer.BadByte x)) (Ok b.tokens) a b.reads in cc
+one_answer text (Err (BadByte x)) (Err (BadByte y)) a b = let e : ◌≡◌ {A = Result (List Token) LexError} (Err (lexer.BadByte x)) (Err (lexer.BadByte y)) =
+    reads_unique text (Err (lexer.BadByte x)) (Err (lexer.BadByte y)) a b in cc
+one_answer text (Err (BadByte x)) (Err (NumberTooLarge y)) a b = let e : ◌≡◌ {A = Result (List Token) LexError} (Err (lexer.BadByte x)) (Err (lexer.NumberTooLarge y)) =
+    reads_unique text (Err (lexer.BadByte x)) (Err (lexer.NumberTooLarge y)) a b in cc
+one_answer text (Err (BadByte x)) (Err (UnfinishedText y)) a b = let e : ◌≡◌ {A = Result (List Token) LexError} (Err (lexer.BadByte x)) (Err (lexer.UnfinishedText y)) =
+    reads_unique text (Err (lexer.BadByte x)) (Err (lexer.UnfinishedText y)) a b in cc
+one_answer text (Err (BadByte x)) (Err (Unexpected y)) a b = let e : ◌≡◌ {A = Result (List Token) LexError} (Err (lexer.BadByte x)) (Ok b.tokens) =
+    reads_unique text (Err (lexer.BadByte x)) (Ok b.tokens) a b.reads in cc
+one_answer text (Err (BadByte x)) (Err (TooDeep y)) a b = let e : ◌≡◌ {A = Result (List Token) LexError} (Err (lexer.BadByte x)) (Ok b.tokens) =
+    reads_unique text (Err (lexer.BadByte x)) (Ok b.tokens) a b.reads in cc
 one_answer text (Err (BadByte x)) (Err NoMemory) a b = absurd b
-one_answer text (Err (NumberTooLarge x)) (Ok sy) a b = let e : ◌≡◌ {A = Result (List Token) LexError} (Err (lexer.NumberTooLarge x)) (Ok b.tokens) = reads_unique text (Err (lexer.NumberTooLarge x)) (Ok b.tokens) a b.reads in cc
-one_answer text (Err (NumberTooLarge x)) (Err (BadByte y)) a b = let e : ◌≡◌ {A = Result (List Token) LexError} (Err (lexer.NumberTooLarge x)) (Err (lexer.BadByte y)) = reads_unique text (Err (lexer.NumberTooLarge x)) (Err (lexer.BadByte y)) a b in cc
-one_answer text (Err (NumberTooLarge x)) (Err (NumberTooLarge y)) a b = let e : ◌≡◌ {A = Result (List Token) LexError} (Err (lexer.NumberTooLarge x)) (Err (lexer.NumberTooLarge y)) = reads_unique text (Err (lexer.NumberTooLarge x)) (Err (lexer.NumberTooLarge y)) a b in cc
-one_answer text (Err (NumberTooLarge x)) (Err (UnfinishedText y)) a b = let e : ◌≡◌ {A = Result (List Token) LexError} (Err (lexer.NumberTooLarge x)) (Err (lexer.UnfinishedText y)) = reads_unique text (Err (lexer.NumberTooLarge x)) (Err (lexer.UnfinishedText y)) a b in cc
-one_answer text (Err (NumberTooLarge x)) (Err (Unexpected y)) a b = let e : ◌≡◌ {A = Result (List Token) LexError} (Err (lexer.NumberTooLarge x)) (Ok b.tokens) = reads_unique text (Err (lexer.NumberTooLarge x)) (Ok b.tokens) a b.reads in cc
-one_answer text (Err (NumberTooLarge x)) (Err (TooDeep y)) a b = let e : ◌≡◌ {A = Result (List Token) LexError} (Err (lexer.NumberTooLarge x)) (Ok b.tokens) = reads_unique text (Err (lexer.NumberTooLarge x)) (Ok b.tokens) a b.reads in cc
+one_answer text (Err (NumberTooLarge x)) (Ok sy) a b = let e : ◌≡◌ {A = Result (List Token) LexError} (Err (lexer.NumberTooLarge x)) (Ok b.tokens) =
+    reads_unique text (Err (lexer.NumberTooLarge x)) (Ok b.tokens) a b.reads in cc
+one_answer text (Err (NumberTooLarge x)) (Err (BadByte y)) a b = let e : ◌≡◌ {A = Result (List Token) LexError} (Err (lexer.NumberTooLarge x)) (Err (lexer.BadByte y)) =
+    reads_unique text (Err (lexer.NumberTooLarge x)) (Err (lexer.BadByte y)) a b in cc
+one_answer text (Err (NumberTooLarge x)) (Err (NumberTooLarge y)) a b = let e : ◌≡◌ {A = Result (List Token) LexError} (Err (lexer.NumberTooLarge x)) (Err (lexer.NumberTooLarge y)) =
+    reads_unique text (Err (lexer.NumberTooLarge x)) (Err (lexer.NumberTooLarge y)) a b in cc
+one_answer text (Err (NumberTooLarge x)) (Err (UnfinishedText y)) a b = let e : ◌≡◌ {A = Result (List Token) LexError} (Err (lexer.NumberTooLarge x)) (Err (lexer.UnfinishedText y)) =
+    reads_unique text (Err (lexer.NumberTooLarge x)) (Err (lexer.UnfinishedText y)) a b in cc
+one_answer text (Err (NumberTooLarge x)) (Err (Unexpected y)) a b = let e : ◌≡◌ {A = Result (List Token) LexError} (Err (lexer.NumberTooLarge x)) (Ok b.tokens) =
+    reads_unique text (Err (lexer.NumberTooLarge x)) (Ok b.tokens) a b.reads in cc
+one_answer text (Err (NumberTooLarge x)) (Err (TooDeep y)) a b = let e : ◌≡◌ {A = Result (List Token) LexError} (Err (lexer.NumberTooLarge x)) (Ok b.tokens) =
+    reads_unique text (Err (lexer.NumberTooLarge x)) (Ok b.tokens) a b.reads in cc
 one_answer text (Err (NumberTooLarge x)) (Err NoMemory) a b = absurd b
-one_answer text (Err (UnfinishedText x)) (Ok sy) a b = let e : ◌≡◌ {A = Result (List Token) LexError} (Err (lexer.UnfinishedText x)) (Ok b.tokens) = reads_unique text (Err (lexer.UnfinishedText x)) (Ok b.tokens) a b.reads in cc
-one_answer text (Err (UnfinishedText x)) (Err (BadByte y)) a b = let e : ◌≡◌ {A = Result (List Token) LexError} (Err (lexer.UnfinishedText x)) (Err (lexer.BadByte y)) = reads_unique text (Err (lexer.UnfinishedText x)) (Err (lexer.BadByte y)) a b in cc
-one_answer text (Err (UnfinishedText x)) (Err (NumberTooLarge y)) a b = let e : ◌≡◌ {A = Result (List Token) LexError} (Err (lexer.UnfinishedText x)) (Err (lexer.NumberTooLarge y)) = reads_unique text (Err (lexer.UnfinishedText x)) (Err (lexer.NumberTooLarge y)) a b in cc
-one_answer text (Err (UnfinishedText x)) (Err (UnfinishedText y)) a b = let e : ◌≡◌ {A = Result (List Token) LexError} (Err (lexer.UnfinishedText x)) (Err (lexer.UnfinishedText y)) = reads_unique text (Err (lexer.UnfinishedText x)) (Err (lexer.UnfinishedText y)) a b in cc
-one_answer text (Err (UnfinishedText x)) (Err (Unexpected y)) a b = let e : ◌≡◌ {A = Result (List Token) LexError} (Err (lexer.UnfinishedText x)) (Ok b.tokens) = reads_unique text (Err (lexer.UnfinishedText x)) (Ok b.tokens) a b.reads in cc
-one_answer text (Err (UnfinishedText x)) (Err (TooDeep y)) a b = let e : ◌≡◌ {A = Result (List Token) LexError} (Err (lexer.UnfinishedText x)) (Ok b.tokens) = reads_unique text (Err (lexer.UnfinishedText x)) (Ok b.tokens) a b.reads in cc
+one_answer text (Err (UnfinishedText x)) (Ok sy) a b = let e : ◌≡◌ {A = Result (List Token) LexError} (Err (lexer.UnfinishedText x)) (Ok b.tokens) =
+    reads_unique text (Err (lexer.UnfinishedText x)) (Ok b.tokens) a b.reads in cc
+one_answer text (Err (UnfinishedText x)) (Err (BadByte y)) a b = let e : ◌≡◌ {A = Result (List Token) LexError} (Err (lexer.UnfinishedText x)) (Err (lexer.BadByte y)) =
+    reads_unique text (Err (lexer.UnfinishedText x)) (Err (lexer.BadByte y)) a b in cc
+one_answer text (Err (UnfinishedText x)) (Err (NumberTooLarge y)) a b = let e : ◌≡◌ {A = Result (List Token) LexError} (Err (lexer.UnfinishedText x)) (Err (lexer.NumberTooLarge y)) =
+    reads_unique text (Err (lexer.UnfinishedText x)) (Err (lexer.NumberTooLarge y)) a b in cc
+one_answer text (Err (UnfinishedText x)) (Err (UnfinishedText y)) a b = let e : ◌≡◌ {A = Result (List Token) LexError} (Err (lexer.UnfinishedText x)) (Err (lexer.UnfinishedText y)) =
+    reads_unique text (Err (lexer.UnfinishedText x)) (Err (lexer.UnfinishedText y)) a b in cc
+one_answer text (Err (UnfinishedText x)) (Err (Unexpected y)) a b = let e : ◌≡◌ {A = Result (List Token) LexError} (Err (lexer.UnfinishedText x)) (Ok b.tokens) =
+    reads_unique text (Err (lexer.UnfinishedText x)) (Ok b.tokens) a b.reads in cc
+one_answer text (Err (UnfinishedText x)) (Err (TooDeep y)) a b = let e : ◌≡◌ {A = Result (List Token) LexError} (Err (lexer.UnfinishedText x)) (Ok b.tokens) =
+    reads_unique text (Err (lexer.UnfinishedText x)) (Ok b.tokens) a b.reads in cc
 one_answer text (Err (UnfinishedText x)) (Err NoMemory) a b = absurd b
 one_answer text (Err (Unexpected x)) (Ok sy) a b = absurd (a.none sy (same_terminals text a.tokens b.tokens a.reads b.reads ∙ b.spelled))
-one_answer text (Err (Unexpected x)) (Err (BadByte y)) a b = let e : ◌≡◌ {A = Result (List Token) LexError} (Ok a.tokens) (Err (lexer.BadByte y)) = reads_unique text (Ok a.tokens) (Err (lexer.BadByte y)) a.reads b in cc
-one_answer text (Err (Unexpected x)) (Err (NumberTooLarge y)) a b = let e : ◌≡◌ {A = Result (List Token) LexError} (Ok a.tokens) (Err (lexer.NumberTooLarge y)) = reads_unique text (Ok a.tokens) (Err (lexer.NumberTooLarge y)) a.reads b in cc
-one_answer text (Err (Unexpected x)) (Err (UnfinishedText y)) a b = let e : ◌≡◌ {A = Result (List Token) LexError} (Ok a.tokens) (Err (lexer.UnfinishedText y)) = reads_unique text (Ok a.tokens) (Err (lexer.UnfinishedText y)) a.reads b in cc
+one_answer text (Err (Unexpected x)) (Err (BadByte y)) a b = let e : ◌≡◌ {A = Result (List Token) LexError} (Ok a.tokens) (Err (lexer.BadByte y)) =
+    reads_unique text (Ok a.tokens) (Err (lexer.BadByte y)) a.reads b in cc
+one_answer text (Err (Unexpected x)) (Err (NumberTooLarge y)) a b = let e : ◌≡◌ {A = Result (List Token) LexError} (Ok a.tokens) (Err (lexer.NumberTooLarge y)) =
+    reads_unique text (Ok a.tokens) (Err (lexer.NumberTooLarge y)) a.reads b in cc
+one_answer text (Err (Unexpected x)) (Err (UnfinishedText y)) a b = let e : ◌≡◌ {A = Result (List Token) LexError} (Ok a.tokens) (Err (lexer.UnfinishedText y)) =
+    reads_unique text (Ok a.tokens) (Err (lexer.UnfinishedText y)) a.reads b in cc
 one_answer text (Err (Unexpected x)) (Err (Unexpected y)) a b = refl
-one_answer text (Err (Unexpected x)) (Err (TooDeep y)) a b = absurd (stays_or_passes text 0 a.tokens y a.within (subst (λ tokens. PassesAt text 0 tokens y) (sym (same_tokens text a.tokens b.tokens a.reads b.reads)) b.passes))
+one_answer text (Err (Unexpected x)) (Err (TooDeep y)) a b = absurd (stays_or_passes text 0 a.tokens y a.within
+    (subst (λ tokens. PassesAt text 0 tokens y) (sym (same_tokens text a.tokens b.tokens a.reads b.reads)) b.passes))
 one_answer text (Err (Unexpected x)) (Err NoMemory) a b = absurd b
-one_answer text (Err (TooDeep x)) (Ok sy) a b = absurd (stays_or_passes text 0 b.tokens x b.within (subst (λ tokens. PassesAt text 0 tokens x) (same_tokens text a.tokens b.tokens a.reads b.reads) a.passes))
-one_answer text (Err (TooDeep x)) (Err (BadByte y)) a b = let e : ◌≡◌ {A = Result (List Token) LexError} (Ok a.tokens) (Err (lexer.BadByte y)) = reads_unique text (Ok a.tokens) (Err (lexer.BadByte y)) a.reads b in cc
-one_answer text (Err (TooDeep x)) (Err (NumberTooLarge y)) a b = let e : ◌≡◌ {A = Result (List Token) LexError} (Ok a.tokens) (Err (lexer.NumberTooLarge y)) = reads_unique text (Ok a.tokens) (Err (lexer.NumberTooLarge y)) a.reads b in cc
-one_answer text (Err (TooDeep x)) (Err (UnfinishedText y)) a b = let e : ◌≡◌ {A = Result (List Token) LexError} (Ok a.tokens) (Err (lexer.UnfinishedText y)) = reads_unique text (Ok a.tokens) (Err (lexer.UnfinishedText y)) a.reads b in cc
-one_answer text (Err (TooDeep x)) (Err (Unexpected y)) a b = absurd (stays_or_passes text 0 b.tokens x b.within (subst (λ tokens. PassesAt text 0 tokens x) (same_tokens text a.tokens b.tokens a.reads b.reads) a.passes))
-one_answer text (Err (TooDeep x)) (Err (TooDeep y)) a b = ap (λ at. Err (TooDeep at)) (passes_once text 0 b.tokens x y (subst (λ tokens. PassesAt text 0 tokens x) (same_tokens text a.tokens b.tokens a.reads b.reads) a.passes) b.passes)
+one_answer text (Err (TooDeep x)) (Ok sy) a b = absurd (stays_or_passes text 0 b.tokens x b.within
+    (subst (λ tokens. PassesAt text 0 tokens x) (same_tokens text a.tokens b.tokens a.reads b.reads) a.passes))
+one_answer text (Err (TooDeep x)) (Err (BadByte y)) a b = let e : ◌≡◌ {A = Result (List Token) LexError} (Ok a.tokens) (Err (lexer.BadByte y)) =
+    reads_unique text (Ok a.tokens) (Err (lexer.BadByte y)) a.reads b in cc
+one_answer text (Err (TooDeep x)) (Err (NumberTooLarge y)) a b = let e : ◌≡◌ {A = Result (List Token) LexError} (Ok a.tokens) (Err (lexer.NumberTooLarge y)) =
+    reads_unique text (Ok a.tokens) (Err (lexer.NumberTooLarge y)) a.reads b in cc
+one_answer text (Err (TooDeep x)) (Err (UnfinishedText y)) a b = let e : ◌≡◌ {A = Result (List Token) LexError} (Ok a.tokens) (Err (lexer.UnfinishedText y)) =
+    reads_unique text (Ok a.tokens) (Err (lexer.UnfinishedText y)) a.reads b in cc
+one_answer text (Err (TooDeep x)) (Err (Unexpected y)) a b = absurd (stays_or_passes text 0 b.tokens x b.within
+    (subst (λ tokens. PassesAt text 0 tokens x) (same_tokens text a.tokens b.tokens a.reads b.reads) a.passes))
+one_answer text (Err (TooDeep x)) (Err (TooDeep y)) a b = ap (λ at. Err (TooDeep at))
+    (passes_once text 0 b.tokens x y (subst (λ tokens. PassesAt text 0 tokens x) (same_tokens text a.tokens b.tokens a.reads b.reads) a.passes) b.passes)
 one_answer text (Err (TooDeep x)) (Err NoMemory) a b = absurd b
 one_answer text (Err NoMemory) other a b = absurd a

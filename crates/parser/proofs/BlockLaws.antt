@@ -17,7 +17,8 @@ use Rattle.syntax.specs.declared.statement.Action.TheViews.{the_lemmas}
 use Rattle.syntax.proofs.Loops.{Goes, goes_end, goes_fails}
 use Rattle.syntax.specs.SourceViews.{statement_kind_tree, rows_tree, block_tree}
 use Rattle.syntax.specs.inside.SourceViews.{statement_of}
-use Rattle.syntax.specs.SourceReading.{expression, name_at, after_terminal, after_terminals, closed, else_by, action_by, block_by, block_at, block_from, next_statement, statement_by, begins_statement, where_begins}
+use Rattle.syntax.specs.SourceReading.{expression, name_at, after_terminal, after_terminals, closed, else_by, action_by, block_by, block_at, block_from, next_statement, statement_by, begins_statement}
+use Rattle.syntax.specs.SourceReading.{where_begins}
 use Rattle.parser.proofs.Steps.{bind_bind, bind_same}
 use Rattle.parser.specs.declared.block.Opening.{Opening as Begun}
 use Rattle.parser.specs.declared.block.Opening.TheVariants as opening

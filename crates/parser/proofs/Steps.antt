@@ -24,7 +24,8 @@ after_terminals-append (terminal ∷ front) last ws next =
     bind_bind (after_terminal terminal ws) (after_terminals (front ++ last ∷ [])) next (λ a. after_terminals (front ++ last ∷ []) a >>= next) (λ a. refl)
     ∙ bind_same (after_terminal terminal ws) (λ a. after_terminals (front ++ last ∷ []) a >>= next) (λ a. after_terminals front a >>= λ rest. after_terminal last rest >>= next)
     (λ a. after_terminals-append front last a next)
-    ∙ sym (bind_bind (after_terminal terminal ws) (after_terminals front) (λ rest. after_terminal last rest >>= next) (λ a. after_terminals front a >>= λ rest. after_terminal last rest >>= next) (λ a. refl))
+    ∙ sym (bind_bind (after_terminal terminal ws) (after_terminals front) (λ rest. after_terminal last rest >>= next) (λ a. after_terminals front a >>= λ rest. after_terminal last rest >>= next)
+    (λ a. refl))
 
 -- terminals after those that were found
 after_terminals-found : (front back ws rest : List Terminal) → after_terminals front ws ≡ Some rest → after_terminals (front ++ back) ws ≡ after_terminals back rest

@@ -59,8 +59,10 @@ inside-operands vertices vectors sets scope left (o ∷ os) =
     ∙ inside-operands vertices vectors sets scope (Arithmetic o.operator left (int_expression_tree o.integer)) os
 
 pub inside-conditions : (vertices : ℕ) (vectors : List (List ℤ)) (sets : List SetBinding) (scope : ScopeValue) (connective : Connective) (left : BoolExpressionTree) (conditions : List BoolExpression)
-    → condition_stays_inside vertices vectors sets scope left && conditions_stay_inside vertices vectors sets scope conditions ≡ condition_stays_inside vertices vectors sets scope (conditions_tree connective left conditions)
+    → condition_stays_inside vertices vectors sets scope left && conditions_stay_inside vertices vectors sets scope conditions ≡ condition_stays_inside vertices vectors sets scope
+    (conditions_tree connective left conditions)
 inside-conditions vertices vectors sets scope connective left [] = and_true (condition_stays_inside vertices vectors sets scope left)
 inside-conditions vertices vectors sets scope connective left (c ∷ cs) =
-    and_assoc (condition_stays_inside vertices vectors sets scope left) (condition_stays_inside vertices vectors sets scope (bool_expression_tree c)) (conditions_stay_inside vertices vectors sets scope cs)
+    and_assoc (condition_stays_inside vertices vectors sets scope left) (condition_stays_inside vertices vectors sets scope (bool_expression_tree c))
+    (conditions_stay_inside vertices vectors sets scope cs)
     ∙ inside-conditions vertices vectors sets scope connective (Connect connective left (bool_expression_tree c)) cs

@@ -13,7 +13,8 @@ use Rattle.algorithm_meaning.specs.Meaning.{after, after_all}
 use Rattle.plain_run.specs.inside.Seen.{stand}
 
 -- what is left of a block is a statement, and those after it
-one_statement : (p : ProgramTree) (g : GraphValue) (statements : List MainStatement) (index : ℕ) (x none : MainStatement) (s : StateValue) → index < length statements → x ≡ get_or statements index none
+one_statement : (p : ProgramTree) (g : GraphValue) (statements : List MainStatement) (index : ℕ) (x none : MainStatement) (s : StateValue) → index < length statements
+    → x ≡ get_or statements index none
     → after_all p g (block_tree (drop index statements)) s ≡ then_do (after p g x.number (statement_kind_tree x.action) s) (after_all p g (block_tree (drop (index + 1) statements)))
 one_statement p g statements index x none s within here =
     ap (λ (xs : List MainStatement). after_all p g (block_tree xs) s) (drop_more statements index none within ∙ ap (λ (y : MainStatement). y ∷ drop (index + 1) statements) (sym here))

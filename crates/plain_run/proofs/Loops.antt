@@ -96,6 +96,7 @@ again_over A test body next number a s b u t (Some end) r holds ran some = again
 
 -- the same of a turn that goes on
 pub again_goes : (A : Type 0) (test : A → StateValue → Option Bool) (body : A → StateValue → Stand) (next : A → A) (number : ℕ) (a : A) (s : StateValue) (b : A) (u t : StateValue) (end : Option End)
-    → Again A test body next number a s b u → test b u ≡ Some true → stand end t ≡ take_turn u.turns u (body b) → is_some end ≡ false → IfNone end (t.turns < u.turns) → Again A test body next number a s (next b) t
+    → Again A test body next number a s b u → test b u ≡ Some true → stand end t ≡ take_turn u.turns u (body b) → is_some end ≡ false → IfNone end (t.turns < u.turns)
+    → Again A test body next number a s (next b) t
 again_goes A test body next number a s b u t None r holds ran goes fewer = again_turn A test body next number a s b u t r holds (sym ran) fewer
 again_goes A test body next number a s b u t (Some end) r holds ran goes fewer = absurd (false≢true (sym goes))

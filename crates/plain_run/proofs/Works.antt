@@ -1,6 +1,7 @@
 -- What functions leave alone, while what they write is collected.
 use Rattle.std.proofs.Common.{◌≡◌, ℤ, Bool, true, false, cond, List, ap, ◌∙◌, refl}
-use Rattle.typed_tree.specs.FunctionStatementTree.{FunctionStatementTree, DeclareInteger, DeclareCondition, SetInteger, SetCondition, ReduceInteger, SetEntry, ReduceEntry, If, IfElse, FunctionStatementsTree, NoStep, StepThen}
+use Rattle.typed_tree.specs.FunctionStatementTree.{FunctionStatementTree, DeclareInteger, DeclareCondition, SetInteger, SetCondition, ReduceInteger, SetEntry, ReduceEntry, If, IfElse}
+use Rattle.typed_tree.specs.FunctionStatementTree.{FunctionStatementsTree, NoStep, StepThen}
 use Rattle.typed_tree.specs.BoolExpressionTree.{BoolExpressionTree}
 use Rattle.algorithm_meaning.specs.declared.contribution.Writing.{Writing}
 use Rattle.algorithm_meaning.specs.declared.contribution.Writing.TheVariants.{Collected}
@@ -25,7 +26,8 @@ mutual
   collected_step sets (If c body) w =
       either (truth w.vectors sets w.scope c) (after_block w (after_steps Collected sets body w)) w w.vectors (collected_steps sets body w) refl
   collected_step sets (IfElse c body other) w =
-      either (truth w.vectors sets w.scope c) (after_block w (after_steps Collected sets body w)) (after_block w (after_steps Collected sets other w)) w.vectors (collected_steps sets body w) (collected_steps sets other w)
+      either (truth w.vectors sets w.scope c) (after_block w (after_steps Collected sets body w)) (after_block w (after_steps Collected sets other w)) w.vectors (collected_steps sets body w)
+      (collected_steps sets other w)
 
   pub collected_steps : (sets : List SetBinding) (steps : FunctionStatementsTree) (w : WorkValue) → (after_steps Collected sets steps w).vectors ≡ w.vectors
   collected_steps sets NoStep w = refl

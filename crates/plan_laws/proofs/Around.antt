@@ -5,7 +5,8 @@ use Rattle.typed_tree.specs.ProgramTree.{ProgramTree}
 use Rattle.apply_options.specs.ScheduleTree.{ScheduleTree, apply_schedule_at}
 use Rattle.algorithm_meaning.specs.declared.state.Depth.{Depth}
 use Rattle.plans.specs.Instruction.{OperationTree, Do, ApplyEdgesTogether, ApplyVerticesTogether, Unless, Enter, UnlessBelow, Advance, Turn, Jump, End, InstructionTree}
-use Rattle.plans.specs.Fusing.{EdgeApplyTree, VertexApplyTree, edge_apply_of, vertex_apply_of, edges_fit, vertices_fit, fused_edges, fused_vertices, either, together, is_with, FusionRole, Alone, WithNext, WithPrevious, with_next, fusion_role_of, takes_next}
+use Rattle.plans.specs.Fusing.{EdgeApplyTree, VertexApplyTree, edge_apply_of, vertex_apply_of, edges_fit, vertices_fit, fused_edges, fused_vertices, either, together, is_with, FusionRole, Alone}
+use Rattle.plans.specs.Fusing.{WithNext, WithPrevious, with_next, fusion_role_of, takes_next}
 use Rattle.plans.specs.Plan.{behind}
 use Rattle.plans.proofs.Proper.{HasNoBlock}
 use Rattle.type_laws.specs.LoopVariables.{KeepsInside}
@@ -167,7 +168,8 @@ fused_fits true a b number label rest None h = tt
 fused_fits true a b number label rest (Some operation) h = h
 fused_fits false a b number label rest o h = tt
 
-pub company_fits : (p : ProgramTree) (s : ScheduleTree) (d : Depth) (is_done : Bool) (number : ℕ) (label : Option ℕ) (a : StatementKindTree) (rest : BlockTree) → IsDone is_done (Then number label a rest)
+pub company_fits : (p : ProgramTree) (s : ScheduleTree) (d : Depth) (is_done : Bool) (number : ℕ) (label : Option ℕ) (a : StatementKindTree) (rest : BlockTree)
+    → IsDone is_done (Then number label a rest)
     → FitsCompany (fusion_role_of p s d is_done label a rest) a rest
 company_fits p s d true number label a rest done = done
 company_fits p s d false number label a Empty done = tt

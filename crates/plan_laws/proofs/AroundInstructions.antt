@@ -2,7 +2,8 @@
 use Rattle.std.proofs.Common.{◌≡◌, ℕ, ◌+◌, ◌<◌, ◌≤◌, append_assoc, Bool, false, List, [], ◌∷◌, ◌++◌, length, length-append, Option, Some, slice_get, refl, ap, sym, ◌∙◌, arith, subst}
 use Rattle.std.proofs.Math.Seq.{get_or-append_seam}
 use Rattle.std.proofs.lemmas.Option.{slice_get-get_or}
-use Rattle.typed_tree.specs.BlockTree.{StatementKindTree, DeclareInteger, DeclareCondition, SetInteger, SetCondition, ReduceInteger, SetEntry, ReduceEntry, DeclareSet, AssignSet, AddVertex, PrintInteger, PrintCondition, ApplyVertex, ApplyEdges, If, IfElse, While, For, BlockTree, Empty, Then}
+use Rattle.typed_tree.specs.BlockTree.{StatementKindTree, DeclareInteger, DeclareCondition, SetInteger, SetCondition, ReduceInteger, SetEntry, ReduceEntry, DeclareSet, AssignSet, AddVertex}
+use Rattle.typed_tree.specs.BlockTree.{PrintInteger, PrintCondition, ApplyVertex, ApplyEdges, If, IfElse, While, For, BlockTree, Empty, Then}
 use Rattle.typed_tree.specs.ProgramTree.{ProgramTree}
 use Rattle.apply_options.specs.ScheduleTree.{ScheduleTree}
 use Rattle.algorithm_meaning.specs.declared.state.Depth.{Depth}
@@ -108,7 +109,8 @@ module _ (p : ProgramTree) (s : ScheduleTree) where
     action_entry (While c body) index number label d is at rows = first_entry index is d _ at.0 rows.0 refl
     action_entry (For name first end body) index number label d is at rows = first_entry index is d _ at.0 rows.0 refl
 
-    company_entry : (company : FusionRole) (action : StatementKindTree) (rest : BlockTree) (index number : ℕ) (label : Option ℕ) (d : Depth) (is : List ℕ) (own : List InstructionTree) (own_rows : List (List ℕ)) (n : ℕ)
+    company_entry : (company : FusionRole) (action : StatementKindTree) (rest : BlockTree) (index number : ℕ) (label : Option ℕ) (d : Depth) (is : List ℕ) (own : List InstructionTree)
+    (own_rows : List (List ℕ)) (n : ℕ)
         → FitsCompany company action rest
         → HasAt code index (plan_in company s number label d own) → HasRows table index (around_in company is own_rows)
         → (HasAt code index own → HasRows table index own_rows → Entry code table index is d.integers)
@@ -120,7 +122,8 @@ module _ (p : ProgramTree) (s : ScheduleTree) where
         let none : (behind action d).integers ≡ d.integers = fits d in
         entry_more code table index is (behind action d).integers d.integers (omega (arith, none)) (entry_along code table (index + 0) index is (behind action d).integers same next)
 
-    pub block_entry : (b : BlockTree) (is_done : Bool) (index : ℕ) (d : Depth) (is : List ℕ) → IsDone is_done b → HasAt code index (plan_all p s index d is_done b) → HasRows table index (around_all d is is_done b)
+    pub block_entry : (b : BlockTree) (is_done : Bool) (index : ℕ) (d : Depth) (is : List ℕ) → IsDone is_done b → HasAt code index (plan_all p s index d is_done b)
+    → HasRows table index (around_all d is is_done b)
         → Entry code table (index + size_all p s d is_done b) is (behind_all b d).integers → Entry code table index is d.integers
     block_entry Empty is_done index d is done at rows end = let same : index + 0 ≡ index = omega arith in entry_along code table (index + 0) index is d.integers same end
     block_entry (Then number label action rest) is_done index d is done at rows end =
@@ -143,7 +146,8 @@ module _ (p : ProgramTree) (s : ScheduleTree) where
         (rows_behind table index n (index + n) first_rows other_rows f refl rows)
         (entry_along code table (index + (n + m)) (index + n + m) is (behind_all rest (behind action d)).integers same end))
 
-    company_local : (company : FusionRole) (action : StatementKindTree) (rest : BlockTree) (index number : ℕ) (label : Option ℕ) (d : Depth) (is : List ℕ) (own : List InstructionTree) (own_rows : List (List ℕ)) (n : ℕ)
+    company_local : (company : FusionRole) (action : StatementKindTree) (rest : BlockTree) (index number : ℕ) (label : Option ℕ) (d : Depth) (is : List ℕ) (own : List InstructionTree)
+    (own_rows : List (List ℕ)) (n : ℕ)
         → FitsCompany company action rest → AreBelow is d.integers
         → HasAt code index (plan_in company s number label d own) → HasRows table index (around_in company is own_rows)
         → (HasAt code index own → HasRows table index own_rows → Entry code table (index + n) is (behind action d).integers → AllLocal code table index own own_rows)
@@ -234,7 +238,8 @@ module _ (p : ProgramTree) (s : ScheduleTree) where
           let turn = first_entry (index + 1) is d (plain number d Turn) at.1.0 rows.1.0 refl in
           let head = first_entry index is d (plain number d (Unless c (back + 1))) at.0 rows.0 refl in
           let start = entry_along code table (index + 2) (index + 1 + 1) is d.integers (sym second) (block_entry body false (index + 2) d is tt body_at body_rows body_end) in
-          let all = local_append code table (index + 2) n own (jump ∷ []) own_rows (is ∷ []) e (block_local body false (index + 2) d is tt body_at body_rows body_end below keeps) ((head, below), tt) in
+          let all = local_append code table (index + 2) n own (jump ∷ []) own_rows (is ∷ []) e (block_local body false (index + 2) d is tt body_at body_rows body_end below keeps)
+          ((head, below), tt) in
           ((turn, there, below), ((start, below), subst (λ (x : ℕ). AllLocal code table x (own ++ jump ∷ []) (own_rows ++ is ∷ [])) (sym second) all))
       action_local (For name first end body) index number label d is at rows ending below keeps =
           let deep = in_loop d in
@@ -264,7 +269,8 @@ module _ (p : ProgramTree) (s : ScheduleTree) where
           let left = entry_more code table to is d.integers deep.integers (omega arith) there in
           let keeps_deep : KeepsLoops deep.integers more body = subst (λ (x : ℕ). KeepsLoops x more body) (omega arith) keeps in
           let below_deep : AreBelow more deep.integers = (omega arith, below_more is d.integers deep.integers (omega arith) below) in
-          let at_enter : Entry code table (index + 1) is (d.integers + 1) = record { instruction = loop_step number (with_integer d) d (Enter name end); stands = at.1.0; around = rows.1.0; keeps = omega arith } in
+          let at_enter : Entry code table (index + 1) is (d.integers + 1) = record { instruction = loop_step number (with_integer d) d (Enter name end); stands = at.1.0; around = rows.1.0; keeps =
+          omega arith } in
           let at_test : Entry code table (index + 1 + 1) more (d.integers + 2) =
           record { instruction = loop_step number deep d (UnlessBelow name to); stands = at.1.1.0; around = rows.1.1.0; keeps = omega arith } in
           let at_turn : Entry code table (index + 1 + 1 + 1) more deep.integers =
@@ -276,10 +282,12 @@ module _ (p : ProgramTree) (s : ScheduleTree) where
           (block_local body false (index + 4) deep more tt body_at body_rows body_end below_deep keeps_deep)
           ((refl, refl, at_jump, below), ((head, below_deep), tt)) in (
             (tt, tt, at_enter, below),
-            ((refl, at_test, below), ((refl, at_turn, left, below_deep), ((start, below_deep), subst (λ (x : ℕ). AllLocal code table x (own ++ advance ∷ jump ∷ []) (own_rows ++ more ∷ more ∷ [])) (sym fourth) all))),
+            ((refl, at_test, below), ((refl, at_turn, left, below_deep), ((start, below_deep),
+            subst (λ (x : ℕ). AllLocal code table x (own ++ advance ∷ jump ∷ []) (own_rows ++ more ∷ more ∷ [])) (sym fourth) all))),
           )
 
-      pub block_local : (b : BlockTree) (is_done : Bool) (index : ℕ) (d : Depth) (is : List ℕ) → IsDone is_done b → HasAt code index (plan_all p s index d is_done b) → HasRows table index (around_all d is is_done b)
+      pub block_local : (b : BlockTree) (is_done : Bool) (index : ℕ) (d : Depth) (is : List ℕ) → IsDone is_done b → HasAt code index (plan_all p s index d is_done b)
+      → HasRows table index (around_all d is is_done b)
           → Entry code table (index + size_all p s d is_done b) is (behind_all b d).integers → AreBelow is d.integers → KeepsLoops d.integers is b
           → AllLocal code table index (plan_all p s index d is_done b) (around_all d is is_done b)
       block_local Empty is_done index d is done at rows end below keeps = tt
@@ -304,7 +312,8 @@ module _ (p : ProgramTree) (s : ScheduleTree) where
           let rows_rest = rows_behind table index n (index + n) first_rows other_rows f refl rows in
           let entry = block_entry rest (takes_next company) (index + n) (behind action d) is done_next at_rest rows_rest end_rest in
           local_append code table index n first others first_rows other_rows e
-          (company_local company action rest index number label d is own own_rows (size p s d action) fits below (has_front code index first others at) (rows_front table index first_rows other_rows rows)
+          (company_local company action rest index number label d is own own_rows (size p s d action) fits below (has_front code index first others at)
+          (rows_front table index first_rows other_rows rows)
           (λ here there next. action_local action index number label d is here there next below keeps.0) entry)
           (block_local rest (takes_next company) (index + n) (behind action d) is done_next at_rest rows_rest end_rest
           (below_more is d.integers (behind action d).integers (within_after action d).integers below) keeps_rest)

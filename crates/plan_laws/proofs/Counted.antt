@@ -1,7 +1,8 @@
 -- The numbers of the instructions of a block are those of its statements.
 use Rattle.std.proofs.Common.{◌≡◌, ap, sym, subst, ◌∙◌, inl, inr, ℕ, suc, ◌+◌, ◌<◌, ◌≤◌, Bool, false, List, [], ◌∷◌, ◌++◌, length, length-append, arith, Option}
 use Rattle.std.specs.List.{AllByRecursion}
-use Rattle.typed_tree.specs.BlockTree.{StatementKindTree, DeclareInteger, DeclareCondition, SetInteger, SetCondition, ReduceInteger, SetEntry, ReduceEntry, DeclareSet, AssignSet, AddVertex, PrintInteger, PrintCondition, ApplyVertex, ApplyEdges, If, IfElse, While, For, BlockTree, Empty, Then}
+use Rattle.typed_tree.specs.BlockTree.{StatementKindTree, DeclareInteger, DeclareCondition, SetInteger, SetCondition, ReduceInteger, SetEntry, ReduceEntry, DeclareSet, AssignSet, AddVertex}
+use Rattle.typed_tree.specs.BlockTree.{PrintInteger, PrintCondition, ApplyVertex, ApplyEdges, If, IfElse, While, For, BlockTree, Empty, Then}
 use Rattle.typed_tree.specs.ProgramTree.{ProgramTree}
 use Rattle.apply_options.specs.ScheduleTree.{ScheduleTree}
 use Rattle.algorithm_meaning.specs.declared.state.Depth.{Depth}
@@ -123,7 +124,8 @@ begins_at n Empty t order begins = absurd begins
 begins_at n (Then number label action rest) t order begins = (ap (λ (x : StatementTree). x.number) (sym begins) ∙ order.0, omega arith)
 
 mutual
-  pub inside_ascend : (a : StatementKindTree) (one other : StatementTree) (n : ℕ) → InOrder n (inner_numbers a) → AreNeighboursInside one other a → AreAscending n (length (inner_numbers a) + n) one other
+  pub inside_ascend : (a : StatementKindTree) (one other : StatementTree) (n : ℕ) → InOrder n (inner_numbers a) → AreNeighboursInside one other a
+      → AreAscending n (length (inner_numbers a) + n) one other
   inside_ascend (If c body) one other n order are = neighbours_ascend body one other n order are
   inside_ascend (IfElse c body others) one other n order (inl are) =
       let two = in_two n (numbers body) (numbers others) order in

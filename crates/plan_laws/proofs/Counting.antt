@@ -1,7 +1,9 @@
 -- In each configuration that a run of a plan reaches the counters of its loops are variables.
-use Rattle.std.proofs.Common.{◌≡◌, ◌≢◌, ℕ, zero, suc, ◌+◌, ◌≤◌, ◌<◌, ℤ, pos, Bool, true, false, List, [], ◌∷◌, ◌++◌, length, length-append, take, Option, Some, None, slice_get, slice_set, slice_index_or, int_lt, if◌then◌else◌, MatchOption, refl, ap, sym, ◌∙◌, arith, subst}
+use Rattle.std.proofs.Common.{◌≡◌, ◌≢◌, ℕ, zero, suc, ◌+◌, ◌≤◌, ◌<◌, ℤ, pos, Bool, true, false, List, [], ◌∷◌, ◌++◌, length, length-append, take, Option, Some, None, slice_get, slice_set}
+use Rattle.std.proofs.Common.{slice_index_or, int_lt, if◌then◌else◌, MatchOption, refl, ap, sym, ◌∙◌, arith, subst}
 use Rattle.std.proofs.lemmas.List.{length-take-le, length-set}
-use Rattle.typed_tree.specs.BlockTree.{StatementKindTree, DeclareInteger, DeclareCondition, SetInteger, SetCondition, ReduceInteger, SetEntry, ReduceEntry, DeclareSet, AssignSet, AddVertex, PrintInteger, PrintCondition, ApplyVertex, ApplyEdges, If, IfElse, While, For}
+use Rattle.typed_tree.specs.BlockTree.{StatementKindTree, DeclareInteger, DeclareCondition, SetInteger, SetCondition, ReduceInteger, SetEntry, ReduceEntry, DeclareSet, AssignSet, AddVertex}
+use Rattle.typed_tree.specs.BlockTree.{PrintInteger, PrintCondition, ApplyVertex, ApplyEdges, If, IfElse, While, For}
 use Rattle.typed_tree.specs.ProgramTree.{ProgramTree}
 use Rattle.algorithm_meaning.specs.State.{GraphValue, StateValue}
 use Rattle.algorithm_meaning.specs.Arithmetic.{reduced}
@@ -10,8 +12,10 @@ use Rattle.algorithm_meaning.specs.Meaning.{after}
 use Rattle.algorithm_meaning.specs.Loop.{forget_beyond, next_of}
 use Rattle.algorithm_meaning.specs.declared.state.LoopCounter.{LoopCounter}
 use Rattle.algorithm_meaning.specs.declared.state.Depth.{Depth}
-use Rattle.plans.specs.Instruction.{ResultTree, Dropped, Declared, Assigned, EdgePartTree, OperationTree, Do, ApplyEdgesTogether, ApplyVerticesTogether, Unless, Enter, UnlessBelow, Advance, Turn, Jump, End, InstructionTree}
-use Rattle.plans.specs.Machine.{Configuration, At, Ended, with_result, with_results, after_parts, go_on, after_unless, after_enter, after_unless_below, after_advance, after_turn, act, act_at, step, steps}
+use Rattle.plans.specs.Instruction.{ResultTree, Dropped, Declared, Assigned, EdgePartTree, OperationTree, Do, ApplyEdgesTogether, ApplyVerticesTogether, Unless, Enter, UnlessBelow, Advance, Turn}
+use Rattle.plans.specs.Instruction.{Jump, End, InstructionTree}
+use Rattle.plans.specs.Machine.{Configuration, At, Ended, with_result, with_results, after_parts, go_on, after_unless, after_enter, after_unless_below, after_advance, after_turn, act, act_at, step}
+use Rattle.plans.specs.Machine.{steps}
 use Rattle.plans.specs.Plan.{behind}
 use Rattle.plans.proofs.Proper.{HasNoBlock}
 use Rattle.type_laws.specs.LoopVariables.{IsOutside, KeepsInside}
@@ -83,7 +87,8 @@ by_value (Some x) number is rs n s go h = h x
 
 module _ (p : ProgramTree) (g : GraphValue) where
   -- a statement without a block that assigns no variable of a loop
-  counters_after : (a : StatementKindTree) → HasNoBlock a → (d : Depth) (is : List ℕ) (rs : List LoopCounter) (number : ℕ) (s : StateValue) → KeepsInside d.integers is a → AreCounters is rs s.scope.integers
+  counters_after : (a : StatementKindTree) → HasNoBlock a → (d : Depth) (is : List ℕ) (rs : List LoopCounter) (number : ℕ) (s : StateValue) → KeepsInside d.integers is a
+      → AreCounters is rs s.scope.integers
       → d.integers ≤ length s.scope.integers → HasCounters is rs (behind a d).integers (after p g number a s)
   counters_after (DeclareInteger name e) alone d is rs number s keeps are long =
       by_value (int_value_in g.vertices e s) number is rs (d.integers + 1) s _
@@ -143,7 +148,8 @@ module _ (p : ProgramTree) (g : GraphValue) (code : List InstructionTree) (table
   after_go_on (Live t) index is n loops shown entry has = arrives index is n loops t entry has.1 has.0
   after_go_on (Over t end) index is n loops shown entry has = tt
 
-  after_test : (o : Option Bool) (here there : ℕ) (is : List ℕ) (n : ℕ) (loops : List LoopCounter) (number : ℕ) (shown : Depth) (s : StateValue) → Entry code table here is n → Entry code table there is n
+  after_test : (o : Option Bool) (here there : ℕ) (is : List ℕ) (n : ℕ) (loops : List LoopCounter) (number : ℕ) (shown : Depth) (s : StateValue) → Entry code table here is n
+      → Entry code table there is n
       → n ≤ length s.scope.integers → AreCounters is loops s.scope.integers → Stays (after_unless o here there loops number shown s)
   after_test None here there is n loops number shown s first second long are = tt
   after_test (Some true) here there is n loops number shown s first second long are = arrives here is n loops s first long are
@@ -163,7 +169,8 @@ module _ (p : ProgramTree) (g : GraphValue) (code : List InstructionTree) (table
         are = (append_get shown.integers xs (end ∷ []) _ (own_get xs shown.integers inside), last_get xs end (shown.integers + 1) long, counters_joined is loops xs (end ∷ []) are);
       }
 
-  by_apply_schedule : (b : Bool) (here there : ℕ) (m : ℕ) (is : List ℕ) (n : ℕ) (r : LoopCounter) (rs : List LoopCounter) (s : StateValue) → Entry code table here (m ∷ is) n → Entry code table there is n
+  by_apply_schedule : (b : Bool) (here there : ℕ) (m : ℕ) (is : List ℕ) (n : ℕ) (r : LoopCounter) (rs : List LoopCounter) (s : StateValue) → Entry code table here (m ∷ is) n
+      → Entry code table there is n
       → n ≤ length s.scope.integers → AreCounters (m ∷ is) (r ∷ rs) s.scope.integers → Stays (if b then At here (r ∷ rs) s else At there rs s)
   by_apply_schedule true here there m is n r rs s first second long are = arrives here (m ∷ is) n (r ∷ rs) s first long are
   by_apply_schedule false here there m is n r rs s first second long are = arrives there is n rs s second long are.2
@@ -174,7 +181,8 @@ module _ (p : ProgramTree) (g : GraphValue) (code : List InstructionTree) (table
   after_loop_test (m ∷ is) index to keep shown [] s tests long are = absurd are
   after_loop_test (m ∷ is) index to keep shown (r ∷ rs) s tests long are = by_apply_schedule (int_lt r.next r.end) (index + 1) to m is keep r rs s tests.1 tests.2 long are
 
-  after_next : (is : List ℕ) (index keep shown : ℕ) (loops : List LoopCounter) (s : StateValue) (xs : List ℤ) → AdvancesInnermost code table index is keep shown → keep ≤ length xs → s.scope.integers ≡ take keep xs
+  after_next : (is : List ℕ) (index keep shown : ℕ) (loops : List LoopCounter) (s : StateValue) (xs : List ℤ) → AdvancesInnermost code table index is keep shown → keep ≤ length xs
+      → s.scope.integers ≡ take keep xs
       → AreCounters is loops xs → Stays (after_advance (index + 1) loops s)
   after_next [] index keep shown loops s xs goes long same are = absurd goes
   after_next (m ∷ is) index keep shown [] s xs goes long same are = absurd are

@@ -1,5 +1,6 @@
 -- The text of a plan is cut into its lines and words again.
-use Rattle.std.proofs.Common.{◌≡◌, ℕ, ◌+◌, ◌<◌, ◌==◌, ◌&&◌, not, Bool, true, false, List, [], ◌∷◌, ◌++◌, length, map, Option, Some, None, codes, decimal, slice_get, refl, sym, ap, ◌∙◌, subst, arith, append_assoc}
+use Rattle.std.proofs.Common.{◌≡◌, ℕ, ◌+◌, ◌<◌, ◌==◌, ◌&&◌, not, Bool, true, false, List, [], ◌∷◌, ◌++◌, length, map, Option, Some, None, codes, decimal, slice_get, refl, sym, ap, ◌∙◌, subst, arith}
+use Rattle.std.proofs.Common.{append_assoc}
 use Rattle.std.specs.List.{AllByRecursion}
 use Rattle.std.proofs.lemmas.Bool.{false≢true}
 use Rattle.apply_options.specs.ScheduleTree.{ScheduleTree}
@@ -20,12 +21,14 @@ use Rattle.plans.specs.Plan.{plan_of}
 use Rattle.plan_text.specs.declared.applied_function.AppliedFunction.{AppliedFunction}
 use Rattle.plan_text.specs.declared.applied_function.ChangedSet.{ChangedSet}
 use Rattle.plan_text.specs.Expressions.{bracketed, joined, condition_words, integer_words, name_at, vector_at}
-use Rattle.plan_text.specs.Lines.{changed_words, dense_word, direction_word, edges_words, end_name, end_word, function_at, group_words, one_part, parallelization_word, part_words, put_words, reducing_word, reduction_word, second_function_words, second_words, set_line, set_words, statement_words, vertices_words}
+use Rattle.plan_text.specs.Lines.{changed_words, dense_word, direction_word, edges_words, end_name, end_word, function_at, group_words, one_part, parallelization_word, part_words, put_words}
+use Rattle.plan_text.specs.Lines.{reducing_word, reduction_word, second_function_words, second_words, set_line, set_words, statement_words, vertices_words}
 use Rattle.lowering.specs.Text.{group_lines, instruction_lines, line_of, operation_words, shown_part, target_words, text_of}
 use Rattle.plan_laws.specs.Brackets.{put_byte}
 use Rattle.plan_laws.specs.Kinds.{instruction_words}
 use Rattle.plan_laws.specs.Lines.{HasBareNames, IsBare, inside_after, is_bare, lines_in, numbered_words, words_of_line, words_of_lines, words_of_plan}
-use Rattle.plan_laws.proofs.Bare.{AreBare, bare, bare_and, condition_bare, decimal_is_bare, dense_is_bare, direction_is_bare, function_is_bare, integer_bare, marked_is_bare, name_is_bare, parallelization_is_bare, reducing_is_bare, reduction_is_bare, vector_is_bare}
+use Rattle.plan_laws.proofs.Bare.{AreBare, bare, bare_and, condition_bare, decimal_is_bare, dense_is_bare, direction_is_bare, function_is_bare, integer_bare, marked_is_bare, name_is_bare}
+use Rattle.plan_laws.proofs.Bare.{parallelization_is_bare, reducing_is_bare, reduction_is_bare, vector_is_bare}
 use Rattle.plan_laws.proofs.CutWords.{all_both}
 
 -- no cut is in the word, and it ends outside brackets
@@ -162,7 +165,8 @@ edges_bare p ends first second apply_schedule are =
         end_is_bare p ends.from are,
         (
           end_is_bare p ends.to are,
-          all_both IsBare (part_words p first) (second_words p second ++ codes ":" ∷ direction_word apply_schedule.direction ∷ parallelization_word apply_schedule.parallelization ∷ dense_word apply_schedule.dense_vertex_set ∷ [])
+          all_both IsBare (part_words p first)
+          (second_words p second ++ codes ":" ∷ direction_word apply_schedule.direction ∷ parallelization_word apply_schedule.parallelization ∷ dense_word apply_schedule.dense_vertex_set ∷ [])
               (part_bare p first are) (all_both IsBare (second_words p second) _ (second_bare p second are) last),
         ),
       ),

@@ -21,23 +21,27 @@ use Rattle.plans.specs.Instruction.{EdgePartTree, InstructionTree, OperationTree
 use Rattle.plan_text.specs.declared.applied_function.AppliedFunction.{AppliedFunction}
 use Rattle.plan_text.specs.declared.applied_function.ChangedSet.{ChangedSet}
 use Rattle.plan_text.specs.Expressions.{name_at, vector_at}
-use Rattle.plan_text.specs.Lines.{changed_words, dense_word, direction_word, edges_words, end_word, function_at, function_name, one_part, parallelization_word, part_words, reduction_word, second_words, set_line, statement_words}
+use Rattle.plan_text.specs.Lines.{changed_words, dense_word, direction_word, edges_words, end_word, function_at, function_name, one_part, parallelization_word, part_words, reduction_word}
+use Rattle.plan_text.specs.Lines.{second_words, set_line, statement_words}
 use Rattle.lowering.specs.Text.{changed_set, operation_words, shown_part, target_words}
 use Rattle.plan_laws.specs.Kinds.{InstructionKind, ApplyEdges, instruction_words, kind_of, kind_of_action, kind_of_set}
-use Rattle.plan_laws.specs.Names.{EdgeApplyNames, HasNoMarks, IsNoMark, PartNames, apply_names, changed_names, edges_behind, edges_in, edges_of, end_in, end_names, entry_reductions, names_after, names_in, names_of, names_of_action, names_of_set, part_in, part_names, reduction_after, reduction_in, reduction_of, second_in}
+use Rattle.plan_laws.specs.Names.{EdgeApplyNames, HasNoMarks, IsNoMark, PartNames, apply_names, changed_names, edges_behind, edges_in, edges_of, end_in, end_names, entry_reductions, names_after}
+use Rattle.plan_laws.specs.Names.{names_in, names_of, names_of_action, names_of_set, part_in, part_names, reduction_after, reduction_in, reduction_of, second_in}
 use Rattle.plan_laws.proofs.CutWords.{all_at}
 use Rattle.plan_laws.proofs.Machine.{bytes_differ}
 use Rattle.plan_laws.proofs.Words.{kind_is}
 
 -- names by kind
-set_names : (p : ProgramTree) (name : ℕ) (value : SetValue) (apply_schedule : ApplySchedule) → names_after (Some (kind_of_set value)) (set_line p name value apply_schedule ++ []) ≡ names_of_set p name value
+set_names : (p : ProgramTree) (name : ℕ) (value : SetValue) (apply_schedule : ApplySchedule)
+    → names_after (Some (kind_of_set value)) (set_line p name value apply_schedule ++ []) ≡ names_of_set p name value
 set_names p name set.Empty apply_schedule = refl
 set_names p name set.All apply_schedule = refl
 set_names p name (set.Copy slot) apply_schedule = refl
 set_names p name (set.Filter slot function) apply_schedule = refl
 set_names p name (set.Modified ends function vector) apply_schedule = refl
 
-action_names : (p : ProgramTree) (action : StatementKindTree) (apply_schedule : ApplySchedule) → names_after (kind_of_action action) (statement_words p action apply_schedule ++ []) ≡ names_of_action p action
+action_names : (p : ProgramTree) (action : StatementKindTree) (apply_schedule : ApplySchedule)
+    → names_after (kind_of_action action) (statement_words p action apply_schedule ++ []) ≡ names_of_action p action
 action_names p (action.DeclareInteger name e) apply_schedule = refl
 action_names p (action.DeclareCondition name c) apply_schedule = refl
 action_names p (action.SetInteger slot e) apply_schedule = refl
@@ -220,7 +224,8 @@ set_edges p name (set.Copy slot) make apply_schedule none same = refl
 set_edges p name (set.Filter slot function) make apply_schedule none same = refl
 set_edges p name (set.Modified ends function vector) make apply_schedule none same =
     edges_read p ends (one_part function (Some (record { name = name; vector = vector }))) None apply_schedule none
-    ∙ ap (λ (x : Option (List ℕ × List ℕ)). with_parts (end_names p ends.from) (end_names p ends.to) (record { function = function_at p p.edge_functions function; changed = x }) None) (sym (same vector))
+    ∙ ap (λ (x : Option (List ℕ × List ℕ)). with_parts (end_names p ends.from) (end_names p ends.to) (record { function = function_at p p.edge_functions function; changed = x }) None)
+    (sym (same vector))
 
 action_edges : (p : ProgramTree) (action : StatementKindTree) (apply_schedule : ApplySchedule) → HasNoMarks p
     → edges_behind (kind_of_action action) (statement_words p action apply_schedule ++ []) ≡ edges_of p (operation.Do action)

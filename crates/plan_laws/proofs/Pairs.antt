@@ -18,7 +18,8 @@ use Rattle.schedule.specs.Laws.{IsIndependent}
 use Rattle.schedule.proofs.Uses.{nothing_in_common}
 use Rattle.algorithm_meaning.specs.declared.state.Depth.{Depth}
 use Rattle.plans.specs.Instruction.{OperationTree, ApplyEdgesTogether, ApplyVerticesTogether, ResultTree, Dropped, Declared, Assigned}
-use Rattle.plans.specs.Fusing.{EdgeApplyTree, VertexApplyTree, apply_tree, edge_apply_of, edges_fit, fused_edges, either, end_sets, function_sizes, is_same_end, result_name, result_indices, result_vectors, sets_read, together, vertex_apply_of, vertices_fit, fused_vertices}
+use Rattle.plans.specs.Fusing.{EdgeApplyTree, VertexApplyTree, apply_tree, edge_apply_of, edges_fit, fused_edges, either, end_sets, function_sizes, is_same_end, result_name, result_indices}
+use Rattle.plans.specs.Fusing.{result_vectors, sets_read, together, vertex_apply_of, vertices_fit, fused_vertices}
 use Rattle.type_laws.specs.EachStatement.{SetNames}
 use Rattle.type_laws.specs.VisibleSets.{AreApart, EndIsVisible, IsVisible}
 use Rattle.plan_laws.specs.OneInstruction.{AreTogether}
@@ -105,7 +106,8 @@ module _ (p : ProgramTree) (all : IsResolved p) where
     second_apart (Assigned slot vector) written = one_apart vector (function_writes p.edge_functions f) (written_not vector written)
 
   -- a statement that has what is known of the first, and one after it
-  module _ (v : VisibleTree) (names : SetNames) (d : Depth) (deep : d.sets ≡ length v.sets) (low : length p.sets ≤ d.sets) (apart : AreApart p names) (a b : StatementKindTree) (one other : StatementApply) where
+  module _ (v : VisibleTree) (names : SetNames) (d : Depth) (deep : d.sets ≡ length v.sets) (low : length p.sets ≤ d.sets) (apart : AreApart p names) (a b : StatementKindTree)
+      (one other : StatementApply) where
     fused_edges_do_fit : (x : IsEdgeApply p v names a one) (y : IsEdgeApply p (after_action a v) names b other) → have_same_sets p.names (apply_tree x.apply) (apply_tree y.apply) ≡ true
         → IsIndependent p (apply_tree x.apply) (apply_tree y.apply) → edges_fit p d x.apply y.apply ≡ true
     fused_edges_do_fit x y sets alone =
@@ -113,12 +115,14 @@ module _ (p : ProgramTree) (all : IsResolved p) where
         let f = x.apply.part.function in
         let g = y.apply.part.function in
         and_from _ _
-        (and_from _ _ (same_end p names x.apply.ends.from y.apply.ends.from apart x.visible.0 y.visible.0 ends.0) (same_end p names x.apply.ends.to y.apply.ends.to apart x.visible.1 y.visible.1 ends.1))
+        (and_from _ _ (same_end p names x.apply.ends.from y.apply.ends.from apart x.visible.0 y.visible.0 ends.0)
+        (same_end p names x.apply.ends.to y.apply.ends.to apart x.visible.1 y.visible.1 ends.1))
         (and_from _ _ (independent p (apply_tree x.apply) (apply_tree y.apply) alone)
         (and_from _ _ (result_apart (after_action a v) d x.apply.part.result y.apply (x.stands d deep low) y.resolved alone.changes_of_sources alone.changes_of_destinations)
         (and_from _ _ (first_apart f g alone.function x.apply.part.result x.written) (second_apart f g alone.function y.apply.part.result y.written))))
 
-    fused_vertices_do_fit : (x : IsVertexApply p names a one) (y : IsVertexApply p names b other) → have_same_sets p.names (Vertices x.apply.set x.apply.function) (Vertices y.apply.set y.apply.function) ≡ true
+    fused_vertices_do_fit : (x : IsVertexApply p names a one) (y : IsVertexApply p names b other)
+    → have_same_sets p.names (Vertices x.apply.set x.apply.function) (Vertices y.apply.set y.apply.function) ≡ true
         → vertices_fit p x.apply y.apply ≡ true
     fused_vertices_do_fit x y same =
         and_from _ _ (same_set p names x.apply.set y.apply.set apart x.visible y.visible same)

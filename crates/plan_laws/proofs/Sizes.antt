@@ -11,8 +11,10 @@ use Rattle.typed_tree.specs.BoolExpressionTree.{BoolExpressionTree}
 use Rattle.typed_tree.specs.FunctionStatementTree as step
 use Rattle.typed_tree.specs.FunctionStatementTree.{FunctionTree, FunctionStatementTree, FunctionStatementsTree}
 use Rattle.typed_tree.specs.ProgramTree.{ProgramTree}
-use Rattle.typed_tree.specs.Resolved.{VisibleTree, ConditionIsResolved, EdgeFunctionIsResolved, FilterIsResolved, IntegerIsResolved, StepIsResolved, StepsAreResolved, VertexFunctionIsResolved, behind_step, in_edge_function, in_filter, in_vertex_function}
-use Rattle.plans.specs.inside.Fusing.{condition_is_local, condition_sizes, integer_is_local, integer_sizes, step_is_local, step_sizes, steps_are_local, steps_are_local_where, steps_sizes, steps_sizes_where}
+use Rattle.typed_tree.specs.Resolved.{VisibleTree, ConditionIsResolved, EdgeFunctionIsResolved, FilterIsResolved, IntegerIsResolved, StepIsResolved, StepsAreResolved, VertexFunctionIsResolved}
+use Rattle.typed_tree.specs.Resolved.{behind_step, in_edge_function, in_filter, in_vertex_function}
+use Rattle.plans.specs.inside.Fusing.{condition_is_local, condition_sizes, integer_is_local, integer_sizes, step_is_local, step_sizes, steps_are_local, steps_are_local_where, steps_sizes}
+use Rattle.plans.specs.inside.Fusing.{steps_sizes_where}
 use Rattle.plans.specs.Fusing.{function_is_local, function_sizes}
 
 pub all_two : {A : Type 0} (P : A → Type 0) (xs ys : List A) → AllByRecursion P xs → AllByRecursion P ys → AllByRecursion P (xs ++ ys)

@@ -1,5 +1,6 @@
 -- A plan around the instruction of two fused statements.
-use Rattle.std.proofs.Common.{◌≡◌, refl, ap, sym, subst, ◌∙◌, inl, inr, ℕ, suc, ◌+◌, ◌<◌, ◌≤◌, nat_eq, Bool, true, false, if◌then◌else◌, List, [], ◌∷◌, ◌++◌, length, length-append, arith, Option, Some, None}
+use Rattle.std.proofs.Common.{◌≡◌, refl, ap, sym, subst, ◌∙◌, inl, inr, ℕ, suc, ◌+◌, ◌<◌, ◌≤◌, nat_eq, Bool, true, false, if◌then◌else◌, List, [], ◌∷◌, ◌++◌, length, length-append, arith, Option}
+use Rattle.std.proofs.Common.{Some, None}
 use Rattle.std.specs.List.{AllByRecursion}
 use Rattle.std.proofs.lemmas.Bool.{eq-eqb, eqb-true}
 use Rattle.std.proofs.lemmas.List.{append_assoc}
@@ -14,7 +15,8 @@ use Rattle.apply_options.specs.ScheduleTree.{ScheduleTree, apply_schedule_at, ap
 use Rattle.schedule.specs.Laws.{FusesInPairs}
 use Rattle.algorithm_meaning.specs.declared.state.Depth.{Depth}
 use Rattle.plans.specs.Instruction.{OperationTree, InstructionTree, Jump, Advance}
-use Rattle.plans.specs.Fusing.{FusionRole, Alone, WithNext, EdgeApplyTree, VertexApplyTree, fusion_role_of, edge_apply_of, fused_edges, either, is_with, takes_next, together, vertex_apply_of, fused_vertices, with_next}
+use Rattle.plans.specs.Fusing.{FusionRole, Alone, WithNext, EdgeApplyTree, VertexApplyTree, fusion_role_of, edge_apply_of, fused_edges, either, is_with, takes_next, together, vertex_apply_of}
+use Rattle.plans.specs.Fusing.{fused_vertices, with_next}
 use Rattle.plans.specs.Plan.{behind, chosen, in_loop, loop_step, plain, plan, plan_all, plan_in, size, size_all, size_in}
 use Rattle.type_laws.specs.Numbers.{InOrder, inner_numbers, numbers}
 use Rattle.plan_laws.specs.Neighbours.{AreNeighbours, AreNeighboursInside, BeginsWith, StatementTree}
@@ -106,7 +108,8 @@ module _ (p : ProgramTree) (s : ScheduleTree) (pairs : FusesInPairs s) where
   second_fused None other is = absurd cc
   second_fused (Some first) other is = by_apply_schedule (apply_schedule_of first s).fused other refl is
     where
-      by_apply_schedule : (fused : Option Fused) (other : Option ℕ) → (apply_schedule_of first s).fused ≡ fused → is_with fused other ≡ true → (label : ℕ) × ((apply_schedule_at other s).fused ≡ Some (Into label))
+      by_apply_schedule : (fused : Option Fused) (other : Option ℕ) → (apply_schedule_of first s).fused ≡ fused → is_with fused other ≡ true → (label : ℕ)
+      × ((apply_schedule_at other s).fused ≡ Some (Into label))
       by_apply_schedule None other chosen is = absurd cc
       by_apply_schedule (Some (Into label)) other chosen is = absurd cc
       by_apply_schedule (Some (With second)) None chosen is = absurd cc
@@ -114,7 +117,8 @@ module _ (p : ProgramTree) (s : ScheduleTree) (pairs : FusesInPairs s) where
           let same : second ≡ label = eqb-true second label is in
           (first, subst (λ l. (apply_schedule_of l s).fused ≡ Some (Into first)) same (pairs.0 first second chosen))
 
-  next_done : (d : Depth) (label other : Option ℕ) (number : ℕ) (a b : StatementKindTree) (rest : BlockTree) (test : Bool) (o : Option OperationTree) → is_with (apply_schedule_at label s).fused other ≡ test
+  next_done : (d : Depth) (label other : Option ℕ) (number : ℕ) (a b : StatementKindTree) (rest : BlockTree) (test : Bool) (o : Option OperationTree)
+      → is_with (apply_schedule_at label s).fused other ≡ test
       → together p d a b ≡ o → IsDone s (takes_next (if test then with_next o else Alone)) (Then number other b rest)
   next_done d label other number a b rest false o is does = tt
   next_done d label other number a b rest true None is does = tt
@@ -165,7 +169,8 @@ module _ (p : ProgramTree) (s : ScheduleTree) (pairs : FusesInPairs s) where
   taken true o is = refl
   taken false o is = cc
 
-  takes : (d : Depth) (number other_number : ℕ) (label other : Option ℕ) (a b : StatementKindTree) (rest : BlockTree) (second : ℕ) (o : OperationTree) → (apply_schedule_at label s).fused ≡ Some (With second)
+  takes : (d : Depth) (number other_number : ℕ) (label other : Option ℕ) (a b : StatementKindTree) (rest : BlockTree) (second : ℕ) (o : OperationTree)
+      → (apply_schedule_at label s).fused ≡ Some (With second)
       → other ≡ Some second → together p d a b ≡ Some o → fusion_role_of p s d false label a (Then other_number other b rest) ≡ WithNext o
   takes d number other_number label other a b rest second o fused has does =
       ap (λ t. if is_with (apply_schedule_at label s).fused other then with_next t else Alone) does

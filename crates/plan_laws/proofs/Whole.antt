@@ -59,7 +59,8 @@ module _ (P : SetNames → StatementKindTree → Type 0) (one other : StatementT
     both_of (Then number label a rest) names (inr (inl are)) all = both_inside a names are all.1
     both_of (Then number label a rest) names (inr (inr are)) all = both_of rest (names_after a names) are all.2
 
-module _ (p : ProgramTree) (s : ScheduleTree) (all : IsResolved p) (named : NamesSetsApart p) (asked : AskForWritten p) (first second : ℕ) (fused : (apply_schedule_of first s).fused ≡ Some (With second)) (well : IsFusedWell p first second) (both : AreFused p.main first second well.one well.other) where
+module _ (p : ProgramTree) (s : ScheduleTree) (all : IsResolved p) (named : NamesSetsApart p) (asked : AskForWritten p) (first second : ℕ)
+    (fused : (apply_schedule_of first s).fused ≡ Some (With second)) (well : IsFusedWell p first second) (both : AreFused p.main first second well.one well.other) where
   pair : IsPair p s both.one both.other
   pair =
       let sets = both_of (NamesSets p) both.one both.other p.main (names_before named.constants_before p.sets) both.neighbours named.each in

@@ -11,7 +11,8 @@ use Rattle.typed_tree.specs.declared.statement.SetValue.TheVariants as set
 use Rattle.typed_tree.specs.IntExpressionTree.{IntExpressionTree}
 use Rattle.typed_tree.specs.BoolExpressionTree.{BoolExpressionTree}
 use Rattle.typed_tree.specs.FunctionStatementTree.{FunctionTree}
-use Rattle.typed_tree.specs.BlockTree.{StatementKindTree, DeclareInteger, DeclareCondition, SetInteger, SetCondition, ReduceInteger, SetEntry, ReduceEntry, DeclareSet, AssignSet, AddVertex, PrintInteger, PrintCondition, ApplyVertex, ApplyEdges, If, IfElse, While, For}
+use Rattle.typed_tree.specs.BlockTree.{StatementKindTree, DeclareInteger, DeclareCondition, SetInteger, SetCondition, ReduceInteger, SetEntry, ReduceEntry}
+use Rattle.typed_tree.specs.BlockTree.{DeclareSet, AssignSet, AddVertex, PrintInteger, PrintCondition, ApplyVertex, ApplyEdges, If, IfElse, While, For}
 use Rattle.typed_tree.specs.ProgramTree.{ProgramTree}
 use Rattle.apply_options.specs.declared.apply_schedule.ApplySchedule.{ApplySchedule}
 use Rattle.apply_options.specs.declared.apply_schedule.DenseVertexSet.{DenseVertexSet}
@@ -94,7 +95,8 @@ abbrev pub edges_words : ProgramTree → ApplyEnds → AppliedFunction → Optio
 edges_words p ends first second apply_schedule =
     codes "eapply" ∷ end_word p ends.from ∷ end_word p ends.to
     ∷ (part_words p first ++ (second_words p second
-    ++ codes ":" ∷ direction_word apply_schedule.direction ∷ parallelization_word apply_schedule.parallelization ∷ dense_word apply_schedule.dense_vertex_set ∷ []))
+    ++ codes ":" ∷ direction_word apply_schedule.direction ∷ parallelization_word apply_schedule.parallelization ∷ dense_word apply_schedule.dense_vertex_set ∷
+    []))
 
 -- vapply s f g
 abbrev pub second_function_words : ProgramTree → Option ℕ → List (List ℕ)
@@ -119,7 +121,8 @@ one_part function changed = record { function = function; changed = changed }
 
 -- a set that gets a value; what an apply changes is that apply, as the schedule says
 abbrev pub set_line : ProgramTree → (name : ℕ) → SetValue → ApplySchedule → List (List ℕ)
-set_line p name (set.Modified ends function vector) apply_schedule = edges_words p ends (one_part function (Some (record { name = name; vector = vector }))) None apply_schedule
+set_line p name (set.Modified ends function vector) apply_schedule =
+    edges_words p ends (one_part function (Some (record { name = name; vector = vector }))) None apply_schedule
 set_line p name set.Empty apply_schedule = set_value_words p name set.Empty
 set_line p name set.All apply_schedule = set_value_words p name set.All
 set_line p name (set.Copy slot) apply_schedule = set_value_words p name (set.Copy slot)

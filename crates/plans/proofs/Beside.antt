@@ -8,7 +8,8 @@ use Rattle.typed_tree.specs.IntExpressionTree as integer
 use Rattle.typed_tree.specs.IntExpressionTree.{IntExpressionTree}
 use Rattle.typed_tree.specs.BoolExpressionTree as condition
 use Rattle.typed_tree.specs.BoolExpressionTree.{BoolExpressionTree}
-use Rattle.typed_tree.specs.FunctionStatementTree.{FunctionStatementTree, DeclareInteger, DeclareCondition, SetInteger, SetCondition, ReduceInteger, SetEntry, ReduceEntry, If, IfElse, FunctionStatementsTree, NoStep, StepThen}
+use Rattle.typed_tree.specs.FunctionStatementTree.{FunctionStatementTree, DeclareInteger, DeclareCondition, SetInteger, SetCondition, ReduceInteger, SetEntry, ReduceEntry, If, IfElse}
+use Rattle.typed_tree.specs.FunctionStatementTree.{FunctionStatementsTree, NoStep, StepThen}
 use Rattle.algorithm_meaning.specs.Arithmetic.{negative, arithmetic, compared, connected}
 use Rattle.algorithm_meaning.specs.State.{ScopeValue, edge_scope, filter_scope}
 use Rattle.algorithm_meaning.specs.Value.{vertex_at, entry_at, members_of, value, truth}
@@ -98,7 +99,10 @@ module _ (vectors indices : List ℕ) (a b : List SetBinding) (sets_agree : Sets
   block_beside old v new w h k = record { rows = k.rows; scope = λ i. forget_new (h.scope i) (k.scope i); given = k.given }
 
 -- what is written is collected
-module _ (vectors indices : List ℕ) (a b : List SetBinding) (sets_agree : SetsAgreeBut indices a b) (writing : _) (sets_nothing : (vector : ℕ) (n : ℤ) (w : WorkValue) → after_set writing vector n w ≡ w) (gives_number : (vector : ℕ) (r : Reduction) (n : ℤ) (w : WorkValue) → after_reduce writing vector r n w ≡ record w { given = w.given ++ record { vector = vector; reduction = r; number = n } ∷ [] }) where
+module _ (vectors indices : List ℕ) (a b : List SetBinding) (sets_agree : SetsAgreeBut indices a b) (writing : _)
+    (sets_nothing : (vector : ℕ) (n : ℤ) (w : WorkValue) → after_set writing vector n w ≡ w)
+    (gives_number : (vector : ℕ) (r : Reduction) (n : ℤ) (w : WorkValue) → after_reduce writing vector r n w ≡ record w { given =
+    w.given ++ record { vector = vector; reduction = r; number = n } ∷ [] }) where
   set_beside : (v w : WorkValue) → IsBeside vectors v w → (vector : ℕ) (x y : ℤ) → IsBeside vectors (after_set writing vector x v) (after_set writing vector y w)
   set_beside v w h vector x y =
       subst (λ (z : WorkValue). IsBeside vectors z (after_set writing vector y w)) (sym (sets_nothing vector x v))
@@ -161,19 +165,22 @@ module _ (vectors indices : List ℕ) (a b : List SetBinding) (sets_agree : Sets
         let s = both_parts (λ v. is_none_of v indices) (step_sizes step) (steps_sizes rest) sizes in
         steps_beside rest (after_step writing a step v) (after_step writing b step w) (step_beside step v w h r.0 s.0) r.1 s.1
 
-  given_beside : (steps : FunctionStatementsTree) (xs ys : List (List ℤ)) (scope : ScopeValue) → AgreeBut vectors xs ys → are_apart (steps_use steps) vectors ≡ true → are_apart (steps_sizes steps) indices ≡ true
+  given_beside : (steps : FunctionStatementsTree) (xs ys : List (List ℤ)) (scope : ScopeValue) → AgreeBut vectors xs ys → are_apart (steps_use steps) vectors ≡ true
+      → are_apart (steps_sizes steps) indices ≡ true
       → (after_steps writing a steps (first_work xs scope)).given ≡ (after_steps writing b steps (first_work ys scope)).given
   given_beside steps xs ys scope agree uses sizes =
       let r = steps_beside steps (first_work xs scope) (first_work ys scope) (record { rows = agree; scope = refl; given = refl }) uses sizes in
       r.given
 
-  result_beside : (steps : FunctionStatementsTree) (xs ys : List (List ℤ)) (scope : ScopeValue) → AgreeBut vectors xs ys → are_apart (steps_use steps) vectors ≡ true → are_apart (steps_sizes steps) indices ≡ true
+  result_beside : (steps : FunctionStatementsTree) (xs ys : List (List ℤ)) (scope : ScopeValue) → AgreeBut vectors xs ys → are_apart (steps_use steps) vectors ≡ true
+      → are_apart (steps_sizes steps) indices ≡ true
       → slice_index_or (after_steps writing a steps (first_work xs scope)).scope.conditions 0 false ≡ slice_index_or (after_steps writing b steps (first_work ys scope)).scope.conditions 0 false
   result_beside steps xs ys scope agree uses sizes =
       let r = steps_beside steps (first_work xs scope) (first_work ys scope) (record { rows = agree; scope = refl; given = refl }) uses sizes in
       ap (λ (s : ScopeValue). slice_index_or s.conditions 0 false) r.scope
 
-module _ (vectors indices : List ℕ) (a b : List SetBinding) (sets_agree : SetsAgreeBut indices a b) (steps : FunctionStatementsTree) (xs ys : List (List ℤ)) (agree : AgreeBut vectors xs ys) (uses : are_apart (steps_use steps) vectors ≡ true) (sizes : are_apart (steps_sizes steps) indices ≡ true) where
+module _ (vectors indices : List ℕ) (a b : List SetBinding) (sets_agree : SetsAgreeBut indices a b) (steps : FunctionStatementsTree) (xs ys : List (List ℤ)) (agree : AgreeBut vectors xs ys)
+    (uses : are_apart (steps_use steps) vectors ≡ true) (sizes : are_apart (steps_sizes steps) indices ≡ true) where
   -- an edge function gives the same
   pub gives_same : (edge : Edge) → gives steps a xs edge ≡ gives steps b ys edge
   gives_same edge = given_beside vectors indices a b sets_agree _ (λ vector n w. refl) (λ vector r n w. refl) steps xs ys (edge_scope edge) agree uses sizes

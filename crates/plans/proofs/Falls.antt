@@ -1,13 +1,15 @@
 -- Each step leaves fewer.
 use Rattle.std.proofs.Common.{◌≡◌, ℕ, zero, suc, ◌+◌, ◌*◌, ◌<◌, ℤ, Bool, true, false, if◌then◌else◌, int_lt, List, [], ◌∷◌, length, Option, Some, None, slice_get, ap, sym, ◌∙◌, refl, arith, subst}
-use Rattle.typed_tree.specs.BlockTree.{StatementKindTree, DeclareInteger, DeclareCondition, SetInteger, SetCondition, ReduceInteger, SetEntry, ReduceEntry, DeclareSet, AssignSet, AddVertex, PrintInteger, PrintCondition, ApplyVertex, ApplyEdges, If, IfElse, While, For}
+use Rattle.typed_tree.specs.BlockTree.{StatementKindTree, DeclareInteger, DeclareCondition, SetInteger, SetCondition, ReduceInteger, SetEntry, ReduceEntry, DeclareSet, AssignSet, AddVertex}
+use Rattle.typed_tree.specs.BlockTree.{PrintInteger, PrintCondition, ApplyVertex, ApplyEdges, If, IfElse, While, For}
 use Rattle.typed_tree.specs.ProgramTree.{ProgramTree}
 use Rattle.algorithm_meaning.specs.State.{GraphValue, StateValue}
 use Rattle.algorithm_meaning.specs.Stand.{Stand, Live, Over, with_value, int_value_in, bool_value_in, vertex_in}
 use Rattle.algorithm_meaning.specs.Meaning.{after}
 use Rattle.algorithm_meaning.specs.declared.state.LoopCounter.{LoopCounter}
 use Rattle.algorithm_meaning.specs.declared.state.Depth.{Depth}
-use Rattle.plans.specs.Instruction.{ResultTree, Dropped, Declared, Assigned, EdgePartTree, OperationTree, Do, ApplyEdgesTogether, ApplyVerticesTogether, Unless, Enter, UnlessBelow, Advance, Turn, Jump, End, InstructionTree}
+use Rattle.plans.specs.Instruction.{ResultTree, Dropped, Declared, Assigned, EdgePartTree, OperationTree, Do, ApplyEdgesTogether, ApplyVerticesTogether, Unless, Enter, UnlessBelow, Advance, Turn}
+use Rattle.plans.specs.Instruction.{Jump, End, InstructionTree}
 use Rattle.algorithm_meaning.specs.Loop.{forget_beyond}
 use Rattle.plans.specs.Machine.{Configuration, At, Ended, with_result, with_results, after_parts, go_on, after_unless, after_enter, after_unless_below, after_advance, after_turn, act, act_at, step}
 use Rattle.plans.specs.RunLaws.{GoesOn}
@@ -68,7 +70,8 @@ module _ (p : ProgramTree) (g : GraphValue) (code : List InstructionTree) (well 
   ended : (x : ℕ) → 0 < x + 1
   ended x = omega arith
 
-  after_stand : (st : Stand) (index : ℕ) (loops : List LoopCounter) (shown : Depth) (n here : ℕ) → HasTurns n st → rank code index < here → most_steps code (go_on index loops shown st) < n * many + here + 1
+  after_stand : (st : Stand) (index : ℕ) (loops : List LoopCounter) (shown : Depth) (n here : ℕ) → HasTurns n st → rank code index < here
+      → most_steps code (go_on index loops shown st) < n * many + here + 1
   after_stand (Live t) index loops shown n here same h = lower (rank code index) here t.turns n same h
   after_stand (Over t end) index loops shown n here same h = ended (n * many + here)
 

@@ -32,7 +32,8 @@ pub record StandsFor (code : List InstructionTree) (index number name back to : 
   pub at_advance : slice_get code back ≡ Some (plain number d (Advance name))
   pub at_jump : slice_get code (back + 1) ≡ Some (loop_step number (in_loop d) d (Jump (index + 2)))
 
-module _ (p : ProgramTree) (g : GraphValue) (code : List InstructionTree) (index number name back to : ℕ) (first end : IntExpressionTree) (d e : Depth) (loops : List LoopCounter) (stands : StandsFor code index number name back to first end d) where
+module _ (p : ProgramTree) (g : GraphValue) (code : List InstructionTree) (index number name back to : ℕ) (first end : IntExpressionTree) (d e : Depth) (loops : List LoopCounter)
+    (stands : StandsFor code index number name back to first end d) where
   -- at the head of `for`
   abbrev IsAtFor : LoopCounter → StateValue → Configuration → Type 0
   IsAtFor r s c = (m : StateValue) × (forget_beyond (in_loop d) m ≡ pushed s r.next r.end) × (c ≡ At (index + 2) (r ∷ loops) m)

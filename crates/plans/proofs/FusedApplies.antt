@@ -1,13 +1,15 @@
 -- Two applies that a plan does together fit.
 use Rattle.std.proofs.Common.{◌≡◌, ℕ, ◌+◌, nat_eq, ◌&&◌, Bool, true, false, if◌then◌else◌, List, [], ◌∷◌, Option, Some, None, slice_get, refl, arith}
-use Rattle.typed_tree.specs.BlockTree.{StatementKindTree, DeclareInteger, DeclareCondition, SetInteger, SetCondition, ReduceInteger, SetEntry, ReduceEntry, DeclareSet, AssignSet, AddVertex, PrintInteger, PrintCondition, ApplyVertex, ApplyEdges, If, IfElse, While, For, BlockTree, Empty, Then}
+use Rattle.typed_tree.specs.BlockTree.{StatementKindTree, DeclareInteger, DeclareCondition, SetInteger, SetCondition, ReduceInteger, SetEntry, ReduceEntry, DeclareSet, AssignSet, AddVertex}
+use Rattle.typed_tree.specs.BlockTree.{PrintInteger, PrintCondition, ApplyVertex, ApplyEdges, If, IfElse, While, For, BlockTree, Empty, Then}
 use Rattle.typed_tree.specs.ProgramTree.{ProgramTree}
 use Rattle.algorithm_meaning.specs.Function.{steps_of}
 use Rattle.apply_options.specs.ScheduleTree.{ScheduleTree, apply_schedule_at}
 use Rattle.std.proofs.lemmas.Bool.{and_parts}
 use Rattle.algorithm_meaning.specs.declared.state.Depth.{Depth}
 use Rattle.plans.specs.Instruction.{OperationTree, ApplyEdgesTogether, ApplyVerticesTogether, Advance, Jump, End, InstructionTree}
-use Rattle.plans.specs.Fusing.{EdgeApplyTree, VertexApplyTree, edge_apply_of, vertex_apply_of, function_is_local, edges_fit, vertices_fit, fused_edges, fused_vertices, either, together, is_with, FusionRole, Alone, WithNext, WithPrevious, with_next, fusion_role_of, takes_next}
+use Rattle.plans.specs.Fusing.{EdgeApplyTree, VertexApplyTree, edge_apply_of, vertex_apply_of, function_is_local, edges_fit, vertices_fit, fused_edges, fused_vertices, either, together, is_with}
+use Rattle.plans.specs.Fusing.{FusionRole, Alone, WithNext, WithPrevious, with_next, fusion_role_of, takes_next}
 use Rattle.plans.specs.Plan.{behind, behind_all, in_loop, main_depth, plain, loop_step, size_in, plan_in, size, size_all, plan, plan_all, plan_of}
 use Rattle.plans.specs.Fused.{FitTogether, FusedFit}
 use Rattle.plans.proofs.Ascending.{ascends_increasing}

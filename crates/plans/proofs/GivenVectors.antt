@@ -3,7 +3,8 @@ use Rattle.std.proofs.Common.{◌≡◌, ℕ, ◌==◌, ◌&&◌, ◌||◌, ℤ,
 use Rattle.std.specs.List.{list_all, list_any}
 use Rattle.std.proofs.lemmas.List.Folds.{list_all-append}
 use Rattle.apply_options.specs.declared.reduction.Reduction.{Reduction}
-use Rattle.typed_tree.specs.FunctionStatementTree.{FunctionStatementTree, DeclareInteger, DeclareCondition, SetInteger, SetCondition, ReduceInteger, SetEntry, ReduceEntry, If, IfElse, FunctionStatementsTree, NoStep, StepThen}
+use Rattle.typed_tree.specs.FunctionStatementTree.{FunctionStatementTree, DeclareInteger, DeclareCondition, SetInteger, SetCondition, ReduceInteger, SetEntry, ReduceEntry, If, IfElse}
+use Rattle.typed_tree.specs.FunctionStatementTree.{FunctionStatementsTree, NoStep, StepThen}
 use Rattle.algorithm_meaning.specs.State.{edge_scope}
 use Rattle.algorithm_meaning.specs.Value.{value, truth}
 use Rattle.algorithm_meaning.specs.Function.{WorkValue, first_work, after_set, after_reduce, after_step, after_steps, after_block}
@@ -53,7 +54,9 @@ either_given : (P : ℕ → Bool) (b : Bool) (v w : WorkValue) → AreFor P v.gi
 either_given P true v w h k = h
 either_given P false v w h k = k
 
-module _ (P : ℕ → Bool) (sets : List SetBinding) (writing : _) (sets_nothing : (vector : ℕ) (n : ℤ) (w : WorkValue) → after_set writing vector n w ≡ w) (gives_number : (vector : ℕ) (r : Reduction) (n : ℤ) (w : WorkValue) → after_reduce writing vector r n w ≡ record w { given = w.given ++ record { vector = vector; reduction = r; number = n } ∷ [] }) where
+module _ (P : ℕ → Bool) (sets : List SetBinding) (writing : _) (sets_nothing : (vector : ℕ) (n : ℤ) (w : WorkValue) → after_set writing vector n w ≡ w)
+    (gives_number : (vector : ℕ) (r : Reduction) (n : ℤ) (w : WorkValue) → after_reduce writing vector r n w ≡ record w { given =
+    w.given ++ record { vector = vector; reduction = r; number = n } ∷ [] }) where
   mutual
     step_gives : (step : FunctionStatementTree) (w : WorkValue) → list_all P (step_writes step) ≡ true → AreFor P w.given → AreFor P (after_step writing sets step w).given
     step_gives (DeclareInteger name e) w writes h = h
@@ -65,7 +68,8 @@ module _ (P : ℕ → Bool) (sets : List SetBinding) (writing : _) (sets_nothing
     step_gives (ReduceEntry vector reduction e) w writes h =
         let n = value w.vectors sets w.scope e in
         let own = and_parts (P vector) true writes in
-        subst (λ (z : WorkValue). AreFor P z.given) (sym (gives_number vector reduction n w)) (are_for_append P w.given (record { vector = vector; reduction = reduction; number = n } ∷ []) h (own.0, tt))
+        subst (λ (z : WorkValue). AreFor P z.given) (sym (gives_number vector reduction n w))
+        (are_for_append P w.given (record { vector = vector; reduction = reduction; number = n } ∷ []) h (own.0, tt))
     step_gives (If c body) w writes h =
         either_given P (truth w.vectors sets w.scope c) (after_block w (after_steps writing sets body w)) w (steps_give body w writes h) h
     step_gives (IfElse c body other) w writes h =
@@ -80,7 +84,8 @@ module _ (P : ℕ → Bool) (sets : List SetBinding) (writing : _) (sets_nothing
         steps_give rest (after_step writing sets step w) both.1 (step_gives step w both.0 h)
 
 -- an edge function gives numbers for the vectors that it writes
-pub gives_for : (P : ℕ → Bool) (steps : FunctionStatementsTree) (sets : List SetBinding) (before : List (List ℤ)) (edge : Edge) → list_all P (steps_write steps) ≡ true → AreFor P (gives steps sets before edge)
+pub gives_for : (P : ℕ → Bool) (steps : FunctionStatementsTree) (sets : List SetBinding) (before : List (List ℤ)) (edge : Edge) → list_all P (steps_write steps) ≡ true
+    → AreFor P (gives steps sets before edge)
 gives_for P steps sets before edge writes = steps_give P sets _ (λ vector n w. refl) (λ vector r n w. refl) steps (first_work before (edge_scope edge)) writes tt
 
 none_from : (a b c : Bool) → not (a || b) ≡ true → (not b ≡ true → c ≡ true) → not a && c ≡ true

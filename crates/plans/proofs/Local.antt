@@ -7,7 +7,8 @@ use Rattle.typed_tree.specs.IntExpressionTree as integer
 use Rattle.typed_tree.specs.IntExpressionTree.{IntExpressionTree}
 use Rattle.typed_tree.specs.BoolExpressionTree as condition
 use Rattle.typed_tree.specs.BoolExpressionTree.{BoolExpressionTree}
-use Rattle.typed_tree.specs.FunctionStatementTree.{FunctionStatementTree, DeclareInteger, DeclareCondition, SetInteger, SetCondition, ReduceInteger, SetEntry, ReduceEntry, If, IfElse, FunctionStatementsTree, NoStep, StepThen}
+use Rattle.typed_tree.specs.FunctionStatementTree.{FunctionStatementTree, DeclareInteger, DeclareCondition, SetInteger, SetCondition, ReduceInteger, SetEntry, ReduceEntry, If, IfElse}
+use Rattle.typed_tree.specs.FunctionStatementTree.{FunctionStatementsTree, NoStep, StepThen}
 use Rattle.algorithm_meaning.specs.Arithmetic.{negative, arithmetic, compared, connected, reduced}
 use Rattle.algorithm_meaning.specs.State.{ScopeValue, vertex_scope}
 use Rattle.algorithm_meaning.specs.Value.{vertex_at, entry, with_entry, reduce_at, value, truth}
@@ -99,7 +100,9 @@ module _ (u : ℕ) (sets : List SetBinding) where
   }
 
 -- what is written is seen at once
-module _ (u : ℕ) (sets : List SetBinding) (writing : _) (sets_at_once : (vector : ℕ) (n : ℤ) (w : WorkValue) → after_set writing vector n w ≡ record w { vectors = with_entry w.vectors vector w.scope.source n }) (reduces_at_once : (vector : ℕ) (r : Reduction) (n : ℤ) (w : WorkValue) → after_reduce writing vector r n w ≡ record w { vectors = reduce_at w.vectors vector w.scope.source r n }) where
+module _ (u : ℕ) (sets : List SetBinding) (writing : _) (sets_at_once : (vector : ℕ) (n : ℤ) (w : WorkValue)
+    → after_set writing vector n w ≡ record w { vectors = with_entry w.vectors vector w.scope.source n })
+    (reduces_at_once : (vector : ℕ) (r : Reduction) (n : ℤ) (w : WorkValue) → after_reduce writing vector r n w ≡ record w { vectors = reduce_at w.vectors vector w.scope.source r n }) where
   with_entries : (v w : WorkValue) → IsAlike u v w → (vector : ℕ) (x y : ℤ) → x ≡ y
       → IsAlike u (record v { vectors = with_entry v.vectors vector v.scope.source x }) (record w { vectors = with_entry w.vectors vector w.scope.source y })
   with_entries v w h vector x y e = record {
@@ -154,7 +157,8 @@ module _ (u : ℕ) (sets : List SetBinding) (writing : _) (sets_at_once : (vecto
         (block_alike u sets v (after_steps writing sets body v) w (after_steps writing sets body w) h (steps_alike body v w blocks.0 h))
         (block_alike u sets v (after_steps writing sets other v) w (after_steps writing sets other w) h (steps_alike other v w blocks.1 h))
 
-    pub steps_alike : (steps : FunctionStatementsTree) (v w : WorkValue) → steps_are_local steps ≡ true → IsAlike u v w → IsAlike u (after_steps writing sets steps v) (after_steps writing sets steps w)
+    pub steps_alike : (steps : FunctionStatementsTree) (v w : WorkValue) → steps_are_local steps ≡ true → IsAlike u v w
+    → IsAlike u (after_steps writing sets steps v) (after_steps writing sets steps w)
     steps_alike NoStep v w local h = h
     steps_alike (StepThen step rest) v w local h =
         let both = and_parts (step_is_local step) (steps_are_local rest) local in

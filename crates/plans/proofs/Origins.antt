@@ -1,11 +1,13 @@
 -- From which statements the instructions of a plan come.
 use Rattle.std.proofs.Common.{◌≡◌, ℕ, zero, suc, ◌+◌, Bool, true, false, if◌then◌else◌, inl, inr, List, [], ◌∷◌, ◌++◌, Option, Some, None, slice_get, sym, ◌∙◌, refl, subst}
-use Rattle.typed_tree.specs.BlockTree.{StatementKindTree, DeclareInteger, DeclareCondition, SetInteger, SetCondition, ReduceInteger, SetEntry, ReduceEntry, DeclareSet, AssignSet, AddVertex, PrintInteger, PrintCondition, ApplyVertex, ApplyEdges, If, IfElse, While, For, BlockTree, Empty, Then}
+use Rattle.typed_tree.specs.BlockTree.{StatementKindTree, DeclareInteger, DeclareCondition, SetInteger, SetCondition, ReduceInteger, SetEntry, ReduceEntry, DeclareSet, AssignSet, AddVertex}
+use Rattle.typed_tree.specs.BlockTree.{PrintInteger, PrintCondition, ApplyVertex, ApplyEdges, If, IfElse, While, For, BlockTree, Empty, Then}
 use Rattle.typed_tree.specs.ProgramTree.{ProgramTree}
 use Rattle.apply_options.specs.ScheduleTree.{ScheduleTree, apply_schedule_at}
 use Rattle.algorithm_meaning.specs.declared.state.Depth.{Depth}
 use Rattle.plans.specs.Instruction.{OperationTree, ApplyEdgesTogether, ApplyVerticesTogether, Advance, Jump, End, InstructionTree}
-use Rattle.plans.specs.Fusing.{EdgeApplyTree, VertexApplyTree, edge_apply_of, vertex_apply_of, edges_fit, vertices_fit, fused_edges, fused_vertices, either, together, is_with, FusionRole, Alone, WithNext, WithPrevious, with_next, fusion_role_of, takes_next}
+use Rattle.plans.specs.Fusing.{EdgeApplyTree, VertexApplyTree, edge_apply_of, vertex_apply_of, edges_fit, vertices_fit, fused_edges, fused_vertices, either, together, is_with, FusionRole, Alone}
+use Rattle.plans.specs.Fusing.{WithNext, WithPrevious, with_next, fusion_role_of, takes_next}
 use Rattle.plans.specs.Plan.{behind, behind_all, in_loop, main_depth, plain, loop_step, chosen, size_in, plan_in, size, size_all, plan, plan_all, plan_of}
 use Rattle.plans.specs.ApplySchedules.{StandsIn, StandsInside, first_apply, ComesFrom, GoBySchedule}
 
@@ -59,7 +61,8 @@ fused_begins c true None h = tt
 fused_begins c true (Some operation) h = h
 fused_begins c false o h = tt
 
-company_begins : (p : ProgramTree) (schedule : ScheduleTree) (d : Depth) (is_done : Bool) (label : Option ℕ) (a : StatementKindTree) (rest : BlockTree) → Begins (edge_apply_of a) (fusion_role_of p schedule d is_done label a rest)
+company_begins : (p : ProgramTree) (schedule : ScheduleTree) (d : Depth) (is_done : Bool) (label : Option ℕ) (a : StatementKindTree) (rest : BlockTree)
+    → Begins (edge_apply_of a) (fusion_role_of p schedule d is_done label a rest)
 company_begins p schedule d true label a rest = tt
 company_begins p schedule d false label a Empty = tt
 company_begins p schedule d false label a (Then number other b rest) =
@@ -71,9 +74,11 @@ module _ (p : ProgramTree) (schedule : ScheduleTree) (P : InstructionTree → Ty
   -- P holds of the instructions of a statement
   abbrev HoldsFor : (number : ℕ) → Option ℕ → StatementKindTree → Type 0
   HoldsFor number label action =
-      (i : InstructionTree) → i.number ≡ number → ((x : EdgeApplyTree) → first_apply i.operation ≡ Some x → (edge_apply_of action ≡ Some x) × (i.apply_schedule ≡ apply_schedule_at label schedule)) → P i
+      (i : InstructionTree) → i.number ≡ number → ((x : EdgeApplyTree) → first_apply i.operation ≡ Some x → (edge_apply_of action ≡ Some x) × (i.apply_schedule ≡ apply_schedule_at label schedule))
+      → P i
 
-  in_company : (company : FusionRole) (number : ℕ) (label : Option ℕ) (d : Depth) (action : StatementKindTree) (is : List InstructionTree) → Begins (edge_apply_of action) company → HoldsFor number label action
+  in_company : (company : FusionRole) (number : ℕ) (label : Option ℕ) (d : Depth) (action : StatementKindTree) (is : List InstructionTree) → Begins (edge_apply_of action) company
+      → HoldsFor number label action
       → AllOf P is → AllOf P (plan_in company schedule number label d is)
   in_company Alone number label d action is begins holds own = own
   in_company (WithNext operation) number label d action is begins holds own = (holds (chosen schedule number label d operation) refl (λ x e. (begins x e, refl)), tt)
@@ -84,7 +89,8 @@ module _ (p : ProgramTree) (schedule : ScheduleTree) (P : InstructionTree → Ty
   other number label action i holds numbered none = holds i numbered (λ x e. let bad : None ≡ Some x = sym none ∙ e in cc)
 
   mutual
-    action_comes : (a : StatementKindTree) (index number : ℕ) (label : Option ℕ) (d : Depth) → HoldsFor number label a → ((n : ℕ) (l : Option ℕ) (c : StatementKindTree) → StandsInside a n l c → HoldsFor n l c)
+    action_comes : (a : StatementKindTree) (index number : ℕ) (label : Option ℕ) (d : Depth) → HoldsFor number label a
+    → ((n : ℕ) (l : Option ℕ) (c : StatementKindTree) → StandsInside a n l c → HoldsFor n l c)
         → AllOf P (plan p schedule index d number label a)
     action_comes (DeclareInteger name e) index number label d own inner = (own _ refl (λ x e. (e, refl)), tt)
     action_comes (DeclareCondition name c) index number label d own inner = (own _ refl (λ x e. (e, refl)), tt)
@@ -134,7 +140,8 @@ module _ (p : ProgramTree) (schedule : ScheduleTree) (P : InstructionTree → Ty
           ),
         )
 
-    block_comes : (b : BlockTree) (is_done : Bool) (index : ℕ) (d : Depth) → ((n : ℕ) (l : Option ℕ) (c : StatementKindTree) → StandsIn b n l c → HoldsFor n l c) → AllOf P (plan_all p schedule index d is_done b)
+    block_comes : (b : BlockTree) (is_done : Bool) (index : ℕ) (d : Depth) → ((n : ℕ) (l : Option ℕ) (c : StatementKindTree) → StandsIn b n l c → HoldsFor n l c)
+    → AllOf P (plan_all p schedule index d is_done b)
     block_comes Empty is_done index d holds = tt
     block_comes (Then number label action rest) is_done index d holds =
         let company = fusion_role_of p schedule d is_done label action rest in

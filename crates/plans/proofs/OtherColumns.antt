@@ -1,7 +1,8 @@
 -- Functions that work on their own vertex leave other vertices alone.
 use Rattle.std.proofs.Common.{◌≡◌, ℕ, ◌==◌, ◌&&◌, ℤ, Bool, true, false, cond, List, Option, ap, ◌∙◌, refl}
 use Rattle.apply_options.specs.declared.reduction.Reduction.{Reduction}
-use Rattle.typed_tree.specs.FunctionStatementTree.{FunctionStatementTree, DeclareInteger, DeclareCondition, SetInteger, SetCondition, ReduceInteger, SetEntry, ReduceEntry, If, IfElse, FunctionStatementsTree, NoStep, StepThen}
+use Rattle.typed_tree.specs.FunctionStatementTree.{FunctionStatementTree, DeclareInteger, DeclareCondition, SetInteger, SetCondition, ReduceInteger, SetEntry, ReduceEntry, If, IfElse}
+use Rattle.typed_tree.specs.FunctionStatementTree.{FunctionStatementsTree, NoStep, StepThen}
 use Rattle.algorithm_meaning.specs.Arithmetic.{reduced}
 use Rattle.algorithm_meaning.specs.State.{vertex_scope}
 use Rattle.algorithm_meaning.specs.Value.{entry, with_entry, reduce_at, value, truth}
@@ -17,7 +18,9 @@ either_column : (b : Bool) (v : ℕ) (x y : WorkValue) (os : List (Option ℤ)) 
 either_column true v x y os h k = h
 either_column false v x y os h k = k
 
-module _ (u v : ℕ) (apart : (u == v) ≡ false) (sets : List SetBinding) (writing : _) (sets_at_once : (vector : ℕ) (n : ℤ) (w : WorkValue) → after_set writing vector n w ≡ record w { vectors = with_entry w.vectors vector w.scope.source n }) (reduces_at_once : (vector : ℕ) (r : Reduction) (n : ℤ) (w : WorkValue) → after_reduce writing vector r n w ≡ record w { vectors = reduce_at w.vectors vector w.scope.source r n }) where
+module _ (u v : ℕ) (apart : (u == v) ≡ false) (sets : List SetBinding) (writing : _)
+    (sets_at_once : (vector : ℕ) (n : ℤ) (w : WorkValue) → after_set writing vector n w ≡ record w { vectors = with_entry w.vectors vector w.scope.source n })
+    (reduces_at_once : (vector : ℕ) (r : Reduction) (n : ℤ) (w : WorkValue) → after_reduce writing vector r n w ≡ record w { vectors = reduce_at w.vectors vector w.scope.source r n }) where
   written_elsewhere : (w : WorkValue) → IsAlike u w w → (vector : ℕ) (x : ℤ) → column v (with_entry w.vectors vector w.scope.source x) ≡ column v w.vectors
   written_elsewhere w h vector x = ap (λ (y : ℕ). column v (with_entry w.vectors vector y x)) h.source ∙ column-elsewhere w.vectors vector u v x apart
 

@@ -13,7 +13,8 @@ use Rattle.algorithm_meaning.specs.VertexSets.{after_vertices, after_apply_verte
 use Rattle.apply_options.specs.ScheduleTree.{ScheduleTree, apply_schedule_at}
 use Rattle.algorithm_meaning.specs.declared.state.Depth.{Depth}
 use Rattle.plans.specs.Instruction.{OperationTree, ApplyEdgesTogether, ApplyVerticesTogether}
-use Rattle.plans.specs.Fusing.{EdgeApplyTree, VertexApplyTree, edge_apply_of, vertex_apply_of, function_is_local, edges_fit, vertices_fit, fused_edges, fused_vertices, either, together, is_with, Alone, with_next, fusion_role_of}
+use Rattle.plans.specs.Fusing.{EdgeApplyTree, VertexApplyTree, edge_apply_of, vertex_apply_of, function_is_local, edges_fit, vertices_fit, fused_edges, fused_vertices, either, together, is_with}
+use Rattle.plans.specs.Fusing.{Alone, with_next, fusion_role_of}
 use Rattle.plans.specs.inside.Fusing.{steps_are_local, steps_are_local_where}
 use Rattle.plans.specs.Machine.{At, after_apply_both}
 use Rattle.plans.proofs.Proper.{IsProper}
@@ -76,7 +77,8 @@ module _ (p : ProgramTree) (g : GraphValue) where
     acts = λ number shown index loops turns s q. ap (At (index + 1) loops) (edges_at_once p g d x y s e (ap (λ (d : Depth). d.sets) q.deep));
   }
 
-  vertices_if : (d : Depth) (a b : StatementKindTree) (x y : VertexApplyTree) (fits : Bool) → vertices_fit p x y ≡ fits → IsFaultless p g a (after_vertex_apply x) → IsFaultless p g b (after_vertex_apply y)
+  vertices_if : (d : Depth) (a b : StatementKindTree) (x y : VertexApplyTree) (fits : Bool) → vertices_fit p x y ≡ fits → IsFaultless p g a (after_vertex_apply x)
+      → IsFaultless p g b (after_vertex_apply y)
       → DoesBothIf (if fits then Some (ApplyVerticesTogether x.set x.function y.function) else None) d a b
   vertices_if d a b x y false e h k = tt
   vertices_if d a b x y true e h k = record {
@@ -118,7 +120,8 @@ module _ (p : ProgramTree) (g : GraphValue) where
   good_if_fused false o d a b number label rest h = tt
 
   -- each statement is in good company
-  pub company_is_good : (schedule : ScheduleTree) (d : Depth) (label : Option ℕ) (a : StatementKindTree) (rest : BlockTree) → IsGoodCompany p g (fusion_role_of p schedule d false label a rest) d a rest
+  pub company_is_good : (schedule : ScheduleTree) (d : Depth) (label : Option ℕ) (a : StatementKindTree) (rest : BlockTree)
+      → IsGoodCompany p g (fusion_role_of p schedule d false label a rest) d a rest
   company_is_good schedule d label a Empty = tt
   company_is_good schedule d label a (Then number other b rest) =
       good_if_fused (is_with (apply_schedule_at label schedule).fused other) (together p d a b) d a b number other rest (together_does_both d a b)

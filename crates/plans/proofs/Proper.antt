@@ -3,7 +3,8 @@ use Rattle.std.proofs.Common.{◌≡◌, ℕ, zero, suc, ◌+◌, ◌≤◌, ℤ
 use Rattle.std.proofs.lemmas.List.{length-append, length-set}
 use Rattle.typed_tree.specs.declared.statement.SetValue.{SetValue}
 use Rattle.typed_tree.specs.declared.statement.SetValue.TheVariants as set
-use Rattle.typed_tree.specs.BlockTree.{StatementKindTree, DeclareInteger, DeclareCondition, SetInteger, SetCondition, ReduceInteger, SetEntry, ReduceEntry, DeclareSet, AssignSet, AddVertex, PrintInteger, PrintCondition, ApplyVertex, ApplyEdges, If, IfElse, While, For}
+use Rattle.typed_tree.specs.BlockTree.{StatementKindTree, DeclareInteger, DeclareCondition, SetInteger, SetCondition, ReduceInteger, SetEntry, ReduceEntry, DeclareSet, AssignSet, AddVertex}
+use Rattle.typed_tree.specs.BlockTree.{PrintInteger, PrintCondition, ApplyVertex, ApplyEdges, If, IfElse, While, For}
 use Rattle.typed_tree.specs.ProgramTree.{ProgramTree}
 use Rattle.algorithm_meaning.specs.State.{GraphValue, StateValue}
 use Rattle.algorithm_meaning.specs.Value.{members_of}
@@ -173,7 +174,8 @@ module _ (p : ProgramTree) (g : GraphValue) (number : ℕ) (d : Depth) (turns : 
   alone-leaves (AssignSet slot set) alone = assigned-proper d turns s proper slot.index (members_for p g set s) (vectors_after p g set s) (members-ascend p g set s proper.sets)
   alone-leaves (AddVertex slot e) alone =
       by_value (vertex_in g.vertices e s) d d turns number s _ proper.deep (λ v.
-      assigned-proper d turns s proper slot.index (inserted v (members_of (slice_get s.sets slot.index))) s.vectors (ascends_inserted v 0 (members_of (slice_get s.sets slot.index)) (omega arith) (proper.sets slot.index)))
+      assigned-proper d turns s proper slot.index (inserted v (members_of (slice_get s.sets slot.index))) s.vectors
+      (ascends_inserted v 0 (members_of (slice_get s.sets slot.index)) (omega arith) (proper.sets slot.index)))
   alone-leaves (PrintInteger e) alone =
       by_value (int_value_in g.vertices e s) d d turns number s _ proper.deep (λ n.
       record { deep = proper.deep; sets = proper.sets; fewer = proper.fewer })

@@ -94,7 +94,8 @@ module _ (code : List InstructionTree) (well : AllLeadWell code 0 code) where
   later_lower : (index to : ℕ) → index < length code → index < to → rank code index ≡ 2 * (length code - index) → rank code to < rank code index
   later_lower index to within later e = let below = low to in omega (arith, below, within, later, e)
 
-  test_lower : (index to : ℕ) (b : Bool) (i : InstructionTree) → slice_get code index ≡ Some i → is_turn (slice_get code (index + 1)) ≡ b → leaving_index i.operation ≡ Some to → index < to → index < length code
+  test_lower : (index to : ℕ) (b : Bool) (i : InstructionTree) → slice_get code index ≡ Some i → is_turn (slice_get code (index + 1)) ≡ b → leaving_index i.operation ≡ Some to → index < to
+      → index < length code
       → (b ≡ false → rank code index ≡ 2 * (length code - index)) → (rank code (index + 1) < rank code index) × (rank code to < rank code index)
   test_lower index to true i at turn leaves later within e =
       let own = head_rank index to (record { instruction = i; stands = at; leaves = leaves; turn = turn }) in

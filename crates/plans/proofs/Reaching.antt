@@ -133,19 +133,22 @@ module _ (p : ProgramTree) (g : GraphValue) (code : List InstructionTree) where
   LeadsOn d turns IsHead (Live u) c = (c' : Configuration) × Reaches c c' × IsHead u c' × IsProper d turns u
   LeadsOn d turns IsHead (Over u end) c = Reaches c (Ended u end)
 
-  pub leads_from : (d : Depth) (turns : ℕ) (IsHead : StateValue → Configuration → Type 0) (st : Stand) (c c' : Configuration) → Reaches c c' → LeadsOn d turns IsHead st c' → LeadsOn d turns IsHead st c
+  pub leads_from : (d : Depth) (turns : ℕ) (IsHead : StateValue → Configuration → Type 0) (st : Stand) (c c' : Configuration) → Reaches c c' → LeadsOn d turns IsHead st c'
+      → LeadsOn d turns IsHead st c
   leads_from d turns IsHead (Live u) c c' r on = (on.0, and_reaches r on.1, on.2, on.3)
   leads_from d turns IsHead (Over u end) c c' r on = and_reaches r on
 
   -- what the machine does at the head of a loop
-  pub record RunsLoop (A : Type 0) (test : A → StateValue → Option Bool) (body : A → StateValue → Stand) (following : A → A) (number to : ℕ) (loops : List LoopCounter) (d : Depth) (IsHead : A → StateValue → Configuration → Type 0) : Type 0 where
+  pub record RunsLoop (A : Type 0) (test : A → StateValue → Option Bool) (body : A → StateValue → Stand) (following : A → A) (number to : ℕ) (loops : List LoopCounter) (d : Depth)
+      (IsHead : A → StateValue → Configuration → Type 0) : Type 0 where
     pub faults : (a : A) (turns : ℕ) (s : StateValue) (c : Configuration) → IsProper d turns s → IsHead a s c → test a s ≡ None → Reaches c (Ended s (Fault 401 number))
     pub stops : (a : A) (turns : ℕ) (s : StateValue) (c : Configuration) → IsProper d turns s → IsHead a s c → test a s ≡ Some false → Lands to loops d turns s c
     pub is_over : (a : A) (turns : ℕ) (s : StateValue) (c : Configuration) → IsProper d turns s → IsHead a s c → test a s ≡ Some true → s.turns ≡ 0 → Reaches c (Ended s TurnsOver)
     pub turn : (a : A) (turns : ℕ) (s : StateValue) (c : Configuration) → IsProper d turns s → IsHead a s c → test a s ≡ Some true → (n : ℕ) → s.turns ≡ suc n
         → LeadsOn d n (IsHead (following a)) (body a (record s { turns = n })) c
 
-  module _ (A : Type 0) (test : A → StateValue → Option Bool) (body : A → StateValue → Stand) (following : A → A) (number to : ℕ) (loops : List LoopCounter) (d : Depth) (IsHead : A → StateValue → Configuration → Type 0) (runs : RunsLoop A test body following number to loops d IsHead) where
+  module _ (A : Type 0) (test : A → StateValue → Option Bool) (body : A → StateValue → Stand) (following : A → A) (number to : ℕ) (loops : List LoopCounter) (d : Depth)
+      (IsHead : A → StateValue → Configuration → Type 0) (runs : RunsLoop A test body following number to loops d IsHead) where
     at_end : (a : A) (s : StateValue) (c : Configuration) (o : Option Bool) → test a s ≡ o → IsProper d 0 s → IsHead a s c
         → Follows to loops d 0 (with_value o number s (λ b. choose b (Over s TurnsOver) (Live s))) c
     at_end a s c None e proper head = runs.faults a 0 s c proper head e

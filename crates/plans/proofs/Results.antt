@@ -22,7 +22,8 @@ modified_same : (n vector : ℕ) (xs ys xs' ys' : List (List ℤ)) → slice_ind
 modified_same n vector xs ys xs' ys' e h = λ i. filter (λ v. not (int_equal (slice_index_or (e i) v (pos 0)) (slice_index_or (h i) v (pos 0)))) (range_with_len 0 n)
 
 -- it depends on the rows of its vector alone
-pub result_agrees : (n : ℕ) (changed : List ℕ) (xs ys xs' ys' : List (List ℤ)) (r : ResultTree) (s : StateValue) → are_apart (result_vectors r) changed ≡ true → AgreeBut changed xs xs' → AgreeBut changed ys ys'
+pub result_agrees : (n : ℕ) (changed : List ℕ) (xs ys xs' ys' : List (List ℤ)) (r : ResultTree) (s : StateValue) → are_apart (result_vectors r) changed ≡ true → AgreeBut changed xs xs'
+    → AgreeBut changed ys ys'
     → with_result n xs ys r s ≡ with_result n xs' ys' r s
 result_agrees n changed xs ys xs' ys' Dropped s apart before after = refl
 result_agrees n changed xs ys xs' ys' (Declared name vector) s apart before after =
@@ -33,7 +34,8 @@ result_agrees n changed xs ys xs' ys' (Assigned slot vector) s apart before afte
     ap (with_members s slot.index) (modified_same n vector xs ys xs' ys' (before vector own.0) (after vector own.0))
 
 -- and leaves the vectors
-pub result_beside_vectors : (n : ℕ) (xs ys us vs : List (List ℤ)) (r : ResultTree) (s : StateValue) → with_vectors (with_result n xs ys r (with_vectors s us)) vs ≡ with_result n xs ys r (with_vectors s vs)
+pub result_beside_vectors : (n : ℕ) (xs ys us vs : List (List ℤ)) (r : ResultTree) (s : StateValue)
+    → with_vectors (with_result n xs ys r (with_vectors s us)) vs ≡ with_result n xs ys r (with_vectors s vs)
 result_beside_vectors n xs ys us vs Dropped s = refl
 result_beside_vectors n xs ys us vs (Declared name vector) s = refl
 result_beside_vectors n xs ys us vs (Assigned slot vector) s = refl
@@ -56,7 +58,8 @@ other_than_new [] x (suc n) h = refl
 other_than_new (y ∷ ys) x zero h = refl
 other_than_new (y ∷ ys) x (suc n) h = let apart : (length ys == n) ≡ false = grind (arith, nat_tests) in other_than_new ys x n apart
 
-other_than_assigned : (sets : List SetBinding) (at : ℕ) (members : List ℕ) (index : ℕ) → (at == index) ≡ false → members_of (slice_get sets index) ≡ members_of (slice_get (set_members sets at members) index)
+other_than_assigned : (sets : List SetBinding) (at : ℕ) (members : List ℕ) (index : ℕ) → (at == index) ≡ false
+    → members_of (slice_get sets index) ≡ members_of (slice_get (set_members sets at members) index)
 other_than_assigned [] at members index h = refl
 other_than_assigned (y ∷ ys) zero members zero h = absurd (grind (arith, nat_tests))
 other_than_assigned (y ∷ ys) zero members (suc n) h = refl

@@ -1,7 +1,8 @@
 -- Statements and blocks on the machine.
 use Rattle.std.proofs.Common.{◌≡◌, ℕ, ◌+◌, Bool, true, false, List, [], ◌∷◌, ◌++◌, Option, Some, None, slice_get, ap, sym, ◌∙◌, refl, arith, subst}
 use Rattle.typed_tree.specs.BoolExpressionTree.{BoolExpressionTree}
-use Rattle.typed_tree.specs.BlockTree.{StatementKindTree, DeclareInteger, DeclareCondition, SetInteger, SetCondition, ReduceInteger, SetEntry, ReduceEntry, DeclareSet, AssignSet, AddVertex, PrintInteger, PrintCondition, ApplyVertex, ApplyEdges, If, IfElse, While, For, BlockTree, Empty, Then}
+use Rattle.typed_tree.specs.BlockTree.{StatementKindTree, DeclareInteger, DeclareCondition, SetInteger, SetCondition, ReduceInteger, SetEntry, ReduceEntry, DeclareSet, AssignSet, AddVertex}
+use Rattle.typed_tree.specs.BlockTree.{PrintInteger, PrintCondition, ApplyVertex, ApplyEdges, If, IfElse, While, For, BlockTree, Empty, Then}
 use Rattle.typed_tree.specs.ProgramTree.{ProgramTree}
 use Rattle.algorithm_meaning.specs.State.{GraphValue, StateValue}
 use Rattle.algorithm_meaning.specs.Stand.{Stand, Live, Over, then_do, bool_value_in, with_value, choose}
@@ -66,7 +67,8 @@ module _ (p : ProgramTree) (g : GraphValue) (schedule : ScheduleTree) (code : Li
   }
 
   if_else_runs : (c : BoolExpressionTree) (body other : BlockTree) (index number back from to : ℕ) (d : Depth) (turns : ℕ) (loops : List LoopCounter) (m s : StateValue) (o : Option Bool)
-      → slice_get code index ≡ Some (plain number d (Unless c from)) → slice_get code back ≡ Some (plain number d (Jump to)) → forget_beyond d m ≡ s → IsProper d turns s → bool_value_in g.vertices c s ≡ o
+      → slice_get code index ≡ Some (plain number d (Unless c from)) → slice_get code back ≡ Some (plain number d (Jump to)) → forget_beyond d m ≡ s → IsProper d turns s
+      → bool_value_in g.vertices c s ≡ o
       → Follows p g code back loops (behind_all body d) turns (after_all p g body s) (At (index + 1) loops s)
       → Follows p g code to loops (behind_all other d) turns (after_all p g other s) (At from loops s)
       → Follows p g code to loops d turns (with_value o number s (λ b. choose b (inside (after_all p g body) s) (inside (after_all p g other) s))) (At index loops m)
@@ -81,7 +83,8 @@ module _ (p : ProgramTree) (g : GraphValue) (schedule : ScheduleTree) (code : Li
       (unless_chooses p g code c index number from d loops m s false at same e) other_runs
 
   -- two statements that one instruction does
-  both_run : (operation : OperationTree) (a b : StatementKindTree) (index number : ℕ) (label : Option ℕ) (d : Depth) (turns : ℕ) (loops : List LoopCounter) (m s : StateValue) (both : DoesBoth p g operation d a b)
+  both_run : (operation : OperationTree) (a b : StatementKindTree) (index number : ℕ) (label : Option ℕ) (d : Depth) (turns : ℕ) (loops : List LoopCounter) (m s : StateValue)
+      (both : DoesBoth p g operation d a b)
       → slice_get code index ≡ Some (chosen schedule number label d operation) → forget_beyond d m ≡ s → IsProper d turns s
       → Lands p g code (index + 1) loops (behind b (behind a d)) turns (both.second (both.first s)) (At index loops m)
   both_run operation a b index number label d turns loops m s both at same q =
@@ -116,11 +119,13 @@ module _ (p : ProgramTree) (g : GraphValue) (schedule : ScheduleTree) (code : Li
       has_behind code index (size_all p schedule d false b) to (plan_all p schedule index d false b) rest (length-plan_all p schedule b index d false) e at
 
   -- a statement in such company, and what stands after it
-  joined_runs : (company : FusionRole) (action : StatementKindTree) (rest : BlockTree) (index number : ℕ) (label : Option ℕ) (d : Depth) (turns : ℕ) (loops : List LoopCounter) (m s : StateValue) → IsGoodCompany p g company d action rest
+  joined_runs : (company : FusionRole) (action : StatementKindTree) (rest : BlockTree) (index number : ℕ) (label : Option ℕ) (d : Depth) (turns : ℕ) (loops : List LoopCounter) (m s : StateValue)
+      → IsGoodCompany p g company d action rest
       → HasAt code index (plan_in company schedule number label d (plan p schedule index d number label action)
       ++ plan_all p schedule (index + size_in company (size p schedule d action)) (behind action d) (takes_next company) rest)
       → forget_beyond d m ≡ s → IsProper d turns s
-      → (HasAt code index (plan p schedule index d number label action) → Follows p g code (index + size p schedule d action) loops (behind action d) turns (after p g number action s) (At index loops m))
+      → (HasAt code index (plan p schedule index d number label action) → Follows p g code (index + size p schedule d action) loops (behind action d) turns (after p g number action s)
+      (At index loops m))
       → ((is_done : Bool) (from : ℕ) (m t : StateValue) → HasAt code from (plan_all p schedule from (behind action d) is_done rest)
       → forget_beyond (at_rest is_done rest (behind action d)) m ≡ t → IsProper (at_rest is_done rest (behind action d)) turns t
       → Follows p g code (from + size_all p schedule (behind action d) is_done rest) loops (behind_all rest (behind action d)) turns (after_rest p g is_done rest t) (At from loops m))
@@ -149,7 +154,8 @@ module _ (p : ProgramTree) (g : GraphValue) (schedule : ScheduleTree) (code : Li
       let ran = follows_from p g code st to loops (behind_all block e) turns (At index loops m) (At (index + 1) loops lands.there) lands.reaches
       (run_rest true (index + 1) lands.there t at.1 lands.same lands.proper) in
       let same_stand = both_mean action next number other rest second s good.first good.second good.first_means good.second_means in
-      lands_at p g code (then_do (after p g number action s) (after_all p g block)) to (index + (1 + size_all p schedule e true block)) loops (behind_all block e) turns (At index loops m) (omega arith)
+      lands_at p g code (then_do (after p g number action s) (after_all p g block)) to (index + (1 + size_all p schedule e true block)) loops (behind_all block e) turns (At index loops m)
+      (omega arith)
       (subst (λ (st : Stand). Follows p g code to loops (behind_all block e) turns st (At index loops m)) same_stand ran)
 
   lands_here : (index : ℕ) (loops : List LoopCounter) (d : Depth) (turns : ℕ) (m s : StateValue) → forget_beyond d m ≡ s → IsProper d turns s
@@ -169,7 +175,8 @@ module _ (p : ProgramTree) (g : GraphValue) (schedule : ScheduleTree) (code : Li
       action_runs (SetCondition slot c) index number label d turns loops m s at same q = single (SetCondition slot c) tt index number label d turns loops m s at same q
       action_runs (ReduceInteger slot reduction e) index number label d turns loops m s at same q = single (ReduceInteger slot reduction e) tt index number label d turns loops m s at same q
       action_runs (SetEntry vector subscript e) index number label d turns loops m s at same q = single (SetEntry vector subscript e) tt index number label d turns loops m s at same q
-      action_runs (ReduceEntry vector subscript reduction e) index number label d turns loops m s at same q = single (ReduceEntry vector subscript reduction e) tt index number label d turns loops m s at same q
+      action_runs (ReduceEntry vector subscript reduction e) index number label d turns loops m s at same q =
+      single (ReduceEntry vector subscript reduction e) tt index number label d turns loops m s at same q
       action_runs (DeclareSet name set) index number label d turns loops m s at same q = single (DeclareSet name set) tt index number label d turns loops m s at same q
       action_runs (AssignSet slot set) index number label d turns loops m s at same q = single (AssignSet slot set) tt index number label d turns loops m s at same q
       action_runs (AddVertex slot e) index number label d turns loops m s at same q = single (AddVertex slot e) tt index number label d turns loops m s at same q
@@ -189,7 +196,8 @@ module _ (p : ProgramTree) (g : GraphValue) (schedule : ScheduleTree) (code : Li
           let others = behind_block (index + 1) back d body (plain number d (Jump to) ∷ plan_all p schedule from d false other) refl at.1 in
           lands_at p g code (after p g number (IfElse c body other) s) to (index + size p schedule d (IfElse c body other)) loops d turns (At index loops m) (omega arith)
           (if_else_runs c body other index number back from to d turns loops m s (bool_value_in g.vertices c s) at.0 others.0 same q refl
-          (block_runs body false (index + 1) d turns loops s s (has_front code (index + 1) (plan_all p schedule (index + 1) d false body) (plain number d (Jump to) ∷ plan_all p schedule from d false other) at.1) (forgotten-all d s q.deep) q)
+          (block_runs body false (index + 1) d turns loops s s (has_front code (index + 1) (plan_all p schedule (index + 1) d false body)
+          (plain number d (Jump to) ∷ plan_all p schedule from d false other) at.1) (forgotten-all d s q.deep) q)
           (block_runs other false from d turns loops s s others.1 (forgotten-all d s q.deep) q))
       action_runs (While c body) index number label d turns loops m s at same q =
           let back = index + 2 + size_all p schedule d false body in
@@ -197,7 +205,8 @@ module _ (p : ProgramTree) (g : GraphValue) (schedule : ScheduleTree) (code : Li
           let jump = plain number d (Jump index) ∷ [] in
           let inner : HasBlock (index + 2) d false body jump = subst (λ (x : ℕ). HasAt code x (plan_all p schedule (index + 2) d false body ++ jump)) (omega arith) at.1.1 in
           lands_at p g code (after p g number (While c body) s) to (index + size p schedule d (While c body)) loops d turns (At index loops m) (omega arith)
-          (while_runs p g code c (after_all p g body) index number back to d (behind_all body d) turns loops m s at.0 at.1.0 (behind_block (index + 2) back d body jump refl inner).0 (within_after_all body d)
+          (while_runs p g code c (after_all p g body) index number back to d (behind_all body d) turns loops m s at.0 at.1.0 (behind_block (index + 2) back d body jump refl inner).0
+          (within_after_all body d)
           (λ n t proper. block_runs body false (index + 2) d n loops t t (has_front code (index + 2) (plan_all p schedule (index + 2) d false body) jump inner) (forgotten-all d t proper.deep) proper)
           same q)
       action_runs (For name first end body) index number label d turns loops m s at same q =
@@ -218,7 +227,8 @@ module _ (p : ProgramTree) (g : GraphValue) (schedule : ScheduleTree) (code : Li
           lands_at p g code (after p g number (For name first end body) s) to (index + size p schedule d (For name first end body)) loops d turns (At index loops m) (omega arith)
           (for_runs p g code index number name back to first end d (behind_all body deep) loops stands (after_all p g body) turns s m
           (within_both d deep (behind_all body deep) (within_loop d) (within_after_all body deep))
-          (λ r n t proper. block_runs body false (index + 4) deep n (r ∷ loops) t t (has_front code (index + 4) (plan_all p schedule (index + 4) deep false body) last inner) (forgotten-all deep t proper.deep) proper)
+          (λ r n t proper. block_runs body false (index + 4) deep n (r ∷ loops) t t (has_front code (index + 4) (plan_all p schedule (index + 4) deep false body) last inner)
+          (forgotten-all deep t proper.deep) proper)
           same q)
 
       pub block_runs : (b : BlockTree) (is_done : Bool) (index : ℕ) (d : Depth) (turns : ℕ) (loops : List LoopCounter) (m s : StateValue)
@@ -228,7 +238,8 @@ module _ (p : ProgramTree) (g : GraphValue) (schedule : ScheduleTree) (code : Li
       block_runs Empty false index d turns loops m s at same q = lands_here index loops d turns m s same q
       block_runs (Then number label action rest) true index d turns loops m s at same q =
           let e : index + 0 ≡ index = omega arith in
-          lands_at p g code (after_all p g rest s) (index + size_all p schedule (behind action d) false rest) (index + size_all p schedule d true (Then number label action rest)) loops (behind_all rest (behind action d)) turns (At index loops m) (omega arith)
+          lands_at p g code (after_all p g rest s) (index + size_all p schedule (behind action d) false rest) (index + size_all p schedule d true (Then number label action rest)) loops
+          (behind_all rest (behind action d)) turns (At index loops m) (omega arith)
           (block_runs rest false index (behind action d) turns loops m s (subst (λ (x : ℕ). HasAt code index (plan_all p schedule x (behind action d) false rest)) e at) same q)
       block_runs (Then number label action rest) false index d turns loops m s at same q =
           joined_runs (fusion_role_of p schedule d false label action rest) action rest index number label d turns loops m s (good d label action rest) at same q

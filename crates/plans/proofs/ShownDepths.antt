@@ -1,6 +1,7 @@
 -- What an instruction shows it keeps.
 use Rattle.std.proofs.Common.{◌≡◌, ℕ, ◌+◌, false, List, [], ◌∷◌, Bool, Option, Some, slice_get, arith}
-use Rattle.typed_tree.specs.BlockTree.{StatementKindTree, DeclareInteger, DeclareCondition, SetInteger, SetCondition, ReduceInteger, SetEntry, ReduceEntry, DeclareSet, AssignSet, AddVertex, PrintInteger, PrintCondition, ApplyVertex, ApplyEdges, If, IfElse, While, For, BlockTree, Empty, Then}
+use Rattle.typed_tree.specs.BlockTree.{StatementKindTree, DeclareInteger, DeclareCondition, SetInteger, SetCondition, ReduceInteger, SetEntry, ReduceEntry, DeclareSet, AssignSet, AddVertex}
+use Rattle.typed_tree.specs.BlockTree.{PrintInteger, PrintCondition, ApplyVertex, ApplyEdges, If, IfElse, While, For, BlockTree, Empty, Then}
 use Rattle.typed_tree.specs.ProgramTree.{ProgramTree}
 use Rattle.apply_options.specs.ScheduleTree.{ScheduleTree}
 use Rattle.algorithm_meaning.specs.declared.state.Depth.{Depth}
@@ -18,7 +19,8 @@ ShowsWithin i = IsWithin i.shown i.keep
 one_deeper : (d : Depth) → IsWithin d (with_integer d)
 one_deeper d = record { integers = omega arith; conditions = omega arith; sets = omega arith }
 
-in_company : (company : FusionRole) (s : ScheduleTree) (number : ℕ) (label : Option ℕ) (d : Depth) (is : List InstructionTree) → AllOf ShowsWithin is → AllOf ShowsWithin (plan_in company s number label d is)
+in_company : (company : FusionRole) (s : ScheduleTree) (number : ℕ) (label : Option ℕ) (d : Depth) (is : List InstructionTree) → AllOf ShowsWithin is
+    → AllOf ShowsWithin (plan_in company s number label d is)
 in_company Alone s number label d is own = own
 in_company (WithNext operation) s number label d is own = (within_itself d, tt)
 in_company WithPrevious s number label d is own = tt

@@ -1,11 +1,13 @@
 -- Where the instructions of a plan lead.
 use Rattle.std.proofs.Common.{◌≡◌, ℕ, ◌+◌, ◌<◌, Bool, true, false, List, [], ◌∷◌, ◌++◌, length, if◌then◌else◌, ◌⊎◌, inl, inr, Option, Some, None, slice_get, ap, sym, refl, arith, subst}
-use Rattle.typed_tree.specs.BlockTree.{StatementKindTree, DeclareInteger, DeclareCondition, SetInteger, SetCondition, ReduceInteger, SetEntry, ReduceEntry, DeclareSet, AssignSet, AddVertex, PrintInteger, PrintCondition, ApplyVertex, ApplyEdges, If, IfElse, While, For, BlockTree, Empty, Then}
+use Rattle.typed_tree.specs.BlockTree.{StatementKindTree, DeclareInteger, DeclareCondition, SetInteger, SetCondition, ReduceInteger, SetEntry, ReduceEntry, DeclareSet, AssignSet, AddVertex}
+use Rattle.typed_tree.specs.BlockTree.{PrintInteger, PrintCondition, ApplyVertex, ApplyEdges, If, IfElse, While, For, BlockTree, Empty, Then}
 use Rattle.typed_tree.specs.ProgramTree.{ProgramTree}
 use Rattle.apply_options.specs.ScheduleTree.{ScheduleTree, apply_schedule_at}
 use Rattle.algorithm_meaning.specs.declared.state.Depth.{Depth}
 use Rattle.plans.specs.Instruction.{OperationTree, Do, ApplyEdgesTogether, ApplyVerticesTogether, Unless, UnlessBelow, Advance, Turn, Jump, End, InstructionTree}
-use Rattle.plans.specs.Fusing.{EdgeApplyTree, VertexApplyTree, edge_apply_of, vertex_apply_of, edges_fit, vertices_fit, fused_edges, fused_vertices, either, together, is_with, FusionRole, Alone, WithNext, WithPrevious, with_next, fusion_role_of, takes_next}
+use Rattle.plans.specs.Fusing.{EdgeApplyTree, VertexApplyTree, edge_apply_of, vertex_apply_of, edges_fit, vertices_fit, fused_edges, fused_vertices, either, together, is_with, FusionRole, Alone}
+use Rattle.plans.specs.Fusing.{WithNext, WithPrevious, with_next, fusion_role_of, takes_next}
 use Rattle.plans.specs.Plan.{behind, behind_all, in_loop, main_depth, plan_of, plain, loop_step, size_in, plan_in, size, size_all, plan, plan_all}
 use Rattle.plans.specs.Bound.{is_turn}
 use Rattle.plans.proofs.Proper.{HasNoBlock}
@@ -86,7 +88,8 @@ fused_for_two true None h = tt
 fused_for_two true (Some operation) h = h
 fused_for_two false o h = tt
 
-company_of_two : (p : ProgramTree) (schedule : ScheduleTree) (d : Depth) (is_done : Bool) (label : Option ℕ) (a : StatementKindTree) (rest : BlockTree) → IsCompanyOfTwo (fusion_role_of p schedule d is_done label a rest)
+company_of_two : (p : ProgramTree) (schedule : ScheduleTree) (d : Depth) (is_done : Bool) (label : Option ℕ) (a : StatementKindTree) (rest : BlockTree)
+    → IsCompanyOfTwo (fusion_role_of p schedule d is_done label a rest)
 company_of_two p schedule d true label a rest = tt
 company_of_two p schedule d false label a Empty = tt
 company_of_two p schedule d false label a (Then number other b rest) =
@@ -111,7 +114,8 @@ module _ (p : ProgramTree) (schedule : ScheduleTree) (code : List InstructionTre
   turn_at index number keep shown e = ap is_turn e
 
   mutual
-    action_leads : (a : StatementKindTree) (index number : ℕ) (label : Option ℕ) (d : Depth) → HasAt code index (plan p schedule index d number label a) → AllLeadWell code index (plan p schedule index d number label a)
+    action_leads : (a : StatementKindTree) (index number : ℕ) (label : Option ℕ) (d : Depth) → HasAt code index (plan p schedule index d number label a)
+    → AllLeadWell code index (plan p schedule index d number label a)
     action_leads (DeclareInteger name e) index number label d at = (tt, tt)
     action_leads (DeclareCondition name c) index number label d at = (tt, tt)
     action_leads (SetInteger slot e) index number label d at = (tt, tt)
@@ -186,7 +190,8 @@ module _ (p : ProgramTree) (schedule : ScheduleTree) (code : List InstructionTre
         let others = plan_all p schedule (index + n) (behind action d) (takes_next company) rest in
         let e : length first ≡ n = length_in company schedule number label d own (size p schedule d action) (length-plan p schedule action index d number label) in
         lead_append code index n first others e
-        (company_leads company index number label d own (company_of_two p schedule d is_done label action rest) (has_front code index first others at) (λ here. action_leads action index number label d here))
+        (company_leads company index number label d own (company_of_two p schedule d is_done label action rest) (has_front code index first others at)
+        (λ here. action_leads action index number label d here))
         (block_leads rest (takes_next company) (index + n) (behind action d) (has_behind code index n (index + n) first others e refl at))
 
 -- each instruction of the plan of a program leads well

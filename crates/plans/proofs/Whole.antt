@@ -72,7 +72,8 @@ steps_lower p schedule g = step_falls p g (plan_of p schedule) (plan_leads p sch
 
 pub runs_as : (p : ProgramTree) (schedule : ScheduleTree) (g : GraphValue) (turns : ℕ) → RunsAs p g turns (plan_of p schedule)
 runs_as p schedule g turns =
-    let t = takes_steps p g (plan_of p schedule) (steps_lower p schedule g) (first_configuration (opening p g turns)) (finish (after_all p g p.main (opening p g turns))) (reaches_end p schedule g turns) in
+    let t = takes_steps p g (plan_of p schedule) (steps_lower p schedule g) (first_configuration (opening p g turns)) (finish (after_all p g p.main (opening p g turns)))
+    (reaches_end p schedule g turns) in
     record {
       count = t.count;
       within = t.within;

@@ -37,4 +37,5 @@ pub record ComesFrom (main : BlockTree) (s : ScheduleTree) (i : InstructionTree)
 
 -- so does each edge apply of a plan, and of two that are done together the first
 abbrev pub GoBySchedule : BlockTree → ScheduleTree → List InstructionTree → Type 0
-GoBySchedule main s plan = (index : ℕ) (i : InstructionTree) (x : EdgeApplyTree) → slice_get plan index ≡ Some i → first_apply i.operation ≡ Some x → ComesFrom main s i x
+GoBySchedule main s plan = (index : ℕ) (i : InstructionTree) (x : EdgeApplyTree) → slice_get plan index ≡ Some i → first_apply i.operation ≡ Some x
+    → ComesFrom main s i x

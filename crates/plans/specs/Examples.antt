@@ -11,11 +11,13 @@ use Rattle.typed_tree.specs.IntExpressionTree.{IntExpressionTree, Number, EntryA
 use Rattle.typed_tree.specs.BoolExpressionTree.{BoolExpressionTree, Compare}
 use Rattle.typed_tree.specs.FunctionStatementTree as step
 use Rattle.typed_tree.specs.FunctionStatementTree.{FunctionTree}
-use Rattle.typed_tree.specs.BlockTree.{DeclareInteger, SetEntry, DeclareSet, AssignSet, AddVertex, PrintInteger, ApplyVertex, ApplyEdges, If, IfElse, While, For, BlockTree, Empty, Then}
+use Rattle.typed_tree.specs.BlockTree.{DeclareInteger, SetEntry, DeclareSet, AssignSet, AddVertex, PrintInteger, ApplyVertex, ApplyEdges, If, IfElse, While}
+use Rattle.typed_tree.specs.BlockTree.{For, BlockTree, Empty, Then}
 use Rattle.typed_tree.specs.ProgramTree.{ProgramTree}
 use Rattle.apply_options.specs.declared.apply_schedule.Fused.TheVariants.{With, Into}
 use Rattle.apply_options.specs.ScheduleTree.{ScheduleTree, fused_as, no_apply_schedule}
-use Rattle.plans.specs.Instruction.{OperationTree, Do, ApplyEdgesTogether, ApplyVerticesTogether, Unless, Enter, UnlessBelow, Advance, Turn, Jump, End, InstructionTree, Dropped, Declared}
+use Rattle.plans.specs.Instruction.{OperationTree, Do, ApplyEdgesTogether, ApplyVerticesTogether, Unless, Enter, UnlessBelow, Advance, Turn, Jump, End}
+use Rattle.plans.specs.Instruction.{InstructionTree, Dropped, Declared}
 use Rattle.plans.specs.Plan.{plan_of}
 
 -- what the instructions of a plan do

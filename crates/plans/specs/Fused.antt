@@ -7,7 +7,8 @@ use Rattle.algorithm_meaning.specs.Function.{steps_of}
 use Rattle.algorithm_meaning.specs.State.{StateValue}
 use Rattle.algorithm_meaning.specs.VertexSets.{after_vertices}
 use Rattle.typed_tree.specs.Independence.{are_apart, function_writes}
-use Rattle.plans.specs.Instruction.{OperationTree, Do, ApplyEdgesTogether, ApplyVerticesTogether, Unless, Enter, UnlessBelow, Advance, Turn, Jump, End, InstructionTree}
+use Rattle.plans.specs.Instruction.{OperationTree, Do, ApplyEdgesTogether, ApplyVerticesTogether, Unless, Enter, UnlessBelow, Advance, Turn, Jump, End}
+use Rattle.plans.specs.Instruction.{InstructionTree}
 use Rattle.plans.specs.Machine.{after_both}
 
 -- at ascending vertices it is one whether both functions run at each vertex, or the first at all of them and then the second

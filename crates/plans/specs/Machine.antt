@@ -16,7 +16,8 @@ use Rattle.algorithm_meaning.specs.VertexSets.{with_new_set, with_members, after
 use Rattle.algorithm_meaning.specs.EdgeApply.{after_edge_apply, modified}
 use Rattle.algorithm_meaning.specs.Loop.{forget_beyond, next_of}
 use Rattle.algorithm_meaning.specs.Meaning.{after}
-use Rattle.plans.specs.Instruction.{ResultTree, Dropped, Declared, Assigned, EdgePartTree, OperationTree, Do, ApplyEdgesTogether, ApplyVerticesTogether, Unless, Enter, UnlessBelow, Advance, Turn, Jump, End, InstructionTree}
+use Rattle.plans.specs.Instruction.{ResultTree, Dropped, Declared, Assigned, EdgePartTree, OperationTree, Do, ApplyEdgesTogether, ApplyVerticesTogether, Unless}
+use Rattle.plans.specs.Instruction.{Enter, UnlessBelow, Advance, Turn, Jump, End, InstructionTree}
 
 -- where a run of a plan stands: before the instruction at an index, with the values of the `for` loops around it, the innermost first; or at its end
 pub data Configuration : Type 0 where
@@ -47,7 +48,8 @@ after_both first second s (v ∷ vs) vectors =
 
 abbrev pub after_apply_both : ProgramTree → (set first second : ℕ) → StateValue → StateValue
 after_apply_both p set first second s =
-    with_vectors s (after_both (steps_of (slice_get p.vertex_functions first)) (steps_of (slice_get p.vertex_functions second)) s (members_of (slice_get s.sets set)) s.vectors)
+    with_vectors s (after_both (steps_of (slice_get p.vertex_functions first)) (steps_of (slice_get p.vertex_functions second)) s
+    (members_of (slice_get s.sets set)) s.vectors)
 
 -- at the next instruction, or at the end, where what is visible at the statement is shown
 abbrev pub go_on : (index : ℕ) → List LoopCounter → (shown : Depth) → Stand → Configuration

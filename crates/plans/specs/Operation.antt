@@ -4,7 +4,8 @@ use Rattle.std.specs.Option.{unwrap_or}
 use Rattle.typed_tree.specs.declared.statement.ApplyEnds.{ApplyEnds}
 use Rattle.typed_tree.specs.IntExpressionTree.{IntExpressionTree}
 use Rattle.typed_tree.specs.BoolExpressionTree.{BoolExpressionTree}
-use Rattle.typed_tree.specs.BlockTree.{StatementKindTree, DeclareInteger, DeclareCondition, SetInteger, SetCondition, ReduceInteger, SetEntry, ReduceEntry, DeclareSet, AssignSet, AddVertex, PrintInteger, PrintCondition, ApplyVertex}
+use Rattle.typed_tree.specs.BlockTree.{StatementKindTree, DeclareInteger, DeclareCondition, SetInteger, SetCondition, ReduceInteger, SetEntry, ReduceEntry}
+use Rattle.typed_tree.specs.BlockTree.{DeclareSet, AssignSet, AddVertex, PrintInteger, PrintCondition, ApplyVertex}
 use Rattle.typed_tree.specs.declared.statement.SetValue.{SetValue}
 use Rattle.typed_tree.specs.ProgramTree.{ProgramTree}
 use Rattle.typed_tree.specs.declared.statement.SetValue.TheVariants as set
@@ -13,7 +14,8 @@ use Rattle.algorithm_meaning.specs.Function.{steps_of}
 use Rattle.kernels.specs.declared.expression.ExpressionKernel.{ExpressionKernel}
 use Rattle.kernels.specs.Kernels.{IsIntegerKernel, IsConditionKernel, IsEdgeKernel, IsFilterKernel}
 use Rattle.kernels.specs.Meaning.{IsVertexCode}
-use Rattle.plans.specs.Instruction.{OperationTree, Do, ApplyEdgesTogether, ApplyVerticesTogether, Unless, Enter, UnlessBelow, Advance, Turn, Jump, End, InstructionTree, ResultTree, Dropped, Declared, Assigned, EdgePartTree}
+use Rattle.plans.specs.Instruction.{OperationTree, Do, ApplyEdgesTogether, ApplyVerticesTogether, Unless, Enter, UnlessBelow, Advance, Turn, Jump, End}
+use Rattle.plans.specs.Instruction.{InstructionTree, ResultTree, Dropped, Declared, Assigned, EdgePartTree}
 use Rattle.plans.specs.Fusing.{edge_apply_of}
 use Rattle.plans.specs.declared.part.EdgePart.{EdgePart}
 use Rattle.plans.specs.declared.operation.PlanOperation.{PlanOperation}
@@ -45,7 +47,8 @@ pub record HasCondition (d : Depth) (k : ExpressionKernel) (make : BoolExpressio
   pub visible : IsFor d k
 
 -- of an index and a value
-pub record HasEntry (d : Depth) (index value : ExpressionKernel) (make : IntExpressionTree → IntExpressionTree → OperationTree) (o : OperationTree) : Type 0 where
+pub record HasEntry (d : Depth) (index value : ExpressionKernel) (make : IntExpressionTree → IntExpressionTree → OperationTree)
+    (o : OperationTree) : Type 0 where
   pub index_tree : IntExpressionTree
   pub value_tree : IntExpressionTree
   pub is : o ≡ make index_tree value_tree

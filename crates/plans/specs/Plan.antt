@@ -112,14 +112,16 @@ abbrev mutual
   plan_all p s index d is_done Empty = []
   plan_all p s index d is_done (Then number label action rest) =
       plan_in (fusion_role_of p s d is_done label action rest) s number label d (plan p s index d number label action)
-      ++ plan_all p s (index + size_in (fusion_role_of p s d is_done label action rest) (size p s d action)) (behind action d) (takes_next (fusion_role_of p s d is_done label action rest)) rest
+      ++ plan_all p s (index + size_in (fusion_role_of p s d is_done label action rest) (size p s d action)) (behind action d)
+      (takes_next (fusion_role_of p s d is_done label action rest)) rest
 
 -- the instructions of main, and the end
 abbrev pub plan_of : ProgramTree → ScheduleTree → List InstructionTree
 plan_of p s = plan_all p s 0 (main_depth p) false p.main ++ plain 0 (behind_all p.main (main_depth p)) End ∷ []
 
 -- they are those of the plan of a program under a schedule
-pub record ArePartsOf (is : List Instruction) (f : FunctionKernels) (vs : List Vector) (ss : List ℕ) (ns gs : List (List ℕ)) (p : ProgramTree) (s : ScheduleTree) : Type 0 where
+pub record ArePartsOf (is : List Instruction) (f : FunctionKernels) (vs : List Vector) (ss : List ℕ) (ns gs : List (List ℕ)) (p : ProgramTree)
+    (s : ScheduleTree) : Type 0 where
   pub instructions : AreInstructions is (plan_of p s)
   pub functions : AreFunctionKernels f p
   pub vectors : vs ≡ p.vectors

@@ -6,7 +6,8 @@ use Rattle.typed_tree.specs.ProgramTree.{ProgramTree}
 use Rattle.algorithm_meaning.specs.Function.{steps_of}
 use Rattle.algorithm_meaning.specs.EdgeApply.{IsGivenBy}
 use Rattle.algorithm_meaning.specs.State.{StateValue}
-use Rattle.plans.specs.Instruction.{OperationTree, Do, ApplyEdgesTogether, ApplyVerticesTogether, Unless, Enter, UnlessBelow, Advance, Turn, Jump, End, InstructionTree}
+use Rattle.plans.specs.Instruction.{OperationTree, Do, ApplyEdgesTogether, ApplyVerticesTogether, Unless, Enter, UnlessBelow, Advance, Turn, Jump, End}
+use Rattle.plans.specs.Instruction.{InstructionTree}
 use Rattle.plans.specs.Fusing.{EdgeApplyTree, edge_apply_of}
 
 -- the indices of one or two functions
@@ -29,7 +30,8 @@ AreReduced steps m = (vector : ℕ) → IsReducedAlone steps m vector
 
 -- whatever the state, the edge apply of an operation gives each vector numbers by one reduction
 abbrev pub OperationReduces : ProgramTree → OperationTree → Type 0
-OperationReduces p (Do action) = (x : EdgeApplyTree) → edge_apply_of action ≡ Some x → (m : StateValue) → AreReduced (steps_at p.edge_functions (indices_of x.part.function None)) m
+OperationReduces p (Do action) = (x : EdgeApplyTree) → edge_apply_of action ≡ Some x → (m : StateValue)
+    → AreReduced (steps_at p.edge_functions (indices_of x.part.function None)) m
 OperationReduces p (ApplyEdgesTogether ends a b) = (m : StateValue) → AreReduced (steps_at p.edge_functions (indices_of a.function (Some b.function))) m
 OperationReduces p (ApplyVerticesTogether set f g) = Unit {0}
 OperationReduces p (Unless c to) = Unit {0}

@@ -1,5 +1,6 @@
 -- The edges into the vertices of blocks that pass.
-use Rattle.std.proofs.Common.{◌≡◌, ◌⊎◌, inl, inr, ℕ, zero, suc, ◌+◌, ◌-◌, ◌*◌, ◌/◌, ◌%◌, ◌<◌, ◌≤◌, ◌==◌, ◌&&◌, ℤ, Bool, true, false, cond, List, [], ◌∷◌, ◌++◌, bit_and, refl, sym, ap, ap₂, ◌∙◌, subst, append_assoc, arith, mod-lt, zero-lt-suc}
+use Rattle.std.proofs.Common.{◌≡◌, ◌⊎◌, inl, inr, ℕ, zero, suc, ◌+◌, ◌-◌, ◌*◌, ◌/◌, ◌%◌, ◌<◌, ◌≤◌, ◌==◌, ◌&&◌, ℤ, Bool, true, false, cond, List, [], ◌∷◌, ◌++◌, bit_and, refl, sym, ap, ap₂, ◌∙◌, subst}
+use Rattle.std.proofs.Common.{append_assoc, arith, mod-lt, zero-lt-suc}
 use Rattle.std.specs.Int.{bit_at}
 use Rattle.std.specs.List.{filter, range_with_len}
 use Rattle.std.proofs.lemmas.List.{append-nil}
@@ -37,7 +38,8 @@ first_bit from p es a (suc zero) us vs l on off more =
 first_bit from p es a (suc (suc b)) us vs l on off more = absurd (omega arith)
 
 -- the edges into the vertices of set bits are those into all that pass, where the others do not pass or have no sources
-columns_of_word : (from p : ℕ → Bool) (es : List Edge) (k a word : ℕ) → ((i : ℕ) → i < k → bit_at word i ≡ 1 → p (a + i) ≡ true) → ((i : ℕ) → i < k → bit_at word i ≡ 0 → (p (a + i) ≡ false) ⊎ (sources_of (a + i) es ≡ []))
+columns_of_word : (from p : ℕ → Bool) (es : List Edge) (k a word : ℕ) → ((i : ℕ) → i < k → bit_at word i ≡ 1 → p (a + i) ≡ true)
+    → ((i : ℕ) → i < k → bit_at word i ≡ 0 → (p (a + i) ≡ false) ⊎ (sources_of (a + i) es ≡ []))
     → columns from es (bit_members k a word) ≡ columns from es (filter p (range_with_len a k))
 unfolding bit_members
 columns_of_word from p es zero a word on off = refl
@@ -146,7 +148,8 @@ range_begun f from p es first v s m steps edges are has =
     (sym (append-nil edges) ∙ ap (λ (n : ℕ). edges ++ columns from es (filter p (range_with_len first n))) none) has
 
 -- the edges into one destination
-pub one_destination : (f : ApplyContext) (from : ℕ → Bool) (edges : List Edge) (v : ℕ) (s t : Scratch) → FoldsMore f (column v (passing from (sources_of v edges))) s t → FoldsMore f (columns from edges (v ∷ [])) s t
+pub one_destination : (f : ApplyContext) (from : ℕ → Bool) (edges : List Edge) (v : ℕ) (s t : Scratch) → FoldsMore f (column v (passing from (sources_of v edges))) s t
+    → FoldsMore f (columns from edges (v ∷ [])) s t
 one_destination f from edges v s t more m steps es are has =
     let here = column v (passing from (sources_of v edges)) in
     folded_along f m steps (es ++ here) (es ++ columns from edges (v ∷ [])) t (ap (λ ks. es ++ ks) (sym (append-nil here))) (more m steps es are has)

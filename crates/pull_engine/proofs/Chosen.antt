@@ -23,7 +23,8 @@ passing_more p es i low b from inside is =
     ∙ ap (λ (more : List (ℕ × ℤ)). passing p (take (i - low) (drop low es)) ++ more) (one_passes p (entry_at es i) b is)
 
 -- an index is written after those that are chosen, and counts where its entry passes
-pub chosen_more : (p : ℕ → Bool) (es : List (ℕ × ℤ)) (xs : List ℕ) (k i low n : ℕ) (b : Bool) → map (entry_at es) (take k xs) ≡ passing p (take (i - low) (drop low es)) → k < length xs → low ≤ i → i < length es
+pub chosen_more : (p : ℕ → Bool) (es : List (ℕ × ℤ)) (xs : List ℕ) (k i low n : ℕ) (b : Bool) → map (entry_at es) (take k xs) ≡ passing p (take (i - low) (drop low es)) → k < length xs → low ≤ i
+    → i < length es
     → p (entry_at es i).0 ≡ b → (b ≡ true → n ≡ k + 1) → (b ≡ false → n ≡ k)
     → map (entry_at es) (take n (set xs k i)) ≡ passing p (take (i + 1 - low) (drop low es))
 chosen_more p es xs k i low n true at room from inside is counts stays =

@@ -53,7 +53,8 @@ kept_keys from left first second count kept filled keeps =
     firsts-filter from (take count left) ∙ ap (filter from) (sym (take-map (λ (e : ℕ × ℤ). e.0) count left) ∙ sym filled) ∙ sym keeps
 
 -- so it is with their weights
-pub kept_entries : (from : ℕ → Bool) (left : List (ℕ × ℤ)) (keys : List ℕ) (weights : List ℤ) (count : ℕ) (kept : List (ℕ × ℤ)) → take count keys ≡ take count (keys_of left) → take count weights ≡ take count (values_of left)
+pub kept_entries : (from : ℕ → Bool) (left : List (ℕ × ℤ)) (keys : List ℕ) (weights : List ℤ) (count : ℕ) (kept : List (ℕ × ℤ)) → take count keys ≡ take count (keys_of left)
+    → take count weights ≡ take count (values_of left)
     → kept ≡ passing from (entries_of (take count keys) (take count weights)) → kept ≡ passing from (take count left)
 kept_entries from left keys weights count kept same weighed keeps =
     keeps

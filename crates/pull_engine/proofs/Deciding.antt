@@ -33,7 +33,8 @@ pub ascends_filter : (p : ℕ → Bool) (low : ℕ) (xs : List ℕ) → AscendsF
 ascends_filter p low [] up = tt
 ascends_filter p low (x ∷ xs) up = ascends_filtered p low x (filter p xs) (p x) up.0 up.1 (ascends_filter p (x + 1) xs up.2)
 
-greatest_after : (old : ℤ) (x : ℕ) (xs : List ℕ) → AscendsFrom x xs → reduced_with reduction.Max (λ s. pos s) (int_max old (pos x)) xs ≡ reduced_once reduction.Max (λ s. pos s) old (last_or (Some x) xs)
+greatest_after : (old : ℤ) (x : ℕ) (xs : List ℕ) → AscendsFrom x xs → reduced_with reduction.Max (λ s. pos s) (int_max old (pos x)) xs ≡ reduced_once reduction.Max (λ s. pos s) old
+    (last_or (Some x) xs)
 greatest_after old x [] up = refl
 greatest_after old x (y ∷ ys) up =
     ap (λ (n : ℤ). reduced_with reduction.Max (λ s. pos s) n ys) (above_all old x y up.0) ∙ greatest_after old y ys (from_lower y (y + 1) ys (omega arith) up.2)
@@ -75,7 +76,8 @@ last_with o [] x true = refl
 last_with o [] x false = refl
 last_with o (y ∷ ys) x b = last_with (Some y) ys x b
 
-pub last_passes : (p : ℕ → Bool) (xs : List ℕ) (i : ℕ) (b : Bool) → i < length xs → p (get_or xs i 0) ≡ b → last_of (filter p (take (i + 1) xs)) ≡ cond b (Some (get_or xs i 0)) (last_of (filter p (take i xs)))
+pub last_passes : (p : ℕ → Bool) (xs : List ℕ) (i : ℕ) (b : Bool) → i < length xs → p (get_or xs i 0) ≡ b
+    → last_of (filter p (take (i + 1) xs)) ≡ cond b (Some (get_or xs i 0)) (last_of (filter p (take i xs)))
 last_passes p xs i b l is =
     let x = get_or xs i 0 in
     ap (λ (ys : List ℕ). last_of (filter p ys)) (take_more xs i 0 l)
@@ -107,7 +109,8 @@ round_parts p o all first second count kept filled keeps =
     ∙ last_after o (filter p (take count all)) (filter p (drop count all))
     ∙ ap (λ xs. last_or (last_or o xs) (filter p (drop count all))) (sym (keeps ∙ ap (filter p) filled))
 
-pub last_of_round : (p : ℕ → Bool) (o : Option ℕ) (all first second : List ℕ) (count kept : ℕ) → take count first ≡ take count all → take kept second ≡ filter p (take count first) → 0 < kept → kept ≤ length second
+pub last_of_round : (p : ℕ → Bool) (o : Option ℕ) (all first second : List ℕ) (count kept : ℕ) → take count first ≡ take count all → take kept second ≡ filter p (take count first) → 0 < kept
+    → kept ≤ length second
     → last_or (Some (get_or second (kept - 1) 0)) (filter p (drop count all)) ≡ last_or o (filter p all)
 last_of_round p o all first second count kept filled keeps some few =
     let long = length-take-le kept second few in
@@ -125,7 +128,8 @@ pub reduced_with-append : (r : Reduction) (number : ℕ → ℤ) (n : ℤ) (xs y
 reduced_with-append r number n [] ys = refl
 reduced_with-append r number n (x ∷ xs) ys = reduced_with-append r number (reduced r n (number x)) xs ys
 
-pub all_of_round : (p : ℕ → Bool) (r : Reduction) (number : ℕ → ℤ) (n m : ℤ) (all first second : List ℕ) (count kept : ℕ) → take count first ≡ take count all → take kept second ≡ filter p (take count first)
+pub all_of_round : (p : ℕ → Bool) (r : Reduction) (number : ℕ → ℤ) (n m : ℤ) (all first second : List ℕ) (count kept : ℕ) → take count first ≡ take count all
+    → take kept second ≡ filter p (take count first)
     → m ≡ reduced_with r number n (take kept second) → reduced_with r number m (filter p (drop count all)) ≡ reduced_with r number n (filter p all)
 all_of_round p r number n m all first second count kept filled keeps is =
     ap (λ (k : ℤ). reduced_with r number k (filter p (drop count all))) (is ∙ ap (reduced_with r number n) (keeps ∙ ap (filter p) filled))

@@ -16,18 +16,21 @@ use Rattle.vertex_sets.proofs.Ascending.{range_end, range_has}
 abbrev pub ListParts : (parts : ℕ → List EntryChange) → List (Found Gathered) → Type 0
 ListParts parts fs = AreAnswers (λ k g. all_listed g.vectors.items ≡ parts k) fs
 
-part_at : (parts : ℕ → List EntryChange) (fs : List (Found Gathered)) (i : ℕ) (d : Found Gathered) → ListParts parts fs → i < length fs → all_listed (get_or fs i d).out.vectors.items ≡ parts (get_or fs i d).piece
+part_at : (parts : ℕ → List EntryChange) (fs : List (Found Gathered)) (i : ℕ) (d : Found Gathered) → ListParts parts fs → i < length fs
+    → all_listed (get_or fs i d).out.vectors.items ≡ parts (get_or fs i d).piece
 part_at parts [] i d are l = absurd (omega (arith, l))
 part_at parts (f ∷ fs) zero d are l = are.0
 part_at parts (f ∷ fs) (suc i) d are l = part_at parts fs i d are.1 (omega (arith, l))
 
-pub part_found : (parts : ℕ → List EntryChange) (fs : List (Found Gathered)) (i piece : ℕ) (d e f : Found Gathered) → ListParts parts fs → i < length fs → e ≡ get_or fs i d → (get_or fs i f).piece ≡ piece → all_listed e.out.vectors.items ≡ parts piece
+pub part_found : (parts : ℕ → List EntryChange) (fs : List (Found Gathered)) (i piece : ℕ) (d e f : Found Gathered) → ListParts parts fs → i < length fs → e ≡ get_or fs i d
+    → (get_or fs i f).piece ≡ piece → all_listed e.out.vectors.items ≡ parts piece
 part_found parts fs i piece d e f are l is at =
     ap (λ (g : Found Gathered). all_listed g.out.vectors.items) is ∙ part_at parts fs i d are l
     ∙ ap (λ (g : Found Gathered). parts g.piece) (get_or_default fs i d f l) ∙ ap parts at
 
 -- one piece more
-pub parts_more : (parts : ℕ → List EntryChange) (n : ℕ) (found part more : List EntryChange) → part ≡ parts (n + 1) → more ≡ found ++ part → found ≡ flat_map parts (range_with_len 1 n) → more ≡ flat_map parts (range_with_len 1 (n + 1))
+pub parts_more : (parts : ℕ → List EntryChange) (n : ℕ) (found part more : List EntryChange) → part ≡ parts (n + 1) → more ≡ found ++ part → found ≡ flat_map parts (range_with_len 1 n)
+    → more ≡ flat_map parts (range_with_len 1 (n + 1))
 parts_more parts n found part more is tells was =
     let next : n + 1 ≡ 1 + n = omega arith in
     tells ∙ ap (λ cs. cs ++ part) was ∙ ap (λ cs. flat_map parts (range_with_len 1 n) ++ cs) (is ∙ sym (append-nil (parts (n + 1))))

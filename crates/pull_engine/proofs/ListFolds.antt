@@ -27,5 +27,6 @@ one_folded r number p old n xs i b l is was =
     ∙ one_or_none r number n x b)
 
 -- all sources
-pub all_folded : (r : Reduction) (number : ℕ → ℤ) (p : ℕ → Bool) (old : ℤ) (xs : List ℕ) (i : ℕ) → length xs ≤ i → reduced_with r number old (filter p (take i xs)) ≡ reduced_with r number old (filter p xs)
+pub all_folded : (r : Reduction) (number : ℕ → ℤ) (p : ℕ → Bool) (old : ℤ) (xs : List ℕ) (i : ℕ) → length xs ≤ i
+    → reduced_with r number old (filter p (take i xs)) ≡ reduced_with r number old (filter p xs)
 all_folded r number p old xs i l = ap (λ (ys : List ℕ). reduced_with r number old (filter p ys)) (take_all i xs l)

@@ -57,7 +57,8 @@ columns_agree g p q is same (u ∷ us) =
     ∙ ap (λ (ks : List Edge). column u (passing q (sources_of u g.edges)) ++ ks) (columns_agree g p q is same us)
 
 -- a vertex to which an edge goes is one of the graph
-found_first : (v : ℕ) (e : Edge) (es : List Edge) (same : Bool) → e.1 == v ≡ same → 0 < length (cond same ((e.0, e.2) ∷ sources_of v es) (sources_of v es)) → ((e.1 ≡ v) ⊎ (0 < length (sources_of v es)))
+found_first : (v : ℕ) (e : Edge) (es : List Edge) (same : Bool) → e.1 == v ≡ same → 0 < length (cond same ((e.0, e.2) ∷ sources_of v es) (sources_of v es))
+    → ((e.1 ≡ v) ⊎ (0 < length (sources_of v es)))
 found_first v e es true is some = inl ((Decides-eqb e.1 v).0 is)
 found_first v e es false is some = inr some
 
@@ -74,14 +75,16 @@ filtered_destinations g to is v some =
     member_filtered to v (range_with_len 0 g.vertices) ∙ ap (λ (b : Bool). b && to v) (member_of_range v g.vertices within)
 
 -- the edges into the vertices of all pieces
-columns_of_all : (from to : ℕ → Bool) (edges : List Edge) (part : ℕ → List ℕ) (ks : List ℕ) → flat_map (λ k. columns from edges (filter to (part k))) ks ≡ columns from edges (filter to (flat_map part ks))
+columns_of_all : (from to : ℕ → Bool) (edges : List Edge) (part : ℕ → List ℕ) (ks : List ℕ)
+    → flat_map (λ k. columns from edges (filter to (part k))) ks ≡ columns from edges (filter to (flat_map part ks))
 columns_of_all from to edges part [] = refl
 columns_of_all from to edges part (k ∷ ks) =
     ap (λ (es : List Edge). columns from edges (filter to (part k)) ++ es) (columns_of_all from to edges part ks)
     ∙ sym (columns-append from edges (filter to (part k)) (filter to (flat_map part ks)))
     ∙ ap (columns from edges) (sym (filter-append to (part k) (flat_map part ks)))
 
-pub merged : (f : ApplyContext) (m : StateValue) (steps : List FunctionStatementsTree) (g : Digraph) (from to : ℕ → Bool) (ends us ks : List ℕ) (s : Scratch) → IsDigraph g → AreEnds 0 (length us) ends → us ≡ range_with_len 0 g.vertices
+pub merged : (f : ApplyContext) (m : StateValue) (steps : List FunctionStatementsTree) (g : Digraph) (from to : ℕ → Bool) (ends us ks : List ℕ) (s : Scratch) → IsDigraph g → AreEnds 0 (length us) ends
+    → us ≡ range_with_len 0 g.vertices
     → IsPermutation ks (range_with_len 1 (length ends))
     → HasFolded f m steps (flat_map (λ k. columns from g.edges (filter to (piece_of ends us k))) ks) s → HasFolded f m steps (edges_between from to g.edges) s
 merged f m steps g from to ends us ks s is whole all same has =
@@ -107,7 +110,8 @@ gathers_pieces w (f ∷ fs) none answers = (subst (λ (o : Option ℕ). AnswersF
 
 -- what pieces of a pull of a shape that is known give
 pub pulled_parts : (w : PullWork) (fs : List (Found Gathered)) (y : ℕ) → shape_vector w.shape ≡ Some y → AreAnswers (Answers w) fs
-    → (m : StateValue) (steps : List FunctionStatementsTree) (from to : ℕ → Bool) → w.apply.vectors.now.vectors ≡ m.vectors → HasSizes w.apply.sizes.now m → AreKernels w.apply.first.now w.apply.second steps → IsEndTest w.apply.from m from → IsEndTest w.apply.to m to
+    → (m : StateValue) (steps : List FunctionStatementsTree) (from to : ℕ → Bool) → w.apply.vectors.now.vectors ≡ m.vectors → HasSizes w.apply.sizes.now m
+    → AreKernels w.apply.first.now w.apply.second steps → IsEndTest w.apply.from m from → IsEndTest w.apply.to m to
     → (r : Reduction) → IsReducedBy r y m steps
     → ListParts (told_in_piece (entry m.vectors y) (entry_after m steps y r (edges_between from to w.apply.flat.now.edges)) w.partition) fs
 pulled_parts w [] y at answers m steps from to vectors sizes kernels is_from is_to r by = tt

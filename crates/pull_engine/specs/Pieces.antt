@@ -24,15 +24,18 @@ edges_into_piece w from to k = columns from w.apply.flat.now.edges (filter to (p
 
 -- a piece of an apply by any functions answers what its edges give
 abbrev pub GathersPiece : PullWork → (piece : ℕ) → Gathered → Type 0
-GathersPiece w k g = (m : StateValue) (steps : List FunctionStatementsTree) (from to : ℕ → Bool) → w.apply.vectors.now.vectors ≡ m.vectors → HasSizes w.apply.sizes.now m
+GathersPiece w k g = (m : StateValue) (steps : List FunctionStatementsTree) (from to : ℕ → Bool) → w.apply.vectors.now.vectors ≡ m.vectors
+    → HasSizes w.apply.sizes.now m
     → AreKernels w.apply.first.now w.apply.second steps → IsEndTest w.apply.from m from → IsEndTest w.apply.to m to
     → AreGathered w.apply.flat.now.vertices m steps (edges_into_piece w from to k) g
 
 -- where one function gives a vector by sources alone, a piece answers what the apply changes at its vertices, ascending
 abbrev pub IsPiecePulled : (vector : ℕ) → PullWork → (piece : ℕ) → List EntryChange → Type 0
-IsPiecePulled x w k cs = (m : StateValue) (steps : List FunctionStatementsTree) (from to : ℕ → Bool) → w.apply.vectors.now.vectors ≡ m.vectors → HasSizes w.apply.sizes.now m
+IsPiecePulled x w k cs = (m : StateValue) (steps : List FunctionStatementsTree) (from to : ℕ → Bool) → w.apply.vectors.now.vectors ≡ m.vectors
+    → HasSizes w.apply.sizes.now m
     → AreKernels w.apply.first.now w.apply.second steps → IsEndTest w.apply.from m from → IsEndTest w.apply.to m to
-    → AreChangesFrom x (end_of w.partition (k - 1)) (end_of w.partition k - end_of w.partition (k - 1)) (edges_between from to w.apply.flat.now.edges) m steps cs
+    → AreChangesFrom x (end_of w.partition (k - 1)) (end_of w.partition k - end_of w.partition (k - 1))
+    (edges_between from to w.apply.flat.now.edges) m steps cs
 
 -- what the edges of a piece give where there is no such vector, and else what changes in it
 abbrev pub AnswersFor : Option ℕ → PullWork → (piece : ℕ) → Gathered → Type 0

@@ -36,7 +36,8 @@ entry_after m steps x r es v = reduced_at r v (entry m.vectors x v) (given_on x 
 
 -- the changes of a vector are those of an apply to these edges, at n vertices from one on
 abbrev pub AreChangesFrom : (vector low count : ℕ) → (edges : List Edge) → StateValue → List FunctionStatementsTree → List EntryChange → Type 0
-AreChangesFrom x low count es m steps cs = (r : Reduction) → IsReducedBy r x m steps → cs ≡ changed_from (entry m.vectors x) (entry_after m steps x r es) low count
+AreChangesFrom x low count es m steps cs = (r : Reduction) → IsReducedBy r x m steps
+    → cs ≡ changed_from (entry m.vectors x) (entry_after m steps x r es) low count
 
 -- all that is listed, one vector after the other
 abbrev pub all_listed : List GatheredIn → List EntryChange

@@ -1,5 +1,6 @@
 -- The edges from those vertices of blocks that pass.
-use Rattle.std.proofs.Common.{◌≡◌, ◌⊎◌, inl, inr, ℕ, zero, suc, ◌+◌, ◌*◌, ◌/◌, ◌%◌, ◌<◌, ◌≤◌, ◌==◌, ◌&&◌, ℤ, Bool, true, false, cond, List, [], ◌∷◌, ◌++◌, bit_and, refl, sym, ap, ap₂, ◌∙◌, subst, append_assoc, arith, mod-lt, zero-lt-suc}
+use Rattle.std.proofs.Common.{◌≡◌, ◌⊎◌, inl, inr, ℕ, zero, suc, ◌+◌, ◌*◌, ◌/◌, ◌%◌, ◌<◌, ◌≤◌, ◌==◌, ◌&&◌, ℤ, Bool, true, false, cond, List, [], ◌∷◌, ◌++◌, bit_and, refl, sym, ap, ap₂, ◌∙◌, subst}
+use Rattle.std.proofs.Common.{append_assoc, arith, mod-lt, zero-lt-suc}
 use Rattle.std.specs.Int.{bit_at}
 use Rattle.std.specs.List.{filter, range_with_len}
 use Rattle.std.proofs.lemmas.Bool.{cases_lt, eq-eqb, ne_eqb}
@@ -39,7 +40,8 @@ first_bit test es a (suc zero) us vs l on off more =
 first_bit test es a (suc (suc b)) us vs l on off more = absurd (omega arith)
 
 -- the edges from the vertices of set bits are those from all that pass, if the others do not pass or have no destinations
-rows_of_bits : (test : ℕ → Bool) (es : List Edge) (k a word : ℕ) → ((i : ℕ) → i < k → bit_at word i ≡ 1 → test (a + i) ≡ true) → ((i : ℕ) → i < k → bit_at word i ≡ 0 → (test (a + i) ≡ false) ⊎ (destinations_of (a + i) es ≡ []))
+rows_of_bits : (test : ℕ → Bool) (es : List Edge) (k a word : ℕ) → ((i : ℕ) → i < k → bit_at word i ≡ 1 → test (a + i) ≡ true)
+    → ((i : ℕ) → i < k → bit_at word i ≡ 0 → (test (a + i) ≡ false) ⊎ (destinations_of (a + i) es ≡ []))
     → rows es (bit_members k a word) ≡ rows es (filter test (range_with_len a k))
 unfolding bit_members
 rows_of_bits test es zero a word on off = refl
@@ -118,7 +120,8 @@ none_folded f s m steps edges are has = folded_along f m steps edges (edges ++ [
 pub row_of_block : (f : ApplyContext) (to : ℕ → Bool) (es : List Edge) (u : ℕ) (lists : List (ℕ × List (ℕ × ℤ))) (s t : Scratch) → neighbours_of (u % 64) lists ≡ destinations_of u es
     → FoldsMore f (row_to to u (neighbours_of (u % 64) lists)) s t → FoldsMore f (row_to to u (destinations_of u es)) s t
 row_of_block f to es u lists s t at more m steps edges are has =
-    folded_along f m steps (edges ++ row_to to u (neighbours_of (u % 64) lists)) (edges ++ row_to to u (destinations_of u es)) t (ap (λ (ds : List (ℕ × ℤ)). edges ++ row_to to u ds) at) (more m steps edges are has)
+    folded_along f m steps (edges ++ row_to to u (neighbours_of (u % 64) lists)) (edges ++ row_to to u (destinations_of u es)) t (ap (λ (ds : List (ℕ × ℤ)). edges ++ row_to to u ds) at)
+    (more m steps edges are has)
 
 -- those of all vertices that pass, of which the blocks have all that have edges
 pub blocks_agree : (g : Digraph) (test : ℕ → Bool) (n : ℕ) → IsDigraph g → g.vertices ≤ n → Agree test (filter test (range_with_len 0 n)) g.edges

@@ -20,7 +20,8 @@ keys_kept test n coming read kept filled keeps =
     firsts-filter test (take n coming) ∙ ap (filter test) (sym (take-map (λ (e : ℕ × ℤ). e.0) n coming) ∙ sym filled) ∙ sym keeps
 
 -- so it is with their weights
-pub entries_kept : (test : ℕ → Bool) (n : ℕ) (coming : List (ℕ × ℤ)) (keys : List ℕ) (weights : List ℤ) (kept : List (ℕ × ℤ)) → take n keys ≡ take n (keys_of coming) → take n weights ≡ take n (values_of coming)
+pub entries_kept : (test : ℕ → Bool) (n : ℕ) (coming : List (ℕ × ℤ)) (keys : List ℕ) (weights : List ℤ) (kept : List (ℕ × ℤ)) → take n keys ≡ take n (keys_of coming)
+    → take n weights ≡ take n (values_of coming)
     → kept ≡ filter (λ e. test e.0) (entries_of (take n keys) (take n weights)) → kept ≡ filter (λ e. test e.0) (take n coming)
 entries_kept test n coming keys weights kept first second keeps =
     keeps ∙ ap (filter (λ e. test e.0)) (

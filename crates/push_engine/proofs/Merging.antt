@@ -34,7 +34,8 @@ nothing_passes false from = refl
 abbrev edges_in : (edges : List Edge) (tested : Bool) (from to : ℕ → Bool) → List ℕ → List Edge
 edges_in edges tested from to us = filter (λ e. to e.1) (rows edges (passing_in tested from us))
 
-edges_in-append : (edges : List Edge) (tested : Bool) (from to : ℕ → Bool) (us vs : List ℕ) → edges_in edges tested from to (us ++ vs) ≡ edges_in edges tested from to us ++ edges_in edges tested from to vs
+edges_in-append : (edges : List Edge) (tested : Bool) (from to : ℕ → Bool) (us vs : List ℕ)
+    → edges_in edges tested from to (us ++ vs) ≡ edges_in edges tested from to us ++ edges_in edges tested from to vs
 edges_in-append edges tested from to us vs =
     ap (λ ks. filter (λ (e : Edge). to e.1) (rows edges ks)) (passing_in-append tested from us vs)
     ∙ ap (filter (λ (e : Edge). to e.1)) (rows-append edges (passing_in tested from us) (passing_in tested from vs))
@@ -58,7 +59,8 @@ all_alike r x v g edges tested from to us are n =
     rows_to_are_edges r x v g from to ks (rises_passing tested from us (rising 0 us are.ascending)) edges (agree_on_rows from ks edges are.passing) n
 
 -- what is found of the pieces, in whatever order, is what the edges between the ends give
-pub merged_alike : (r : Reduction) (x v : ℕ) (g : Edge → List (ℕ × Reduction × ℤ)) (edges : List Edge) (tested : Bool) (from to : ℕ → Bool) (ends us ks : List ℕ) → AreEnds 0 (length us) ends → AreSources edges from tested us
+pub merged_alike : (r : Reduction) (x v : ℕ) (g : Edge → List (ℕ × Reduction × ℤ)) (edges : List Edge) (tested : Bool) (from to : ℕ → Bool) (ends us ks : List ℕ) → AreEnds 0 (length us) ends
+    → AreSources edges from tested us
     → IsPermutation ks (range_with_len 1 (length ends)) → (n : ℤ)
     → reduced_at r v n (given_on x g (flat_map (λ k. edges_in edges tested from to (piece_of ends us k)) ks)) ≡ reduced_at r v n (given_on x g (edges_between from to edges))
 merged_alike r x v g edges tested from to ends us ks whole are same n =
@@ -69,7 +71,8 @@ merged_alike r x v g edges tested from to ends us ks whole are same n =
     ∙ ap (λ (es : List Edge). reduced_at r v n (given_on x g es)) all
     ∙ all_alike r x v g edges tested from to us are n
 
-pub merged : (f : ApplyContext) (m : StateValue) (steps : List FunctionStatementsTree) (edges : List Edge) (tested : Bool) (from to : ℕ → Bool) (ends us ks : List ℕ) (s : Scratch) → AreEnds 0 (length us) ends → AreSources edges from tested us
+pub merged : (f : ApplyContext) (m : StateValue) (steps : List FunctionStatementsTree) (edges : List Edge) (tested : Bool) (from to : ℕ → Bool) (ends us ks : List ℕ) (s : Scratch)
+    → AreEnds 0 (length us) ends → AreSources edges from tested us
     → IsPermutation ks (range_with_len 1 (length ends))
     → HasFolded f m steps (flat_map (λ k. edges_in edges tested from to (piece_of ends us k)) ks) s → HasFolded f m steps (edges_between from to edges) s
 merged f m steps edges tested from to ends us ks s whole are same has =

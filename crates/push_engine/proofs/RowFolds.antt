@@ -27,7 +27,8 @@ apart_test : (m n : ℕ) → n < m → (m == n) ≡ false
 apart_test m n l = grind (arith, nat_tests)
 
 -- what an edge gives comes first, where its source is one of these
-row_grows : (u : ℕ) (e : Edge) (es : List Edge) (b : Bool) → (e.0 == u) ≡ b → row u (cond b ((e.1, e.2) ∷ destinations_of u es) (destinations_of u es)) ≡ cond b (e ∷ row u (destinations_of u es)) (row u (destinations_of u es))
+row_grows : (u : ℕ) (e : Edge) (es : List Edge) (b : Bool) → (e.0 == u) ≡ b → row u (cond b ((e.1, e.2) ∷ destinations_of u es) (destinations_of u es)) ≡ cond b (e ∷ row u (destinations_of u es))
+    (row u (destinations_of u es))
 row_grows u e es true is = ap (λ (k : ℕ). (k, e.1, e.2) ∷ row u (destinations_of u es)) (sym (same e.0 u is))
 row_grows u e es false is = refl
 
@@ -42,7 +43,8 @@ more_rows r x v g e n line rest now true m once more =
     ∙ ap (λ gs. reduced_at r v k gs) (given_on-append x g line now)
     ∙ reduced_at-append r v k (given_on x g line) (given_on x g now)
     ∙ more (reduced_at r v k (given_on x g line))
-    ∙ ap (λ (c : Bool). cond c (reduced_at r v (reduced_at r v (reduced_at r v k (given_on x g line)) here) (given_on x g rest)) (reduced_at r v (reduced_at r v k (given_on x g line)) (given_on x g rest))) (once refl)
+    ∙ ap (λ (c : Bool). cond c (reduced_at r v (reduced_at r v (reduced_at r v k (given_on x g line)) here) (given_on x g rest))
+    (reduced_at r v (reduced_at r v k (given_on x g line)) (given_on x g rest))) (once refl)
     ∙ sym (reduced_at-append r v k (given_on x g line) (given_on x g rest))
     ∙ ap (λ gs. reduced_at r v k gs) (sym (given_on-append x g line rest))
 more_rows r x v g e n line rest now false true once more =
@@ -72,7 +74,8 @@ edge_first r x v g e es low (u ∷ us) up n =
     ∙ more_rows r x v g e n line (rows es us) (rows (e ∷ es) us) (e.0 == u) (is_member e.0 us)
     (λ is. below_all (u + 1) e.0 us up.1 (let here = same e.0 u is in omega (arith, here)))
     (λ k. edge_first r x v g e es (u + 1) us up.1 k)
-    ∙ ap (λ (b : Bool). cond (b || is_member e.0 us) (reduced_at r v (reduced_at r v n (for_vector x e.1 (g e))) (given_on x g (line ++ rows es us))) (reduced_at r v n (given_on x g (line ++ rows es us)))) (same_back e.0 u)
+    ∙ ap (λ (b : Bool). cond (b || is_member e.0 us) (reduced_at r v (reduced_at r v n (for_vector x e.1 (g e))) (given_on x g (line ++ rows es us)))
+    (reduced_at r v n (given_on x g (line ++ rows es us)))) (same_back e.0 u)
 
 no_rows : (us : List ℕ) → rows [] us ≡ []
 no_rows [] = refl
@@ -119,7 +122,8 @@ agree_on_rows from us (e ∷ es) all =
     (all e.0 (own_row e es (e.0 == e.0) refl), agree_on_rows from us es (λ u l. all u (has_row u e es (e.0 == u) l)))
 
 -- the edges between the ends, one end after the other
-both_ends : (from to : ℕ → Bool) (e : Edge) (es : List Edge) (p q : Bool) → to e.1 ≡ q → filter (λ e. to e.1) (cond p (e ∷ es) es) ≡ cond (p && q) (e ∷ filter (λ e. to e.1) es) (filter (λ e. to e.1) es)
+both_ends : (from to : ℕ → Bool) (e : Edge) (es : List Edge) (p q : Bool) → to e.1 ≡ q
+    → filter (λ e. to e.1) (cond p (e ∷ es) es) ≡ cond (p && q) (e ∷ filter (λ e. to e.1) es) (filter (λ e. to e.1) es)
 both_ends from to e es true q is = ap (λ (b : Bool). cond b (e ∷ filter (λ (e : Edge). to e.1) es) (filter (λ (e : Edge). to e.1) es)) is
 both_ends from to e es false q is = refl
 

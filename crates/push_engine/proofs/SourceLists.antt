@@ -14,7 +14,8 @@ use Rattle.edge_apply.proofs.Filtered.{has_first, has_later}
 use Rattle.edge_apply.proofs.Listed.{filter_all, member_filtered, member_of_range}
 
 -- a vertex from which an edge goes is one of the graph
-found_first : (u : ℕ) (e : Edge) (es : List Edge) (same : Bool) → e.0 == u ≡ same → 0 < length (cond same ((e.1, e.2) ∷ destinations_of u es) (destinations_of u es)) → ((e.0 ≡ u) ⊎ (0 < length (destinations_of u es)))
+found_first : (u : ℕ) (e : Edge) (es : List Edge) (same : Bool) → e.0 == u ≡ same → 0 < length (cond same ((e.1, e.2) ∷ destinations_of u es) (destinations_of u es))
+    → ((e.0 ≡ u) ⊎ (0 < length (destinations_of u es)))
 found_first u e es true is some = inl ((Decides-eqb e.0 u).0 is)
 found_first u e es false is some = inr some
 

@@ -43,7 +43,8 @@ folded_edges f m steps from to us es s up agree has = λ x r by.
     let was = has x r by in
     record { entries = λ v h l. was.entries v h l ∙ rows_to_are_edges r x v _ from to us up es agree _; reduction = was.reduction }
 
-pub walked_all : (f : ApplyContext) (edges : List Edge) (all left : List ℕ) (start s : Scratch) (from to : ℕ → Bool) → left ≡ [] → Rises 0 all → Agree from all edges → HasWalked f (rows_to to edges) all left start s
+pub walked_all : (f : ApplyContext) (edges : List Edge) (all left : List ℕ) (start s : Scratch) (from to : ℕ → Bool) → left ≡ [] → Rises 0 all → Agree from all edges
+    → HasWalked f (rows_to to edges) all left start s
     → (m : StateValue) (steps : List FunctionStatementsTree) → IsContextOf f m steps → HasFolded f m steps [] start → HasFolded f m steps (edges_between from to edges) s
 walked_all f edges all left start s from to none up agree w m steps are has =
     folded_edges f m steps from to all edges s up agree (walk_done f (rows_to to edges) all left start s none w m steps [] are has)
@@ -51,8 +52,10 @@ walked_all f edges all left start s from to none up agree w m steps are has =
 pub sources_agree : (edges : List Edge) (ds : List (ℕ × ℕ)) (from : ℕ → Bool) → AreDegreesOf (λ u. destinations_of u edges) ds → ((v : ℕ) → from v ≡ true) → Agree from (firsts ds) edges
 sources_agree edges ds from are all = agree_on_rows from (firsts ds) edges (λ u l. degree_listed (λ u. destinations_of u edges) ds u are l ∙ sym (all u))
 
-pub passed_all : (from : EndpointFilter) (f : ApplyContext) (to : ℕ → Bool) (edges : List Edge) (ds : List (ℕ × ℕ)) (left : List ℕ) (start s : Scratch) → left ≡ [] → AreDegreesOf (λ u. destinations_of u edges) ds → HasPassed from f (rows_to to edges) (firsts ds) left start s
-    → (m : StateValue) (steps : List FunctionStatementsTree) (test : ℕ → Bool) → IsContextOf f m steps → IsTest from m test → HasFolded f m steps [] start → HasFolded f m steps (edges_between test to edges) s
+pub passed_all : (from : EndpointFilter) (f : ApplyContext) (to : ℕ → Bool) (edges : List Edge) (ds : List (ℕ × ℕ)) (left : List ℕ) (start s : Scratch) → left ≡ []
+    → AreDegreesOf (λ u. destinations_of u edges) ds → HasPassed from f (rows_to to edges) (firsts ds) left start s
+    → (m : StateValue) (steps : List FunctionStatementsTree) (test : ℕ → Bool) → IsContextOf f m steps → IsTest from m test → HasFolded f m steps [] start
+    → HasFolded f m steps (edges_between test to edges) s
 passed_all from f to edges ds left start s none degrees w m steps test are is has =
     let neighbours = λ (u : ℕ). destinations_of u edges in
     let us = filter test (firsts ds) in
@@ -66,4 +69,5 @@ pub rows_next : (to : ℕ → Bool) (edges es : List Edge) (us : List ℕ) (i : 
 rows_next to edges es us i l =
     let u = get_or us i 0 in
     append_assoc es (rows_to to edges (take i us)) (row_to to u (destinations_of u edges))
-    ∙ ap (λ ks. es ++ ks) (ap (λ ks. rows_to to edges (take i us) ++ ks) (sym (one_row to edges u)) ∙ sym (rows_to-append to edges (take i us) (u ∷ [])) ∙ ap (rows_to to edges) (sym (take_more us i 0 l)))
+    ∙ ap (λ ks. es ++ ks) (ap (λ ks. rows_to to edges (take i us) ++ ks) (sym (one_row to edges u)) ∙ sym (rows_to-append to edges (take i us) (u ∷ []))
+    ∙ ap (rows_to to edges) (sym (take_more us i 0 l)))

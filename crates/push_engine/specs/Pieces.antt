@@ -20,7 +20,8 @@ edges_of_piece w from to k = filter (λ e. to e.1) (rows w.apply.flat.now.edges 
 
 -- what is gathered is what the edges of a piece give
 abbrev pub GivesPiece : PushWork → (piece : ℕ) → Gathered → Type 0
-GivesPiece w k g = (m : StateValue) (steps : List FunctionStatementsTree) (from to : ℕ → Bool) → w.apply.vectors.now.vectors ≡ m.vectors → HasSizes w.apply.sizes.now m
+GivesPiece w k g = (m : StateValue) (steps : List FunctionStatementsTree) (from to : ℕ → Bool) → w.apply.vectors.now.vectors ≡ m.vectors
+    → HasSizes w.apply.sizes.now m
     → AreKernels w.apply.first.now w.apply.second steps → IsEndTest w.apply.from m from → IsEndTest w.apply.to m to
     → AreGathered w.apply.flat.now.vertices m steps (edges_of_piece w from to k) g
 

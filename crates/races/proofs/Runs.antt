@@ -36,6 +36,7 @@ running_goes_on n room turns told all first before after runs made one steps run
     running_goes n room turns told all (plans_of after) first.plan.now runs made one
     (subst (λ ps. IsRunning n room turns told all ps runs) (ap plans_of steps) running) ran is
 
-pub running_ends_at : {J : Type 0} (n room turns : ℕ) (told : List Entry) (all : List Plan) (left : List (EarlyRun J)) (runs : List ProgramRuns) → IsRunning n room turns told all (plans_of left) runs → left ≡ []
+pub running_ends_at : {J : Type 0} (n room turns : ℕ) (told : List Entry) (all : List Plan) (left : List (EarlyRun J)) (runs : List ProgramRuns) → IsRunning n room turns told all (plans_of left) runs
+    → left ≡ []
     → AllRan n room turns told all runs
 running_ends_at n room turns told all left runs running none = running_ends n room turns told all (plans_of left) runs running (ap plans_of none)

@@ -39,7 +39,8 @@ pub answered_all : (base : State) (old new : ReaderState) (batches : List (List 
 answered_all base old new batches result replies is answers = subst (λ (r : Result (Vec CommitReply) AllocError). AnswersAll base old batches r new) is answers
 
 -- the batches are answered, and each program ran before and after
-pub raced : (n room writer : ℕ) (batches : List (List Change)) (plans : List Plan) (turns : ℕ) (old new : ReaderState) (replies : Vec CommitReply) (runs : Vec ProgramRuns) (told : List Entry) (ran : List Plan)
+pub raced : (n room writer : ℕ) (batches : List (List Change)) (plans : List Plan) (turns : ℕ) (old new : ReaderState) (replies : Vec CommitReply) (runs : Vec ProgramRuns) (told : List Entry)
+    (ran : List Plan)
     → old ≡ fresh_reader writer → AreAnswered (opened n room) old batches replies.items new → told ≡ new.last → ran ≡ plans → AllRan n room turns told ran runs.items
     → IsRaced n room batches plans turns (replies, runs)
 raced n room writer batches plans turns old new replies runs told ran is answers learned same all =

@@ -21,7 +21,8 @@ part_taken : (a b : Output) (t : List ℕ) → a.kept ≡ [] → SendsPart a b t
 part_taken a b t none part = (part.1.sent, part.0, part.1.bytes_written, part.1.whole ∙ ap (λ (k : List ℕ). k ++ t) none)
 
 -- a text that failed to go
-fails_written : (A : Type 0) (a b : Output) (t : List ℕ) (e : SendError) → a.kept ≡ [] → Fails a b t e → Writes {A = A} t (bytes_written_by a.bytes_written a.failures) (bytes_written_by b.bytes_written b.failures) (Err e)
+fails_written : (A : Type 0) (a b : Output) (t : List ℕ) (e : SendError) → a.kept ≡ [] → Fails a b t e
+    → Writes {A = A} t (bytes_written_by a.bytes_written a.failures) (bytes_written_by b.bytes_written b.failures) (Err e)
 fails_written A a b t NoMemory none h = (part_taken a b t none h.0, h.1)
 fails_written A a b t WriteFailed none h = (part_taken a b t none h.0, h.1)
 
@@ -42,6 +43,7 @@ none_written text t r is = let p = err_from_is_err_and r is in rw (p.1, p.2) (([
 
 -- the writer is at last the one that the text was sent to
 pub written_tied : {A W : Type 0} (bytes_written : W → List ℕ) (failures : W → ℕ) (name : ℕ) (kept : List ℕ) (text : List ℕ) (before : Written) (o : Output) (last sent : W) (r : Result A SendError)
-    → Writes text before (bytes_written_by o.bytes_written o.failures) r → output name (bytes_written sent) kept (failures sent) ≡ o → last ≡ sent → Writes text before (bytes_written_by (bytes_written last) (failures last)) r
+    → Writes text before (bytes_written_by o.bytes_written o.failures) r → output name (bytes_written sent) kept (failures sent) ≡ o → last ≡ sent
+    → Writes text before (bytes_written_by (bytes_written last) (failures last)) r
 written_tied bytes_written failures name kept text before o last sent r writes is same =
     rw same (subst (λ (out : Output). Writes text before (bytes_written_by out.bytes_written out.failures) r) (sym is) writes)

@@ -29,7 +29,8 @@ abbrev pub AreAnswered : State → ReaderState → List (List Change) → List C
 AreAnswered base old [] [] new = new ≡ old
 AreAnswered base old [] (reply ∷ replies) new = ⊥
 AreAnswered base old (batch ∷ batches) [] new = ⊥
-AreAnswered base old (batch ∷ batches) (reply ∷ replies) new = (next : ReaderState) × IsAnswered base old batch reply next × AreAnswered base next batches replies new
+AreAnswered base old (batch ∷ batches) (reply ∷ replies) new = (next : ReaderState) × IsAnswered base old batch reply next
+    × AreAnswered base next batches replies new
 
 -- the entry of a commit that was answered so, if it is one of the history
 abbrev pub entries_of : ℕ → List Change → CommitReply → List Entry
@@ -42,7 +43,8 @@ commits by [] replies = []
 commits by (batch ∷ batches) [] = []
 commits by (batch ∷ batches) (reply ∷ replies) = entries_of by batch reply ++ commits by batches replies
 
--- the run is on the newest version of the history: its number is the count of the commits, and its outcome what the plan's program means on the fold of their batches
+-- the run is on the newest version of the history: its number is the count of the commits, and its outcome what the plan's program means on the fold of their
+-- batches
 pub record IsRunOn (n : ℕ) (plan : Plan) (turns : ℕ) (history : List Entry) (run : VersionRun) : Type 0 where
   pub number : run.version ≡ length (batches_of history)
   pub outcome : IsOutcomeOn plan (fold_of n history) turns run.outcome
@@ -68,8 +70,10 @@ AllRan n room turns told (plan ∷ plans) (runs ∷ more) = RanTwice n room plan
 abbrev pub MayRun : ℕ → List ProgramRuns → Type 0
 MayRun workers runs = 0 < length runs → AreWorkers workers
 
--- One reader of a graph of n vertices, whose history has so much room, gave these batches to be committed, in order, and was answered so. In the history after its last commit it made just those that were not refused, and the late run of each program knows that history whole.
-pub record AreRaced (n room : ℕ) (batches : List (List Change)) (replies : List CommitReply) (plans : List Plan) (turns : ℕ) (runs : List ProgramRuns) : Type 0 where
+-- One reader of a graph of n vertices, whose history has so much room, gave these batches to be committed, in order, and was answered so. In the history after
+-- its last commit it made just those that were not refused, and the late run of each program knows that history whole.
+pub record AreRaced (n room : ℕ) (batches : List (List Change)) (replies : List CommitReply) (plans : List Plan) (turns : ℕ)
+    (runs : List ProgramRuns) : Type 0 where
   pub writer : ℕ
   pub after : ReaderState
   pub answered : AreAnswered (opened n room) (fresh_reader writer) batches replies after

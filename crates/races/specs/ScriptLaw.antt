@@ -29,7 +29,8 @@ MayOpen o = (is_vertex_count o.vertices ≡ true) × (is_chunk_size o.chunk_size
 pub record IsScriptOf (text : List ℕ) (o : Order) : Type 0 where
   pub left : (programs : List ProgramTree) → option_map (λ s. s.versions) (state_after_lines programs None (lines_of text))
       ≡ Some (state_after_commits (opened o.vertices 16777216) o.batches)
-  pub answered : (programs : List ProgramTree) → replies programs text ≡ word_line (codes "open") o.vertices ++ commit_replies (opened o.vertices 16777216) o.batches
+  pub answered : (programs : List ProgramTree) → replies programs text ≡ word_line (codes "open") o.vertices
+      ++ commit_replies (opened o.vertices 16777216) o.batches
 
 -- a text that is an order, which may be opened, is that order as a script
 abbrev pub MeansAsScript : List ℕ → Type 0

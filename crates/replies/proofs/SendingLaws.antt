@@ -113,13 +113,15 @@ all_written a b t before after sends =
     sends.takes.bytes_written ∙ ap (λ xs. a.bytes_written ++ xs) sent
 
 -- what was kept is written, and then these bytes
-pub sends_written : (a b c : Output) (bytes : List ℕ) → Sends a b [] → b.kept ≡ [] → c.writer ≡ b.writer → c.kept ≡ b.kept → c.bytes_written ≡ b.bytes_written ++ bytes → c.failures ≡ b.failures → Sends a c bytes
+pub sends_written : (a b c : Output) (bytes : List ℕ) → Sends a b [] → b.kept ≡ [] → c.writer ≡ b.writer → c.kept ≡ b.kept → c.bytes_written ≡ b.bytes_written ++ bytes → c.failures ≡ b.failures
+    → Sends a c bytes
 sends_written a b c bytes one none who kept bytes_written failures =
     let whole : bytes ++ c.kept ≡ b.kept ++ bytes = ap (λ xs. bytes ++ xs) (kept ∙ none) ∙ append-nil bytes ∙ ap (λ xs. xs ++ bytes) (sym none) in
     sends_then a b c [] bytes one (record { takes = record { same = who; sent = bytes; bytes_written = bytes_written; whole = whole }; failures = failures })
 
 -- and the writer fails in these
-pub fails_written : (a b c : Output) (bytes : List ℕ) → Sends a b [] → b.kept ≡ [] → c.writer ≡ b.writer → TakesPart b.bytes_written c.bytes_written bytes → b.failures < c.failures → Fails a c bytes WriteFailed
+pub fails_written : (a b c : Output) (bytes : List ℕ) → Sends a b [] → b.kept ≡ [] → c.writer ≡ b.writer → TakesPart b.bytes_written c.bytes_written bytes → b.failures < c.failures
+    → Fails a c bytes WriteFailed
 fails_written a b c bytes one none who part more =
     let whole : take part.count bytes ++ drop part.count bytes ≡ b.kept ++ bytes = take-append-drop part.count bytes ∙ ap (λ xs. xs ++ bytes) (sym none) in
     fails_then a b c [] bytes WriteFailed one ((drop part.count bytes, record { same = who; sent = take part.count bytes; bytes_written = part.bytes_written; whole = whole }), more)
@@ -140,7 +142,8 @@ sends_item f a b c t xs x one other =
     subst (Sends a c) all (sends_then a b c (t ++ flat_map f xs) (f x) one other)
 
 -- an item that fails, before others
-pub fails_item : {A : Type 0} (f : A → List ℕ) (a b c : Output) (t : List ℕ) (xs rest all : List A) (x : A) (error : SendError) → xs ++ x ∷ rest ≡ all → Sends a b (t ++ flat_map f xs) → Fails b c (f x) error → Fails a c (t ++ flat_map f all) error
+pub fails_item : {A : Type 0} (f : A → List ℕ) (a b c : Output) (t : List ℕ) (xs rest all : List A) (x : A) (error : SendError) → xs ++ x ∷ rest ≡ all → Sends a b (t ++ flat_map f xs)
+    → Fails b c (f x) error → Fails a c (t ++ flat_map f all) error
 fails_item {A} f a b c t xs rest all x error is one other =
     let whole : ((t ++ flat_map f xs) ++ f x) ++ flat_map f rest ≡ t ++ flat_map f all =
     append_assoc (t ++ flat_map f xs) (f x) (flat_map f rest) ∙ append_assoc t (flat_map f xs) (f x ++ flat_map f rest) ∙ ap (λ us. t ++ us) (sym (flat_map-append f xs (x ∷ rest)))

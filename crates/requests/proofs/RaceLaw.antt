@@ -11,8 +11,10 @@ use Rattle.clap.specs.Faults.{check_fault, default_fault, defaults_fault, given_
 use Rattle.clap.specs.Walk.{Walk, default_rows, has_row, nothing_held, reading_by, rows_after, walked, with_default}
 use Rattle.requests.specs.Asked.{Asks, a_race, race_of, request_of, command_line}
 use Rattle.requests.specs.Forms.{HasNoHyphen, IsTaken, NumberOption, RacePart, a_file, apart, files_in, joined, number_given, numbers_in, numbers_of, option_word, the_turns, the_workers, words_of}
-use Rattle.requests.proofs.RaceParts.{AreRows, Follows, Pending, a_number, a_script, all_used, nothing, pending_files, pending_numbers, position_after, settled_at, some_programs, turns_used, use_quiet, walk_at, workers_used}
-use Rattle.requests.proofs.RaceWalk.{IsQuiet, Turn, first_after_turns, first_after_workers, first_file, next_after_script, next_after_turns, next_after_workers, next_file, number_has_no_hyphen, number_met, one_more_program, turns_joined, turns_named, waits_at, workers_joined, workers_named}
+use Rattle.requests.proofs.RaceParts.{AreRows, Follows, Pending, a_number, a_script, all_used, nothing, pending_files, pending_numbers, position_after, settled_at, some_programs, turns_used}
+use Rattle.requests.proofs.RaceParts.{use_quiet, walk_at, workers_used}
+use Rattle.requests.proofs.RaceWalk.{IsQuiet, Turn, first_after_turns, first_after_workers, first_file, next_after_script, next_after_turns, next_after_workers, next_file, number_has_no_hyphen}
+use Rattle.requests.proofs.RaceWalk.{number_met, one_more_program, turns_joined, turns_named, waits_at, workers_joined, workers_named}
 use Rattle.requests.proofs.Operands.{at_start, gathers, names, top, walk_from_command, walked_to_race}
 use Rattle.requests.proofs.RaceWords.{race}
 
@@ -87,7 +89,8 @@ module _ (all_files all_workers all_turns : List Text) (w : IsTaken the_workers 
   position_some (b ∷ before) file more = refl
 
   -- the second file is a program
-  program_next : (from : Walk) (position : ℕ) (files workers turns : List Text) (rows : List Row) (pending : Pending) (file : Text) (parts : List RacePart) → 0 < length (files ++ pending_files pending)
+  program_next : (from : Walk) (position : ℕ) (files workers turns : List Text) (rows : List Row) (pending : Pending) (file : Text) (parts : List RacePart)
+      → 0 < length (files ++ pending_files pending)
       → Settles files workers turns rows pending (a_file file ∷ parts) → Turn from file (walk_at 2 (settled_at rows pending) (some_programs file [])) → Next from file parts
   program_next from position files workers turns rows pending file parts some s turn = let r = s.room in record {
     position = 2;
@@ -117,16 +120,19 @@ module _ (all_files all_workers all_turns : List Text) (w : IsTaken the_workers 
   file_next position [] workers turns rows (a_number the_workers number) file parts h at =
       let s = settles position [] workers turns rows (a_number the_workers number) (a_file file ∷ parts) at in
       script_next (walk_at position rows (a_number the_workers number)) [] workers turns rows (a_number the_workers number) file parts refl s
-      (subst (λ (k : ℕ). Turn (walk_at k rows (a_number the_workers number)) file (walk_at 2 (settled_at rows (a_number the_workers number)) (a_script file))) (sym at.index) (first_after_workers rows number file h s.quiet))
+      (subst (λ (k : ℕ). Turn (walk_at k rows (a_number the_workers number)) file (walk_at 2 (settled_at rows (a_number the_workers number)) (a_script file))) (sym at.index)
+      (first_after_workers rows number file h s.quiet))
   file_next position [] workers turns rows (a_number the_turns number) file parts h at =
       let s = settles position [] workers turns rows (a_number the_turns number) (a_file file ∷ parts) at in
       script_next (walk_at position rows (a_number the_turns number)) [] workers turns rows (a_number the_turns number) file parts refl s
-      (subst (λ (k : ℕ). Turn (walk_at k rows (a_number the_turns number)) file (walk_at 2 (settled_at rows (a_number the_turns number)) (a_script file))) (sym at.index) (first_after_turns rows number file h s.quiet))
+      (subst (λ (k : ℕ). Turn (walk_at k rows (a_number the_turns number)) file (walk_at 2 (settled_at rows (a_number the_turns number)) (a_script file))) (sym at.index)
+      (first_after_turns rows number file h s.quiet))
   file_next position files workers turns rows (a_script script) file parts h at =
       let s = settles position files workers turns rows (a_script script) (a_file file ∷ parts) at in
       let l = length-append files (script ∷ []) in
       program_next (walk_at position rows (a_script script)) position files workers turns rows (a_script script) file parts (omega (arith, l)) s
-      (subst (λ (k : ℕ). Turn (walk_at k rows (a_script script)) file (walk_at 2 (settled_at rows (a_script script)) (some_programs file []))) (sym (at.index ∙ position_some files script [])) (next_after_script rows script file h s.quiet))
+      (subst (λ (k : ℕ). Turn (walk_at k rows (a_script script)) file (walk_at 2 (settled_at rows (a_script script)) (some_programs file []))) (sym (at.index ∙ position_some files script []))
+      (next_after_script rows script file h s.quiet))
   file_next position (f ∷ fs) workers turns rows nothing file parts h at =
       let s = settles position (f ∷ fs) workers turns rows nothing (a_file file ∷ parts) at in
       program_next (walk_at position rows nothing) position (f ∷ fs) workers turns rows nothing file parts (omega arith) s
@@ -134,11 +140,13 @@ module _ (all_files all_workers all_turns : List Text) (w : IsTaken the_workers 
   file_next position (f ∷ fs) workers turns rows (a_number the_workers number) file parts h at =
       let s = settles position (f ∷ fs) workers turns rows (a_number the_workers number) (a_file file ∷ parts) at in
       program_next (walk_at position rows (a_number the_workers number)) position (f ∷ fs) workers turns rows (a_number the_workers number) file parts (omega arith) s
-      (subst (λ (k : ℕ). Turn (walk_at k rows (a_number the_workers number)) file (walk_at 2 (settled_at rows (a_number the_workers number)) (some_programs file []))) (sym at.index) (next_after_workers rows number file h s.quiet))
+      (subst (λ (k : ℕ). Turn (walk_at k rows (a_number the_workers number)) file (walk_at 2 (settled_at rows (a_number the_workers number)) (some_programs file []))) (sym at.index)
+      (next_after_workers rows number file h s.quiet))
   file_next position (f ∷ fs) workers turns rows (a_number the_turns number) file parts h at =
       let s = settles position (f ∷ fs) workers turns rows (a_number the_turns number) (a_file file ∷ parts) at in
       program_next (walk_at position rows (a_number the_turns number)) position (f ∷ fs) workers turns rows (a_number the_turns number) file parts (omega arith) s
-      (subst (λ (k : ℕ). Turn (walk_at k rows (a_number the_turns number)) file (walk_at 2 (settled_at rows (a_number the_turns number)) (some_programs file []))) (sym at.index) (next_after_turns rows number file h s.quiet))
+      (subst (λ (k : ℕ). Turn (walk_at k rows (a_number the_turns number)) file (walk_at 2 (settled_at rows (a_number the_turns number)) (some_programs file []))) (sym at.index)
+      (next_after_turns rows number file h s.quiet))
   file_next position files workers turns rows (some_programs program programs) file parts h at =
       let r = at.room in let l = length-append programs (file ∷ []) in record {
         position = 2;
@@ -147,7 +155,8 @@ module _ (all_files all_workers all_turns : List Text) (w : IsTaken the_workers 
         turns = turns;
         rows = rows;
         pending = some_programs program (programs ++ file ∷ []);
-        turn = subst (λ (k : ℕ). Turn (walk_at k rows (some_programs program programs)) file (walk_at 2 rows (some_programs program (programs ++ file ∷ [])))) (sym (at.index ∙ position_some files program programs))
+        turn = subst (λ (k : ℕ). Turn (walk_at k rows (some_programs program programs)) file (walk_at 2 rows (some_programs program (programs ++ file ∷ []))))
+        (sym (at.index ∙ position_some files program programs))
             (one_more_program rows program programs file h);
         at = record {
           found = at.found;
@@ -336,10 +345,12 @@ module _ (all_files all_workers all_turns : List Text) (w : IsTaken the_workers 
       one_word (walk_at position rows pending) (walk_at n.position n.rows n.pending) file (words_of parts) n.turn (all_parts parts n.position n.files n.workers n.turns n.rows n.pending h.1 n.at)
   all_parts (joined the_workers number ∷ parts) position files workers turns rows pending h at =
       let n = workers_next position files workers turns rows pending number parts at in
-      one_word (walk_at position rows pending) (walk_at n.position n.rows n.pending) (option_word the_workers ++ 61 ∷ number) (words_of parts) n.turn (all_parts parts n.position n.files n.workers n.turns n.rows n.pending h n.at)
+      one_word (walk_at position rows pending) (walk_at n.position n.rows n.pending) (option_word the_workers ++ 61 ∷ number) (words_of parts) n.turn
+      (all_parts parts n.position n.files n.workers n.turns n.rows n.pending h n.at)
   all_parts (joined the_turns number ∷ parts) position files workers turns rows pending h at =
       let n = turns_next position files workers turns rows pending number parts at in
-      one_word (walk_at position rows pending) (walk_at n.position n.rows n.pending) (option_word the_turns ++ 61 ∷ number) (words_of parts) n.turn (all_parts parts n.position n.files n.workers n.turns n.rows n.pending h n.at)
+      one_word (walk_at position rows pending) (walk_at n.position n.rows n.pending) (option_word the_turns ++ 61 ∷ number) (words_of parts) n.turn
+      (all_parts parts n.position n.files n.workers n.turns n.rows n.pending h n.at)
   all_parts (apart the_workers number ∷ parts) position files workers turns rows pending h at =
       let b = workers_apart position files workers turns rows pending number parts at in
       let n = b.next in
@@ -388,7 +399,8 @@ checked : (script program : Text) (programs workers turns : List Text) (rows : L
 checked script program programs workers turns rows are = rw (are.script, are.programs) refl
 
 -- what the rows ask for
-race_read : (script program : Text) (programs workers turns : List Text) (rows : List Row) → IsTaken the_workers workers → IsTaken the_turns turns → AreRows (script ∷ program ∷ programs) workers turns rows
+race_read : (script program : Text) (programs workers turns : List Text) (rows : List Row) → IsTaken the_workers workers → IsTaken the_turns turns
+    → AreRows (script ∷ program ∷ programs) workers turns rows
     → race_of rows ≡ a_race script (program ∷ programs) (number_given 2 workers) (number_given 1000000 turns)
 race_read script program programs [] [] rows w t are = rw (are.script, are.programs, are.workers_are, are.turns_are) refl
 race_read script program programs (number ∷ []) [] rows w t are = rw (are.script, are.programs, are.workers_are, are.turns_are, w) refl
@@ -437,9 +449,11 @@ module _ (parts : List RacePart) (script program : Text) (programs : List Text) 
 
   level_quiet : level_fault race [] nothing_held (words_of parts) false [] ≡ []
   level_quiet =
-      rw (end.quiet, end.is, settle_quiet, no_default_faults race.rules rows race_has_none, rows_kept) (checked script program programs (numbers_in the_workers parts) (numbers_in the_turns parts) rows found)
+      rw (end.quiet, end.is, settle_quiet, no_default_faults race.rules rows race_has_none, rows_kept)
+      (checked script program programs (numbers_in the_workers parts) (numbers_in the_turns parts) rows found)
 
-  rows_read : race_of (rows_after race.rules [] (words_of parts)) ≡ a_race script (program ∷ programs) (number_given 2 (numbers_in the_workers parts)) (number_given 1000000 (numbers_in the_turns parts))
+  rows_read : race_of (rows_after race.rules [] (words_of parts)) ≡ a_race script (program ∷ programs) (number_given 2 (numbers_in the_workers parts))
+      (number_given 1000000 (numbers_in the_turns parts))
   rows_read = rw (end.is, rows_kept) (race_read script program programs (numbers_in the_workers parts) (numbers_in the_turns parts) rows w t found)
 
   asked : request_of (codes "race" ∷ words_of parts) ≡ a_race script (program ∷ programs) (number_given 2 (numbers_in the_workers parts)) (number_given 1000000 (numbers_in the_turns parts))

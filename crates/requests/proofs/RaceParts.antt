@@ -123,7 +123,8 @@ programs_used (script ∷ p ∷ ps) workers turns rows program programs some are
 -- a number of workers is found
 pub workers_used : (files turns : List Text) (rows : List Row) (number : Text) → AreRows files [] turns rows → AreRows files (number ∷ []) turns (settled_at rows (a_number the_workers number))
 workers_used files turns rows number are =
-    let same : settled_at rows (a_number the_workers number) ≡ given (codes "workers") (number ∷ []) rows = ap (given (codes "workers") (number ∷ [])) (without_none (codes "workers") rows are.workers_are) in
+    let same : settled_at rows (a_number the_workers number) ≡ given (codes "workers") (number ∷ []) rows =
+    ap (given (codes "workers") (number ∷ [])) (without_none (codes "workers") rows are.workers_are) in
     subst (AreRows files (number ∷ []) turns) (sym same) (record {
       script = look_kept (codes "workers") (codes "SCRIPT") (number ∷ []) refl rows ∙ are.script;
       programs = look_kept (codes "workers") (codes "PROGRAM") (number ∷ []) refl rows ∙ are.programs;

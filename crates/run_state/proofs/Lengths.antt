@@ -54,7 +54,8 @@ no_registers : Registers
 no_registers = record { numbers = λ _. pos 0; integers = λ _. pos 0; conditions = λ _. pos 0; inside = pos 0 }
 
 -- where code does what statements do
-lengths_after_vertices : (m : StateValue) (sizes : List ℤ) (is : List RegisterInstruction) (steps : FunctionStatementsTree) → HasSizes sizes m → IsVertexCode is steps → (vertices : List ℕ) (vectors : List (List ℤ))
+lengths_after_vertices : (m : StateValue) (sizes : List ℤ) (is : List RegisterInstruction) (steps : FunctionStatementsTree) → HasSizes sizes m → IsVertexCode is steps
+    → (vertices : List ℕ) (vectors : List (List ℤ))
     → lengths (after_vertices steps m.sets vertices vectors) ≡ lengths vectors
 lengths_after_vertices m sizes is steps has code [] vectors = refl
 lengths_after_vertices m sizes is steps has code (v ∷ vs) vectors =
@@ -68,7 +69,8 @@ after_entry count n vectors x v z are = lengths_after_entry vectors x v z ∙ ar
 pub after_all_changes : (count n : ℕ) (vectors : List (List ℤ)) (cs : List VectorChanges) → HaveLength count n vectors → HaveLength count n (with_all_changes cs vectors)
 after_all_changes count n vectors cs are = lengths_after_all cs vectors ∙ are
 
-pub after_apply : (count n : ℕ) (m : StateValue) (sizes : List ℤ) (is : List RegisterInstruction) (steps : FunctionStatementsTree) → HasSizes sizes m → IsVertexCode is steps → (vertices : List ℕ) (vectors : List (List ℤ))
+pub after_apply : (count n : ℕ) (m : StateValue) (sizes : List ℤ) (is : List RegisterInstruction) (steps : FunctionStatementsTree) → HasSizes sizes m → IsVertexCode is steps
+    → (vertices : List ℕ) (vectors : List (List ℤ))
     → HaveLength count n vectors → HaveLength count n (after_vertices steps m.sets vertices vectors)
 after_apply count n m sizes is steps has code vertices vectors are = lengths_after_vertices m sizes is steps has code vertices vectors ∙ are
 

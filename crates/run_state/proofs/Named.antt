@@ -110,7 +110,8 @@ found_ascending n (y ∷ ms) (suc index) m e each = found_ascending n ms index m
 pub measured_length : (n : ℕ) (ns : List ℕ) (ms : List VertexSubset) (zs : List ℤ) → AreNamed n ns ms zs → length zs ≡ length ms
 measured_length n ns ms zs are = ap (λ (xs : List ℤ). length xs) are.measured ∙ length-map ms (λ (set : VertexSubset). size_of set.members)
 
-pub pushed : (n : ℕ) (ns : List ℕ) (ms : List VertexSubset) (zs : List ℤ) → AreNamed n ns ms zs → (name : ℕ) (m : VertexSubset) (z : ℤ) → m.vertices ≡ n → IsAscendingBelow n m.members → z ≡ size_of m.members
+pub pushed : (n : ℕ) (ns : List ℕ) (ms : List VertexSubset) (zs : List ℤ) → AreNamed n ns ms zs → (name : ℕ) (m : VertexSubset) (z : ℤ) → m.vertices ≡ n → IsAscendingBelow n m.members
+    → z ≡ size_of m.members
     → AreNamed n (ns ++ name ∷ []) (ms ++ m ∷ []) (zs ++ z ∷ [])
 pushed n ns ms zs are name m z v a e = record {
   count = omega (arith, are.count, length-append ns (name ∷ []), length-append ms (m ∷ []));
@@ -118,7 +119,8 @@ pushed n ns ms zs are name m z v a e = record {
   each = each_push n ms m are.each v a;
 }
 
-pub replaced : (n : ℕ) (ns : List ℕ) (ms : List VertexSubset) (zs : List ℤ) → AreNamed n ns ms zs → (index : ℕ) (m : VertexSubset) (z : ℤ) → m.vertices ≡ n → IsAscendingBelow n m.members → z ≡ size_of m.members
+pub replaced : (n : ℕ) (ns : List ℕ) (ms : List VertexSubset) (zs : List ℤ) → AreNamed n ns ms zs → (index : ℕ) (m : VertexSubset) (z : ℤ) → m.vertices ≡ n → IsAscendingBelow n m.members
+    → z ≡ size_of m.members
     → AreNamed n ns (set ms index m) (set zs index z)
 replaced n ns ms zs are index m z v a e = record {
   count = are.count ∙ sym (length-set ms index m);

@@ -24,7 +24,8 @@ rises_drop low zero xs up = up
 rises_drop low (suc k) [] up = tt
 rises_drop low (suc k) (x ∷ xs) up = rises_from_lower low (x + 1) (drop k xs) (omega (arith, up.0)) (rises_drop (x + 1) k xs up.1)
 
-pub after_vertices-append : (m : StateValue) (steps : FunctionStatementsTree) (us vs : List ℕ) (vectors : List (List ℤ)) → after_vertices steps m.sets (us ++ vs) vectors ≡ after_vertices steps m.sets vs (after_vertices steps m.sets us vectors)
+pub after_vertices-append : (m : StateValue) (steps : FunctionStatementsTree) (us vs : List ℕ) (vectors : List (List ℤ))
+    → after_vertices steps m.sets (us ++ vs) vectors ≡ after_vertices steps m.sets vs (after_vertices steps m.sets us vectors)
 after_vertices-append m steps [] vs vectors = refl
 after_vertices-append m steps (u ∷ us) vs vectors = after_vertices-append m steps us vs (after_vertex steps m.sets u vectors)
 

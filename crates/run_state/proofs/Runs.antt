@@ -32,7 +32,8 @@ no_vectors p g All s = refl
 no_vectors p g (Copy slot) s = refl
 no_vectors p g (Filter slot function) s = refl
 
-pub is_run_state : (vectors : VectorsValue) (sets : RunState) (integers : List ℤ) (conditions : List Bool) (text : List ℕ) (turns count : ℕ) → HaveLength count sets.vertices vectors.vectors → AreAscending sets
+pub is_run_state : (vectors : VectorsValue) (sets : RunState) (integers : List ℤ) (conditions : List Bool) (text : List ℕ) (turns count : ℕ) → HaveLength count sets.vertices vectors.vectors
+    → AreAscending sets
     → IsRunState (run_state vectors sets integers conditions text turns)
 is_run_state vectors sets integers conditions text turns count have ascending = record {
   vectors = length_at sets.vertices count vectors.vectors have;

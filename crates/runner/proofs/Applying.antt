@@ -58,7 +58,8 @@ entry_past vectors vector v past = ap (λ (xs : List ℤ). get_or xs v (pos 0)) 
 unmodified : (vector : ℕ) (before after : List (List ℤ)) → length before ≤ vector → length after ≤ vector → (vs : List ℕ) → filter (is_modified vector before after) vs ≡ []
 unmodified vector before after old new [] = refl
 unmodified vector before after old new (v ∷ vs) =
-    ap₂ (λ (a b : ℤ). cond (not (int_equal a b)) (v ∷ filter (is_modified vector before after) vs) (filter (is_modified vector before after) vs)) (entry_past before vector v old) (entry_past after vector v new)
+    ap₂ (λ (a b : ℤ). cond (not (int_equal a b)) (v ∷ filter (is_modified vector before after) vs) (filter (is_modified vector before after) vs)) (entry_past before vector v old)
+    (entry_past after vector v new)
     ∙ unmodified vector before after old new vs
 
 pub none_modified : (n vector : ℕ) (before after : List (List ℤ)) (cs : List VectorChanges) → ((x : ℕ) → x < length before → length (get_or before x []) ≡ n)

@@ -83,7 +83,8 @@ pub record IsReached (p : ProgramTree) (g : GraphValue) (plan : List Instruction
 pub reached_first : (p : ProgramTree) (g : GraphValue) (plan : List InstructionTree) (turns : ℕ) (c : Configuration) → c ≡ first_configuration (opening p g turns) → IsReached p g plan turns c
 reached_first p g plan turns c is = record { count = 0; is = is }
 
-pub reached_next : (p : ProgramTree) (g : GraphValue) (plan : List InstructionTree) (turns : ℕ) (c next : Configuration) → IsReached p g plan turns c → next ≡ step p g plan c → IsReached p g plan turns next
+pub reached_next : (p : ProgramTree) (g : GraphValue) (plan : List InstructionTree) (turns : ℕ) (c next : Configuration) → IsReached p g plan turns c → next ≡ step p g plan c
+    → IsReached p g plan turns next
 reached_next p g plan turns c next r is = record { count = suc r.count; is = is ∙ ap (step p g plan) r.is ∙ sym (steps_next p g plan r.count (first_configuration (opening p g turns))) }
 
 shows_so : (p : ProgramTree) (plan : List InstructionTree) (turns : ℕ) (c : Configuration) (o : Outcome) → Shows p turns c o → outcome_so_far p turns plan c ≡ o
@@ -91,7 +92,8 @@ shows_so p plan turns (At index loops s) o is = absurd is
 shows_so p plan turns (Ended s end) o is = is
 
 -- a run that has ended shows what the program means
-pub means : (p : ProgramTree) (s : ScheduleTree) (g : GraphValue) (turns : ℕ) (c : Configuration) → IsReached p g (plan_of p s) turns c → HasEnded c → outcome_so_far p turns (plan_of p s) c ≡ meaning p g turns
+pub means : (p : ProgramTree) (s : ScheduleTree) (g : GraphValue) (turns : ℕ) (c : Configuration) → IsReached p g (plan_of p s) turns c → HasEnded c
+    → outcome_so_far p turns (plan_of p s) c ≡ meaning p g turns
 means p s g turns c r end =
     let there = shows_the_meaning p s g turns r.count (subst HasEnded r.is end) in
     shows_so p (plan_of p s) turns c (meaning p g turns) (subst (λ (d : Configuration). Shows p turns d (meaning p g turns)) (sym r.is) there)

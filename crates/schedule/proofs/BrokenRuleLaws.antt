@@ -1,5 +1,6 @@
 -- A call that is accepted breaks no rule, and one that is not is told by the least rule that it breaks.
-use Rattle.std.proofs.Common.{◌≡◌, ◌⊎◌, ◌<◌, ◌≤◌, ◌↔◌, inl, inr, refl, sym, ap, subst, ◌∙◌, arith, lit≤, ℕ, nat_eq, nat_lt, Bool, true, false, not, ◌||◌, if◌then◌else◌, length, List, [], ◌∷◌, ◌++◌, Option, Some, None, Result, Ok, Err}
+use Rattle.std.proofs.Common.{◌≡◌, ◌⊎◌, ◌<◌, ◌≤◌, ◌↔◌, inl, inr, refl, sym, ap, subst, ◌∙◌, arith, lit≤, ℕ, nat_eq, nat_lt, Bool, true, false, not, ◌||◌, if◌then◌else◌, length, List, [], ◌∷◌, ◌++◌}
+use Rattle.std.proofs.Common.{Option, Some, None, Result, Ok, Err}
 use Rattle.std.specs.Prelude.{IsOk, IsSome}
 use Rattle.std.specs.Cmp.{nat_eq_equiv}
 use Rattle.std.specs.List.{concat, Contains, list_any}
@@ -17,8 +18,10 @@ use Rattle.typed_tree.specs.Independence.{are_independent, have_same_sets}
 use Rattle.typed_tree.specs.ProgramTree.{ProgramTree, ScheduleCallTree}
 use Rattle.schedule.specs.declared.error.ScheduleRule.{ScheduleRule}
 use Rattle.schedule.specs.declared.error.ScheduleRule.TheVariants as rule
-use Rattle.schedule.specs.BrokenRules.{AppliesNoEdges, BreakNoRule, BreaksConfigRule, BreaksFields, BreaksFieldsRule, BreaksFuseRule, BreaksRule, BreaksRuleOf, HasNoVector, HasValueOf, InGroup, IsFusedTwice, IsLeastBroken, IsNoValue, IsRefused, NamedTwice, NamesOneTwice, NamesVector, NoVector, OnApplies, OnLabel, OnLabels, TooFew, WithTwo}
-use Rattle.schedule.specs.Calls.{after_call, and_then, apply_at, first_given, fuse_at, fuse_or, fusing_fault_of, fusing_of_two, given, grown, grown_by, is_followed_by, schedule_of, two_of, value_at, value_of_two, value_on, with_call, with_call_of, with_calls, with_group}
+use Rattle.schedule.specs.BrokenRules.{AppliesNoEdges, BreakNoRule, BreaksConfigRule, BreaksFields, BreaksFieldsRule, BreaksFuseRule, BreaksRule, BreaksRuleOf, HasNoVector, HasValueOf, InGroup}
+use Rattle.schedule.specs.BrokenRules.{IsFusedTwice, IsLeastBroken, IsNoValue, IsRefused, NamedTwice, NamesOneTwice, NamesVector, NoVector, OnApplies, OnLabel, OnLabels, TooFew, WithTwo}
+use Rattle.schedule.specs.Calls.{after_call, and_then, apply_at, first_given, fuse_at, fuse_or, fusing_fault_of, fusing_of_two, given, grown, grown_by, is_followed_by, schedule_of, two_of, value_at}
+use Rattle.schedule.specs.Calls.{value_of_two, value_on, with_call, with_call_of, with_calls, with_group}
 use Rattle.schedule.specs.Schedule.{label_index, vector_index, empty_schedule, is_fused, with_apply_schedule, dense_vertex_set_of, direction_of, parallelization_of}
 use Rattle.schedule.specs.Refusal.{number_of_rule}
 use Rattle.schedule.proofs.CallSteps.{ok_is}

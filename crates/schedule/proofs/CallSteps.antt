@@ -11,7 +11,8 @@ use Rattle.schedule.specs.declared.error.ScheduleRule.{ScheduleRule}
 use Rattle.schedule.specs.declared.error.ScheduleRule.TheVariants as rule
 use Rattle.typed_tree.specs.declared.apply.StatementApply.{StatementApply}
 use Rattle.typed_tree.specs.declared.apply.StatementApply.TheVariants.{Vertices, Edges}
-use Rattle.schedule.specs.Calls.{after_call, and_then, apply_at, fuse_at, fuse_or, fusing_fault, fusing_of_two, given, grown, two_of, value_at, value_of_two, value_on, with_call, with_call_of, with_calls, with_fields, with_group}
+use Rattle.schedule.specs.Calls.{after_call, and_then, apply_at, fuse_at, fuse_or, fusing_fault, fusing_of_two, given, grown, two_of, value_at, value_of_two, value_on, with_call, with_call_of}
+use Rattle.schedule.specs.Calls.{with_calls, with_fields, with_group}
 use Rattle.schedule.specs.Schedule.{label_index, with_apply_schedule, with_fused, with_one_group}
 use Rattle.apply_options.specs.ScheduleTree.{ScheduleTree, apply_schedule_of}
 

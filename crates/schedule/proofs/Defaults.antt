@@ -13,7 +13,8 @@ use Rattle.schedule.specs.declared.error.ScheduleRule.{ScheduleRule}
 use Rattle.schedule.specs.declared.error.ScheduleRule.TheVariants as rule
 use Rattle.typed_tree.specs.declared.apply.StatementApply.{StatementApply}
 use Rattle.typed_tree.specs.declared.apply.StatementApply.TheVariants.{Vertices, Edges}
-use Rattle.schedule.specs.Calls.{after_call, apply_at, fuse_at, fuse_or, fusing_fault, fusing_of_two, given, grown, schedule_of, two_of, value_at, value_of_two, value_on, with_call, with_call_of, with_calls, with_fields, with_group}
+use Rattle.schedule.specs.Calls.{after_call, apply_at, fuse_at, fuse_or, fusing_fault, fusing_of_two, given, grown, schedule_of, two_of, value_at, value_of_two, value_on, with_call, with_call_of}
+use Rattle.schedule.specs.Calls.{with_calls, with_fields, with_group}
 use Rattle.schedule.specs.Laws.{AreOnceOnLabels, HasDefault, HasDefaults, IsConfig, IsGiven, IsGivenByTwo, IsGivenTo, IsOnLabel, NoneIsOnLabel}
 use Rattle.schedule.specs.Schedule.{label_index, empty_schedule, with_apply_schedule, with_fused}
 use Rattle.apply_options.specs.ScheduleTree.{ScheduleTree, apply_schedule_of, fused_as}

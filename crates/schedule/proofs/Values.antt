@@ -101,7 +101,8 @@ given_has setting.DenseVertexSet text c d e =
 given_has setting.FuseFunctions text c d e = cc
 given_has setting.FuseFields text c d e = cc
 
-on_has : (which : Setting) (text : List ℕ) (s new : ScheduleTree) (label : ℕ) (apply : Option StatementApply) → value_on which text s label apply ≡ Ok new → IsGiven which text (apply_schedule_of label new)
+on_has : (which : Setting) (text : List ℕ) (s new : ScheduleTree) (label : ℕ) (apply : Option StatementApply) → value_on which text s label apply ≡ Ok new
+    → IsGiven which text (apply_schedule_of label new)
 on_has which text s new label (Some (Edges ends function name)) e =
     let from = and_then_from _ _ new e in
     subst (λ (t : ScheduleTree). IsGiven which text (apply_schedule_of label t)) from.2

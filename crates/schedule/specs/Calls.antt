@@ -13,7 +13,8 @@ use Rattle.schedule.specs.declared.error.ScheduleError.TheVariants.{Faulty, NoMe
 use Rattle.typed_tree.specs.declared.apply.StatementApply.{StatementApply}
 use Rattle.typed_tree.specs.declared.apply.StatementApply.TheVariants.{Vertices, Edges}
 use Rattle.schedule.specs.declared.site.Site.{Site}
-use Rattle.schedule.specs.Schedule.{label_index, vector_index, with_apply_schedule, with_fused, with_one_group, is_fused, empty_schedule, site_of, direction_of, parallelization_of, dense_vertex_set_of}
+use Rattle.schedule.specs.Schedule.{label_index, vector_index, with_apply_schedule, with_fused, with_one_group, is_fused, empty_schedule, site_of, direction_of}
+use Rattle.schedule.specs.Schedule.{parallelization_of, dense_vertex_set_of}
 use Rattle.typed_tree.specs.Independence.{have_same_sets, are_independent}
 use Rattle.apply_options.specs.ScheduleTree.{ScheduleTree, apply_schedule_of}
 

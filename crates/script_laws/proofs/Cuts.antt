@@ -1,5 +1,6 @@
 -- Texts that are the same are the same up to the first byte that ends a part.
-use Rattle.std.proofs.Common.{◌≡◌, ◌⊎◌, ℕ, zero, suc, ◌<◌, ◌≤◌, ◌%◌, ◌/◌, ◌==◌, ◌||◌, Bool, true, false, nat_lt, ℤ, pos, negsuc, List, [], ◌∷◌, ◌++◌, decimal, inl, inr, refl, sym, ap, ◌∙◌, arith, append_assoc}
+use Rattle.std.proofs.Common.{◌≡◌, ◌⊎◌, ℕ, zero, suc, ◌<◌, ◌≤◌, ◌%◌, ◌/◌, ◌==◌, ◌||◌, Bool, true, false, nat_lt, ℤ, pos, negsuc, List, [], ◌∷◌, ◌++◌, decimal, inl, inr, refl, sym, ap, ◌∙◌, arith}
+use Rattle.std.proofs.Common.{append_assoc}
 use Rattle.std.proofs.lemmas.Bool.{cases_Bool, false≢true, eq-eqb, ne_eqb, lt-ltb}
 use Rattle.std.specs.Fmt.{digit_glyph, digits, digits_onto, signed_decimal}
 use Rattle.std.specs.List.{AllByRecursion, flat_map}
@@ -105,7 +106,8 @@ module _ {A : Type 0} (show : A → List ℕ) (Good : A → Type 0) (plain : (x 
       let yb = begins ys more in
       let tail : (show x ++ spaced show xs) ++ 10 ∷ rest ≡ (show y ++ spaced show ys) ++ 10 ∷ more = cc in
       let joined : show x ++ xb.0 ∷ xb.1 ≡ show y ++ yb.0 ∷ yb.1 =
-      ap (λ (l : List ℕ). show x ++ l) (sym xb.3) ∙ sym (append_assoc (show x) (spaced show xs) (10 ∷ rest)) ∙ tail ∙ append_assoc (show y) (spaced show ys) (10 ∷ more) ∙ ap (λ (l : List ℕ). show y ++ l) yb.3 in
+      ap (λ (l : List ℕ). show x ++ l) (sym xb.3) ∙ sym (append_assoc (show x) (spaced show xs) (10 ∷ rest)) ∙ tail ∙ append_assoc (show y) (spaced show ys) (10 ∷ more)
+      ∙ ap (λ (l : List ℕ). show y ++ l) yb.3 in
       let parts = cut at_end (show x) (show y) xb.0 yb.0 xb.1 yb.1 (plain x) (plain y) xb.2 yb.2 joined in
       let one : x ≡ y = same_number x y first.0 second.0 parts.0 in
       let inner = numbers_cut xs ys rest more first.1 second.1 (xb.3 ∙ parts.1 ∙ sym yb.3) in

@@ -27,7 +27,8 @@ body_of line (inl (pos n, is)) = (decimal n, digits_none 10 (inl (omega arith)) 
 body_of line (inl (negsuc n, is)) = (45 ∷ decimal (suc n), ((λ same. absurd (omega (arith, same))), digits_none 10 (inl (omega arith)) (decimal (suc n)) (decimal_digits (suc n))), is)
 body_of line (inr (true, is)) = (codes "true", ((λ e. absurd (omega (arith, e))), ((λ e. absurd (omega (arith, e))), ((λ e. absurd (omega (arith, e))), ((λ e. absurd (omega (arith, e))), tt)))), is)
 body_of line (inr (false, is)) =
-    (codes "false", ((λ e. absurd (omega (arith, e))), ((λ e. absurd (omega (arith, e))), ((λ e. absurd (omega (arith, e))), ((λ e. absurd (omega (arith, e))), ((λ e. absurd (omega (arith, e))), tt))))), is)
+    (codes "false", ((λ e. absurd (omega (arith, e))), ((λ e. absurd (omega (arith, e))),
+    ((λ e. absurd (omega (arith, e))), ((λ e. absurd (omega (arith, e))), ((λ e. absurd (omega (arith, e))), tt))))), is)
 
 digits_first : (digits rest more : List ℕ) → AllByRecursion IsDigit digits → digits ++ 10 ∷ rest ≡ 101 ∷ more → ⊥
 digits_first [] rest more are same = let head : ◌≡◌ {A = ℕ} 10 101 = cc in absurd (omega (arith, head))
@@ -91,14 +92,17 @@ fault_cut : (number statement other index t u : ℕ) (rest more : List ℕ) → 
     → fault_text number statement ++ turns_text t rest ≡ fault_text other index ++ turns_text u more → (number ≡ other) × (statement ≡ index) × (t ≡ u) × (rest ≡ more)
 fault_cut number statement other index t u rest more first second small also same =
     let joined = sym (fault_joined number statement (turns_text t rest)) ∙ same ∙ fault_joined other index (turns_text u more) in
-    let behind = append_cancel_left (codes "fault ") (decimal number ++ (codes " statement " ++ (decimal statement ++ turns_text t rest))) (decimal other ++ (codes " statement " ++ (decimal index ++ turns_text u more))) joined in
-    let one = number_cut 32 number other (codes "statement " ++ (decimal statement ++ turns_text t rest)) (codes "statement " ++ (decimal index ++ turns_text u more)) (inl (omega arith)) first.0 second.0 behind in
+    let behind = append_cancel_left (codes "fault ") (decimal number ++ (codes " statement " ++ (decimal statement ++ turns_text t rest)))
+    (decimal other ++ (codes " statement " ++ (decimal index ++ turns_text u more))) joined in
+    let one = number_cut 32 number other (codes "statement " ++ (decimal statement ++ turns_text t rest)) (codes "statement " ++ (decimal index ++ turns_text u more))
+    (inl (omega arith)) first.0 second.0 behind in
     let next = append_cancel_left (codes "statement ") (decimal statement ++ turns_text t rest) (decimal index ++ turns_text u more) one.1 in
     let two = number_cut 32 statement index (codes "turns " ++ (decimal t ++ 10 ∷ rest)) (codes "turns " ++ (decimal u ++ 10 ∷ more)) (inl (omega arith)) first.1 second.1 next in
     let three = turns_cut t u rest more small also (ap (λ (l : List ℕ). 32 ∷ l) two.1) in
     (one.0, two.0, three.0, three.1)
 
-end_cut : (x y : End) (t u : ℕ) (rest more : List ℕ) → IsEnd x → IsEnd y → t < 2 ^ 64 → u < 2 ^ 64 → end_text x ++ turns_text t rest ≡ end_text y ++ turns_text u more → (x ≡ y) × (t ≡ u) × (rest ≡ more)
+end_cut : (x y : End) (t u : ℕ) (rest more : List ℕ) → IsEnd x → IsEnd y → t < 2 ^ 64 → u < 2 ^ 64 → end_text x ++ turns_text t rest ≡ end_text y ++ turns_text u more → (x ≡ y) × (t ≡ u)
+    × (rest ≡ more)
 end_cut Finished Finished t u rest more first second small also same =
     let turns = turns_cut t u rest more small also (append_cancel_left (codes "finished") (turns_text t rest) (turns_text u more) same) in
     (refl, turns.0, turns.1)

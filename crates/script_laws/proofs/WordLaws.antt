@@ -137,7 +137,8 @@ run_read [] c is = not_none c is
 run_read (a ∷ []) c is = not_none c is
 run_read (a ∷ b ∷ []) c is = not_none c is
 run_read (a ∷ b ∷ d ∷ words) c is =
-    let p = and_some (λ (p : ℕ). option_and_then (λ (t : ℕ). option_and_then (λ (w : ℕ). option_map (Run p t w) (ticket_of words)) (number_of (2 ^ 64) d)) (number_of (2 ^ 64) b)) (number_of (2 ^ 64) a) c is in
+    let p = and_some (λ (p : ℕ). option_and_then (λ (t : ℕ). option_and_then (λ (w : ℕ). option_map (Run p t w) (ticket_of words)) (number_of (2 ^ 64) d)) (number_of (2 ^ 64) b))
+    (number_of (2 ^ 64) a) c is in
     let t = and_some (λ (t : ℕ). option_and_then (λ (w : ℕ). option_map (Run p.0 t w) (ticket_of words)) (number_of (2 ^ 64) d)) (number_of (2 ^ 64) b) c p.2 in
     let w = and_some (λ (w : ℕ). option_map (Run p.0 t.0 w) (ticket_of words)) (number_of (2 ^ 64) d) c t.2 in
     let k = map_some (Run p.0 t.0 w.0) (ticket_of words) c w.2 in
@@ -228,7 +229,8 @@ edges_spelled k (word ∷ words) are = ap (option_map EdgesOf) (one_spelled (wor
 ran_spelled : (p t w : ℕ) (k : Option ℕ) (a b d : List ℕ) (words : List (List ℕ)) → IsNumber (2 ^ 64) p a → IsNumber (2 ^ 64) t b → IsNumber (2 ^ 64) w d → ticket_of words ≡ Some k
     → run_of (a ∷ b ∷ d ∷ words) ≡ Some (Run p t w k)
 ran_spelled p t w k a b d words first second third is =
-    ap (option_and_then (λ (x : ℕ). option_and_then (λ (y : ℕ). option_and_then (λ (z : ℕ). option_map (Run x y z) (ticket_of words)) (number_of (2 ^ 64) d)) (number_of (2 ^ 64) b))) (of_long p a first)
+    ap (option_and_then (λ (x : ℕ). option_and_then (λ (y : ℕ). option_and_then (λ (z : ℕ). option_map (Run x y z) (ticket_of words)) (number_of (2 ^ 64) d)) (number_of (2 ^ 64) b)))
+    (of_long p a first)
     ∙ ap (option_and_then (λ (y : ℕ). option_and_then (λ (z : ℕ). option_map (Run p y z) (ticket_of words)) (number_of (2 ^ 64) d))) (of_long t b second)
     ∙ ap (option_and_then (λ (z : ℕ). option_map (Run p t z) (ticket_of words))) (of_long w d third) ∙ ap (option_map (Run p t w)) is
 
@@ -288,4 +290,5 @@ spelling_is (Release k) are = ap (option_map Release) (one_spelled (decimal k �
 spelling_is Edges are = refl
 spelling_is (EdgesOf k) are = edges_spelled k (decimal k ∷ []) (long_digits k are, tt)
 spelling_is (Run p t w None) are = newest_spelled p t w (decimal p ∷ decimal t ∷ decimal w ∷ []) (long_digits p are.0, (long_digits t are.1, (long_digits w are.2, tt)))
-spelling_is (Run p t w (Some k)) are = held_spelled p t w k (decimal p ∷ decimal t ∷ decimal w ∷ decimal k ∷ []) (long_digits p are.0, (long_digits t are.1, (long_digits w are.2, (long_digits k are.3, tt))))
+spelling_is (Run p t w (Some k)) are = held_spelled p t w k (decimal p ∷ decimal t ∷ decimal w ∷ decimal k ∷ [])
+    (long_digits p are.0, (long_digits t are.1, (long_digits w are.2, (long_digits k are.3, tt))))

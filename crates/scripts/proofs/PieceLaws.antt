@@ -1,5 +1,6 @@
 -- Laws of the pieces of a text.
-use Rattle.std.proofs.Common.{◌≡◌, ◌≢◌, ℕ, ◌+◌, ◌<◌, inl, inr, List, [], ◌∷◌, ◌++◌, length, take, drop, get_or, zero, suc, Option, None, Some, IsNone, MatchOption, ◌↔◌, rules, refl, sym, ◌∙◌, ap, subst, arith, length-append}
+use Rattle.std.proofs.Common.{◌≡◌, ◌≢◌, ℕ, ◌+◌, ◌<◌, inl, inr, List, [], ◌∷◌, ◌++◌, length, take, drop, get_or, zero, suc, Option, None, Some, IsNone, MatchOption, ◌↔◌, rules, refl, sym, ◌∙◌, ap}
+use Rattle.std.proofs.Common.{subst, arith, length-append}
 use Rattle.std.specs.Borrow.{Bor}
 use Rattle.std.specs.List.{join_with_byte, onto_first}
 use Rattle.std.proofs.lemmas.Bool.Decides.{eqb_tells}
@@ -107,7 +108,8 @@ split_none c bytes None cut = (λ _. cut, λ _. search rules)
 split_none c bytes (Some parts) cut =
     (λ none. absurd (search rules), λ none. absurd (HasNone-not c parts.0.now parts.1.now (subst (HasNone c) cut.0 none)))
 
-pub split_pieces : (c : ℕ) (bytes : List ℕ) (r : Option (Bor (List ℕ) × Bor (List ℕ))) → IsCutAt c bytes r → MatchOption r (pieces c bytes ≡ bytes ∷ []) (λ parts. pieces c bytes ≡ parts.0.now ∷ pieces c parts.1.now)
+pub split_pieces : (c : ℕ) (bytes : List ℕ) (r : Option (Bor (List ℕ) × Bor (List ℕ))) → IsCutAt c bytes r
+    → MatchOption r (pieces c bytes ≡ bytes ∷ []) (λ parts. pieces c bytes ≡ parts.0.now ∷ pieces c parts.1.now)
 split_pieces c bytes None cut = pieces_alone c bytes cut
 split_pieces c bytes (Some parts) cut = ap (pieces c) cut.0 ∙ pieces_before c parts.0.now parts.1.now cut.1
 

@@ -46,7 +46,8 @@ reading_then programs r bytes more =
     let text = r.partial ++ bytes in
     let assoc : r.partial ++ (bytes ++ more) ≡ text ++ more = sym (append_assoc r.partial bytes more) in
     reading_is (reading_after programs r (bytes ++ more)) (reading_after programs (reading_after programs r bytes) more)
-    (ap (state_after_lines programs r.state) (ap ended_lines assoc ∙ ended_lines-append text more) ∙ state_after_lines-append programs r.state (ended_lines text) (ended_lines (unended_line text ++ more)))
+    (ap (state_after_lines programs r.state) (ap ended_lines assoc ∙ ended_lines-append text more)
+    ∙ state_after_lines-append programs r.state (ended_lines text) (ended_lines (unended_line text ++ more)))
     (ap unended_line assoc ∙ unended_line-append text more)
 
 pub replies_then : (programs : List ProgramTree) (r : Reading) (bytes more : List ℕ)

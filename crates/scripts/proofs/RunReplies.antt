@@ -10,22 +10,26 @@ pub runs_nowhere : (o : OpenState) (turns workers : ℕ) (found : Option Program
 runs_nowhere o turns workers found p g there is = ap (λ (f : Option ProgramTree). running o turns workers f g) there ∙ ap (running o turns workers (Some p)) is
 
 -- on a version that is there, by n workers as there may be, or not
-runs_by : (o : OpenState) (turns workers : ℕ) (found : Option ProgramTree) (p : ProgramTree) (g : Option Digraph) (graph : Digraph) (may : Bool) → found ≡ Some p → g ≡ Some graph → is_worker_count workers ≡ may
+runs_by : (o : OpenState) (turns workers : ℕ) (found : Option ProgramTree) (p : ProgramTree) (g : Option Digraph) (graph : Digraph) (may : Bool) → found ≡ Some p → g ≡ Some graph
+    → is_worker_count workers ≡ may
     → running o turns workers found g ≡ (if may then ran o (meaning_on graph p turns) else refused o 411)
 runs_by o turns workers found p g graph may there is count =
-    ap (λ (f : Option ProgramTree). running o turns workers f g) there ∙ ap (running o turns workers (Some p)) is ∙ ap (λ (b : Bool). if b then ran o (meaning_on graph p turns) else refused o 411) count
+    ap (λ (f : Option ProgramTree). running o turns workers f g) there ∙ ap (running o turns workers (Some p)) is
+    ∙ ap (λ (b : Bool). if b then ran o (meaning_on graph p turns) else refused o 411) count
 
 too_many : (workers : ℕ) → (workers ≡ 0) ⊎ (64 < workers) → is_worker_count workers ≡ false
 too_many workers is = grind arith
 
-pub runs_by_too_many : (o : OpenState) (turns workers : ℕ) (found : Option ProgramTree) (p : ProgramTree) (g : Option Digraph) (graph : Digraph) → found ≡ Some p → g ≡ Some graph → (workers ≡ 0) ⊎ (64 < workers)
+pub runs_by_too_many : (o : OpenState) (turns workers : ℕ) (found : Option ProgramTree) (p : ProgramTree) (g : Option Digraph) (graph : Digraph) → found ≡ Some p → g ≡ Some graph → (workers ≡ 0)
+    ⊎ (64 < workers)
     → running o turns workers found g ≡ refused o 411
 runs_by_too_many o turns workers found p g graph there is many = runs_by o turns workers found p g graph false there is (too_many workers many)
 
 pub enough : (workers : ℕ) → (workers ≡ 0 → ⊥) → workers ≤ 64 → is_worker_count workers ≡ true
 enough workers some few = grind arith
 
-pub runs : (o : OpenState) (turns workers : ℕ) (found : Option ProgramTree) (p : ProgramTree) (g : Option Digraph) (graph : Digraph) → found ≡ Some p → g ≡ Some graph → (workers ≡ 0 → ⊥) → workers ≤ 64
+pub runs : (o : OpenState) (turns workers : ℕ) (found : Option ProgramTree) (p : ProgramTree) (g : Option Digraph) (graph : Digraph) → found ≡ Some p → g ≡ Some graph → (workers ≡ 0 → ⊥)
+    → workers ≤ 64
     → running o turns workers found g ≡ ran o (meaning_on graph p turns)
 runs o turns workers found p g graph there is some few = runs_by o turns workers found p g graph true there is (enough workers some few)
 

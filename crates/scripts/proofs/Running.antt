@@ -59,7 +59,8 @@ begins_whole programs new bytes ended more nothing =
     ([], append-nil (replies programs bytes) ∙ ap (replies programs) (sym (ap (λ xs. bytes ++ xs) (nothing ended) ∙ append-nil bytes)))
 
 -- of such a text a part was taken
-part_begins : (programs : List ProgramTree) (old new : Input) (a c : Output) (bytes text : List ℕ) → a.kept ≡ [] → new.bytes_read ≡ old.bytes_read ++ bytes → BeginsAll programs new bytes text → SendsPart a c text
+part_begins : (programs : List ProgramTree) (old new : Input) (a c : Output) (bytes text : List ℕ) → a.kept ≡ [] → new.bytes_read ≡ old.bytes_read ++ bytes → BeginsAll programs new bytes text
+    → SendsPart a c text
     → RepliesInPart programs old new (bytes_written_by a.bytes_written a.failures) (bytes_written_by c.bytes_written c.failures)
 part_begins programs old new a c bytes text empty bytes_read all part = record {
   bytes = bytes;
@@ -73,7 +74,8 @@ part_begins programs old new a c bytes text empty bytes_read all part = record {
 }
 
 -- a call that fails to send it, which the script ends with
-ends_in_part : (programs : List ProgramTree) (old new : Input) (a c : Output) (bytes text : List ℕ) (e : SendError) → a.kept ≡ [] → new.bytes_read ≡ old.bytes_read ++ bytes → new.failures ≡ old.failures → BeginsAll programs new bytes text → Fails a c text e
+ends_in_part : (programs : List ProgramTree) (old new : Input) (a c : Output) (bytes text : List ℕ) (e : SendError) → a.kept ≡ [] → new.bytes_read ≡ old.bytes_read ++ bytes
+    → new.failures ≡ old.failures → BeginsAll programs new bytes text → Fails a c text e
     → RunsScript programs old new (bytes_written_by a.bytes_written a.failures) (bytes_written_by c.bytes_written c.failures) (Err (error_of_send e))
 ends_in_part programs old new a c bytes text NoMemory empty bytes_read same all h = (part_begins programs old new a c bytes text empty bytes_read all h.0, (same, h.1))
 ends_in_part programs old new a c bytes text WriteFailed empty bytes_read same all h = (part_begins programs old new a c bytes text empty bytes_read all h.0, same, h.1)
@@ -84,7 +86,8 @@ module _ (programs : List ProgramTree) (old now : Input) (a : Output) (reading :
   reading_unended = subst (λ s. HasNone 10 s.partial) (sym r.reading_is) (HasNone-unended r.bytes)
 
   -- a reader that fails
-  pub read_fails : (new : Input) → a.kept ≡ [] → new.bytes_read ≡ now.bytes_read → now.failures < new.failures → RunsScript programs old new (bytes_written_by a.bytes_written a.failures) (bytes_written_by b.bytes_written b.failures) (Err ReadFailed)
+  pub read_fails : (new : Input) → a.kept ≡ [] → new.bytes_read ≡ now.bytes_read → now.failures < new.failures
+      → RunsScript programs old new (bytes_written_by a.bytes_written a.failures) (bytes_written_by b.bytes_written b.failures) (Err ReadFailed)
   read_fails new empty bytes_read fails = (exactly, omega (arith, fails, r.failures), r.sends.failures)
     where
       exactly : RepliesToEnded programs old new (bytes_written_by a.bytes_written a.failures) (bytes_written_by b.bytes_written b.failures)
@@ -112,14 +115,17 @@ module _ (programs : List ProgramTree) (old now : Input) (a : Output) (reading :
     lines_sent sends = subst (Sends a c) (sym ended_now) (sends_then a b c (replies_to_ended programs r.bytes) (replies_within programs reading more) r.sends sends)
 
     -- or the answer to one fails
-    pub lines_fail : (e : SendError) → a.kept ≡ [] → Fails b c (replies_within programs reading more) e → RunsScript programs old new (bytes_written_by a.bytes_written a.failures) (bytes_written_by c.bytes_written c.failures) (Err (error_of_send e))
+    pub lines_fail : (e : SendError) → a.kept ≡ [] → Fails b c (replies_within programs reading more) e
+    → RunsScript programs old new (bytes_written_by a.bytes_written a.failures) (bytes_written_by c.bytes_written c.failures) (Err (error_of_send e))
     lines_fail e empty fails =
         let both = fails_then a b c (replies_to_ended programs r.bytes) (replies_within programs reading more) e r.sends fails in
         let all = begins_lines programs new (r.bytes ++ more) in
-        ends_in_part programs old new a c (r.bytes ++ more) (replies_to_ended programs (r.bytes ++ more)) e empty read_now (same ∙ r.failures) all (subst (λ text. Fails a c text e) (sym ended_now) both)
+        ends_in_part programs old new a c (r.bytes ++ more) (replies_to_ended programs (r.bytes ++ more)) e empty read_now (same ∙ r.failures) all
+        (subst (λ text. Fails a c text e) (sym ended_now) both)
 
     -- what was kept is written, and the reading goes on
-    pub reading_goes_on : Sends b c (replies_within programs reading more) → (later : Reading) → later ≡ reading_after programs reading more → (d : Output) → Sends c d [] → d.kept ≡ [] → IsReading programs old new a later d
+    pub reading_goes_on : Sends b c (replies_within programs reading more) → (later : Reading) → later ≡ reading_after programs reading more → (d : Output) → Sends c d [] → d.kept ≡ []
+    → IsReading programs old new a later d
     reading_goes_on sends later is d flushed empty = record {
       bytes = r.bytes ++ more;
       bytes_read = read_now;
@@ -130,11 +136,13 @@ module _ (programs : List ProgramTree) (old now : Input) (a : Output) (reading :
     }
 
     -- or that fails
-    pub flush_fails : Sends b c (replies_within programs reading more) → (d : Output) (e : SendError) → a.kept ≡ [] → Fails c d [] e → RunsScript programs old new (bytes_written_by a.bytes_written a.failures) (bytes_written_by d.bytes_written d.failures) (Err (error_of_send e))
+    pub flush_fails : Sends b c (replies_within programs reading more) → (d : Output) (e : SendError) → a.kept ≡ [] → Fails c d [] e
+    → RunsScript programs old new (bytes_written_by a.bytes_written a.failures) (bytes_written_by d.bytes_written d.failures) (Err (error_of_send e))
     flush_fails sends d e empty fails =
         let both = fails_then a c d (replies_to_ended programs (r.bytes ++ more)) [] e (lines_sent sends) fails in
         let all = begins_lines programs new (r.bytes ++ more) in
-        ends_in_part programs old new a d (r.bytes ++ more) (replies_to_ended programs (r.bytes ++ more)) e empty read_now (same ∙ r.failures) all (subst (λ text. Fails a d text e) (append-nil (replies_to_ended programs (r.bytes ++ more))) both)
+        ends_in_part programs old new a d (r.bytes ++ more) (replies_to_ended programs (r.bytes ++ more)) e empty read_now (same ∙ r.failures) all
+        (subst (λ text. Fails a d text e) (append-nil (replies_to_ended programs (r.bytes ++ more))) both)
 
   module _ (new : Input) (bytes_read : new.bytes_read ≡ now.bytes_read) (ended : new.ended ≡ true) (same : new.failures ≡ now.failures) (c : Output) where
     -- no more bytes came
@@ -154,16 +162,20 @@ module _ (programs : List ProgramTree) (old now : Input) (a : Output) (reading :
     all_sent sends = subst (Sends a c) (sym all_replies) (sends_then a b c (replies_to_ended programs r.bytes) last r.sends sends)
 
     -- or its answer fails
-    pub finish_fails : (e : SendError) → a.kept ≡ [] → Fails b c last e → RunsScript programs old new (bytes_written_by a.bytes_written a.failures) (bytes_written_by c.bytes_written c.failures) (Err (error_of_send e))
+    pub finish_fails : (e : SendError) → a.kept ≡ [] → Fails b c last e → RunsScript programs old new (bytes_written_by a.bytes_written a.failures) (bytes_written_by c.bytes_written c.failures)
+    (Err (error_of_send e))
     finish_fails e empty fails =
         let both = fails_then a b c (replies_to_ended programs r.bytes) last e r.sends fails in
-        ends_in_part programs old new a c r.bytes (replies programs r.bytes) e empty read_all (same ∙ r.failures) (begins_whole programs new r.bytes ended) (subst (λ text. Fails a c text e) (sym all_replies) both)
+        ends_in_part programs old new a c r.bytes (replies programs r.bytes) e empty read_all (same ∙ r.failures) (begins_whole programs new r.bytes ended)
+        (subst (λ text. Fails a c text e) (sym all_replies) both)
 
     -- and then the last flush fails
-    pub last_flush_fails : Sends b c last → (d : Output) (e : SendError) → a.kept ≡ [] → Fails c d [] e → RunsScript programs old new (bytes_written_by a.bytes_written a.failures) (bytes_written_by d.bytes_written d.failures) (Err (error_of_send e))
+    pub last_flush_fails : Sends b c last → (d : Output) (e : SendError) → a.kept ≡ [] → Fails c d [] e
+    → RunsScript programs old new (bytes_written_by a.bytes_written a.failures) (bytes_written_by d.bytes_written d.failures) (Err (error_of_send e))
     last_flush_fails sends d e empty fails =
         let both = fails_then a c d (replies programs r.bytes) [] e (all_sent sends) fails in
-        ends_in_part programs old new a d r.bytes (replies programs r.bytes) e empty read_all (same ∙ r.failures) (begins_whole programs new r.bytes ended) (subst (λ text. Fails a d text e) (append-nil (replies programs r.bytes)) both)
+        ends_in_part programs old new a d r.bytes (replies programs r.bytes) e empty read_all (same ∙ r.failures) (begins_whole programs new r.bytes ended)
+        (subst (λ text. Fails a d text e) (append-nil (replies programs r.bytes)) both)
 
     -- or all is written
     pub script_ends : Sends b c last → (d : Output) → a.kept ≡ [] → d.kept ≡ [] → Sends c d []
@@ -173,7 +185,8 @@ module _ (programs : List ProgramTree) (old now : Input) (a : Output) (reading :
       bytes = r.bytes;
       bytes_read = read_all;
       ended = ended;
-      bytes_written = all_written a d (replies programs r.bytes) empty flushed (subst (Sends a d) (append-nil (replies programs r.bytes)) (sends_then a c d (replies programs r.bytes) [] (all_sent sends) last_flush));
+      bytes_written = all_written a d (replies programs r.bytes) empty flushed (subst (Sends a d) (append-nil (replies programs r.bytes))
+      (sends_then a c d (replies programs r.bytes) [] (all_sent sends) last_flush));
       fault = fault ∙ ap has_faulted is ∙ ap (λ s. has_faulted (answer programs s.state s.partial).state) r.reading_is ∙ sym (faults-last programs r.bytes);
       quiet = (same ∙ r.failures, (sends_then a c d (replies programs r.bytes) [] (all_sent sends) last_flush).failures);
     }
@@ -184,10 +197,14 @@ pub runs_failed : (programs : List ProgramTree) (old new : Input) (before after 
 runs_failed programs old new before after r e is runs = let p = err_from_is_err_and r is in rw (p.1, p.2) runs
 
 -- a script whose writer is at last the one that the replies were sent to
-pub runs_tied : {W : Type 0} (bytes_written : W → List ℕ) (failures : W → ℕ) (name : ℕ) (kept : List ℕ) (programs : List ProgramTree) (old new : Input) (before : Written) (o : Output) (last sent : W) (r : Result Bool ScriptError)
-    → RunsScript programs old new before (bytes_written_by o.bytes_written o.failures) r → output name (bytes_written sent) kept (failures sent) ≡ o → last ≡ sent → RunsScript programs old new before (bytes_written_by (bytes_written last) (failures last)) r
-runs_tied bytes_written failures name kept programs old new before o last sent r runs is same = rw (same) (subst (λ (out : Output). RunsScript programs old new before (bytes_written_by out.bytes_written out.failures) r) (sym is) runs)
+pub runs_tied : {W : Type 0} (bytes_written : W → List ℕ) (failures : W → ℕ) (name : ℕ) (kept : List ℕ) (programs : List ProgramTree) (old new : Input) (before : Written) (o : Output) (last sent : W)
+    (r : Result Bool ScriptError)
+    → RunsScript programs old new before (bytes_written_by o.bytes_written o.failures) r → output name (bytes_written sent) kept (failures sent) ≡ o → last ≡ sent
+    → RunsScript programs old new before (bytes_written_by (bytes_written last) (failures last)) r
+runs_tied bytes_written failures name kept programs old new before o last sent r runs is same =
+    rw (same) (subst (λ (out : Output). RunsScript programs old new before (bytes_written_by out.bytes_written out.failures) r) (sym is) runs)
 
 -- a script that ends before it reads
 pub nothing_done : (programs : List ProgramTree) (i : Input) (t : Written) → RepliesInPart programs i i t t × NoneFails i i t t
-nothing_done programs i t = (record { bytes = []; bytes_read = sym (append-nil i.bytes_read); written = []; bytes_written = sym (append-nil t.bytes_written); beginning = λ more nothing. (replies programs more, refl) }, (refl, refl))
+nothing_done programs i t = (record { bytes = []; bytes_read = sym (append-nil i.bytes_read); written = []; bytes_written = sym (append-nil t.bytes_written); beginning =
+    λ more nothing. (replies programs more, refl) }, (refl, refl))

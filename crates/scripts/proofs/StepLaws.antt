@@ -24,7 +24,8 @@ use Rattle.scripts.proofs.RunReplies.{on_ok_where}
 -- a release of a ticket that is not open is refused
 pub not_held : (o : OpenState) (number : ℕ) → ticket_version o.versions.open_tickets number ≡ None → IsAnswered o (stepping o (step.Release number) o.pending) (line_reply.Refused 122)
 not_held o number none =
-    let refused : reply_to o.versions (step.Release number) ≡ reply.Refused 122 = ap (λ (b : Bool). if b then reply.Released else reply.Refused 122) (is_open_is o.versions.open_tickets number ∙ ap is_some none) in
+    let refused : reply_to o.versions (step.Release number) ≡ reply.Refused 122 =
+    ap (λ (b : Bool). if b then reply.Released else reply.Refused 122) (is_open_is o.versions.open_tickets number ∙ ap is_some none) in
     record {
       state = sym (ap (λ (r : Reply). record o { versions = changed o.versions (step.Release number) r }) refused);
       text = sym (ap (step_line (step.Release number)) refused);
@@ -40,13 +41,15 @@ unchanged old new asked told refusal.NotHeld is = is.unchanged
 unchanged old new asked told refusal.HistoryFull is = is.unchanged
 
 -- the reply to a step is sent, where there was memory for the step: the text of what was asked
-pub emits_step : {A : Type 0} (a b : Output) (new : OpenState) (asked answer : Answer OpenState) (told : Result LineReply AllocError) (r : Result A SendError) → asked ≡ answer → IfOk told (IsAnswered new answer)
+pub emits_step : {A : Type 0} (a b : Output) (new : OpenState) (asked answer : Answer OpenState) (told : Result LineReply AllocError) (r : Result A SendError) → asked ≡ answer
+    → IfOk told (IsAnswered new answer)
     → IfOk told (λ line. Emits a b (line_text line) r) → IfErr told (λ e. (b ≡ a) × (r ≡ Err NoMemory)) → Emits a b asked.text r
 emits_step a b new asked answer (Ok line) r same is sent unsent = emits_as a b (line_text line) asked.text r sent (ap (λ (t : Answer OpenState). t.text) same ∙ sym is.text)
 emits_step a b new asked answer (Err e) r same is sent unsent = rw (unsent.0, unsent.1) (part_none a asked.text, refl)
 
 -- and the state is what the step leaves
-pub leaves_step : {A : Type 0} (a b : Output) (new : OpenState) (asked answer : Answer OpenState) (told : Result LineReply AllocError) (r : Result A SendError) → asked ≡ answer → IfOk told (IsAnswered new answer)
+pub leaves_step : {A : Type 0} (a b : Output) (new : OpenState) (asked answer : Answer OpenState) (told : Result LineReply AllocError) (r : Result A SendError) → asked ≡ answer
+    → IfOk told (IsAnswered new answer)
     → IfErr told (λ e. (b ≡ a) × (r ≡ Err NoMemory)) → OnOk r (new ≡ asked.state)
 leaves_step a b new asked answer (Ok line) r same is unsent = on_ok_where r (is.state ∙ sym (ap (λ (t : Answer OpenState). t.state) same))
 leaves_step a b new asked answer (Err e) r same is unsent = rw unsent.1 tt

@@ -14,7 +14,8 @@ newest_is_kept s k g is graph = record { kept = or_left _ _ (eq-eqb k (newest_nu
 
 -- so is the one that a ticket holds
 module _ (s : State) (number : ℕ) where
-  pub graph_found : (found : Option (ℕ × Bor Digraph)) → MatchOption found (ticket_version s.open_tickets number ≡ None) (λ v. IsHeld s number v.0 v.1.now) → option_map (λ v. v.1.now) found ≡ graph_of s (Some number)
+  pub graph_found : (found : Option (ℕ × Bor Digraph)) → MatchOption found (ticket_version s.open_tickets number ≡ None) (λ v. IsHeld s number v.0 v.1.now)
+      → option_map (λ v. v.1.now) found ≡ graph_of s (Some number)
   graph_found None none = sym (ap (option_map (version_graph s)) none)
   graph_found (Some v) held = ap Some held.graph ∙ sym (ap (option_map (version_graph s)) held.ticket)
 

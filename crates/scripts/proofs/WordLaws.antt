@@ -1,5 +1,6 @@
 -- Laws of the words that are left of a line, and of the number that the first of them is.
-use Rattle.std.proofs.Common.{◌≡◌, ◌≢◌, ℕ, ◌+◌, ◌^◌, ◌<◌, ◌≤◌, ◌&&◌, Bool, true, false, not, List, [], ◌∷◌, ◌++◌, Option, Some, None, IsTrue, ◌↔◌, length, take, drop, get_or, refl, sym, ◌∙◌, ap, arith, rules}
+use Rattle.std.proofs.Common.{◌≡◌, ◌≢◌, ℕ, ◌+◌, ◌^◌, ◌<◌, ◌≤◌, ◌&&◌, Bool, true, false, not, List, [], ◌∷◌, ◌++◌, Option, Some, None, IsTrue, ◌↔◌, length, take, drop, get_or, refl, sym, ◌∙◌, ap}
+use Rattle.std.proofs.Common.{arith, rules}
 use Rattle.std.specs.Borrow.{Bor}
 use Rattle.std.specs.Char.{is_ascii_digit}
 use Rattle.std.specs.List.{onto_first}
@@ -73,7 +74,8 @@ first_number-large limit bytes len digits large =
     ∙ front_large limit (take len bytes) (words_of (drop len bytes)) large
 
 -- none where another byte than a space ends them;
-pub first_number-other : (limit : ℕ) (bytes : List ℕ) (len : ℕ) → all_ascii_digits (take len bytes) ≡ true → len < length bytes → is_ascii_digit (get_or bytes len 0) ≡ false → get_or bytes len 0 ≢ 32 → first_number limit (words_of bytes) ≡ None
+pub first_number-other : (limit : ℕ) (bytes : List ℕ) (len : ℕ) → all_ascii_digits (take len bytes) ≡ true → len < length bytes → is_ascii_digit (get_or bytes len 0) ≡ false → get_or bytes len 0 ≢ 32
+    → first_number limit (words_of bytes) ≡ None
 first_number-other limit bytes len digits within other apart =
     ap (λ v. first_number limit (words_of v)) (sym (take-append-drop len bytes))
     ∙ ap (first_number limit) (pieces-append 32 (take len bytes) (drop len bytes) (HasNone-digits (take len bytes) digits))
@@ -82,7 +84,8 @@ first_number-other limit bytes len digits within other apart =
     ∙ front_other limit (get_or bytes len 0) (take len bytes) (words_of (drop (len + 1) bytes)) other
 
 -- theirs where a space ends them;
-pub first_number-space : (limit : ℕ) (bytes : List ℕ) (len : ℕ) → all_ascii_digits (take len bytes) ≡ true → 0 < len → len < length bytes → get_or bytes len 0 ≡ 32 → value_of (take len bytes) < limit → first_number limit (words_of bytes) ≡ Some (value_of (take len bytes), words_of (drop (len + 1) bytes))
+pub first_number-space : (limit : ℕ) (bytes : List ℕ) (len : ℕ) → all_ascii_digits (take len bytes) ≡ true → 0 < len → len < length bytes → get_or bytes len 0 ≡ 32 → value_of (take len bytes) < limit
+    → first_number limit (words_of bytes) ≡ Some (value_of (take len bytes), words_of (drop (len + 1) bytes))
 first_number-space limit bytes len digits some within space small =
     ap (λ v. first_number limit (words_of v)) (cut_at 32 bytes len within space)
     ∙ ap (first_number limit) (pieces_before 32 (take len bytes) (drop (len + 1) bytes) (HasNone-digits (take len bytes) digits))

@@ -61,8 +61,10 @@ pub record RepliesInPart (programs : List ProgramTree) (old new : Input) (before
 abbrev pub RunsScript : List ProgramTree → Input → Input → Written → Written → Result Bool ScriptError → Type 0
 RunsScript programs old new before after (Ok faulted) = RepliesToAll programs old new before after faulted
 RunsScript programs old new before after (Err NoMemory) = RepliesInPart programs old new before after × NoneFails old new before after
-RunsScript programs old new before after (Err ReadFailed) = RepliesToEnded programs old new before after × (old.failures < new.failures) × (after.failures ≡ before.failures)
-RunsScript programs old new before after (Err WriteFailed) = RepliesInPart programs old new before after × (new.failures ≡ old.failures) × (before.failures < after.failures)
+RunsScript programs old new before after (Err ReadFailed) = RepliesToEnded programs old new before after × (old.failures < new.failures)
+    × (after.failures ≡ before.failures)
+RunsScript programs old new before after (Err WriteFailed) = RepliesInPart programs old new before after × (new.failures ≡ old.failures)
+    × (before.failures < after.failures)
 
 -- what was written is the replies to the text, and it is known whether a run in it ended by a fault
 pub record RepliesToText (programs : List ProgramTree) (text : List ℕ) (before after : Written) (faulted : Bool) : Type 0 where

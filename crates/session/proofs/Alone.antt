@@ -121,7 +121,8 @@ pub jobs_go_alone : (programs : List ScheduledProgram) (w : World) (steps : List
     → IsSomeAnd (numbered (world_after programs w steps).jobs number) (GoesOnAlone job (count_by (is_step_of number) steps))
 jobs_go_alone programs w [] number job is = some_and (GoesOnAlone job 0) _ job is (stays_there job)
 jobs_go_alone programs w (step ∷ rest) number job is =
-    let all = goes_on_from job (cond (is_step_of number step) 1 0) (count_by (is_step_of number) rest) (numbered (answer programs w step).world.jobs number) (numbered (world_after programs (answer programs w step).world rest).jobs number)
+    let all = goes_on_from job (cond (is_step_of number step) 1 0) (count_by (is_step_of number) rest) (numbered (answer programs w step).world.jobs number)
+    (numbered (world_after programs (answer programs w step).world rest).jobs number)
     (at_a_step programs w step number job is) (λ mid found. jobs_go_alone programs (answer programs w step).world rest number mid found) in
     let sum : count_by (is_step_of number) (step ∷ rest) ≡ cond (is_step_of number step) 1 0 + count_by (is_step_of number) rest = sum_by-cons _ step rest in
     subst (λ (n : ℕ). IsSomeAnd (numbered (world_after programs (answer programs w step).world rest).jobs number) (GoesOnAlone job n)) (sym sum) all

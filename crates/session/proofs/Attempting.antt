@@ -67,7 +67,8 @@ numbered_none R xs ys zero all is = refl
 numbered_none R xs ys (suc index) all is = none_at R xs ys index all is
 
 -- the job of a session that stands where the world's job of a number stands
-pub numbered_job : (js : List JobValue) (jobs : List WorldJob) (number : ℕ) (job : WorldJob) → ArePairwise StandsAt js jobs → numbered jobs number ≡ Some job → HasPartner (λ job j. StandsAt j job) job (numbered js number)
+pub numbered_job : (js : List JobValue) (jobs : List WorldJob) (number : ℕ) (job : WorldJob) → ArePairwise StandsAt js jobs → numbered jobs number ≡ Some job
+    → HasPartner (λ job j. StandsAt j job) job (numbered js number)
 numbered_job js jobs number job all is = numbered_partner (λ job j. StandsAt j job) jobs js number job (pairwise_turned StandsAt js jobs all) is
 
 -- steps of the versions
@@ -108,7 +109,8 @@ pub no_program : (programs : List ScheduledProgram) (w : World) (old : SessionVa
     → start w turns (numbered programs program) graph ≡ refused w 412
 no_program programs w old program turns graph at none = ap (λ (p : Option ScheduledProgram). start w turns p graph) (numbered_none IsPlanOf old.plans programs program at.plans none)
 
-pub no_ticket : (programs : List ScheduledProgram) (w : World) (old : SessionValue) (program turns : ℕ) (plan : Plan) (graph : Option Digraph) → IsAt programs w old → numbered old.plans program ≡ Some plan
+pub no_ticket : (programs : List ScheduledProgram) (w : World) (old : SessionValue) (program turns : ℕ) (plan : Plan) (graph : Option Digraph) → IsAt programs w old
+    → numbered old.plans program ≡ Some plan
     → graph ≡ None → start w turns (numbered programs program) graph ≡ refused w 122
 no_ticket programs w old program turns plan graph at found none =
     let partner = numbered_partner IsPlanOf old.plans programs program plan at.plans found in
@@ -146,7 +148,8 @@ starts programs w old new program turns plan graph asked j at found held is_new 
 
 -- steps of jobs
 
-pub no_job : (programs : List ScheduledProgram) (w : World) (old : SessionValue) (number : ℕ) → IsAt programs w old → numbered old.jobs number ≡ None → job_step w number (numbered w.jobs number) ≡ refused w 413
+pub no_job : (programs : List ScheduledProgram) (w : World) (old : SessionValue) (number : ℕ) → IsAt programs w old → numbered old.jobs number ≡ None
+    → job_step w number (numbered w.jobs number) ≡ refused w 413
 no_job programs w old number at none = ap (job_step w number) (numbered_none StandsAt old.jobs w.jobs number at.jobs none)
 
 -- the value of a job after one step
@@ -195,7 +198,8 @@ stands_after old new job at next =
           ∙ ap (λ (n : ℕ). job_value new.plan after.graph n (index_of after)) (sym once.turns);
     }
 
-pairwise_with : {A B : Type 0} (R : A → B → Type 0) (xs : List A) (ys : List B) (number : ℕ) (x : A) (y : B) → ArePairwise R xs ys → R x y → ArePairwise R (with_numbered xs number x) (with_numbered ys number y)
+pairwise_with : {A B : Type 0} (R : A → B → Type 0) (xs : List A) (ys : List B) (number : ℕ) (x : A) (y : B) → ArePairwise R xs ys → R x y
+    → ArePairwise R (with_numbered xs number x) (with_numbered ys number y)
 pairwise_with R xs ys zero x y all one = all
 pairwise_with R xs ys (suc index) x y all one = pairwise_set R xs ys index x y all one
 
@@ -216,12 +220,14 @@ steps_job programs w old new number j k at found next after =
     subst (λ (o : Option WorldJob). Takes programs (job_step w number o) (Stands (stand_of k.stands)) new) (sym partner.is_there) stepped
 
 -- a refusal that is told as a reply
-refused_takes : (programs : List ScheduledProgram) (w : World) (a : Answer) (old new : SessionValue) (number : ℕ) → IsAt programs w old → a ≡ refused w number → new ≡ old → Takes programs a (Of (Refused number)) new
+refused_takes : (programs : List ScheduledProgram) (w : World) (a : Answer) (old new : SessionValue) (number : ℕ) → IsAt programs w old → a ≡ refused w number → new ≡ old
+    → Takes programs a (Of (Refused number)) new
 refused_takes programs w a old new number at is same =
     subst (λ (b : Answer). Takes programs b (Of (Refused number)) new) (sym is) (record { reply_is = refl; stands = subst (IsAt programs w) (sym same) at })
 
 -- what is told of an attempt at a step
-pub told_takes : (step : SessionStep) (old new : SessionValue) (result : Result SessionReply SessionError) → ((programs : List ScheduledProgram) (w : World) → IsAt programs w old → Attempts programs w (answer programs w step) old result new)
+pub told_takes : (step : SessionStep) (old new : SessionValue) (result : Result SessionReply SessionError)
+    → ((programs : List ScheduledProgram) (w : World) → IsAt programs w old → Attempts programs w (answer programs w step) old result new)
     → IfOk (told_of result) (λ reply. (programs : List ScheduledProgram) (w : World) → IsAt programs w old → Takes programs (answer programs w step) reply new)
 told_takes step old new (Ok reply) is = is
 told_takes step old new (Err NoMemory) is = tt

@@ -85,26 +85,32 @@ changes programs w one other change = record { worlds = change.worlds; one_reply
 pub job_steps_change_places : (programs : List ScheduledProgram) (w : World) (number : ℕ) (job : WorldJob) (other : SessionStep) → numbered w.jobs number ≡ Some job → is_step_of number other ≡ false
     → MayChangePlaces programs w (JobStep number) other
 job_steps_change_places programs w number job (Commit batch) is apart = changes programs w (JobStep number) (Commit batch) (beside_versions w number (numbered w.jobs number) (versions.Commit batch))
-job_steps_change_places programs w number job (Acquire which) is apart = changes programs w (JobStep number) (Acquire which) (beside_versions w number (numbered w.jobs number) (versions.Acquire which))
-job_steps_change_places programs w number job (Release ticket) is apart = changes programs w (JobStep number) (Release ticket) (beside_versions w number (numbered w.jobs number) (versions.Release ticket))
+job_steps_change_places programs w number job (Acquire which) is apart = changes programs w (JobStep number) (Acquire which)
+    (beside_versions w number (numbered w.jobs number) (versions.Acquire which))
+job_steps_change_places programs w number job (Release ticket) is apart = changes programs w (JobStep number) (Release ticket)
+    (beside_versions w number (numbered w.jobs number) (versions.Release ticket))
 job_steps_change_places programs w number job (Start program ticket turns) is apart =
     let p = numbered programs program in
     let g = ticket_graph w.versions ticket in
     changes programs w (JobStep number) (Start program ticket turns)
-    (subst (λ (o : Option WorldJob). ChangePlaces (job_step w number o) (job_step (start w turns p g).world number (numbered (start w turns p g).world.jobs number)) (start w turns p g) (start (job_step w number o).world turns p (ticket_graph (job_step w number o).world.versions ticket)))
+    (subst (λ (o : Option WorldJob). ChangePlaces (job_step w number o) (job_step (start w turns p g).world number (numbered (start w turns p g).world.jobs number)) (start w turns p g)
+    (start (job_step w number o).world turns p (ticket_graph (job_step w number o).world.versions ticket)))
     (sym is) (beside_start w number turns job p g is))
 job_steps_change_places programs w number job (JobStep stepped) is apart =
     let ne : number ≢ stepped = λ same. eqb-false stepped number apart (sym same) in
     changes programs w (JobStep number) (JobStep stepped)
-    (subst (λ (o : Option WorldJob). ChangePlaces (job_step w number o) (job_step (job_step w stepped (numbered w.jobs stepped)).world number (numbered (job_step w stepped (numbered w.jobs stepped)).world.jobs number))
+    (subst (λ (o : Option WorldJob). ChangePlaces (job_step w number o) (job_step (job_step w stepped (numbered w.jobs stepped)).world number
+    (numbered (job_step w stepped (numbered w.jobs stepped)).world.jobs number))
     (job_step w stepped (numbered w.jobs stepped)) (job_step (job_step w number o).world stepped (numbered (job_step w number o).world.jobs stepped)))
     (sym is) (beside_job w number stepped job (numbered w.jobs stepped) is refl ne))
 
 -- steps of two jobs that are not there
-beside_none : (programs : List ScheduledProgram) (w : World) (number other : ℕ) → numbered w.jobs number ≡ None → numbered w.jobs other ≡ None → MayChangePlaces programs w (JobStep number) (JobStep other)
+beside_none : (programs : List ScheduledProgram) (w : World) (number other : ℕ) → numbered w.jobs number ≡ None → numbered w.jobs other ≡ None
+    → MayChangePlaces programs w (JobStep number) (JobStep other)
 beside_none programs w number other none too =
     changes programs w (JobStep number) (JobStep other)
-    (subst (λ (o : Option WorldJob). ChangePlaces (job_step w number o) (job_step (job_step w other (numbered w.jobs other)).world number (numbered (job_step w other (numbered w.jobs other)).world.jobs number))
+    (subst (λ (o : Option WorldJob). ChangePlaces (job_step w number o) (job_step (job_step w other (numbered w.jobs other)).world number
+    (numbered (job_step w other (numbered w.jobs other)).world.jobs number))
     (job_step w other (numbered w.jobs other)) (job_step (job_step w number o).world other (numbered (job_step w number o).world.jobs other)))
     (sym none)
     (subst (λ (o : Option WorldJob). ChangePlaces (job_step w number None) (job_step (job_step w other o).world number (numbered (job_step w other o).world.jobs number))
@@ -121,7 +127,8 @@ other_way programs w one other change = record { worlds = sym change.worlds; one
 by_what_is_there : (programs : List ScheduledProgram) (w : World) (number other : ℕ) (one two : Option WorldJob) → numbered w.jobs number ≡ one → numbered w.jobs other ≡ two → number ≢ other
     → MayChangePlaces programs w (JobStep number) (JobStep other)
 by_what_is_there programs w number other (Some job) two is too apart = job_steps_change_places programs w number job (JobStep other) is (ne_eqb other number (λ same. apart (sym same)))
-by_what_is_there programs w number other None (Some job) is too apart = other_way programs w (JobStep other) (JobStep number) (job_steps_change_places programs w other job (JobStep number) too (ne_eqb number other apart))
+by_what_is_there programs w number other None (Some job) is too apart = other_way programs w (JobStep other) (JobStep number)
+    (job_steps_change_places programs w other job (JobStep number) too (ne_eqb number other apart))
 by_what_is_there programs w number other None None is too apart = beside_none programs w number other is too
 
 -- the steps of two jobs, whether they are there or not

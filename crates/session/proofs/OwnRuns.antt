@@ -22,7 +22,8 @@ use Rattle.session.proofs.Alone.{jobs_go_alone}
 use Rattle.session.proofs.Attempting.{numbered_job, stand_resting}
 
 -- what goes on alone in the world goes on alone in the session
-runs_as_there : (old : WorldJob) (more : ℕ) (found : Option WorldJob) (here : Option JobValue) → IsSomeAnd found (GoesOnAlone old more) → ((job : WorldJob) → found ≡ Some job → HasPartner (λ job j. StandsAt j job) job here)
+runs_as_there : (old : WorldJob) (more : ℕ) (found : Option WorldJob) (here : Option JobValue) → IsSomeAnd found (GoesOnAlone old more)
+    → ((job : WorldJob) → found ≡ Some job → HasPartner (λ job j. StandsAt j job) job here)
     → IsSomeAnd here (RunsAlone old more)
 runs_as_there old more None here goes stands = absurd goes
 runs_as_there old more (Some job) here goes stands =
@@ -37,11 +38,13 @@ runs_as_there old more (Some job) here goes stands =
           ∙ ap (λ (c : Configuration). job_value j.plan old.graph old.turns c) goes.stands;
     })
 
-pub jobs_run_alone : (programs : List ScheduledProgram) (w : World) (steps : List SessionStep) (s : SessionValue) (number : ℕ) (job : WorldJob) → numbered w.jobs number ≡ Some job → IsAt programs (world_after programs w steps) s
+pub jobs_run_alone : (programs : List ScheduledProgram) (w : World) (steps : List SessionStep) (s : SessionValue) (number : ℕ) (job : WorldJob) → numbered w.jobs number ≡ Some job
+    → IsAt programs (world_after programs w steps) s
     → IsSomeAnd (numbered s.jobs number) (RunsAlone job (count_by (is_step_of number) steps))
 jobs_run_alone programs w steps s number job is at =
     let after = world_after programs w steps in
-    runs_as_there job (count_by (is_step_of number) steps) (numbered after.jobs number) (numbered s.jobs number) (jobs_go_alone programs w steps number job is) (λ there found. numbered_job s.jobs after.jobs number there at.jobs found)
+    runs_as_there job (count_by (is_step_of number) steps) (numbered after.jobs number) (numbered s.jobs number) (jobs_go_alone programs w steps number job is)
+    (λ there found. numbered_job s.jobs after.jobs number there at.jobs found)
 
 -- an index that shows an end is an end
 ends : (c : Configuration) (end : End) → stand_of c ≡ stand.Ended end → HasEnded c

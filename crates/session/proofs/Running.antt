@@ -9,7 +9,8 @@ use Rattle.session.specs.World.{ScheduledProgram, World, answer, replies_to, wor
 use Rattle.session.specs.Standing.{SessionValue, IsAt, Takes, Runs}
 
 -- one more step
-pub world_after-push : (programs : List ScheduledProgram) (w : World) (steps : List SessionStep) (step : SessionStep) → world_after programs w (steps ++ step ∷ []) ≡ (answer programs (world_after programs w steps) step).world
+pub world_after-push : (programs : List ScheduledProgram) (w : World) (steps : List SessionStep) (step : SessionStep)
+    → world_after programs w (steps ++ step ∷ []) ≡ (answer programs (world_after programs w steps) step).world
 world_after-push programs w [] step = refl
 world_after-push programs w (first ∷ rest) step = world_after-push programs (answer programs w first).world rest step
 
@@ -19,7 +20,8 @@ replies_to-push programs w [] step = refl
 replies_to-push programs w (first ∷ rest) step = ap (λ (l : List SessionReply). (answer programs w first).reply ∷ l) (replies_to-push programs (answer programs w first).world rest step)
 
 -- one more step is taken
-pub one_more_taken : (programs : List ScheduledProgram) (w : World) (steps more : List SessionStep) (step copy : SessionStep) (old new : List SessionReply) (reply : SessionReply) (s : SessionValue) → more ≡ steps ++ step ∷ [] → copy ≡ step
+pub one_more_taken : (programs : List ScheduledProgram) (w : World) (steps more : List SessionStep) (step copy : SessionStep) (old new : List SessionReply) (reply : SessionReply) (s : SessionValue)
+    → more ≡ steps ++ step ∷ [] → copy ≡ step
     → old ≡ replies_to programs w steps → new ≡ old ++ reply ∷ [] → Takes programs (answer programs (world_after programs w steps) copy) reply s
     → (new ≡ replies_to programs w more) × IsAt programs (world_after programs w more) s
 one_more_taken programs w steps more step copy old new reply s is copied so_far next takes =
@@ -30,7 +32,8 @@ one_more_taken programs w steps more step copy old new reply s is copied so_far 
     (replies, subst (λ (v : World). IsAt programs v s) (sym (world_after-push programs w steps step) ∙ ap (world_after programs w) (sym is)) there.stands)
 
 -- where memory runs out
-pub stops : {A : Type 0} (programs : List ScheduledProgram) (w : World) (steps : List SessionStep) (replies : A → List SessionReply) (result : Result A SessionError) (s : SessionValue) (k : ℕ) → IsErrAnd result (λ e. e ≡ NoMemory)
+pub stops : {A : Type 0} (programs : List ScheduledProgram) (w : World) (steps : List SessionStep) (replies : A → List SessionReply) (result : Result A SessionError) (s : SessionValue) (k : ℕ)
+    → IsErrAnd result (λ e. e ≡ NoMemory)
     → k < length steps → IsAt programs (world_after programs w (take k steps)) s → Runs programs w steps replies result s
 stops programs w steps replies (Ok x) s k is within at = absurd is
 stops {A} programs w steps replies (Err e) s k is within at = subst (λ (f : SessionError). Runs {A = A} programs w steps replies (Err f) s) (sym is) (k, within, at)

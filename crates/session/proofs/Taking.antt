@@ -32,18 +32,21 @@ plan_found plan_in plans shared lent program found are lies is =
     ap (λ (ps : List Plan). numbered ps program) are ∙ numbered_map plan_in shared program
     ∙ ap (option_map plan_in) (ap (λ l. numbered l program) (sym lies) ∙ sym is)
 
-pub starts_no_program : {A : Type 0} (plan_in : A → Plan) (shared lent : List A) (programs : List ScheduledProgram) (w : World) (old : SessionValue) (program turns : ℕ) (graph : Option Digraph) → IsAt programs w old
+pub starts_no_program : {A : Type 0} (plan_in : A → Plan) (shared lent : List A) (programs : List ScheduledProgram) (w : World) (old : SessionValue) (program turns : ℕ) (graph : Option Digraph)
+    → IsAt programs w old
     → old.plans ≡ map plan_in shared → lent ≡ shared → None ≡ numbered lent program → start w turns (numbered programs program) graph ≡ refused w 412
 starts_no_program plan_in shared lent programs w old program turns graph at are lies is =
     no_program programs w old program turns graph at (plan_found plan_in old.plans shared lent program None are lies is)
 
 -- the graph of a ticket, in the world
-graph_there : (programs : List ScheduledProgram) (w : World) (old : SessionValue) (s : State) (ticket : ℕ) (version : Option ℕ) → IsAt programs w old → old.versions ≡ s → ticket_version s.open_tickets ticket ≡ version
+graph_there : (programs : List ScheduledProgram) (w : World) (old : SessionValue) (s : State) (ticket : ℕ) (version : Option ℕ) → IsAt programs w old → old.versions ≡ s
+    → ticket_version s.open_tickets ticket ≡ version
     → ticket_graph w.versions ticket ≡ option_map (version_graph s) version
 graph_there programs w old s ticket version at here is =
     ap (λ (v : State). ticket_graph v ticket) (sym at.versions ∙ here) ∙ ap (option_map (version_graph s)) is
 
-pub starts_no_ticket : {A : Type 0} (plan_in : A → Plan) (shared lent : List A) (programs : List ScheduledProgram) (w : World) (old : SessionValue) (s : State) (program ticket turns : ℕ) (plan : A) → IsAt programs w old
+pub starts_no_ticket : {A : Type 0} (plan_in : A → Plan) (shared lent : List A) (programs : List ScheduledProgram) (w : World) (old : SessionValue) (s : State) (program ticket turns : ℕ) (plan : A)
+    → IsAt programs w old
     → old.plans ≡ map plan_in shared → lent ≡ shared → Some plan ≡ numbered lent program → old.versions ≡ s → ticket_version s.open_tickets ticket ≡ None
     → start w turns (numbered programs program) (ticket_graph w.versions ticket) ≡ refused w 122
 starts_no_ticket plan_in shared lent programs w old s program ticket turns plan at are lies is here none =
@@ -54,8 +57,10 @@ starts_no_ticket plan_in shared lent programs w old s program ticket turns plan 
 new_of : (p q : Plan) (g h : Digraph) (turns : ℕ) (j : JobValue) → p ≡ q → g ≡ h → IsNewJob p g turns j → IsNewJob q h turns j
 new_of p q g h turns j plans graphs new = subst (λ (r : Plan). IsNewJob r h turns j) plans (subst (λ (d : Digraph). IsNewJob p d turns j) graphs new)
 
-pub starts_there : {A : Type 0} (plan_in : A → Plan) (shared lent : List A) (programs : List ScheduledProgram) (w : World) (old new : SessionValue) (s : State) (program ticket version turns : ℕ) (plan : A) (graph flat : Digraph) (own : Plan) (j : JobValue)
-    (number : ℕ) → IsAt programs w old → old.plans ≡ map plan_in shared → lent ≡ shared → Some plan ≡ numbered lent program → old.versions ≡ s → ticket_version s.open_tickets ticket ≡ Some version → graph ≡ version_graph s version
+pub starts_there : {A : Type 0} (plan_in : A → Plan) (shared lent : List A) (programs : List ScheduledProgram) (w : World) (old new : SessionValue) (s : State) (program ticket version turns : ℕ)
+    (plan : A) (graph flat : Digraph) (own : Plan) (j : JobValue)
+    (number : ℕ) → IsAt programs w old → old.plans ≡ map plan_in shared → lent ≡ shared → Some plan ≡ numbered lent program → old.versions ≡ s → ticket_version s.open_tickets ticket ≡ Some version
+    → graph ≡ version_graph s version
     → own ≡ plan_in plan → flat ≡ graph → IsNewJob own flat turns j → new ≡ record old { jobs = old.jobs ++ j ∷ [] } → number ≡ length old.jobs + 1
     → Takes programs (start w turns (numbered programs program) (ticket_graph w.versions ticket)) (Job number) new
 starts_there plan_in shared lent programs w old new s program ticket version turns plan graph flat own j number at are lies is here held graph_is own_is flat_is new_is after count =
@@ -63,16 +68,19 @@ starts_there plan_in shared lent programs w old new s program ticket version tur
     (starts programs w old new program turns (plan_in plan) graph (ticket_graph w.versions ticket) j at (plan_found plan_in old.plans shared lent program (Some plan) are lies is)
     (graph_there programs w old s ticket (Some version) at here held ∙ ap Some (sym graph_is)) (new_of own (plan_in plan) flat graph turns j own_is flat_is new_is) after)
 
-pub no_job_there : (programs : List ScheduledProgram) (w : World) (old : SessionValue) (jobs : List JobValue) (number index : ℕ) → IsAt programs w old → old.jobs ≡ jobs → number ≡ index + 1 → length jobs ≤ index
+pub no_job_there : (programs : List ScheduledProgram) (w : World) (old : SessionValue) (jobs : List JobValue) (number index : ℕ) → IsAt programs w old → old.jobs ≡ jobs → number ≡ index + 1
+    → length jobs ≤ index
     → job_step w number (numbered w.jobs number) ≡ refused w 413
 no_job_there programs w old jobs number index at are is past =
     no_job programs w old number at (ap (λ (js : List JobValue). numbered js number) are ∙ numbered_at jobs number index is ∙ slice_get_past jobs index past)
 
-pub steps_job_there : (programs : List ScheduledProgram) (w : World) (old new : SessionValue) (jobs : List JobValue) (number index : ℕ) (j k : JobValue) (stand : Stand) → IsAt programs w old → old.jobs ≡ jobs → number ≡ index + 1
+pub steps_job_there : (programs : List ScheduledProgram) (w : World) (old new : SessionValue) (jobs : List JobValue) (number index : ℕ) (j k : JobValue) (stand : Stand) → IsAt programs w old
+    → old.jobs ≡ jobs → number ≡ index + 1
     → index < length jobs → ((d : JobValue) → j ≡ get_or jobs index d) → IsNextOf j k → stand ≡ stand_of k.stands → new ≡ record old { jobs = slice_set jobs index k }
     → Takes programs (job_step w number (numbered w.jobs number)) (Stands stand) new
 steps_job_there programs w old new jobs number index j k stand at are is within there next stands after =
-    let found : numbered old.jobs number ≡ Some j = ap (λ (js : List JobValue). numbered js number) are ∙ numbered_at jobs number index is ∙ slice_get_read jobs (length jobs) index j refl within (there j) in
+    let found : numbered old.jobs number ≡ Some j = ap (λ (js : List JobValue). numbered js number) are ∙ numbered_at jobs number index is
+    ∙ slice_get_read jobs (length jobs) index j refl within (there j) in
     let put : slice_set jobs index k ≡ with_numbered old.jobs number k = sym (ap (λ (js : List JobValue). with_numbered js number k) are ∙ with_numbered_at jobs number index k is) in
     subst (λ (st : Stand). Takes programs (job_step w number (numbered w.jobs number)) (Stands st) new) (sym stands)
     (steps_job programs w old new number j k at found next (after ∙ ap (λ (js : List JobValue). record old { jobs = js }) put))

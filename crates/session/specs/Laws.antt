@@ -36,7 +36,8 @@ pub record GoesOnAlone (old : WorldJob) (more : ℕ) (new : WorldJob) : Type 0 w
   pub turns : new.turns ≡ old.turns
   pub stands : index_of new ≡ index_after old.program old.graph old.turns (old.count + more)
 
--- The job of a session runs a plan of that program on that graph within that bound, and stands where the program's machine stands on it after n instructions more.
+-- The job of a session runs a plan of that program on that graph within that bound, and stands where the program's machine stands on it after n instructions
+-- more.
 pub record RunsAlone (old : WorldJob) (more : ℕ) (new : JobValue) : Type 0 where
   pub plan : IsPlanOf new.plan old.program
   pub is : new ≡ job_value new.plan old.graph old.turns (index_after old.program old.graph old.turns (old.count + more))
@@ -66,11 +67,13 @@ abbrev pub batches_of : List ScheduledProgram → World → List SessionStep →
 batches_of programs w [] = []
 batches_of programs w (step ∷ steps) = committed_by step (answer programs w step).reply ++ batches_of programs (answer programs w step).world steps
 
--- there are as many versions beside version 0 as batches, and the graph of version k, also where a ticket holds it, is n vertices without edges, taken through the first k of the batches
+-- there are as many versions beside version 0 as batches, and the graph of version k, also where a ticket holds it, is n vertices without edges, taken through
+-- the first k of the batches
 pub record HasFolds (n : ℕ) (batches : List (List Entry)) (w : World) : Type 0 where
   pub number : newest_number w.versions ≡ length batches
   pub graph : (k : ℕ) → version_graph w.versions k ≡ graph_through (empty_graph n) (take k batches)
-  pub held : (ticket : ℕ) → ticket_graph w.versions ticket ≡ option_map (λ k. graph_through (empty_graph n) (take k batches)) (ticket_version w.versions.open_tickets ticket)
+  pub held : (ticket : ℕ) → ticket_graph w.versions ticket ≡ option_map (λ k. graph_through (empty_graph n) (take k batches))
+      (ticket_version w.versions.open_tickets ticket)
 
 -- programs of which these are the plans
 pub record HasPrograms (plans : List Plan) : Type 0 where

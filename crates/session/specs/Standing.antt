@@ -52,7 +52,8 @@ pub record Takes (programs : List ScheduledProgram) (a : Answer) (reply : Sessio
   pub reply_is : reply ≡ a.reply
   pub stands : IsAt programs a.world s
 
--- So it is with steps, one after another, where replies is the list that the call gives. Where memory runs out the call may stop before a step, after those in front of it.
+-- So it is with steps, one after another, where replies is the list that the call gives. Where memory runs out the call may stop before a step, after those in
+-- front of it.
 abbrev pub Runs : {A : Type 0} → List ScheduledProgram → World → List SessionStep → (A → List SessionReply) → Result A SessionError → SessionValue → Type 0
 Runs programs w steps replies (Ok x) new = (replies x ≡ replies_to programs w steps) × IsAt programs (world_after programs w steps) new
 Runs programs w steps replies (Err NoMemory) new = (k : ℕ) × (k < length steps) × IsAt programs (world_after programs w (take k steps)) new

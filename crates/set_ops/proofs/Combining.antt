@@ -38,7 +38,8 @@ pub record CanRejoin (op : MapOperation) (b : ℕ) (xs ys : List (ℕ × ℤ)) (
   pub above_room : hi.common ≤ 2 ^ 40
   pub whole : (m : Combined) → IsRejoined op lo h hi m.part m.common → IsCombined op b xs ys m.part m.common
 
-module _ (base : Option ℕ) (k : ℕ) (w : ℤ) (xs l r ys yl yr : List (ℕ × ℤ)) (found : Option ℤ) (is : xs ≡ l ++ (k, w) ∷ r) (cut : CutsEntries k ys yl found yr) (up : Ascends base (keys_of xs)) (up' : Ascends base (keys_of ys)) where
+module _ (base : Option ℕ) (k : ℕ) (w : ℤ) (xs l r ys yl yr : List (ℕ × ℤ)) (found : Option ℤ) (is : xs ≡ l ++ (k, w) ∷ r) (cut : CutsEntries k ys yl found yr) (up : Ascends base (keys_of xs))
+    (up' : Ascends base (keys_of ys)) where
   rising : AscendsFrom (least base) (keys_of (l ++ (k, w) ∷ r))
   rising = rw is at up
 
@@ -121,7 +122,8 @@ module _ (base : Option ℕ) (b : ℕ) (xs ys : List (ℕ × ℤ)) (m : ChunkedS
   }
 
 -- a set that is cut at its root, and a list
-module _ (base : Option ℕ) (a l : ChunkedSet) (k : ℕ) (w : ℤ) (r : ChunkedSet) (root : IsRoot a l k w r) (ys yl yr : List (ℕ × ℤ)) (found : Option ℤ) (cut : CutsEntries k ys yl found yr) (up : Ascends base (keys_of a.entries)) (up' : Ascends base (keys_of ys)) where
+module _ (base : Option ℕ) (a l : ChunkedSet) (k : ℕ) (w : ℤ) (r : ChunkedSet) (root : IsRoot a l k w r) (ys yl yr : List (ℕ × ℤ)) (found : Option ℤ) (cut : CutsEntries k ys yl found yr)
+    (up : Ascends base (keys_of a.entries)) (up' : Ascends base (keys_of ys)) where
   pub over_left : Ascends base (keys_of l.entries) × Ascends base (keys_of yl)
   over_left = (
     left_over base k w a.entries l.entries r.entries ys yl yr found root.entries cut up up',
@@ -140,14 +142,16 @@ module _ (base : Option ℕ) (a l : ChunkedSet) (k : ℕ) (w : ℤ) (r : Chunked
   pub less_right : length r.entries < length a.entries
   less_right = right_smaller base k w a.entries l.entries r.entries ys yl yr found root.entries cut up up'
 
-  pub root_rejoin : (op : MapOperation) (lo hi : Combined) → IsCombined op l.chunk_size l.entries yl lo.part lo.common → IsCombined op r.chunk_size r.entries yr hi.part hi.common → CanRejoin op a.chunk_size a.entries ys (head_of k w found) lo hi
+  pub root_rejoin : (op : MapOperation) (lo hi : Combined) → IsCombined op l.chunk_size l.entries yl lo.part lo.common → IsCombined op r.chunk_size r.entries yr hi.part hi.common
+      → CanRejoin op a.chunk_size a.entries ys (head_of k w found) lo hi
   root_rejoin op lo hi is_lo is_hi =
       let lo_is : IsCombined op a.chunk_size l.entries yl lo.part lo.common = rw root.left_size at is_lo in
       let hi_is : IsCombined op a.chunk_size r.entries yr hi.part hi.common = rw root.right_size at is_hi in
       can_rejoin base k w a.entries l.entries r.entries ys yl yr found root.entries cut up up' op a.chunk_size lo hi lo_is hi_is
 
 -- two sets that are cut at the root of the first
-module _ (base : Option ℕ) (a b l : ChunkedSet) (k : ℕ) (w : ℤ) (r : ChunkedSet) (c : Cut) (is : AreHalves a b l k w r c) (up : Ascends base (keys_of a.entries)) (up' : Ascends base (keys_of b.entries)) where
+module _ (base : Option ℕ) (a b l : ChunkedSet) (k : ℕ) (w : ℤ) (r : ChunkedSet) (c : Cut) (is : AreHalves a b l k w r c) (up : Ascends base (keys_of a.entries))
+    (up' : Ascends base (keys_of b.entries)) where
   pub halves_over : a.chunk_size ≡ b.chunk_size → AreHalvesOver base l k r c
   halves_over sizes =
       let left = over_left base a l k w r is.first b.entries c.below.entries c.above.entries c.found is.second.list up up' in

@@ -113,7 +113,8 @@ module _ {V : Type 0} (e : ℕ × V) (r : List (ℕ × V)) where
   back_ascends low [] s = s.2
   back_ascends low (x ∷ l) s = back_ascends (x.0 + 1) l s.2
 
-  pub second_at : (low : ℕ) (l ys : List (ℕ × V)) → AscendsFrom low (keys_of (l ++ e ∷ r)) → union_keeping_second (l ++ e ∷ r) ys ≡ union_keeping_second l (entries_below e.0 ys) ++ renewed e ys ∷ union_keeping_second r (entries_above e.0 ys)
+  pub second_at : (low : ℕ) (l ys : List (ℕ × V)) → AscendsFrom low (keys_of (l ++ e ∷ r))
+      → union_keeping_second (l ++ e ∷ r) ys ≡ union_keeping_second l (entries_below e.0 ys) ++ renewed e ys ∷ union_keeping_second r (entries_above e.0 ys)
   second_at low [] ys s = refl
   second_at low (x ∷ l) ys s =
       let lt : x.0 + 1 ≤ e.0 = before_it (x.0 + 1) l s.2 in
@@ -128,7 +129,8 @@ module _ {V : Type 0} (e : ℕ × V) (r : List (ℕ × V)) where
       ∙ ap (λ v. entries_below x.0 (entries_below e.0 ys) ++ renewed x (entries_below e.0 ys) ∷ v) back
       ∙ sym (append_assoc (entries_below x.0 (entries_below e.0 ys)) (renewed x (entries_below e.0 ys) ∷ union_keeping_second l (entries_above x.0 (entries_below e.0 ys))) (renewed e ys ∷ rest))
 
-  pub first_at : (low : ℕ) (l ys : List (ℕ × V)) → AscendsFrom low (keys_of (l ++ e ∷ r)) → union_keeping_first (l ++ e ∷ r) ys ≡ union_keeping_first l (entries_below e.0 ys) ++ e ∷ union_keeping_first r (entries_above e.0 ys)
+  pub first_at : (low : ℕ) (l ys : List (ℕ × V)) → AscendsFrom low (keys_of (l ++ e ∷ r))
+      → union_keeping_first (l ++ e ∷ r) ys ≡ union_keeping_first l (entries_below e.0 ys) ++ e ∷ union_keeping_first r (entries_above e.0 ys)
   first_at low [] ys s = refl
   first_at low (x ∷ l) ys s =
       let lt : x.0 + 1 ≤ e.0 = before_it (x.0 + 1) l s.2 in
@@ -147,7 +149,8 @@ module _ {V : Type 0} (e : ℕ × V) (r : List (ℕ × V)) where
       let lt : x.0 + 1 ≤ e.0 = before_it (x.0 + 1) l s.2 in
       ap (λ v. one_of (has x.0 ks) x v) (without_below (x.0 + 1) l ks s.2) ∙ ap (λ h. one_of h x (without_keys l (below e.0 ks))) (sym (has_below x.0 e.0 ks (omega arith)))
 
-  pub without_at : (low : ℕ) (l : List (ℕ × V)) (ks : List ℕ) → AscendsFrom low (keys_of (l ++ e ∷ r)) → without_keys (l ++ e ∷ r) ks ≡ without_keys l (below e.0 ks) ++ one_of (has e.0 ks) e (without_keys r (above e.0 ks))
+  pub without_at : (low : ℕ) (l : List (ℕ × V)) (ks : List ℕ) → AscendsFrom low (keys_of (l ++ e ∷ r))
+      → without_keys (l ++ e ∷ r) ks ≡ without_keys l (below e.0 ks) ++ one_of (has e.0 ks) e (without_keys r (above e.0 ks))
   without_at low l ks s =
       without_append l (e ∷ r) ks
       ∙ ap (λ v. v ++ without_keys (e ∷ r) ks) (without_below low l ks s)

@@ -31,10 +31,12 @@ pub cut_length : (k low : ℕ) (es : List (ℕ × ℤ)) → AscendsFrom low (key
 cut_length k low [] s = refl
 cut_length k low (e ∷ es) s =
     elim (cases_order e.0 k) [
-      | inl is ↦ rw (eq-eqb e.0 k is, le-ltb e.0 k (omega arith), le-ltb k e.0 (omega arith), entries_below_none k (e.0 + 1) es (omega arith) s.2, entries_above_all k (e.0 + 1) es (omega arith) s.2) (omega arith)
+      | inl is ↦ rw (eq-eqb e.0 k is, le-ltb e.0 k (omega arith), le-ltb k e.0 (omega arith), entries_below_none k (e.0 + 1) es (omega arith) s.2, entries_above_all k (e.0 + 1) es (omega arith) s.2)
+      (omega arith)
       | inr other ↦ elim other [
         | inl lt ↦ rw (ne_eqb e.0 k (omega arith), lt-ltb e.0 k lt, le-ltb k e.0 (omega arith)) (omega (arith, cut_length k (e.0 + 1) es s.2))
-        | inr gt ↦ rw (ne_eqb e.0 k (omega arith), le-ltb e.0 k (omega arith), lt-ltb k e.0 gt, entries_below_none k (e.0 + 1) es (omega arith) s.2, entries_above_all k (e.0 + 1) es (omega arith) s.2, no_value k (e.0 + 1) es (omega arith) s.2) (omega arith)
+        | inr gt ↦ rw (ne_eqb e.0 k (omega arith), le-ltb e.0 k (omega arith), lt-ltb k e.0 gt, entries_below_none k (e.0 + 1) es (omega arith) s.2, entries_above_all k (e.0 + 1) es (omega arith) s.2,
+        no_value k (e.0 + 1) es (omega arith) s.2) (omega arith)
       ]
     ]
 
@@ -44,7 +46,8 @@ left_over k w front back None h is = rw is refl
 left_over k w front back (Some v) h is = rw is refl
 
 -- the answer, from those for what is below an entry of the first list and for what is above it
-pub combined_cut : (op : MapOperation) (k : ℕ) (w : ℤ) (low : ℕ) (l r ys : List (ℕ × ℤ)) → AscendsFrom low (keys_of (l ++ (k, w) ∷ r)) → combined op (l ++ (k, w) ∷ r) ys ≡ around (combined op l (entries_below k ys)) k (kept op w (lookup k ys)) (combined op r (entries_above k ys))
+pub combined_cut : (op : MapOperation) (k : ℕ) (w : ℤ) (low : ℕ) (l r ys : List (ℕ × ℤ)) → AscendsFrom low (keys_of (l ++ (k, w) ∷ r))
+    → combined op (l ++ (k, w) ∷ r) ys ≡ around (combined op l (entries_below k ys)) k (kept op w (lookup k ys)) (combined op r (entries_above k ys))
 combined_cut Union k w low l r ys s = second_at (k, w) r low l ys s
 combined_cut UnionKeepingFirst k w low l r ys s = first_at (k, w) r low l ys s
 combined_cut Difference k w low l r ys s =
@@ -76,12 +79,17 @@ tally UnionKeepingFirst w (Some v) = refl
 tally Difference w None = refl
 tally Difference w (Some v) = refl
 
-most_cut : (op : MapOperation) (k : ℕ) (w : ℤ) (low : ℕ) (l r ys : List (ℕ × ℤ)) → AscendsFrom low (keys_of ys) → most (on_keys op) (length (l ++ (k, w) ∷ r)) (length ys) ≡ most (on_keys op) (length l) (length (entries_below k ys)) + most (on_keys op) (length r) (length (entries_above k ys)) + counted op (lookup k ys)
+most_cut : (op : MapOperation) (k : ℕ) (w : ℤ) (low : ℕ) (l r ys : List (ℕ × ℤ)) → AscendsFrom low (keys_of ys)
+    → most (on_keys op) (length (l ++ (k, w) ∷ r)) (length ys) ≡ most (on_keys op) (length l) (length (entries_below k ys)) + most (on_keys op) (length r) (length (entries_above k ys)) + counted op
+    (lookup k ys)
 most_cut Union k w low l r ys t = omega (arith, length-append l ((k, w) ∷ r), cut_length k low ys t)
 most_cut UnionKeepingFirst k w low l r ys t = omega (arith, length-append l ((k, w) ∷ r), cut_length k low ys t)
 most_cut Difference k w low l r ys t = omega (arith, length-append l ((k, w) ∷ r))
 
-pub combined_count : (op : MapOperation) (k : ℕ) (w : ℤ) (low low' : ℕ) (l r ys : List (ℕ × ℤ)) → AscendsFrom low (keys_of (l ++ (k, w) ∷ r)) → AscendsFrom low' (keys_of ys) → (c d : ℕ) → c + length (combined op l (entries_below k ys)) ≡ most (on_keys op) (length l) (length (entries_below k ys)) → d + length (combined op r (entries_above k ys)) ≡ most (on_keys op) (length r) (length (entries_above k ys)) → c + d + one (lookup k ys) + length (combined op (l ++ (k, w) ∷ r) ys) ≡ most (on_keys op) (length (l ++ (k, w) ∷ r)) (length ys)
+pub combined_count : (op : MapOperation) (k : ℕ) (w : ℤ) (low low' : ℕ) (l r ys : List (ℕ × ℤ)) → AscendsFrom low (keys_of (l ++ (k, w) ∷ r)) → AscendsFrom low' (keys_of ys) → (c d : ℕ)
+    → c + length (combined op l (entries_below k ys)) ≡ most (on_keys op) (length l) (length (entries_below k ys))
+    → d + length (combined op r (entries_above k ys)) ≡ most (on_keys op) (length r) (length (entries_above k ys))
+    → c + d + one (lookup k ys) + length (combined op (l ++ (k, w) ∷ r) ys) ≡ most (on_keys op) (length (l ++ (k, w) ∷ r)) (length ys)
 combined_count op k w low low' l r ys s t c d e f =
     let long = ap length (combined_cut op k w low l r ys s) in
     let parts = around_length (combined op l (entries_below k ys)) k (kept op w (lookup k ys)) (combined op r (entries_above k ys)) in

@@ -16,7 +16,8 @@ seen_on x y None on seen = tt
 seen_on x y (Some u) on seen = record { book = on.book ∙ seen.book; base = on.base ∙ seen.base; log = prefix_trans u.log x.log y.log seen.log on.log }
 
 seen_set : (x : Published) (views : List (Option Published)) (seat : ℕ) (v : Option Published) → AreSeen x views → IsSeen v x → AreSeen x (set views seat v)
-seen_set x views seat v are seen j u e = ⊎_elim (λ (t : (j ≡ seat) × (v ≡ u)). subst (λ z. IsSeen z x) t.1 seen) (λ (t : (j ≢ seat) × (get_elem? views j ≡ some u)). are j u t.1) (at_set views seat j v u e)
+seen_set x views seat v are seen j u e = ⊎_elim (λ (t : (j ≡ seat) × (v ≡ u)). subst (λ z. IsSeen z x) t.1 seen) (λ (t : (j ≢ seat) × (get_elem? views j ≡ some u)). are j u t.1)
+    (at_set views seat j v u e)
 
 pub publishes : (seat : ℕ) (v : Option Published) (x y : Published) → GoesOn x y → TurnsAt AreSeen seat v x y Sees
 publishes seat v x y on views are at =
@@ -35,7 +36,8 @@ forks seat v x views are at j u e =
 
 pub merges : (seat : ℕ) (v : Option Published) (other : ℕ) (w : Option Published) → Merges AreSeen seat v other w w None
 merges seat v other w x views are at apart there =
-    let told : IsSeen w x = ⊎_elim (λ (t : (other ≡ seat) × (w ≡ w)). absurd (apart t.0)) (λ (t : (other ≢ seat) × (get_elem? views other ≡ some w)). are other w t.1) (at_set views seat other w w there) in
+    let told : IsSeen w x = ⊎_elim (λ (t : (other ≡ seat) × (w ≡ w)). absurd (apart t.0)) (λ (t : (other ≢ seat) × (get_elem? views other ≡ some w)). are other w t.1)
+    (at_set views seat other w w there) in
     seen_set x (set views seat w) other None (seen_set x views seat w are told) tt
 
 -- the last of the values that are pending is the one that is published

@@ -1,5 +1,6 @@
 -- What an accepted step does to the published_log and to the reader that made it, and what a refusal shows.
-use Rattle.std.proofs.Common.{◌≡◌, ℕ, ◌+◌, ◌<◌, Result, Ok, Err, IfErr, List, [], ◌∷◌, ◌++◌, length, slice_index, slice_set, get_or-set_same, get_or-set_other, inl, inr, refl, sym, ap, ◌∙◌, subst, arith, length-append, append_assoc}
+use Rattle.std.proofs.Common.{◌≡◌, ℕ, ◌+◌, ◌<◌, Result, Ok, Err, IfErr, List, [], ◌∷◌, ◌++◌, length, slice_index, slice_set, get_or-set_same, get_or-set_other, inl, inr, refl, sym, ap, ◌∙◌, subst}
+use Rattle.std.proofs.Common.{arith, length-append, append_assoc}
 use Rattle.std.proofs.lemmas.Bool.{cases_eq}
 use Rattle.std.proofs.lemmas.List.{append-nil, length-set}
 use mathlib.Core.List.{IsPrefix}
@@ -28,7 +29,8 @@ use Rattle.shared_graph.specs.inside.Refusal.{from_version}
 use Rattle.shared_graph.specs.inside.Locked.{IsTimelineOf, AreCounts, ShowsRefusal}
 use Rattle.shared_graph.proofs.Growing.{steps_of-push, legal-push, state_at-push, own-mine, own-other}
 
-pub made : (base : State) (old : ReaderState) (log : List Entry) (done : Done) → IsPrefix old.shown log → own old.number log ≡ own old.number old.last → IsLegal base (steps_of log) → MayFollow base log done
+pub made : (base : State) (old : ReaderState) (log : List Entry) (done : Done) → IsPrefix old.shown log → own old.number log ≡ own old.number old.last → IsLegal base (steps_of log)
+    → MayFollow base log done
     → HasMade base old done.step done.reply (record old { shown = log ++ record { by = old.number; done = done } ∷ []; last = log ++ record { by = old.number; done = done } ∷ [] })
 made base old log done begins own_is legal may =
     let e : Entry = record { by = old.number; done = done } in
@@ -42,7 +44,8 @@ made base old log done begins own_is legal may =
     }
 
 -- the count of the reader that made the entry is one more
-pub counts_push : (log : List Entry) (e : Entry) (counts : List ℕ) (place : ℕ) → AreCounts log counts → e.by ≡ place → place < length counts → AreCounts (log ++ e ∷ []) (slice_set counts place (slice_index counts place + 1))
+pub counts_push : (log : List Entry) (e : Entry) (counts : List ℕ) (place : ℕ) → AreCounts log counts → e.by ≡ place → place < length counts
+    → AreCounts (log ++ e ∷ []) (slice_set counts place (slice_index counts place + 1))
 counts_push log e counts place are by within p lt =
     let inside : p < length counts = omega (arith, lt, length-set counts place (slice_index counts place + 1)) in
     elim (cases_eq p place) [
@@ -50,7 +53,8 @@ counts_push log e counts place are by within p lt =
           let mine : own p (log ++ e ∷ []) ≡ own p log ++ e ∷ [] = own-mine p log e (by ∙ sym here) in
           let one_more : length (own p (log ++ e ∷ [])) ≡ length (own p log) + 1 = ap length mine ∙ length-append (own p log) (e ∷ []) in
           let at : slice_index (slice_set counts place (slice_index counts place + 1)) place ≡ slice_index counts place + 1 = rw get_or-set_same refl in
-          subst (λ q. slice_index (slice_set counts place (slice_index counts place + 1)) q ≡ length (own p (log ++ e ∷ []))) (sym here) (at ∙ ap (λ n. n + 1) (ap (slice_index counts) (sym here) ∙ are p inside) ∙ sym one_more)
+          subst (λ q. slice_index (slice_set counts place (slice_index counts place + 1)) q ≡ length (own p (log ++ e ∷ []))) (sym here)
+          (at ∙ ap (λ n. n + 1) (ap (slice_index counts) (sym here) ∙ are p inside) ∙ sym one_more)
       | inr other ↦
           let same : own p (log ++ e ∷ []) ≡ own p log = own-other p log e (λ is. other (sym is ∙ by)) in
           (rw get_or-set_other refl) ∙ are p inside ∙ sym (ap length same)
@@ -68,7 +72,8 @@ timeline_push base log e old new is acc = record {
 }
 
 -- after a trim the versions have no entries, and begin where the history ends
-pub timeline_trimmed : (base : State) (log : List Entry) (e : Entry) (old new : Timeline) → IsTimelineOf base log old → e.done.step ≡ Trim → new ≡ beginning (state_after old.state Trim) → IsTimelineOf base (log ++ e ∷ []) new
+pub timeline_trimmed : (base : State) (log : List Entry) (e : Entry) (old new : Timeline) → IsTimelineOf base log old → e.done.step ≡ Trim → new ≡ beginning (state_after old.state Trim)
+    → IsTimelineOf base (log ++ e ∷ []) new
 timeline_trimmed base log e old new is trims begins =
     let all : List Entry = log ++ e ∷ [] in
     let now : state_after old.state Trim ≡ state_at base all = ap (λ (s : State). state_after s Trim) is.state ∙ ap (state_after (state_at base log)) (sym trims) ∙ sym (state_at-push base log e) in
@@ -84,7 +89,8 @@ timeline_trimmed base log e old new is trims begins =
 -- a step that is prepared or refused is not in the history
 pub timeline_kept : {A : Type 0} (base : State) (log : List Entry) (old new : Timeline) (step : Step) (n : ℕ) (IsReady : Timeline → A → Type 0) (r : Result A VersionError)
     → IsTimelineOf base log old → Prepares old step n IsReady r new → IsTimelineOf base log new
-timeline_kept base log old new step n IsReady (Ok x) is p = subst (IsTimelineOf base log) (sym p.0) (record { earlier = is.earlier; recent = is.recent; parts = is.parts; base_is = is.base_is; history = is.history; state = is.state })
+timeline_kept base log old new step n IsReady (Ok x) is p = subst (IsTimelineOf base log) (sym p.0)
+    (record { earlier = is.earlier; recent = is.recent; parts = is.parts; base_is = is.base_is; history = is.history; state = is.state })
 timeline_kept base log old new step n IsReady (Err NoMemory) is p = subst (IsTimelineOf base log) (sym p.1) is
 timeline_kept base log old new step n IsReady (Err VertexRange) is p = subst (IsTimelineOf base log) (sym p.unchanged) is
 timeline_kept base log old new step n IsReady (Err BadChunkSize) is p = subst (IsTimelineOf base log) (sym p.unchanged) is
@@ -92,7 +98,8 @@ timeline_kept base log old new step n IsReady (Err NotKept) is p = subst (IsTime
 timeline_kept base log old new step n IsReady (Err NotHeld) is p = subst (IsTimelineOf base log) (sym p.unchanged) is
 timeline_kept base log old new step n IsReady (Err HistoryFull) is p = subst (IsTimelineOf base log) (sym p.unchanged) is
 
-answer_at : (base : State) (log shown : List Entry) (old : Timeline) (step : Step) (number : ℕ) → IsTimelineOf base log old → shown ≡ log → reply_to old.state step ≡ Refused number → reply_to (state_at base shown) step ≡ Refused number
+answer_at : (base : State) (log shown : List Entry) (old : Timeline) (step : Step) (number : ℕ) → IsTimelineOf base log old → shown ≡ log → reply_to old.state step ≡ Refused number
+    → reply_to (state_at base shown) step ≡ Refused number
 answer_at base log shown old step number is same answer = ap (λ l. reply_to (state_at base l) step) same ∙ ap (λ (s : State). reply_to s step) (sym is.state) ∙ answer
 
 -- a refusal of the versions is the machine's at the end of the history then shown
@@ -120,7 +127,8 @@ number_asked_same s t Newest same = same
 number_asked_same s t (At k) same = refl
 
 -- a hold that was prepared gives the version that was asked for
-pub holds_version : (t : Timeline) (which : Which) (p : PreparedAcquire) (base : State) (log shown : List Entry) (e : Entry) (h : Hold) → IsTimelineOf base log t → IsPreparedAcquire t which p → e.done.step ≡ Acquire which
+pub holds_version : (t : Timeline) (which : Which) (p : PreparedAcquire) (base : State) (log shown : List Entry) (e : Entry) (h : Hold) → IsTimelineOf base log t → IsPreparedAcquire t which p
+    → e.done.step ≡ Acquire which
     → shown ≡ log ++ e ∷ [] → h.version ≡ p.version → h.graph ≡ p.graph → HoldsVersion (state_at base shown) which h
 holds_version t which p base log shown e h is ready step_is ends version graph =
     let after : State = state_after t.state (Acquire which) in

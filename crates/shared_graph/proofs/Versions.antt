@@ -53,13 +53,15 @@ fold_at n room log legal =
     ∙ ap (λ (bs : List (List Change)). graph_through (empty_graph n) bs) (batches_at n room log legal)
 
 -- the newest version of a legal history has all its batches
-pub newest_is : (n room : ℕ) (log : List Entry) (k : ℕ) (g : Digraph) → IsLegal (opened n room) (steps_of log) → IsNewest (state_at (opened n room) log) k g → (k ≡ length (batches_of log)) × (g ≡ fold_of n log)
+pub newest_is : (n room : ℕ) (log : List Entry) (k : ℕ) (g : Digraph) → IsLegal (opened n room) (steps_of log) → IsNewest (state_at (opened n room) log) k g → (k ≡ length (batches_of log))
+    × (g ≡ fold_of n log)
 newest_is n room log k g legal newest =
     let s : State = state_at (opened n room) log in
     (newest.number_is ∙ number_at n room log legal, newest.graph_is ∙ ap (version_graph s) newest.number_is ∙ fold_at n room log legal)
 
 -- what is held at the end of a legal history is a version of it
-pub held_is : (n room : ℕ) (log : List Entry) (which : Which) (h : Hold) → IsLegal (opened n room) (steps_of log) → HoldsVersion (state_at (opened n room) log) which h → IsVersionOf n log h.version h.graph
+pub held_is : (n room : ℕ) (log : List Entry) (which : Which) (h : Hold) → IsLegal (opened n room) (steps_of log) → HoldsVersion (state_at (opened n room) log) which h
+    → IsVersionOf n log h.version h.graph
 held_is n room log which h legal holds = record {
   made = subst (λ m. h.version ≤ m) (number_at n room log legal) holds.made;
   graph_is = holds.graph_is ∙ graph_at n room log h.version legal;

@@ -65,7 +65,8 @@ abbrev pub fresh_readers : ℕ → List ReaderState
 fresh_readers zero = []
 fresh_readers (suc n) = fresh_readers n ++ fresh_reader n ∷ []
 
--- the reader made the step: the history shown extends the one before and ends in this step with this reply, and the reader's own entries in it are those after its last accepted step, and this one
+-- the reader made the step: the history shown extends the one before and ends in this step with this reply, and the reader's own entries in it are those after
+-- its last accepted step, and this one
 pub record HasMade (base : State) (old : ReaderState) (step : Step) (reply : Reply) (new : ReaderState) : Type 0 where
   pub number : new.number ≡ old.number
   pub between : List Entry

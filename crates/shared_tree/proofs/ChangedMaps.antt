@@ -43,7 +43,8 @@ module _ {V : Type 0} where
 
 module _ {V C : Type 0} (makes : C → Option V → Option V → Type 0) (k : ℕ) (es l r : List (ℕ × V)) (cs b a : List (ℕ × C)) where
   -- a key with an entry after a change had one, or a change
-  was_within : (o : Option V) (c : Option C) (v : V) (low high : ℕ) → IsSplit k es l o r → IsSplit k cs b c a → MadeAt makes c o (Some v) → Rises low high es → Rises low high cs → (low ≤ k) × (k + 1 ≤ high)
+  was_within : (o : Option V) (c : Option C) (v : V) (low high : ℕ) → IsSplit k es l o r → IsSplit k cs b c a → MadeAt makes c o (Some v) → Rises low high es → Rises low high cs → (low ≤ k)
+      × (k + 1 ≤ high)
   was_within (Some w) c v low high s t made p q = key_within low high k l w r (rw s.whole at p)
   was_within None (Some c) v low high s t made p q = key_within low high k b c a (rw t.whole at q)
   was_within None None v low high s t made p q = absurd (cc)
@@ -57,20 +58,24 @@ module _ {V C : Type 0} (makes : C → Option V → Option V → Type 0) (k : �
       above = upper.within (k + 1) (2 ^ 32) s.above t.above;
     }
 
-    within_bounds : (o : Option V) (c : Option C) (m : Option V) (low high : ℕ) → IsSplit k es l o r → IsSplit k cs b c a → MadeAt makes c o m → Rises low high es → Rises low high cs → Rises low high (l' ++ (entry_at k m ++ r'))
+    within_bounds : (o : Option V) (c : Option C) (m : Option V) (low high : ℕ) → IsSplit k es l o r → IsSplit k cs b c a → MadeAt makes c o m → Rises low high es → Rises low high cs
+    → Rises low high (l' ++ (entry_at k m ++ r'))
     within_bounds o c None low high s t made p q =
         let is = split_changed o c None s t in
         let ls = lower.within low high (rises_front low high l (entry_at k o ++ r) (rw s.whole at p)) (rises_front low high b (entry_at k c ++ a) (rw t.whole at q)) in
-        let rs = upper.within low high (rises_back low high (entry_at k o) r (rises_back low high l (entry_at k o ++ r) (rw s.whole at p))) (rises_back low high (entry_at k c) a (rises_back low high b (entry_at k c ++ a) (rw t.whole at q))) in
+        let rs = upper.within low high (rises_back low high (entry_at k o) r (rises_back low high l (entry_at k o ++ r) (rw s.whole at p)))
+        (rises_back low high (entry_at k c) a (rises_back low high b (entry_at k c ++ a) (rw t.whole at q))) in
         rises_around low high k (2 ^ 32) l' r' ls is.below rs is.above
     within_bounds o c (Some v) low high s t made p q =
         let is = split_changed o c (Some v) s t in
         let inside = was_within o c v low high s t made p q in
         let ls = lower.within low high (rises_front low high l (entry_at k o ++ r) (rw s.whole at p)) (rises_front low high b (entry_at k c ++ a) (rw t.whole at q)) in
-        let rs = upper.within low high (rises_back low high (entry_at k o) r (rises_back low high l (entry_at k o ++ r) (rw s.whole at p))) (rises_back low high (entry_at k c) a (rises_back low high b (entry_at k c ++ a) (rw t.whole at q))) in
+        let rs = upper.within low high (rises_back low high (entry_at k o) r (rises_back low high l (entry_at k o ++ r) (rw s.whole at p)))
+        (rises_back low high (entry_at k c) a (rises_back low high b (entry_at k c ++ a) (rw t.whole at q))) in
         rises_joined low high l' k v r' (rises_between low high 0 k l' ls is.below inside.0) (rises_between (k + 1) (2 ^ 32) low high r' is.above rs inside.1)
 
-    values_changed : (o : Option V) (c : Option C) (m : Option V) → IsSplit k es l o r → IsSplit k cs b c a → MadeAt makes c o m → (j : ℕ) → MadeAt makes (lookup j cs) (lookup j es) (lookup j (l' ++ (entry_at k m ++ r')))
+    values_changed : (o : Option V) (c : Option C) (m : Option V) → IsSplit k es l o r → IsSplit k cs b c a → MadeAt makes c o m → (j : ℕ)
+    → MadeAt makes (lookup j cs) (lookup j es) (lookup j (l' ++ (entry_at k m ++ r')))
     values_changed o c m s t made j =
         let new = l' ++ (entry_at k m ++ r') in
         let is = split_changed o c m s t in
@@ -100,7 +105,8 @@ module _ {V : Type 0} (weight : V → ℕ) where
   weight_append (e ∷ f) b = omega (arith, weight_append f b)
 
   -- what the entries around a key weigh
-  pub weight_around : (k : ℕ) (f : List (ℕ × V)) (m : Option V) (b : List (ℕ × V)) → total_weight weight (f ++ (entry_at k m ++ b)) ≡ total_weight weight f + (weight_at weight m + total_weight weight b)
+  pub weight_around : (k : ℕ) (f : List (ℕ × V)) (m : Option V) (b : List (ℕ × V))
+      → total_weight weight (f ++ (entry_at k m ++ b)) ≡ total_weight weight f + (weight_at weight m + total_weight weight b)
   weight_around k f None b = omega (arith, weight_append f b)
   weight_around k f (Some v) b = weight_append f ((k, v) ∷ b)
 
@@ -110,7 +116,9 @@ grew_sum a b x a' b' x' g h i s t p q r e f = omega arith
 
 module _ {V : Type 0} (weight : V → ℕ) (k : ℕ) (es l : List (ℕ × V)) (o : Option V) (r new l' : List (ℕ × V)) (m : Option V) (r' : List (ℕ × V)) where
   -- the growth of a map is that below a key, at it and above it
-  pub grew_around : es ≡ l ++ (entry_at k o ++ r) → new ≡ l' ++ (entry_at k m ++ r') → (g h i s t : ℕ) → GrewBy (total_weight weight l) g (total_weight weight l') → GrewBy (total_weight weight r) h (total_weight weight r') → GrewBy (weight_at weight o) i (weight_at weight m) → s ≡ (g + h) % 2 ^ 64 → t ≡ (i + s) % 2 ^ 64 → GrewBy (total_weight weight es) t (total_weight weight new)
+  pub grew_around : es ≡ l ++ (entry_at k o ++ r) → new ≡ l' ++ (entry_at k m ++ r') → (g h i s t : ℕ) → GrewBy (total_weight weight l) g (total_weight weight l')
+      → GrewBy (total_weight weight r) h (total_weight weight r') → GrewBy (weight_at weight o) i (weight_at weight m) → s ≡ (g + h) % 2 ^ 64 → t ≡ (i + s) % 2 ^ 64
+      → GrewBy (total_weight weight es) t (total_weight weight new)
   grew_around is new_is g h i s t p q u e f =
       rw (is, new_is, weight_around weight k l o r, weight_around weight k l' m r')
       (grew_sum (total_weight weight l) (total_weight weight r) (weight_at weight o) (total_weight weight l') (total_weight weight r') (weight_at weight m) g h i s t p q u e f)

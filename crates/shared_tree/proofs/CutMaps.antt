@@ -91,7 +91,8 @@ module _ {V : Type 0} where
   split_length k es f m b s = rw s.whole (length-append f (entry_at k m ++ b) ∙ ap (λ n. length f + n) (length-append (entry_at k m) b))
 
 -- where one of two maps that are cut at a key has an entry there, both halves are smaller
-pub halves_smaller : {V C : Type 0} (k : ℕ) (es l : List (ℕ × V)) (o : Option V) (r : List (ℕ × V)) (cs b : List (ℕ × C)) (c : Option C) (a : List (ℕ × C)) → IsSplit k es l o r → IsSplit k cs b c a → 0 < length (entry_at k o) + length (entry_at k c) → (length l + length b < length es + length cs) × (length r + length a < length es + length cs)
+pub halves_smaller : {V C : Type 0} (k : ℕ) (es l : List (ℕ × V)) (o : Option V) (r : List (ℕ × V)) (cs b : List (ℕ × C)) (c : Option C) (a : List (ℕ × C)) → IsSplit k es l o r → IsSplit k cs b c a
+    → 0 < length (entry_at k o) + length (entry_at k c) → (length l + length b < length es + length cs) × (length r + length a < length es + length cs)
 halves_smaller k es l o r cs b c a s t some =
     let x = split_length k es l o r s in
     let y = split_length k cs b c a t in

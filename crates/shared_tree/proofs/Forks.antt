@@ -31,7 +31,9 @@ module _ {V : Type 0} (t l : Balanced V) (k : ℕ) (v : V) (r : Balanced V) wher
 
 module _ {V : Type 0} (l : Balanced V) (k : ℕ) (v : V) (r : Balanced V) where
   -- an entry between two sides of about one depth makes a tree
-  pub fork_made : (d : ℕ) → d ≡ max l.depth r.depth + 1 → IsMap (l.entries ++ (k, v) ∷ r.entries) → DifferByAtMostOne l.depth r.depth → 2 ^ l.depth ≤ (length l.entries + 1) * (length l.entries + 1) → 2 ^ r.depth ≤ (length r.entries + 1) * (length r.entries + 1) → length l.entries < 2 ^ l.depth → length r.entries < 2 ^ r.depth → IsFork (record { entries = l.entries ++ (k, v) ∷ r.entries; depth = d }) l k v r
+  pub fork_made : (d : ℕ) → d ≡ max l.depth r.depth + 1 → IsMap (l.entries ++ (k, v) ∷ r.entries) → DifferByAtMostOne l.depth r.depth → 2 ^ l.depth ≤ (length l.entries + 1) * (length l.entries + 1)
+      → 2 ^ r.depth ≤ (length r.entries + 1) * (length r.entries + 1) → length l.entries < 2 ^ l.depth → length r.entries < 2 ^ r.depth
+      → IsFork (record { entries = l.entries ++ (k, v) ∷ r.entries; depth = d }) l k v r
   fork_made d e m b p q f g = record {
     entries = refl;
     depth = e;

@@ -34,11 +34,13 @@ module _ {V : Type 0} where
   map_around_left l f r x e y t m p q = rw (q, append_assoc l (f ∷ x) (e ∷ y), ← p) m
 
   -- an entry of the right side of the left side between the two
-  pub map_middle_right : (l x : List (ℕ × V)) (e : ℕ × V) (y u : List (ℕ × V)) (d : ℕ × V) (w : List (ℕ × V)) (f : ℕ × V) (z a b : List (ℕ × V)) → IsMap (l ++ f ∷ z) → l ≡ x ++ e ∷ y → y ≡ u ++ d ∷ w → a ≡ x ++ e ∷ u → b ≡ w ++ f ∷ z → IsMap (a ++ d ∷ b)
+  pub map_middle_right : (l x : List (ℕ × V)) (e : ℕ × V) (y u : List (ℕ × V)) (d : ℕ × V) (w : List (ℕ × V)) (f : ℕ × V) (z a b : List (ℕ × V)) → IsMap (l ++ f ∷ z) → l ≡ x ++ e ∷ y → y ≡ u ++ d ∷ w
+      → a ≡ x ++ e ∷ u → b ≡ w ++ f ∷ z → IsMap (a ++ d ∷ b)
   map_middle_right l x e y u d w f z a b m p q s t =
       map_around_right l a d w f z b m (p ∙ ap (λ y. x ++ e ∷ y) q ∙ sym (append_assoc x (e ∷ u) (d ∷ w)) ∙ ap (λ a. a ++ d ∷ w) (sym s)) t
 
   -- an entry of the left side of the right side between the two
-  pub map_middle_left : (l : List (ℕ × V)) (f : ℕ × V) (r x : List (ℕ × V)) (e : ℕ × V) (y u : List (ℕ × V)) (d : ℕ × V) (w a b : List (ℕ × V)) → IsMap (l ++ f ∷ r) → r ≡ x ++ e ∷ y → x ≡ u ++ d ∷ w → a ≡ l ++ f ∷ u → b ≡ w ++ e ∷ y → IsMap (a ++ d ∷ b)
+  pub map_middle_left : (l : List (ℕ × V)) (f : ℕ × V) (r x : List (ℕ × V)) (e : ℕ × V) (y u : List (ℕ × V)) (d : ℕ × V) (w a b : List (ℕ × V)) → IsMap (l ++ f ∷ r) → r ≡ x ++ e ∷ y → x ≡ u ++ d ∷ w
+      → a ≡ l ++ f ∷ u → b ≡ w ++ e ∷ y → IsMap (a ++ d ∷ b)
   map_middle_left l f r x e y u d w a b m p q s t =
       map_around_left l f r u d b a m (p ∙ ap (λ x. x ++ e ∷ y) q ∙ append_assoc u (d ∷ w) (e ∷ y) ∙ ap (λ b. u ++ d ∷ b) (sym t)) s

@@ -75,7 +75,8 @@ module _ {V : Type 0} where
 
       pub fork_smaller : IsBalanced l → length (seen x).entries < length (seen l).entries
       fork_smaller b =
-          let fewer : length node.value.left.entries < length (node.value.left.entries ++ (k, node.value.value) ∷ node.value.right.entries) = omega (arith, length-append node.value.left.entries ((k, node.value.value) ∷ node.value.right.entries)) in
+          let fewer : length node.value.left.entries < length (node.value.left.entries ++ (k, node.value.value) ∷ node.value.right.entries) =
+          omega (arith, length-append node.value.left.entries ((k, node.value.value) ∷ node.value.right.entries)) in
           rw (is, ← left.same) fewer
 
     module _ (right : IsBelow x node.value.right) where

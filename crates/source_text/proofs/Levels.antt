@@ -10,7 +10,8 @@ use Rattle.syntax.specs.declared.expression.Comparison.{Comparison}
 use Rattle.syntax.specs.declared.expression.Conjunction.{Conjunction}
 use Rattle.syntax.specs.ExpressionViews.{behind, conjunction_from, expression_from, sum_from, term_from, unary_of}
 use Rattle.syntax.specs.inside.ExpressionViews.{comparison_of, conjunction_of, term_of}
-use Rattle.syntax.specs.ExpressionSpelling.{addition_terminal, comparison_terminals, conjunction_terminals, expression_terminals, multiplication_terminal, prefix_terminal, primary_terminals, sum_terminals, term_terminals, unary_terminals}
+use Rattle.syntax.specs.ExpressionSpelling.{addition_terminal, comparison_terminals, conjunction_terminals, expression_terminals, multiplication_terminal, prefix_terminal, primary_terminals}
+use Rattle.syntax.specs.ExpressionSpelling.{sum_terminals, term_terminals, unary_terminals}
 use Rattle.syntax.specs.SourceTrees.{ConjunctionTree, ComparisonTree, TermTree, UnaryTree, PrimaryTree, Bare}
 use Rattle.syntax.specs.Terminals.{Terminal, OfKeyword}
 use Rattle.syntax.specs.SourceSpelling.{each_before}

@@ -101,9 +101,11 @@ terminal_before (Number n) b is white rest = rw (is.2) (number_before is.0 b is.
 terminal_before (Label label) b is white rest = rw (is.2) (label_longest is.0 (b ∷ rest) is.1)
 terminal_before (Text bytes) b is white rest = rw (is.2) (text_longest is.0 (b ∷ rest) is.1)
 terminal_before (Opening terminal at) b is white rest =
-    word_longest (Lexeme (kind.Keyword terminal)) (keyword_spelling terminal) (b ∷ rest) (keyword_spelling-IsWord terminal) refl (white-not_terminal b white) (no_reduction (keyword_spelling terminal) rest b white)
+    word_longest (Lexeme (kind.Keyword terminal)) (keyword_spelling terminal) (b ∷ rest) (keyword_spelling-IsWord terminal) refl (white-not_terminal b white)
+    (no_reduction (keyword_spelling terminal) rest b white)
 terminal_before (OfKeyword terminal) b is white rest =
-    word_longest (Lexeme (kind.Keyword terminal)) (keyword_spelling terminal) (b ∷ rest) (keyword_spelling-IsWord terminal) refl (white-not_terminal b white) (no_reduction (keyword_spelling terminal) rest b white)
+    word_longest (Lexeme (kind.Keyword terminal)) (keyword_spelling terminal) (b ∷ rest) (keyword_spelling-IsWord terminal) refl (white-not_terminal b white)
+    (no_reduction (keyword_spelling terminal) rest b white)
 terminal_before (OfSymbol symbol) b is white rest = symbol_before symbol b white rest
 
 -- a terminal does not begin with a white byte

@@ -13,8 +13,10 @@ use Rattle.syntax.specs.declared.operators.Prefix.TheVariants as prefix
 use Rattle.syntax.specs.declared.operators.Relation.{Relation}
 use Rattle.syntax.specs.declared.operators.Relation.TheVariants as relation
 use Rattle.syntax.specs.Terminals.{Terminal, Identifier, Name, Number, Label, Text, Opening, OfKeyword, OfSymbol}
-use Rattle.syntax.specs.SourceTrees.{ExpressionTree, ConjunctionTree, ComparisonTree, SumTree, TermTree, UnaryTree, PrimaryTree, LastConjunction, ConjunctionThen, LastComparison, ComparisonThen, OneSum, TwoSums, LastTerm, TermThen, LastUnary, UnaryThen, Bare, Signed, Literal, Truth, Variable, Entry, Size, Parentheses}
-use Rattle.syntax.specs.ExpressionSpelling.{addition_terminal, multiplication_terminal, relation_terminal, prefix_terminal, truth_terminal, expression_terminals, conjunction_terminals, comparison_terminals, sum_terminals, term_terminals, unary_terminals, primary_terminals}
+use Rattle.syntax.specs.SourceTrees.{ExpressionTree, ConjunctionTree, ComparisonTree, SumTree, TermTree, UnaryTree, PrimaryTree, LastConjunction, ConjunctionThen, LastComparison, ComparisonThen}
+use Rattle.syntax.specs.SourceTrees.{OneSum, TwoSums, LastTerm, TermThen, LastUnary, UnaryThen, Bare, Signed, Literal, Truth, Variable, Entry, Size, Parentheses}
+use Rattle.syntax.specs.ExpressionSpelling.{addition_terminal, multiplication_terminal, relation_terminal, prefix_terminal, truth_terminal, expression_terminals, conjunction_terminals}
+use Rattle.syntax.specs.ExpressionSpelling.{comparison_terminals, sum_terminals, term_terminals, unary_terminals, primary_terminals}
 use Rattle.source_text.specs.Text.{bare, AreAlike}
 
 -- a terminal that has no offset
@@ -76,7 +78,8 @@ take_label i rest ws same =
     let back = label_back first.0 i (first.3) in
     (back.0, first.1, first.2 ∙ ap (λ w. w ∷ first.1) (back.1), first.4)
 
-pub take_opening : (terminal : Keyword) (at : ℕ) (rest ws : List Terminal) → AreAlike ws (Opening terminal at ∷ rest) → (to : ℕ) × (others : List Terminal) × (ws ≡ Opening terminal to ∷ others) × AreAlike others rest
+pub take_opening : (terminal : Keyword) (at : ℕ) (rest ws : List Terminal) → AreAlike ws (Opening terminal at ∷ rest) → (to : ℕ) × (others : List Terminal) × (ws ≡ Opening terminal to ∷ others)
+    × AreAlike others rest
 take_opening terminal at rest ws same =
     let first = first_back (Opening terminal at) rest ws same in
     let back = opening_back first.0 terminal at (first.3) in
@@ -90,7 +93,8 @@ abbrev pub MovesTerminals : {A : Type 0} → (A → List Terminal) → A → Typ
 MovesTerminals {A = A} terminals a = (rest ws : List Terminal) → AreAlike ws (terminals a ++ rest) → (b : A) × (others : List Terminal) × (ws ≡ terminals b ++ others) × AreAlike others rest
 
 -- two trees with a terminal between them
-moves_pair : {A B : Type 0} (left_terminals : A → List Terminal) (right_terminals : B → List Terminal) (op : Terminal) (a : A) (b : B) → is_fixed op ≡ true → MovesTerminals left_terminals a → MovesTerminals right_terminals b
+moves_pair : {A B : Type 0} (left_terminals : A → List Terminal) (right_terminals : B → List Terminal) (op : Terminal) (a : A) (b : B) → is_fixed op ≡ true → MovesTerminals left_terminals a
+    → MovesTerminals right_terminals b
     → (rest ws : List Terminal) → AreAlike ws ((left_terminals a ++ op ∷ right_terminals b) ++ rest)
     → (x : A) × (y : B) × (others : List Terminal) × (ws ≡ (left_terminals x ++ op ∷ right_terminals y) ++ others) × AreAlike others rest
 moves_pair left_terminals right_terminals op a b fixed left right rest ws same =

@@ -3,14 +3,18 @@ use Rattle.std.proofs.Common.{◌≡◌, refl, sym, ◌∙◌, ap, arith, Bool, 
 use Rattle.lexer.specs.declared.keyword.Keyword.TheVariants as keyword
 use Rattle.lexer.specs.declared.symbol.Symbol.TheVariants as symbol
 use Rattle.syntax.specs.Terminals.{Terminal, Identifier, Name, OfKeyword, OfSymbol}
-use Rattle.syntax.specs.SourceTrees.{ExpressionTree, ParameterTree, EndsTree, InitialTree, NewSet, Load, Vertices, OutDegrees, Filter, ApplyModified, Value, StatementKindTree, Declare, While, For, If, IfElse, Print, Assign, Reduce, SetEntry, ReduceEntry, AddVertex, Apply, BlockTree, Empty, Then}
+use Rattle.syntax.specs.SourceTrees.{ExpressionTree, ParameterTree, EndsTree, InitialTree, NewSet, Load, Vertices, OutDegrees, Filter, ApplyModified, Value, StatementKindTree, Declare, While, For, If}
+use Rattle.syntax.specs.SourceTrees.{IfElse, Print, Assign, Reduce, SetEntry, ReduceEntry, AddVertex, Apply, BlockTree, Empty, Then}
 use Rattle.syntax.specs.ExpressionReading.{Reader}
 use Rattle.syntax.specs.Nesting.{◌>>=◌}
 use Rattle.syntax.specs.ExpressionSpelling.{expression_terminals}
 use Rattle.apply_options.specs.declared.reduction.Reduction.{Reduction}
 use Rattle.apply_options.specs.declared.reduction.Reduction.TheVariants as reduction
-use Rattle.syntax.specs.SourceSpelling.{ends_before, initial_before, assigned_before, ended_before, end_terminals, reduction_terminal, label_terminals, action_before, block_before, each_before, typed_before, argument_terminals, type_terminals}
-use Rattle.syntax.specs.SourceReading.{expression, ends_at, method_at, initial_at, named_initial, modified_at, assigned_at, ended_at, entry_by, applied_at, argument_at, named_action, else_by, action_by, block_at, no_block, next_statement, statement_by, begins_statement, label_at, block_from, where_begins, each_at, closed, after_terminal, after_terminals, name_at}
+use Rattle.syntax.specs.SourceSpelling.{ends_before, initial_before, assigned_before, ended_before, end_terminals, reduction_terminal, label_terminals, action_before, block_before, each_before}
+use Rattle.syntax.specs.SourceSpelling.{typed_before, argument_terminals, type_terminals}
+use Rattle.syntax.specs.SourceReading.{expression, ends_at, method_at, initial_at, named_initial, modified_at, assigned_at, ended_at, entry_by, applied_at, argument_at, named_action, else_by}
+use Rattle.syntax.specs.SourceReading.{action_by, block_at, no_block, next_statement, statement_by, begins_statement, label_at, block_from, where_begins, each_at, closed, after_terminal}
+use Rattle.syntax.specs.SourceReading.{after_terminals, name_at}
 use Rattle.syntax.specs.inside.Fits.{Fits, FitsInitial, FitsAction, FitsBlock}
 use Rattle.syntax.proofs.Complete.{typed_complete, Each, IsRead, each_complete}
 
@@ -221,7 +225,8 @@ module _ (complete : (e : ExpressionTree) (rest : List Terminal) → Fits e → 
       ∙ ap (λ r. r >>= λ e. after_terminals (OfSymbol symbol.Dot ∷ OfKeyword keyword.ApplyModified ∷ OfSymbol symbol.OpenParenthesis ∷ []) e.1 >>= λ a.
       name_at a >>= λ f. after_terminal (OfSymbol symbol.Comma) f.1 >>= λ b. name_at b >>= λ v.
       closed (OfSymbol symbol.CloseParenthesis ∷ []) (ApplyModified edges e.0 f.0 v.0, v.1)) (modified_ends ends.from ends.to behind)
-  initial_complete (Value e) rest fits = value_initial (expression_terminals e ++ OfSymbol symbol.Semicolon ∷ rest) (OfSymbol symbol.Semicolon ∷ rest) e (complete e (OfSymbol symbol.Semicolon ∷ rest) fits refl)
+  initial_complete (Value e) rest fits = value_initial (expression_terminals e ++ OfSymbol symbol.Semicolon ∷ rest) (OfSymbol symbol.Semicolon ∷ rest) e
+      (complete e (OfSymbol symbol.Semicolon ∷ rest) fits refl)
 
   pub assigned_complete : (i : InitialTree) (rest : List Terminal) → FitsInitial i → assigned_at (assigned_before i rest) ≡ Some (i, rest)
   assigned_complete i rest fits = ap (λ r. r >>= closed (OfSymbol symbol.Semicolon ∷ [])) (initial_complete i rest fits)

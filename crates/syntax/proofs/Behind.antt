@@ -3,9 +3,11 @@ use Rattle.std.proofs.Common.{List, [], ◌∷◌, ◌++◌, Option, Some, None}
 use Rattle.std.specs.List.{AllByRecursion}
 use Rattle.lexer.specs.declared.keyword.Keyword.TheVariants as keyword
 use Rattle.syntax.specs.Terminals.{Terminal, OfKeyword}
-use Rattle.syntax.specs.SourceTrees.{ExpressionTree, EndsTree, InitialTree, NewSet, Load, Vertices, OutDegrees, Filter, ApplyModified, Value, StatementKindTree, Declare, While, For, If, IfElse, Print, Assign, Reduce, SetEntry, ReduceEntry, AddVertex, Apply, BlockTree, Empty, Then, ParameterTree, DeclarationTree, Constant, Function, CallTree, ChainTree}
+use Rattle.syntax.specs.SourceTrees.{ExpressionTree, EndsTree, InitialTree, NewSet, Load, Vertices, OutDegrees, Filter, ApplyModified, Value, StatementKindTree, Declare, While, For, If, IfElse, Print}
+use Rattle.syntax.specs.SourceTrees.{Assign, Reduce, SetEntry, ReduceEntry, AddVertex, Apply, BlockTree, Empty, Then, ParameterTree, DeclarationTree, Constant, Function, CallTree, ChainTree}
 use Rattle.syntax.specs.ExpressionSpelling.{expression_terminals}
-use Rattle.syntax.specs.SourceSpelling.{action_before, assigned_before, block_before, call_before, chain_before, declaration_before, each_before, end_terminals, ended_before, ends_before, initial_before, label_terminals, next_call_before, next_parameter_before, next_text_before, parameters_before, result_before, type_terminals, typed_before}
+use Rattle.syntax.specs.SourceSpelling.{action_before, assigned_before, block_before, call_before, chain_before, declaration_before, each_before, end_terminals, ended_before, ends_before}
+use Rattle.syntax.specs.SourceSpelling.{initial_before, label_terminals, next_call_before, next_parameter_before, next_text_before, parameters_before, result_before, type_terminals, typed_before}
 
 pub all_left : {A : Type 0} (P : A → Type 0) (xs ys : List A) → AllByRecursion P (xs ++ ys) → AllByRecursion P xs
 all_left P [] ys all = tt

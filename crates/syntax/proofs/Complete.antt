@@ -9,7 +9,8 @@ use Rattle.syntax.specs.declared.declaration.DeclaredType.TheVariants as type
 use Rattle.apply_options.specs.declared.setting.Setting.{Setting}
 use Rattle.apply_options.specs.declared.setting.Setting.TheVariants as setting
 use Rattle.syntax.specs.SourceTrees.{ParameterTree, CallTree, ChainTree}
-use Rattle.syntax.specs.SourceSpelling.{type_terminals, typed_before, each_before, next_parameter_before, next_text_before, call_before, next_call_before, chain_before, parameters_before, result_before, setting_keyword}
+use Rattle.syntax.specs.SourceSpelling.{type_terminals, typed_before, each_before, next_parameter_before, next_text_before, call_before, next_call_before, chain_before, parameters_before}
+use Rattle.syntax.specs.SourceSpelling.{result_before, setting_keyword}
 use Rattle.syntax.specs.SourceReading.{type_at, typed_at, each_at, next_parameter, parameters_at, next_text, call_at, next_call, next_chain, closed}
 
 type_complete : (t : DeclaredType) (rest : List Terminal) → type_at (type_terminals t ++ rest) ≡ Some (t, rest)

@@ -11,7 +11,8 @@ use Rattle.syntax.specs.ExpressionBeginnings.{Begins}
 use Rattle.syntax.specs.ExpressionReading.{no_expression, primary_at, unary_at, term_at, sum_at, comparison_at, conjunction_at, expression_at}
 use Rattle.syntax.proofs.ExpressionsExact.{At, Sound, Complete}
 use Rattle.syntax.proofs.FirstTerminals.{ends_expression}
-use Rattle.syntax.proofs.Levels.{ExpressionIs, term_sound, term_complete, sum_sound, sum_complete, comparison_sound, comparison_complete, conjunction_sound, conjunction_complete, expression_sound, expression_complete}
+use Rattle.syntax.proofs.Levels.{ExpressionIs, term_sound, term_complete, sum_sound, sum_complete, comparison_sound, comparison_complete, conjunction_sound, conjunction_complete, expression_sound}
+use Rattle.syntax.proofs.Levels.{expression_complete}
 use Rattle.syntax.proofs.Operands.{PrimaryIs, InnerIs, primary_sound, primary_complete, unary_sound, unary_complete}
 
 sound_above : (depth : ℕ) → Sound (PrimaryIs depth) (primary_at depth) → Sound (ExpressionIs depth) (expression_at depth)

@@ -16,7 +16,8 @@ Sound Is read = (ws : List Terminal) → At Is ws (read ws)
 abbrev pub Complete : {A : Type 0} → (List Terminal → A → List Terminal → Type 0) → Reader A → Type 0
 Complete {A = A} Is read = (ws : List Terminal) (x : A) (rest : List Terminal) → Is ws x rest → ◌≡◌ {A = Option (A × List Terminal)} (read ws) (Some (x, rest))
 
-module _ {A C : Type 0} (Is : List Terminal → A → List Terminal → Type 0) (Js : List Terminal → C → List Terminal → Type 0) (ws ws' : List Terminal) (f : A × List Terminal → Option (C × List Terminal)) where
+module _ {A C : Type 0} (Is : List Terminal → A → List Terminal → Type 0) (Js : List Terminal → C → List Terminal → Type 0) (ws ws' : List Terminal)
+    (f : A × List Terminal → Option (C × List Terminal)) where
   pub then_at : (o : Option (A × List Terminal)) → At Is ws o → ((x : A × List Terminal) → Is ws x.0 x.1 → At Js ws' (f x)) → At Js ws' (o >>= f)
   then_at None is then = tt
   then_at (Some x) is then = then x is

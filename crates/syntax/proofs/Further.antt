@@ -7,8 +7,10 @@ use Rattle.syntax.specs.declared.operators.Addition.{Addition}
 use Rattle.syntax.specs.declared.operators.Multiplication.{Multiplication}
 use Rattle.syntax.specs.declared.operators.Relation.{Relation}
 use Rattle.syntax.specs.Terminals.{Terminal, OfKeyword, OfSymbol, Identifier}
-use Rattle.syntax.specs.SourceTrees.{ExpressionTree, ConjunctionTree, ComparisonTree, SumTree, TermTree, UnaryTree, PrimaryTree, LastConjunction, ConjunctionThen, LastComparison, ComparisonThen, OneSum, TwoSums, LastTerm, TermThen, LastUnary, UnaryThen, Bare, Signed, Literal, Truth, Variable, Entry, Size, Parentheses}
-use Rattle.syntax.specs.ExpressionSpelling.{addition_terminal, multiplication_terminal, relation_terminal, prefix_terminal, expression_terminals, conjunction_terminals, comparison_terminals, sum_terminals, term_terminals, unary_terminals, primary_terminals}
+use Rattle.syntax.specs.SourceTrees.{ExpressionTree, ConjunctionTree, ComparisonTree, SumTree, TermTree, UnaryTree, PrimaryTree, LastConjunction, ConjunctionThen, LastComparison, ComparisonThen}
+use Rattle.syntax.specs.SourceTrees.{OneSum, TwoSums, LastTerm, TermThen, LastUnary, UnaryThen, Bare, Signed, Literal, Truth, Variable, Entry, Size, Parentheses}
+use Rattle.syntax.specs.ExpressionSpelling.{addition_terminal, multiplication_terminal, relation_terminal, prefix_terminal, expression_terminals, conjunction_terminals, comparison_terminals}
+use Rattle.syntax.specs.ExpressionSpelling.{sum_terminals, term_terminals, unary_terminals, primary_terminals}
 use Rattle.syntax.specs.ExpressionEnds.{EndsExpression, EndsConjunction, EndsComparison, EndsSum, EndsTerm, EndsUnary, EndsPrimary}
 use Rattle.syntax.specs.ExpressionReading.{addition, multiplication, relation, after_or, after_and, after_open_bracket, after_dot}
 use Rattle.syntax.proofs.FirstTerminals.{FrontAt, TerminalAt, addition_at, multiplication_at, relation_at, or_at, and_at}
@@ -55,9 +57,11 @@ named_goes : (name : Identifier) (w : Terminal) (rest : List Terminal) (bracket 
     → after_dot (w ∷ rest) ≡ dot → TerminalAt (OfSymbol symbol.Dot) (w ∷ rest) dot
     → EndsPrimary (Variable name) (w ∷ rest) ⊎ Longer primary_terminals (Variable name) w
 named_goes name w rest (Some after) dot is front is' front' =
-    inr (onto primary_terminals (Variable name) (Entry name one_expression) w (OfSymbol symbol.OpenBracket) rest after (expression_terminals one_expression ++ OfSymbol symbol.CloseBracket ∷ []) front refl)
+    inr (onto primary_terminals (Variable name) (Entry name one_expression) w (OfSymbol symbol.OpenBracket) rest after
+    (expression_terminals one_expression ++ OfSymbol symbol.CloseBracket ∷ []) front refl)
 named_goes name w rest None (Some after) is front is' front' =
-    inr (onto primary_terminals (Variable name) (Size name) w (OfSymbol symbol.Dot) rest after (OfKeyword keyword.GetVertexSetSize ∷ OfSymbol symbol.OpenParenthesis ∷ OfSymbol symbol.CloseParenthesis ∷ []) front' refl)
+    inr (onto primary_terminals (Variable name) (Size name) w (OfSymbol symbol.Dot) rest after
+    (OfKeyword keyword.GetVertexSetSize ∷ OfSymbol symbol.OpenParenthesis ∷ OfSymbol symbol.CloseParenthesis ∷ []) front' refl)
 named_goes name w rest None None is front is' front' = inl (is, is')
 
 primary_goes : (p : PrimaryTree) (w : Terminal) (rest : List Terminal) → EndsPrimary p (w ∷ rest) ⊎ Longer primary_terminals p w

@@ -5,16 +5,20 @@ use Rattle.syntax.specs.declared.operators.Addition.{Addition}
 use Rattle.syntax.specs.declared.operators.Multiplication.{Multiplication}
 use Rattle.syntax.specs.declared.operators.Relation.{Relation}
 use Rattle.syntax.specs.Terminals.{Terminal, OfKeyword}
-use Rattle.syntax.specs.SourceTrees.{ExpressionTree, ConjunctionTree, ComparisonTree, SumTree, TermTree, UnaryTree, LastConjunction, ConjunctionThen, LastComparison, ComparisonThen, OneSum, TwoSums, LastTerm, TermThen, LastUnary, UnaryThen}
-use Rattle.syntax.specs.ExpressionSpelling.{addition_terminal, multiplication_terminal, relation_terminal, expression_terminals, conjunction_terminals, comparison_terminals, sum_terminals, term_terminals, unary_terminals}
+use Rattle.syntax.specs.SourceTrees.{ExpressionTree, ConjunctionTree, ComparisonTree, SumTree, TermTree, UnaryTree, LastConjunction, ConjunctionThen, LastComparison, ComparisonThen, OneSum, TwoSums}
+use Rattle.syntax.specs.SourceTrees.{LastTerm, TermThen, LastUnary, UnaryThen}
+use Rattle.syntax.specs.ExpressionSpelling.{addition_terminal, multiplication_terminal, relation_terminal, expression_terminals, conjunction_terminals, comparison_terminals, sum_terminals}
+use Rattle.syntax.specs.ExpressionSpelling.{term_terminals, unary_terminals}
 use Rattle.syntax.specs.ExpressionDepth.{expression_depth, conjunction_depth, comparison_depth, sum_depth, term_depth, unary_depth}
 use Rattle.syntax.specs.ExpressionEnds.{EndsExpression, EndsConjunction, EndsComparison, EndsSum, EndsTerm, EndsUnary}
 use Rattle.syntax.specs.ExpressionBeginnings.{IsReading}
 use Rattle.syntax.specs.ExpressionViews.{term_from, sum_from, conjunction_from, expression_from}
 use Rattle.syntax.specs.Nesting.{◌>>=◌}
-use Rattle.syntax.specs.ExpressionReading.{Reader, addition, multiplication, relation, after_or, after_and, operand_by, after_by, term_by, sum_by, compared_by, comparison_by, conjunction_by, expression_by}
+use Rattle.syntax.specs.ExpressionReading.{Reader, addition, multiplication, relation, after_or, after_and, operand_by, after_by, term_by, sum_by, compared_by, comparison_by, conjunction_by}
+use Rattle.syntax.specs.ExpressionReading.{expression_by}
 use Rattle.syntax.proofs.Loops.{operand_found, after_found}
-use Rattle.syntax.proofs.FirstTerminals.{FrontAt, TerminalAt, addition_at, multiplication_at, relation_at, or_at, and_at, addition_found, multiplication_found, relation_found, multiplication_ends, addition_ends, relation_ends, and_ends, or_ends, joined, parted}
+use Rattle.syntax.proofs.FirstTerminals.{FrontAt, TerminalAt, addition_at, multiplication_at, relation_at, or_at, and_at, addition_found, multiplication_found, relation_found, multiplication_ends}
+use Rattle.syntax.proofs.FirstTerminals.{addition_ends, relation_ends, and_ends, or_ends, joined, parted}
 use Rattle.syntax.proofs.ExpressionsExact.{At, Sound, Complete, then_at, Lasts, Steps, chain_sound, Parts, last_part, more_parts, parts_read}
 
 -- what is read of each level, at most so deep

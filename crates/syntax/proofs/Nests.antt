@@ -11,9 +11,11 @@ use Rattle.syntax.specs.declared.operators.Prefix.TheVariants as prefix
 use Rattle.syntax.specs.declared.operators.Relation.{Relation}
 use Rattle.syntax.specs.declared.operators.Relation.TheVariants as relation
 use Rattle.syntax.specs.Terminals.{Terminal, OfKeyword, OfSymbol}
-use Rattle.syntax.specs.SourceTrees.{ExpressionTree, ConjunctionTree, ComparisonTree, SumTree, TermTree, UnaryTree, PrimaryTree, LastConjunction, ConjunctionThen, LastComparison, ComparisonThen, OneSum, TwoSums, LastTerm, TermThen, LastUnary, UnaryThen, Bare, Signed, Literal, Truth, Variable, Entry, Size, Parentheses}
+use Rattle.syntax.specs.SourceTrees.{ExpressionTree, ConjunctionTree, ComparisonTree, SumTree, TermTree, UnaryTree, PrimaryTree, LastConjunction, ConjunctionThen, LastComparison, ComparisonThen}
+use Rattle.syntax.specs.SourceTrees.{OneSum, TwoSums, LastTerm, TermThen, LastUnary, UnaryThen, Bare, Signed, Literal, Truth, Variable, Entry, Size, Parentheses}
 use Rattle.syntax.specs.ExpressionDepth.{expression_depth, conjunction_depth, comparison_depth, sum_depth, term_depth, unary_depth, primary_depth}
-use Rattle.syntax.specs.ExpressionSpelling.{expression_terminals, conjunction_terminals, comparison_terminals, sum_terminals, term_terminals, unary_terminals, primary_terminals, addition_terminal, multiplication_terminal, relation_terminal, prefix_terminal}
+use Rattle.syntax.specs.ExpressionSpelling.{expression_terminals, conjunction_terminals, comparison_terminals, sum_terminals, term_terminals, unary_terminals, primary_terminals, addition_terminal}
+use Rattle.syntax.specs.ExpressionSpelling.{multiplication_terminal, relation_terminal, prefix_terminal}
 use Rattle.syntax.specs.inside.Nesting.{nesting}
 use Rattle.syntax.specs.Nesting.{nesting_after, StaysWithin}
 

@@ -3,14 +3,16 @@ use Rattle.std.proofs.Common.{◌≡◌, refl, subst, arith, List, [], ◌∷◌
 use Rattle.lexer.specs.declared.keyword.Keyword.TheVariants as keyword
 use Rattle.lexer.specs.declared.symbol.Symbol.TheVariants as symbol
 use Rattle.syntax.specs.Terminals.{Terminal, Identifier, Name, OfKeyword, OfSymbol}
-use Rattle.syntax.specs.SourceTrees.{ExpressionTree, ParameterTree, InitialTree, NewSet, Load, Vertices, OutDegrees, Filter, ApplyModified, Value, StatementKindTree, Declare, While, For, If, IfElse, Print, Assign, Reduce, SetEntry, ReduceEntry, AddVertex, Apply, BlockTree, Empty, Then, DeclarationTree, Constant, Function, SourceTree}
+use Rattle.syntax.specs.SourceTrees.{ExpressionTree, ParameterTree, InitialTree, NewSet, Load, Vertices, OutDegrees, Filter, ApplyModified, Value, StatementKindTree, Declare, While, For, If, IfElse}
+use Rattle.syntax.specs.SourceTrees.{Print, Assign, Reduce, SetEntry, ReduceEntry, AddVertex, Apply, BlockTree, Empty, Then, DeclarationTree, Constant, Function, SourceTree}
 use Rattle.syntax.specs.ExpressionDepth.{expression_depth}
 use Rattle.syntax.specs.ExpressionSpelling.{expression_terminals}
 use Rattle.syntax.specs.declared.declaration.DeclaredType.{DeclaredType}
 use Rattle.syntax.specs.declared.declaration.DeclaredType.TheVariants as type
 use Rattle.apply_options.specs.declared.reduction.Reduction.{Reduction}
 use Rattle.apply_options.specs.declared.reduction.Reduction.TheVariants as reduction
-use Rattle.syntax.specs.SourceSpelling.{type_terminals, initial_before, assigned_before, ended_before, end_terminals, reduction_terminal, label_terminals, action_before, block_before, each_before, typed_before, argument_terminals, parameters_before, next_parameter_before, result_before, declaration_before, schedule_before, source_terminals}
+use Rattle.syntax.specs.SourceSpelling.{type_terminals, initial_before, assigned_before, ended_before, end_terminals, reduction_terminal, label_terminals, action_before, block_before, each_before}
+use Rattle.syntax.specs.SourceSpelling.{typed_before, argument_terminals, parameters_before, next_parameter_before, result_before, declaration_before, schedule_before, source_terminals}
 use Rattle.syntax.specs.inside.Fits.{Fits, FitsInitial, FitsAction, FitsBlock, FitsDeclaration, FitDeclarations, FitsSource}
 use Rattle.syntax.specs.Nesting.{limit, nesting_after, StaysWithin}
 use Rattle.syntax.proofs.Nests.{expression_balanced, expression_deep, within-front, within-behind}

@@ -12,7 +12,8 @@ use Rattle.syntax.specs.ExpressionDepth.{expression_depth, primary_depth}
 use Rattle.syntax.specs.ExpressionEnds.{EndsExpression, EndsPrimary}
 use Rattle.syntax.specs.ExpressionBeginnings.{IsReading}
 use Rattle.syntax.specs.Nesting.{◌>>=◌}
-use Rattle.syntax.specs.ExpressionReading.{Reader, prefix, truth_of, after_open_bracket, after_close_bracket, after_open_parenthesis, after_close_parenthesis, after_dot, after_size, after_size_call, named_by, primary_by, signs_by, signed_by, unary_by}
+use Rattle.syntax.specs.ExpressionReading.{Reader, prefix, truth_of, after_open_bracket, after_close_bracket, after_open_parenthesis, after_close_parenthesis, after_dot, after_size, after_size_call}
+use Rattle.syntax.specs.ExpressionReading.{named_by, primary_by, signs_by, signed_by, unary_by}
 use Rattle.syntax.proofs.FirstTerminals.{FrontAt, TerminalAt, prefix_at, prefix_found, bracket_ends, parenthesis_ends}
 use Rattle.syntax.proofs.ExpressionsExact.{At, Sound, Complete, then_at}
 use Rattle.syntax.proofs.Levels.{UnaryIs}
@@ -118,7 +119,8 @@ module _ (depth : ℕ) (e : Reader ExpressionTree) where
   primary_sound sound (OfKeyword terminal ∷ rest) = truth_read terminal rest
   primary_sound sound (OfSymbol symbol.OpenParenthesis ∷ rest) =
       then_at (InnerIs depth) (PrimaryIs depth) rest (OfSymbol symbol.OpenParenthesis ∷ rest) (λ x. after_close_parenthesis x.1 >>= λ behind. Some (Parentheses x.0, behind)) (e rest) (sound rest)
-      (λ x inside. at_terminal (PrimaryIs depth) (OfSymbol symbol.CloseParenthesis) (OfSymbol symbol.OpenParenthesis ∷ rest) x.1 (λ behind. Some (Parentheses x.0, behind)) (after_close_parenthesis x.1) (close_parenthesis_at x.1)
+      (λ x inside. at_terminal (PrimaryIs depth) (OfSymbol symbol.CloseParenthesis) (OfSymbol symbol.OpenParenthesis ∷ rest) x.1 (λ behind. Some (Parentheses x.0, behind))
+      (after_close_parenthesis x.1) (close_parenthesis_at x.1)
       (λ behind closes. record {
         whole = closed (OfSymbol symbol.CloseParenthesis) (OfSymbol symbol.OpenParenthesis ∷ []) x.0 rest x.1 behind inside.whole closes;
         within = inside.within;

@@ -8,8 +8,10 @@ use Rattle.syntax.specs.declared.declaration.DeclaredType.{DeclaredType}
 use Rattle.syntax.specs.declared.declaration.DeclaredType.TheVariants as type
 use Rattle.apply_options.specs.declared.setting.Setting.TheVariants as setting
 use Rattle.syntax.specs.SourceTrees.{ParameterTree, CallTree, ChainTree}
-use Rattle.syntax.specs.SourceSpelling.{type_terminals, typed_before, each_before, next_parameter_before, next_text_before, call_before, next_call_before, chain_before, parameters_before, result_before, setting_keyword}
-use Rattle.syntax.specs.SourceReading.{name_at, number_at, text_at, edge_ends, edgeset_at, edgeset_by, type_at, typed_at, each_at, next_parameter, parameters_at, parameters_by, result_by, next_text, call_at, next_call, chain_at, next_chain, closed, setting_at, after_terminal, after_terminals, in_braces, in_parentheses}
+use Rattle.syntax.specs.SourceSpelling.{type_terminals, typed_before, each_before, next_parameter_before, next_text_before, call_before, next_call_before, chain_before, parameters_before}
+use Rattle.syntax.specs.SourceSpelling.{result_before, setting_keyword}
+use Rattle.syntax.specs.SourceReading.{name_at, number_at, text_at, edge_ends, edgeset_at, edgeset_by, type_at, typed_at, each_at, next_parameter, parameters_at, parameters_by, result_by, next_text}
+use Rattle.syntax.specs.SourceReading.{call_at, next_call, chain_at, next_chain, closed, setting_at, after_terminal, after_terminals, in_braces, in_parentheses}
 use Rattle.syntax.proofs.TerminalLaws.{bind_some, after_terminal-sound, after_terminals-sound}
 
 -- the reader gives a tree only where its terminals stand
@@ -71,7 +73,8 @@ type_sound (OfKeyword keyword.Vertex ∷ ws) t rest is = same_before (λ t r. ty
 type_sound (OfKeyword keyword.VertexSet ∷ ws) t rest is =
     closed-sound (λ t r. type_terminals t ++ r) (λ r. OfKeyword keyword.VertexSet ∷ r) (in_braces (OfKeyword keyword.Vertex)) type.VertexSet t ws rest (λ r. refl) is
 type_sound (OfKeyword keyword.Vector ∷ ws) t rest is =
-    closed-sound (λ t r. type_terminals t ++ r) (λ r. OfKeyword keyword.Vector ∷ r) (in_braces (OfKeyword keyword.Vertex) ++ in_parentheses (OfKeyword keyword.Int ∷ [])) type.Vector t ws rest (λ r. refl) is
+    closed-sound (λ t r. type_terminals t ++ r) (λ r. OfKeyword keyword.Vector ∷ r) (in_braces (OfKeyword keyword.Vertex) ++ in_parentheses (OfKeyword keyword.Int ∷ [])) type.Vector t ws rest
+    (λ r. refl) is
 type_sound (OfKeyword keyword.EdgeSet ∷ ws) t rest is =
     let b = bind_some (after_terminals edge_ends ws) edgeset_at (t, rest) is in
     ap (λ r. OfKeyword keyword.EdgeSet ∷ r) (after_terminals-sound edge_ends ws b.0 b.1) ∙ edgeset_sound b.0 (after_terminal (OfSymbol symbol.Comma) b.0) refl t rest b.2

@@ -3,12 +3,17 @@ use Rattle.std.proofs.Common.{◌≡◌, refl, ◌∙◌, ap, Bool, true, false,
 use Rattle.lexer.specs.declared.keyword.Keyword.TheVariants as keyword
 use Rattle.lexer.specs.declared.symbol.Symbol.TheVariants as symbol
 use Rattle.syntax.specs.Terminals.{Terminal, Identifier, Name, Number, Label, Opening, OfKeyword, OfSymbol}
-use Rattle.syntax.specs.SourceTrees.{ExpressionTree, InitialTree, NewSet, Load, Vertices, OutDegrees, Filter, ApplyModified, Value, StatementKindTree, Declare, While, For, If, IfElse, Print, Assign, Reduce, SetEntry, ReduceEntry, AddVertex, Apply, BlockTree, DeclarationTree, Constant, Function, ChainTree, SourceTree}
+use Rattle.syntax.specs.SourceTrees.{ExpressionTree, InitialTree, NewSet, Load, Vertices, OutDegrees, Filter, ApplyModified, Value, StatementKindTree, Declare, While, For, If, IfElse, Print, Assign}
+use Rattle.syntax.specs.SourceTrees.{Reduce, SetEntry, ReduceEntry, AddVertex, Apply, BlockTree, DeclarationTree, Constant, Function, ChainTree, SourceTree}
 use Rattle.syntax.specs.ExpressionReading.{Reader}
 use Rattle.syntax.specs.ExpressionSpelling.{expression_terminals}
 use Rattle.apply_options.specs.declared.reduction.Reduction.TheVariants as reduction
-use Rattle.syntax.specs.SourceSpelling.{ends_before, initial_before, assigned_before, ended_before, end_terminals, reduction_terminal, label_terminals, action_before, block_before, each_before, typed_before, argument_terminals, parameters_before, result_before, declaration_before, chain_before, schedule_before, source_terminals}
-use Rattle.syntax.specs.SourceReading.{expression, value_at, name_at, number_at, end_at, end_by, ends_at, method_at, initial_at, named_initial, modified_at, assigned_at, ended_at, reduction_at, entry_by, added_at, applied_at, argument_at, reduced_at, named_action, method_by, else_by, action_by, block_by, block_at, block, no_block, next_statement, statement_by, begins_statement, label_at, block_from, where_begins, each_at, after_terminal, after_terminals, in_braces, in_parentheses, typed_at, parameters_at, result_by, declaration_by, next_declaration, begins_declaration, next_chain, schedule_by, whole, source_at, elements}
+use Rattle.syntax.specs.SourceSpelling.{ends_before, initial_before, assigned_before, ended_before, end_terminals, reduction_terminal, label_terminals, action_before, block_before, each_before}
+use Rattle.syntax.specs.SourceSpelling.{typed_before, argument_terminals, parameters_before, result_before, declaration_before, chain_before, schedule_before, source_terminals}
+use Rattle.syntax.specs.SourceReading.{expression, value_at, name_at, number_at, end_at, end_by, ends_at, method_at, initial_at, named_initial, modified_at, assigned_at, ended_at, reduction_at}
+use Rattle.syntax.specs.SourceReading.{entry_by, added_at, applied_at, argument_at, reduced_at, named_action, method_by, else_by, action_by, block_by, block_at, block, no_block, next_statement}
+use Rattle.syntax.specs.SourceReading.{statement_by, begins_statement, label_at, block_from, where_begins, each_at, after_terminal, after_terminals, in_braces, in_parentheses, typed_at, parameters_at}
+use Rattle.syntax.specs.SourceReading.{result_by, declaration_by, next_declaration, begins_declaration, next_chain, schedule_by, whole, source_at, elements}
 use Rattle.syntax.specs.Nesting.{limit}
 use Rattle.syntax.proofs.TerminalLaws.{bind_some, after_terminal-sound, after_terminals-sound}
 use Rattle.syntax.proofs.Sound.{IsSound, same_before, same_found, closed-sound, name_sound, number_sound, typed_sound, each_sound, parameters_sound, result_sound, next_chain_sound}
@@ -249,7 +254,8 @@ module _ (sound : IsSound expression (λ e rest. expression_terminals e ++ rest)
         let a = bind_some (action_by inside l.1) _ _ is in
         label_sound ws ∙ ap (λ r. label_terminals l.0 ++ r) (action_sound l.1 a.0.0 a.0.1 a.1) ∙ same_before statement_before (l.0, a.0.0) s a.0.1 rest a.2
 
-    where_sound : (begins : Bool) (ws : List Terminal) (s : LabelledAction) (rest : List Terminal) → where_begins begins (statement_by (action_by inside) ws) ≡ Some (Some (s, rest)) → ws ≡ statement_before s rest
+    where_sound : (begins : Bool) (ws : List Terminal) (s : LabelledAction) (rest : List Terminal) → where_begins begins (statement_by (action_by inside) ws) ≡ Some (Some (s, rest))
+    → ws ≡ statement_before s rest
     where_sound false ws s rest is = cc is
     where_sound true ws s rest is = statement_sound ws s rest (same_found is)
 
@@ -289,7 +295,8 @@ module _ (sound : IsSound expression (λ e rest. expression_terminals e ++ rest)
       (Function at n.0.0 p.0.0 t.0.0 b.0.0) d b.0.1 rest (λ r. refl) b.2
   declaration_sound _ d rest is = cc is
 
-  next_declaration_sound : (begins : Bool) (ws : List Terminal) (d : DeclarationTree) (rest : List Terminal) → where_begins begins (declaration_by ws) ≡ Some (Some (d, rest)) → ws ≡ declaration_before d rest
+  next_declaration_sound : (begins : Bool) (ws : List Terminal) (d : DeclarationTree) (rest : List Terminal) → where_begins begins (declaration_by ws) ≡ Some (Some (d, rest))
+      → ws ≡ declaration_before d rest
   next_declaration_sound false ws d rest is = cc is
   next_declaration_sound true ws d rest is = declaration_sound ws d rest (same_found is)
 

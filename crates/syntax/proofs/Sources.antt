@@ -13,7 +13,8 @@ use Rattle.syntax.proofs.Complete.{typed_complete, parameters_complete, next_cha
 use Rattle.syntax.proofs.Actions.{goes_on, assigned_complete, block_items, items_complete, typed_longer, initial_longer, block_longer}
 
 result_complete : (result : Option ParameterTree) (b : BlockTree) (rest : List Terminal)
-    → (let ws = result_before result (block_before b (OfKeyword keyword.End ∷ rest)) in result_by ws (after_terminal (OfSymbol symbol.Arrow) ws)) ≡ Some (result, block_before b (OfKeyword keyword.End ∷ rest))
+    → (let ws = result_before result (block_before b (OfKeyword keyword.End ∷ rest)) in result_by ws (after_terminal (OfSymbol symbol.Arrow) ws)) ≡ Some
+    (result, block_before b (OfKeyword keyword.End ∷ rest))
 result_complete (Some p) b rest = ap (λ r. r >>= λ p. Some (Some p.0, p.1)) (typed_complete p (block_before b (OfKeyword keyword.End ∷ rest)))
 result_complete None Empty rest = refl
 result_complete None (Then (Some label) action others) rest = refl

@@ -1,7 +1,9 @@
 -- Where an expression may end.
 use Rattle.std.specs.Prelude.{◌≡◌, List, None}
 use Rattle.syntax.specs.Terminals.{Terminal}
-use Rattle.syntax.specs.SourceTrees.{ExpressionTree, ConjunctionTree, ComparisonTree, SumTree, TermTree, UnaryTree, PrimaryTree, LastConjunction, ConjunctionThen, LastComparison, ComparisonThen, OneSum, TwoSums, LastTerm, TermThen, LastUnary, UnaryThen, Bare, Signed, Variable}
+use Rattle.syntax.specs.SourceTrees.{ExpressionTree, ConjunctionTree, ComparisonTree, SumTree, TermTree, UnaryTree, PrimaryTree, LastConjunction}
+use Rattle.syntax.specs.SourceTrees.{ConjunctionThen, LastComparison, ComparisonThen, OneSum, TwoSums, LastTerm, TermThen, LastUnary, UnaryThen, Bare, Signed}
+use Rattle.syntax.specs.SourceTrees.{Variable}
 use Rattle.syntax.specs.ExpressionReading.{multiplication, addition, relation, after_and, after_or, after_open_bracket, after_dot}
 
 -- The terminals after a tree do not go on with it: none of the operators of a level that could stand after it is the first of

@@ -9,7 +9,8 @@ use Rattle.syntax.specs.declared.operators.Multiplication.{Multiplication}
 use Rattle.syntax.specs.declared.operators.Prefix.{Prefix}
 use Rattle.syntax.specs.declared.operators.Relation.{Relation}
 use Rattle.syntax.specs.Terminals.{Terminal, Name, Number, OfKeyword, OfSymbol, Identifier}
-use Rattle.syntax.specs.SourceTrees.{ExpressionTree, ConjunctionTree, ComparisonTree, SumTree, TermTree, UnaryTree, PrimaryTree, OneSum, TwoSums, Bare, Signed, Literal, Truth, Variable, Entry, Size, Parentheses}
+use Rattle.syntax.specs.SourceTrees.{ExpressionTree, ConjunctionTree, ComparisonTree, SumTree, TermTree, UnaryTree, PrimaryTree, OneSum, TwoSums, Bare, Signed}
+use Rattle.syntax.specs.SourceTrees.{Literal, Truth, Variable, Entry, Size, Parentheses}
 use Rattle.syntax.specs.ExpressionViews.{expression_from, conjunction_from, sum_from, term_from}
 use Rattle.syntax.specs.Nesting.{◌>>=◌}
 use Rattle.syntax.specs.declared.operators.Addition.TheVariants as additions
@@ -146,7 +147,8 @@ abbrev pub after_size_call : List Terminal → Option (List Terminal)
 after_size_call ws = after_size ws >>= λ call. after_open_parenthesis call >>= after_close_parenthesis
 
 -- what a name begins: a bracket or a dot after it decides
-abbrev pub named_by : Reader ExpressionTree → Identifier → List Terminal → Option (List Terminal) → Option (List Terminal) → Option (PrimaryTree × List Terminal)
+abbrev pub named_by : Reader ExpressionTree → Identifier → List Terminal → Option (List Terminal) → Option (List Terminal)
+    → Option (PrimaryTree × List Terminal)
 named_by e name rest (Some after) dot = e after >>= λ x. after_close_bracket x.1 >>= λ behind. Some (Entry name x.0, behind)
 named_by e name rest None (Some after) = after_size_call after >>= λ behind. Some (Size name, behind)
 named_by e name rest None None = Some (Variable name, rest)

@@ -5,7 +5,9 @@ use Rattle.syntax.specs.declared.operators.Multiplication.{Multiplication}
 use Rattle.syntax.specs.declared.operators.Prefix.{Prefix}
 use Rattle.syntax.specs.declared.expression.Primary.{Primary}
 use Rattle.syntax.specs.declared.expression.Unary.{Unary}
-use Rattle.syntax.specs.SourceTrees.{ExpressionTree, ConjunctionTree, ComparisonTree, SumTree, TermTree, UnaryTree, PrimaryTree, LastConjunction, ConjunctionThen, LastComparison, ComparisonThen, LastTerm, TermThen, LastUnary, UnaryThen, Bare, Signed, Literal, Truth, Variable, Entry, Size, Parentheses}
+use Rattle.syntax.specs.SourceTrees.{ExpressionTree, ConjunctionTree, ComparisonTree, SumTree, TermTree, UnaryTree, PrimaryTree, LastConjunction}
+use Rattle.syntax.specs.SourceTrees.{ConjunctionThen, LastComparison, ComparisonThen, LastTerm, TermThen, LastUnary, UnaryThen, Bare, Signed, Literal, Truth}
+use Rattle.syntax.specs.SourceTrees.{Variable, Entry, Size, Parentheses}
 use Rattle.syntax.specs.declared.expression.Primary.TheVariants as primary
 
 abbrev pub primary_of : Primary → PrimaryTree

@@ -6,7 +6,9 @@ use Rattle.lexer.specs.declared.keyword.Keyword.TheVariants as keyword
 use Rattle.lexer.specs.declared.symbol.Symbol.TheVariants as symbol
 use Rattle.lexer.specs.Spelling.{keyword_spelling, symbol_spelling}
 use Rattle.syntax.specs.Terminals.{Terminal, Identifier, Name, Number, Label, Text, Opening, OfKeyword, OfSymbol}
-use Rattle.syntax.specs.SourceTrees.{ExpressionTree, EndsTree, InitialTree, NewSet, Load, Vertices, OutDegrees, Filter, ApplyModified, Value, StatementKindTree, Declare, While, For, If, IfElse, Print, Assign, Reduce, SetEntry, ReduceEntry, AddVertex, Apply, BlockTree, Empty, Then, ParameterTree, DeclarationTree, Constant, Function, CallTree, ChainTree, SourceTree}
+use Rattle.syntax.specs.SourceTrees.{ExpressionTree, EndsTree, InitialTree, NewSet, Load, Vertices, OutDegrees, Filter, ApplyModified, Value, StatementKindTree}
+use Rattle.syntax.specs.SourceTrees.{Declare, While, For, If, IfElse, Print, Assign, Reduce, SetEntry, ReduceEntry, AddVertex, Apply, BlockTree, Empty, Then}
+use Rattle.syntax.specs.SourceTrees.{ParameterTree, DeclarationTree, Constant, Function, CallTree, ChainTree, SourceTree}
 use Rattle.syntax.specs.ExpressionReading.{Reader, links_by, after_by, expression_at}
 use Rattle.syntax.specs.Nesting.{◌>>=◌, limit}
 use Rattle.syntax.specs.declared.declaration.DeclaredType.{DeclaredType}
@@ -62,7 +64,8 @@ expression = expression_at limit
 
 -- what begins the type of an edgeset after its first terminal: `{Edge}(Vertex, Vertex`
 abbrev pub edge_ends : List Terminal
-edge_ends = in_braces (OfKeyword keyword.Edge) ++ OfSymbol symbol.OpenParenthesis ∷ OfKeyword keyword.Vertex ∷ OfSymbol symbol.Comma ∷ OfKeyword keyword.Vertex ∷ []
+edge_ends = in_braces (OfKeyword keyword.Edge)
+    ++ OfSymbol symbol.OpenParenthesis ∷ OfKeyword keyword.Vertex ∷ OfSymbol symbol.Comma ∷ OfKeyword keyword.Vertex ∷ []
 
 -- what ends it: `)`, or `, int)` where its edges have weights
 abbrev pub edgeset_by : List Terminal → Option (List Terminal) → Option (DeclaredType × List Terminal)

@@ -10,7 +10,9 @@ use Rattle.syntax.specs.declared.initial.Ends.{Ends}
 use Rattle.syntax.specs.declared.initial.Initial.{Initial}
 use Rattle.syntax.specs.declared.statement.Action.{Action}
 use Rattle.syntax.specs.declared.statement.Statement.{Statement}
-use Rattle.syntax.specs.SourceTrees.{EndsTree, InitialTree, NewSet, Load, Vertices, OutDegrees, Filter, ApplyModified, Value, StatementKindTree, Declare, While, For, If, IfElse, Print, Assign, Reduce, SetEntry, ReduceEntry, AddVertex, Apply, BlockTree, Empty, Then, ParameterTree, DeclarationTree, Constant, Function, CallTree, ChainTree, SourceTree}
+use Rattle.syntax.specs.SourceTrees.{EndsTree, InitialTree, NewSet, Load, Vertices, OutDegrees, Filter, ApplyModified, Value, StatementKindTree, Declare, While}
+use Rattle.syntax.specs.SourceTrees.{For, If, IfElse, Print, Assign, Reduce, SetEntry, ReduceEntry, AddVertex, Apply, BlockTree, Empty, Then, ParameterTree}
+use Rattle.syntax.specs.SourceTrees.{DeclarationTree, Constant, Function, CallTree, ChainTree, SourceTree}
 use Rattle.syntax.specs.declared.declaration.Declaration.TheVariants as declaration
 use Rattle.syntax.specs.declared.initial.Initial.TheVariants as initial
 use Rattle.syntax.specs.declared.statement.Action.TheVariants as action

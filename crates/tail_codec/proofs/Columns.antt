@@ -69,14 +69,16 @@ zip_ones [] = refl
 zip_ones (k ∷ ks) = ap (λ v. (k, pos 1) ∷ v) (zip_ones ks)
 
 -- entries after others, with a column of weights and without one
-pub appended_column : (old keys new : List ℕ) (old' weights new' : List ℤ) → length old' ≡ length old → length weights ≡ length keys → new ≡ old ++ keys → new' ≡ old' ++ weights → AreAppended old old' (zip keys weights) new new'
+pub appended_column : (old keys new : List ℕ) (old' weights new' : List ℤ) → length old' ≡ length old → length weights ≡ length keys → new ≡ old ++ keys → new' ≡ old' ++ weights
+    → AreAppended old old' (zip keys weights) new new'
 appended_column old keys new old' weights new' same same' is is' =
     rw (is, is') (record {
       columns = omega (arith, length-append old keys, length-append old' weights, same, same');
       whole = zip_append old keys old' weights same;
     })
 
-pub appended_ones : (old keys new : List ℕ) (old' new' : List ℤ) (m n : ℕ) → length old' ≡ length old → m ≡ length old' → n ≡ length new → new ≡ old ++ keys → new' ≡ take n old' ++ replicate (n - m) (pos 1) → AreAppended old old' (entries_in keys None) new new'
+pub appended_ones : (old keys new : List ℕ) (old' new' : List ℤ) (m n : ℕ) → length old' ≡ length old → m ≡ length old' → n ≡ length new → new ≡ old ++ keys
+    → new' ≡ take n old' ++ replicate (n - m) (pos 1) → AreAppended old old' (entries_in keys None) new new'
 appended_ones old keys new old' new' m n same m_is n_is is is' =
     let long : n ≡ length old + length keys = n_is ∙ ap length is ∙ length-append old keys in
     let front : take n old' ≡ old' = take_all n old' (omega (arith, long, same)) in

@@ -1,5 +1,6 @@
 -- An entry by its numbers.
-use Rattle.std.proofs.Common.{◌≡◌, ◌≢◌, ℕ, ◌+◌, ◌-◌, ◌*◌, ◌/◌, ◌%◌, ◌^◌, ◌<◌, ◌≤◌, ◌⊎◌, ℤ, pos, Bool, true, false, inl, inr, List, [], ◌∷◌, ◌++◌, length, length-append, refl, sym, ◌∙◌, ap, append_assoc, arith}
+use Rattle.std.proofs.Common.{◌≡◌, ◌≢◌, ℕ, ◌+◌, ◌-◌, ◌*◌, ◌/◌, ◌%◌, ◌^◌, ◌<◌, ◌≤◌, ◌⊎◌, ℤ, pos, Bool, true, false, inl, inr, List, [], ◌∷◌, ◌++◌, length, length-append, refl, sym, ◌∙◌, ap}
+use Rattle.std.proofs.Common.{append_assoc, arith}
 use Rattle.std.proofs.lemmas.Bool.{cases_Bool, false≢true}
 use Rattle.std.proofs.lemmas.List.{append-nil, append_cancel_left}
 use Rattle.tail_codec.specs.Spelling.{SpellsNumbers, SpellsFrom, weight_number, is_one, entry_numbers}
@@ -36,7 +37,8 @@ entry_of_one low n rest bytes b even small =
       spells = one_number (2 * (low + n / 2 - low)) b.first (rw same b.spells);
     }
 
-pub entry_of_two : (low n m : ℕ) (between rest bytes : List ℕ) → BeginsWith n between bytes → BeginsWith m rest between → n % 2 ≡ 1 → low + n / 2 < 2 ^ 32 → is_one (number_weight m) ≡ false → BeginsWithEntry low (low + n / 2, number_weight m) rest bytes
+pub entry_of_two : (low n m : ℕ) (between rest bytes : List ℕ) → BeginsWith n between bytes → BeginsWith m rest between → n % 2 ≡ 1 → low + n / 2 < 2 ^ 32 → is_one (number_weight m) ≡ false
+    → BeginsWithEntry low (low + n / 2, number_weight m) rest bytes
 entry_of_two low n m between rest bytes b d odd small other =
     let same : 2 * (low + n / 2 - low) + 1 ≡ n = omega (arith, odd) in
     record {
@@ -121,7 +123,8 @@ too_large low n mid bytes b ge e rest begins =
     let same : n ≡ h.number = same_begin n h.number mid h.between bytes b h.begins in
     omega (arith, ge, same, h.key, begins.small)
 
-pub second_number : (low n : ℕ) (mid bytes : List ℕ) → BeginsWith n mid bytes → n % 2 ≢ 0 → (e : ℕ × ℤ) (rest : List ℕ) → BeginsWithEntry low e rest bytes → BeginsWith (weight_number e.1) rest mid × (is_one e.1 ≡ false)
+pub second_number : (low n : ℕ) (mid bytes : List ℕ) → BeginsWith n mid bytes → n % 2 ≢ 0 → (e : ℕ × ℤ) (rest : List ℕ) → BeginsWithEntry low e rest bytes → BeginsWith (weight_number e.1) rest mid
+    × (is_one e.1 ≡ false)
 second_number low n mid bytes b odd e rest begins =
     let h = has_numbers low e rest bytes begins in
     let same : n ≡ h.number = same_begin n h.number mid h.between bytes b h.begins in
@@ -131,7 +134,8 @@ second_number low n mid bytes b odd e rest begins =
     ]
 
 -- a spelled 1
-pub spelled_one : (low n m : ℕ) (mid after bytes : List ℕ) → BeginsWith n mid bytes → n % 2 ≢ 0 → BeginsWith m after mid → number_weight m ≡ pos 1 → (e : ℕ × ℤ) (rest : List ℕ) → BeginsWithEntry low e rest bytes → ⊥
+pub spelled_one : (low n m : ℕ) (mid after bytes : List ℕ) → BeginsWith n mid bytes → n % 2 ≢ 0 → BeginsWith m after mid → number_weight m ≡ pos 1 → (e : ℕ × ℤ) (rest : List ℕ)
+    → BeginsWithEntry low e rest bytes → ⊥
 spelled_one low n m mid after bytes b odd d is e rest begins =
     let other = second_number low n mid bytes b odd e rest begins in
     let same : m ≡ weight_number e.1 = same_begin m (weight_number e.1) after rest mid d other.0 in

@@ -26,7 +26,8 @@ module _ {A : Type 0} (part : ℕ × ℤ → A) (none : A) where
   parts_long (e ∷ es) = ap suc (parts_long es)
 
   -- the block has a part of one entry more
-  pub written : (whole : List (ℕ × ℤ)) (block : List A) (n : ℕ) (x : ℕ × ℤ) → n < length whole → n < length block → x ≡ get_or whole n (0, pos 0) → take n block ≡ take n (map part whole) → take (n + 1) (slice_set block n (part x)) ≡ take (n + 1) (map part whole)
+  pub written : (whole : List (ℕ × ℤ)) (block : List A) (n : ℕ) (x : ℕ × ℤ) → n < length whole → n < length block → x ≡ get_or whole n (0, pos 0) → take n block ≡ take n (map part whole)
+      → take (n + 1) (slice_set block n (part x)) ≡ take (n + 1) (map part whole)
   written whole block n x within room is same =
       let within' : n < length (map part whole) = omega (arith, within, parts_long whole) in
       let here : part x ≡ get_or (map part whole) n none = ap part is ∙ sym (part_at n whole within) in

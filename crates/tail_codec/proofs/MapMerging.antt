@@ -1,6 +1,7 @@
 -- Two lists of entries that are merged entry by entry.
 use Rattle.std.specs.Int.{from_bool}
-use Rattle.std.proofs.Common.{◌≡◌, ℕ, zero, suc, ◌+◌, ◌<◌, ◌≤◌, ℤ, pos, Bool, true, false, ◌||◌, if◌then◌else◌, nat_lt, leb, ◌⊎◌, inl, inr, None, min, List, [], ◌∷◌, ◌++◌, length, take, drop, get_or, set, refl, sym, ◌∙◌, ap, append_assoc, arith}
+use Rattle.std.proofs.Common.{◌≡◌, ℕ, zero, suc, ◌+◌, ◌<◌, ◌≤◌, ℤ, pos, Bool, true, false, ◌||◌, if◌then◌else◌, nat_lt, leb, ◌⊎◌, inl, inr, None, min, List, [], ◌∷◌, ◌++◌, length, take, drop, get_or}
+use Rattle.std.proofs.Common.{set, refl, sym, ◌∙◌, ap, append_assoc, arith}
 use Rattle.std.specs.List.{zip}
 use Rattle.std.specs.Map.{keys_of}
 use Rattle.std.proofs.lemmas.Bool.{cases_order, cases_Bool, lt-ltb, le-ltb, le-leb, lt-leb, eq-eqb, ne_eqb}
@@ -85,7 +86,8 @@ greater : (op : Operation) (x y : ℕ × ℤ) (xs ys : List (ℕ × ℤ)) → y.
 greater Union x y xs ys lt s = second_greater x y xs ys lt
 greater Difference x y xs ys lt s = without_skip y.0 x.0 (x ∷ xs) (keys_of ys) lt (omega arith, s.1, s.2)
 
-equal : (op : Operation) (x y : ℕ × ℤ) (xs ys : List (ℕ × ℤ)) → x.0 ≡ y.0 → AscendsFrom (x.0 + 1) (keys_of xs) → AscendsFrom (y.0 + 1) (keys_of ys) → merged op (x ∷ xs) (y ∷ ys) ≡ written (takes_second op) y ++ merged op xs ys
+equal : (op : Operation) (x y : ℕ × ℤ) (xs ys : List (ℕ × ℤ)) → x.0 ≡ y.0 → AscendsFrom (x.0 + 1) (keys_of xs) → AscendsFrom (y.0 + 1) (keys_of ys)
+    → merged op (x ∷ xs) (y ∷ ys) ≡ written (takes_second op) y ++ merged op xs ys
 equal Union x y xs ys e s t = second_equal x y xs ys e t
 equal Difference x y xs ys e s t = without_equal x y xs ys e s
 
@@ -98,7 +100,8 @@ or_true true = refl
 or_true false = refl
 
 -- how many entries are taken of each list, and whether one is written
-module _ (op : Operation) (all : List (ℕ × ℤ)) (xs ys list : List (ℕ × ℤ)) (i j k : ℕ) (within : i < length xs) (within' : j < length ys) (room : k < length list) (m : IsMerging op all (take k list) (drop i xs) (drop j ys)) where
+module _ (op : Operation) (all : List (ℕ × ℤ)) (xs ys list : List (ℕ × ℤ)) (i j k : ℕ) (within : i < length xs) (within' : j < length ys) (room : k < length list)
+    (m : IsMerging op all (take k list) (drop i xs) (drop j ys)) where
   abbrev x : ℕ × ℤ
   x = get_or xs i (0, pos 0)
 
@@ -137,7 +140,8 @@ module _ (op : Operation) (all : List (ℕ × ℤ)) (xs ys list : List (ℕ × �
 
   stepped_equal : x.0 ≡ y.0 → IsMerging op all (take (k + from_bool (takes_second op)) (set list k y)) (drop (i + 1) xs) (drop (j + 1) ys)
   stepped_equal e = record {
-    whole = ap (λ v. v ++ merged op (drop (i + 1) xs) (drop (j + 1) ys)) (put y (takes_second op)) ∙ append_assoc (take k list) (written (takes_second op) y) (merged op (drop (i + 1) xs) (drop (j + 1) ys))
+    whole = ap (λ v. v ++ merged op (drop (i + 1) xs) (drop (j + 1) ys)) (put y (takes_second op))
+    ∙ append_assoc (take k list) (written (takes_second op) y) (merged op (drop (i + 1) xs) (drop (j + 1) ys))
         ∙ ap (λ v. take k list ++ v) (sym (equal op x y (drop (i + 1) xs) (drop (j + 1) ys) e left.2 right.2)) ∙ whole;
     left = later x (drop (i + 1) xs) left;
     right = later y (drop (j + 1) ys) right;
@@ -153,7 +157,8 @@ module _ (op : Operation) (all : List (ℕ × ℤ)) (xs ys list : List (ℕ × �
 
   stepped_greater : y.0 < x.0 → IsMerging op all (take (k + from_bool (takes_second op)) (set list k y)) (drop i xs) (drop (j + 1) ys)
   stepped_greater gt = rw cells (record {
-    whole = ap (λ v. v ++ merged op (x ∷ drop (i + 1) xs) (drop (j + 1) ys)) (put y (takes_second op)) ∙ append_assoc (take k list) (written (takes_second op) y) (merged op (x ∷ drop (i + 1) xs) (drop (j + 1) ys))
+    whole = ap (λ v. v ++ merged op (x ∷ drop (i + 1) xs) (drop (j + 1) ys)) (put y (takes_second op))
+    ∙ append_assoc (take k list) (written (takes_second op) y) (merged op (x ∷ drop (i + 1) xs) (drop (j + 1) ys))
         ∙ ap (λ v. take k list ++ v) (sym (greater op x y (drop (i + 1) xs) (drop (j + 1) ys) gt left)) ∙ whole;
     left = left;
     right = later y (drop (j + 1) ys) right;
@@ -188,7 +193,8 @@ keys_dropped (suc n) [] = refl
 keys_dropped (suc n) (e ∷ es) = keys_dropped n es
 
 -- two columns after one turn
-module _ (op : Operation) (all xs ys : List (ℕ × ℤ)) (keys : List ℕ) (weights : List ℤ) (i j k : ℕ) (within : i < length xs) (within' : j < length ys) (room : k < length keys) (same : length weights ≡ length keys) (m : IsMerging op all (take k (zip keys weights)) (drop i xs) (drop j ys)) where
+module _ (op : Operation) (all xs ys : List (ℕ × ℤ)) (keys : List ℕ) (weights : List ℤ) (i j k : ℕ) (within : i < length xs) (within' : j < length ys) (room : k < length keys)
+    (same : length weights ≡ length keys) (m : IsMerging op all (take k (zip keys weights)) (drop i xs) (drop j ys)) where
   abbrev key : ℕ
   key = get_or (keys_of xs) i 0
 
@@ -198,7 +204,8 @@ module _ (op : Operation) (all xs ys : List (ℕ × ℤ)) (keys : List ℕ) (wei
   abbrev weight : ℤ
   weight = if nat_lt key key' then (get_or xs i (0, pos 0)).1 else (get_or ys j (0, pos 0)).1
 
-  pub turned : IsMerging op all (take (k + from_bool (takes_second op || nat_lt key key')) (zip (set keys k (min key key')) (set weights k weight))) (drop (i + from_bool (leb key key')) xs) (drop (j + from_bool (leb key' key)) ys)
+  pub turned : IsMerging op all (take (k + from_bool (takes_second op || nat_lt key key')) (zip (set keys k (min key key')) (set weights k weight))) (drop (i + from_bool (leb key key')) xs)
+      (drop (j + from_bool (leb key' key)) ys)
   turned =
       let room' : k < length (zip keys weights) = omega (arith, length-zip keys weights, room, same) in
       rw (set_zip k keys weights (min key key') weight, key_of i xs within, key_of j ys within') (stepped op all xs ys (zip keys weights) i j k within within' room' m)
@@ -217,7 +224,8 @@ module _ (op : Operation) (all xs ys : List (ℕ × ℤ)) (keys : List ℕ) (wei
   key_within' : j < length (keys_of ys)
   key_within' = omega (arith, within', length_keys ys)
 
-  pub less : k + from_bool (takes_second op || nat_lt key key') + most op (length (drop (i + from_bool (leb key key')) (keys_of xs))) (length (drop (j + from_bool (leb key' key)) (keys_of ys))) ≤ k + most op (length (drop i (keys_of xs))) (length (drop j (keys_of ys)))
+  pub less : k + from_bool (takes_second op || nat_lt key key') + most op (length (drop (i + from_bool (leb key key')) (keys_of xs)))
+      (length (drop (j + from_bool (leb key' key)) (keys_of ys))) ≤ k + most op (length (drop i (keys_of xs))) (length (drop j (keys_of ys)))
   less = merging.less_left op _ (keys_of xs) (keys_of ys) keys i j k key_within key_within' room on_keys
 
   pub on : (i + from_bool (leb key key') ≤ length xs) × (j + from_bool (leb key' key) ≤ length ys) × (i + j < i + from_bool (leb key key') + (j + from_bool (leb key' key)))

@@ -15,13 +15,15 @@ use Rattle.tail_codec.specs.inside.Writing.{WritesEntry, entry_room, list_room}
 use Rattle.tail_codec.proofs.Numbers.{numbers_append}
 
 -- an entry and others after a list
-list_numbers-joined : (low : ℕ) (xs : List (ℕ × ℤ)) (e : ℕ × ℤ) (ys : List (ℕ × ℤ)) → list_numbers low (xs ++ e ∷ ys) ≡ list_numbers low xs ++ (entry_numbers (e.0 - least_after low (keys_of xs)) e.1 ++ list_numbers (e.0 + 1) ys)
+list_numbers-joined : (low : ℕ) (xs : List (ℕ × ℤ)) (e : ℕ × ℤ) (ys : List (ℕ × ℤ))
+    → list_numbers low (xs ++ e ∷ ys) ≡ list_numbers low xs ++ (entry_numbers (e.0 - least_after low (keys_of xs)) e.1 ++ list_numbers (e.0 + 1) ys)
 list_numbers-joined low [] e ys = refl
 list_numbers-joined low (x ∷ xs) e ys =
     ap (λ v. entry_numbers (x.0 - low) x.1 ++ v) (list_numbers-joined (x.0 + 1) xs e ys)
     ∙ sym (append_assoc (entry_numbers (x.0 - low) x.1) (list_numbers (x.0 + 1) xs) _)
 
-ascends-joined : (low : ℕ) (xs : List (ℕ × ℤ)) (e : ℕ × ℤ) (ys : List (ℕ × ℤ)) → AscendsFrom low (keys_of xs) → least_after low (keys_of xs) ≤ e.0 → e.0 < 2 ^ 32 → AscendsFrom (e.0 + 1) (keys_of ys) → AscendsFrom low (keys_of (xs ++ e ∷ ys))
+ascends-joined : (low : ℕ) (xs : List (ℕ × ℤ)) (e : ℕ × ℤ) (ys : List (ℕ × ℤ)) → AscendsFrom low (keys_of xs) → least_after low (keys_of xs) ≤ e.0 → e.0 < 2 ^ 32 → AscendsFrom (e.0 + 1) (keys_of ys)
+    → AscendsFrom low (keys_of (xs ++ e ∷ ys))
 ascends-joined low [] e ys s le small t = (le, small, t)
 ascends-joined low (x ∷ xs) e ys s le small t = (s.0, s.1, ascends-joined (x.0 + 1) xs e ys s.2 le small t)
 
@@ -29,11 +31,13 @@ weights-joined : (xs : List (ℕ × ℤ)) (e : ℕ × ℤ) (ys : List (ℕ × �
 weights-joined [] e ys s fits t = (fits, t)
 weights-joined (x ∷ xs) e ys s fits t = (s.0, weights-joined xs e ys s.1 fits t)
 
-pub spells-joined : (low : ℕ) (xs : List (ℕ × ℤ)) (e : ℕ × ℤ) (ys : List (ℕ × ℤ)) (bytes own more : List ℕ) → SpellsFrom low xs bytes → least_after low (keys_of xs) ≤ e.0 → e.0 < 2 ^ 32 → weight_number e.1 < 2 ^ 64 → SpellsNumbers (entry_numbers (e.0 - least_after low (keys_of xs)) e.1) own → SpellsFrom (e.0 + 1) ys more → SpellsFrom low (xs ++ e ∷ ys) (bytes ++ (own ++ more))
+pub spells-joined : (low : ℕ) (xs : List (ℕ × ℤ)) (e : ℕ × ℤ) (ys : List (ℕ × ℤ)) (bytes own more : List ℕ) → SpellsFrom low xs bytes → least_after low (keys_of xs) ≤ e.0 → e.0 < 2 ^ 32
+    → weight_number e.1 < 2 ^ 64 → SpellsNumbers (entry_numbers (e.0 - least_after low (keys_of xs)) e.1) own → SpellsFrom (e.0 + 1) ys more → SpellsFrom low (xs ++ e ∷ ys) (bytes ++ (own ++ more))
 spells-joined low xs e ys bytes own more s le small fits number t = record {
   ascending = ascends-joined low xs e ys s.ascending le small t.ascending;
   weights = weights-joined xs e ys s.weights fits t.weights;
-  numbers = rw (list_numbers-joined low xs e ys) (numbers_append (list_numbers low xs) _ bytes (own ++ more) s.numbers (numbers_append (entry_numbers (e.0 - least_after low (keys_of xs)) e.1) (list_numbers (e.0 + 1) ys) own more number t.numbers));
+  numbers = rw (list_numbers-joined low xs e ys) (numbers_append (list_numbers low xs) _ bytes (own ++ more) s.numbers
+      (numbers_append (entry_numbers (e.0 - least_after low (keys_of xs)) e.1) (list_numbers (e.0 + 1) ys) own more number t.numbers));
 }
 
 pub spells_nothing : (low : ℕ) → SpellsFrom low [] []
@@ -80,7 +84,8 @@ length_keys [] = refl
 length_keys (e ∷ es) = ap suc (length_keys es)
 
 -- the key of an entry fits after those before it
-pub entry_fits : (low n : ℕ) (es : List (ℕ × ℤ)) → n < length es → AscendsFrom low (keys_of es) → (least_after low (keys_of (take n es)) ≤ (get_or es n (0, pos 0)).0) × ((get_or es n (0, pos 0)).0 < 2 ^ 32)
+pub entry_fits : (low n : ℕ) (es : List (ℕ × ℤ)) → n < length es → AscendsFrom low (keys_of es) → (least_after low (keys_of (take n es)) ≤ (get_or es n (0, pos 0)).0)
+    × ((get_or es n (0, pos 0)).0 < 2 ^ 32)
 entry_fits low n es within ascends =
     let within' : n < length (keys_of es) = omega (arith, within, length_keys es) in
     let small = next_fits low n (keys_of es) within' ascends in
@@ -92,12 +97,15 @@ entry_next low n es within =
     ap (least_after low) (take_keys (n + 1) es) ∙ next_least low n (keys_of es) within' ∙ ap (λ (k : ℕ). k + 1) (key_of n es within)
 
 -- the bytes of one entry more
-pub written : (low n : ℕ) (es : List (ℕ × ℤ)) (g position next : ℕ) (old new : List ℕ) → n < length es → AscendsFrom low (keys_of es) → SpellsFrom low (take n es) (take position old) → g ≡ (get_or es n (0, pos 0)).0 - least_after low (keys_of (take n es)) → weight_number (get_or es n (0, pos 0)).1 < 2 ^ 64 → WritesEntry g (get_or es n (0, pos 0)).1 position old next new → SpellsFrom low (take (n + 1) es) (take next new)
+pub written : (low n : ℕ) (es : List (ℕ × ℤ)) (g position next : ℕ) (old new : List ℕ) → n < length es → AscendsFrom low (keys_of es) → SpellsFrom low (take n es) (take position old)
+    → g ≡ (get_or es n (0, pos 0)).0 - least_after low (keys_of (take n es)) → weight_number (get_or es n (0, pos 0)).1 < 2 ^ 64 → WritesEntry g (get_or es n (0, pos 0)).1 position old next new
+    → SpellsFrom low (take (n + 1) es) (take next new)
 written low n es g position next old new within ascends spells is fits writes =
     let e = get_or es n (0, pos 0) in
     let small = entry_fits low n es within ascends in
     rw (take_more es n (0, pos 0) within, writes.front)
-    (subst (λ v. SpellsFrom low (take n es ++ e ∷ []) (take position old ++ v)) (append-nil writes.bytes) (spells-joined low (take n es) e [] (take position old) writes.bytes [] spells small.0 small.1 fits (rw is at writes.spells) (spells_nothing (e.0 + 1))))
+    (subst (λ v. SpellsFrom low (take n es ++ e ∷ []) (take position old ++ v)) (append-nil writes.bytes)
+    (spells-joined low (take n es) e [] (take position old) writes.bytes [] spells small.0 small.1 fits (rw is at writes.spells) (spells_nothing (e.0 + 1))))
 
 -- the room for an entry
 pub room_small : (w : ℤ) → entry_room w ≤ 15
@@ -128,13 +136,15 @@ few_entries low es ascends =
     omega (arith, length_keys es, ascends_room 0 (keys_of es) (omega arith) (ascends_from 0 low (keys_of es) (omega arith) ascends))
 
 -- two vectors that were, as columns
-pub columns_anew : (m n : ℕ) (keys old : List ℕ) (weights old' : List ℤ) → length keys ≡ m → length weights ≡ n → zip (take m (keys ++ drop (length keys) old)) (take n (weights ++ drop (length weights) old')) ≡ zip keys weights
+pub columns_anew : (m n : ℕ) (keys old : List ℕ) (weights old' : List ℤ) → length keys ≡ m → length weights ≡ n
+    → zip (take m (keys ++ drop (length keys) old)) (take n (weights ++ drop (length weights) old')) ≡ zip keys weights
 columns_anew m n keys old weights old' e e' =
     ap (λ v. zip v (take n (weights ++ drop (length weights) old'))) (written_anew m keys old e)
     ∙ ap (λ v. zip keys v) (written_anew n weights old' e')
 
 -- two columns into which entries were read, and then others after them
-pub columns_joined : (p q : ℕ) (keys keys' all : List ℕ) (weights weights' all' : List ℤ) (es fs : List (ℕ × ℤ)) → keys' ≡ keys → weights' ≡ weights → take p (zip keys weights) ≡ es → take q (zip all all') ≡ take p (zip keys' weights') ++ fs → length all ≤ q → zip all all' ≡ es ++ fs
+pub columns_joined : (p q : ℕ) (keys keys' all : List ℕ) (weights weights' all' : List ℤ) (es fs : List (ℕ × ℤ)) → keys' ≡ keys → weights' ≡ weights → take p (zip keys weights) ≡ es
+    → take q (zip all all') ≡ take p (zip keys' weights') ++ fs → length all ≤ q → zip all all' ≡ es ++ fs
 columns_joined p q keys keys' all weights weights' all' es fs same same' first second le =
     sym (take_all q (zip all all') (omega (arith, length-zip all all', le)))
     ∙ second

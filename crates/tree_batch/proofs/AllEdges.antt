@@ -1,5 +1,6 @@
 -- The ends that the edges of a graph may have, and the edges between those of them that have a weight.
-use Rattle.std.proofs.Common.{◌≡◌, ℕ, zero, suc, ◌+◌, ◌*◌, ◌^◌, ◌<◌, ◌≤◌, ℤ, leb, Bool, true, false, ◌||◌, Option, Some, None, unwrap_or, if◌then◌else◌, inl, inr, List, [], ◌∷◌, ◌++◌, refl, sym, ap, ◌∙◌, subst, arith}
+use Rattle.std.proofs.Common.{◌≡◌, ℕ, zero, suc, ◌+◌, ◌*◌, ◌^◌, ◌<◌, ◌≤◌, ℤ, leb, Bool, true, false, ◌||◌, Option, Some, None, unwrap_or, if◌then◌else◌, inl, inr, List, [], ◌∷◌, ◌++◌, refl, sym, ap}
+use Rattle.std.proofs.Common.{◌∙◌, subst, arith}
 use Rattle.std.proofs.lemmas.Bool.{cases_Bool, cases_lt, and_parts, or_left, or_right, leb-true}
 use Rattle.std.proofs.lemmas.Grind.{flat_map-append}
 use Rattle.std.specs.List.{flat_map, list_any}
@@ -91,7 +92,8 @@ in_rows n a zero p le lt within = absurd (omega arith)
 in_rows n a (suc k) p le lt within =
     among-append (ends_from a (numbers_from 0 n)) (all_rows n (a + 1) k) p ∙ elim (cases_lt a p.0) [
       | inl later ↦ or_right (are_among (ends_from a (numbers_from 0 n)) p) _ (in_rows n (a + 1) k p (omega arith) (omega arith) within)
-      | inr here ↦ let is : p.0 ≡ a = omega arith in or_left (are_among (ends_from a (numbers_from 0 n)) p) _ (subst (λ w. are_among (ends_from w (numbers_from 0 n)) p ≡ true) is (in_row p.0 0 n p.1 (omega arith) (omega arith)))
+      | inr here ↦ let is : p.0 ≡ a = omega arith in or_left (are_among (ends_from a (numbers_from 0 n)) p) _
+      (subst (λ w. are_among (ends_from w (numbers_from 0 n)) p ≡ true) is (in_row p.0 0 n p.1 (omega arith) (omega arith)))
     ]
 
 pub in_all : (n : ℕ) (p : Ends) → IsWithin n p → are_among (all_ends n) p ≡ true
@@ -106,7 +108,8 @@ pub few_vertices : (n : ℕ) → is_vertex_count n ≡ true → n ≤ 16777216
 few_vertices n h = let parts = and_parts (leb 1 n) (leb n 16777216) h in leb-true n 16777216 parts.1
 
 -- an edge that is there after a batch is within the graph after it
-pub after_within : (g : Digraph) (batch : List Entry) (p : Ends) (w : ℤ) → IsDigraph g → misfits g.vertices batch ≡ false → weight_after g.edges batch p ≡ Some w → IsWithin (vertices_after g.vertices batch) p
+pub after_within : (g : Digraph) (batch : List Entry) (p : Ends) (w : ℤ) → IsDigraph g → misfits g.vertices batch ≡ false → weight_after g.edges batch p ≡ Some w
+    → IsWithin (vertices_after g.vertices batch) p
 after_within g batch p w ok fit there = by_decision (decision batch p) refl
   where
     by_decision : (o : Option (Option ℤ)) → decision batch p ≡ o → IsWithin (vertices_after g.vertices batch) p
@@ -123,7 +126,8 @@ edges_after_are g batch new ok fit are =
     same_edges 0 0 (2 ^ 64) (2 ^ 64) new (weighed f (all_ends n)) are.ascending (rises_all f n (omega (arith, few_vertices n (count_after g.vertices batch ok.count fit))))
     (λ p. are.weights p ∙ sym (weight_in-weighed f (all_ends n) p ∙ passing n p (f p) refl))
   where
-    passing : (n : ℕ) (p : Ends) (o : Option ℤ) → weight_after g.edges batch p ≡ o → (if are_among (all_ends (vertices_after g.vertices batch)) p then weight_after g.edges batch p else None) ≡ weight_after g.edges batch p
+    passing : (n : ℕ) (p : Ends) (o : Option ℤ) → weight_after g.edges batch p ≡ o
+    → (if are_among (all_ends (vertices_after g.vertices batch)) p then weight_after g.edges batch p else None) ≡ weight_after g.edges batch p
     passing n p None is = elim (cases_Bool (are_among (all_ends (vertices_after g.vertices batch)) p)) [
       | inl there ↦ rw (there) refl
       | inr absent ↦ rw (absent) (sym is)
@@ -131,7 +135,8 @@ edges_after_are g batch new ok fit are =
     passing n p (Some w) is = rw (in_all (vertices_after g.vertices batch) p (after_within g batch p w ok fit is)) refl
 
 -- and they are a graph's
-pub digraph_after : (g : Digraph) (batch : List Entry) (new : List Edge) → IsDigraph g → misfits g.vertices batch ≡ false → AreEdgesAfter g.edges batch new → IsDigraph (record { vertices = vertices_after g.vertices batch; edges = new })
+pub digraph_after : (g : Digraph) (batch : List Entry) (new : List Edge) → IsDigraph g → misfits g.vertices batch ≡ false → AreEdgesAfter g.edges batch new
+    → IsDigraph (record { vertices = vertices_after g.vertices batch; edges = new })
 digraph_after g batch new ok fit are = record {
   count = count_after g.vertices batch ok.count fit;
   ascending = are.ascending;

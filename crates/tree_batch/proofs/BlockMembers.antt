@@ -33,7 +33,8 @@ named_before low (u ∷ us) e s lt =
     rw (named_before (key_in_page u.0 + 1) us e s.1 (omega (arith, s.0, lt)), other) refl
 
 -- what the updates of a vertex decide of its neighbours is what all of its block decide of the edge
-decided_in_block : (k low : ℕ) (us : List (EdgeUpdate × ℤ)) (e : Ends) (b : Option ℤ) → EdgesAscend low us → AreOfBlock k us → e.0 / 64 ≡ k → pages.decided e.1 (updates_of (e.0 % 64) us) b ≡ unwrap_or (decided_weight us e) b
+decided_in_block : (k low : ℕ) (us : List (EdgeUpdate × ℤ)) (e : Ends) (b : Option ℤ) → EdgesAscend low us → AreOfBlock k us → e.0 / 64 ≡ k
+    → pages.decided e.1 (updates_of (e.0 % 64) us) b ≡ unwrap_or (decided_weight us e) b
 decided_in_block k low [] e b s of at = refl
 decided_in_block k low (u ∷ us) e b s of at = elim (cases_eq (vertex_of u.0) e.0) [
   | inl same ↦
@@ -43,7 +44,8 @@ decided_in_block k low (u ∷ us) e b s of at = elim (cases_eq (vertex_of u.0) e
             let last : decided_weight us e ≡ None = named_before (key_in_page u.0 + 1) us e s.1 (omega (arith, ap (λ v. v % 64 * 2 ^ 24) same, here)) in
             rw (eq-eqb (vertex_in_page u.0) (e.0 % 64) in_page, eq-eqb (neighbour_of u.0) e.1 here, last, eq-eqb (vertex_of u.0) e.0 same) refl
         | inr other ↦
-            let skip : pages.decided e.1 (updates_of (e.0 % 64) (u ∷ us)) b ≡ pages.decided e.1 (updates_of (e.0 % 64) us) b = rw (eq-eqb (vertex_in_page u.0) (e.0 % 64) in_page, ne_eqb (neighbour_of u.0) e.1 other) refl in
+            let skip : pages.decided e.1 (updates_of (e.0 % 64) (u ∷ us)) b ≡ pages.decided e.1 (updates_of (e.0 % 64) us) b =
+            rw (eq-eqb (vertex_in_page u.0) (e.0 % 64) in_page, ne_eqb (neighbour_of u.0) e.1 other) refl in
             skip ∙ (decided_in_block k (key_in_page u.0 + 1) us e b s.1 of.1 at ∙ ap (λ o. unwrap_or o b) (sym (silent (λ v n. other n))))
       ]
   | inr apart ↦
@@ -56,7 +58,8 @@ decided_in_block k low (u ∷ us) e b s of at = elim (cases_eq (vertex_of u.0) e
     silent f = rw (names_other u.0 e f) (option_or-none (decided_weight us e))
 
 -- the weights after the updates of a block are as these decide
-pub updated_members : (k : ℕ) (us : List (EdgeUpdate × ℤ)) (xs : List (ℕ × ℤ)) (e : Ends) → EdgesAscend 0 us → AreOfBlock k us → e.0 / 64 ≡ k → AscendsFrom 0 (keys_of xs) → lookup e.1 (updated xs (updates_of (e.0 % 64) us)) ≡ unwrap_or (decided_weight us e) (lookup e.1 xs)
+pub updated_members : (k : ℕ) (us : List (EdgeUpdate × ℤ)) (xs : List (ℕ × ℤ)) (e : Ends) → EdgesAscend 0 us → AreOfBlock k us → e.0 / 64 ≡ k → AscendsFrom 0 (keys_of xs)
+    → lookup e.1 (updated xs (updates_of (e.0 % 64) us)) ≡ unwrap_or (decided_weight us e) (lookup e.1 xs)
 updated_members k us xs e s of at up =
     let mine : List (EdgeUpdate × ℤ) = updates_of (e.0 % 64) us in
     let ascend : NeighboursAscend 0 mine = vertex_ascends (e.0 % 64) 0 0 us s (λ n le. omega arith) in

@@ -26,7 +26,8 @@ below_more : (k : ℕ) (xs : List (EdgeUpdate × ℤ)) (d : EdgeUpdate × ℤ) �
 below_more k [] d s lt = (lt, tt)
 below_more k (x ∷ xs) d s lt = (s.0, below_more k xs d s.1 lt)
 
-pub below_longer : (k v : ℕ) (us : List (EdgeUpdate × ℤ)) (i : ℕ) (d : EdgeUpdate × ℤ) → i < length us → v ≡ vertex_of (get_or us i d).0 → v / 64 < k → AreBelow k (take i us) → AreBelow k (take (i + 1) us)
+pub below_longer : (k v : ℕ) (us : List (EdgeUpdate × ℤ)) (i : ℕ) (d : EdgeUpdate × ℤ) → i < length us → v ≡ vertex_of (get_or us i d).0 → v / 64 < k → AreBelow k (take i us)
+    → AreBelow k (take (i + 1) us)
 below_longer k v us i d lt is low s = rw (take_more us i d lt) (below_more k (take i us) (get_or us i d) s (omega (arith, low, ap (λ w. w / 64) is)))
 
 -- the updates from one of no lower block on
@@ -74,7 +75,8 @@ decides : (u : EdgeUpdate × ℤ) (us : List (EdgeUpdate × ℤ)) → decided_we
 decides u us is = some_or (decided_weight us (vertex_of u.0, neighbour_of u.0)) _ (rw (eq-eqb (vertex_of u.0) (vertex_of u.0) refl, eq-eqb (neighbour_of u.0) (neighbour_of u.0) refl) at is)
 
 -- of each block that has updates they decide on an edge
-key_decided : (all : List (EdgeUpdate × ℤ)) (cs : List (ℕ × BlockChange)) (j : ℕ) (x : BlockChange) → AreCut all cs → lookup j cs ≡ Some x → (e : Ends) × (e.0 / 64 ≡ j) × (decided_weight all e ≡ None → ⊥)
+key_decided : (all : List (EdgeUpdate × ℤ)) (cs : List (ℕ × BlockChange)) (j : ℕ) (x : BlockChange) → AreCut all cs → lookup j cs ≡ Some x → (e : Ends) × (e.0 / 64 ≡ j)
+    × (decided_weight all e ≡ None → ⊥)
 key_decided all cs j x cut is = found x.updates refl
   where
     found : (us : List (EdgeUpdate × ℤ)) → x.updates ≡ us → (e : Ends) × (e.0 / 64 ≡ j) × (decided_weight all e ≡ None → ⊥)
@@ -109,7 +111,9 @@ ascend_back [] ys t = t
 ascend_back (x ∷ xs) ys t = back_ascends x xs ys t
 
 -- what is cut where the first of a block stands
-pub cut_around : (us : List (EdgeUpdate × ℤ)) (i j b k : ℕ) (d : EdgeUpdate × ℤ) (ds : List (EdgeUpdate × ℤ)) → Ascend (keys_of us) → AreBelow b (take i us) → BeginsFrom b (drop i us) → drop i us ≡ d ∷ ds → k ≡ vertex_of d.0 / 64 → k < 2 ^ 18 → AreOfBlock k (take j (drop i us)) → BeginsElsewhere k (drop j (drop i us)) → IsCutAround us k (take i us) (take j (drop i us)) (drop j (drop i us))
+pub cut_around : (us : List (EdgeUpdate × ℤ)) (i j b k : ℕ) (d : EdgeUpdate × ℤ) (ds : List (EdgeUpdate × ℤ)) → Ascend (keys_of us) → AreBelow b (take i us) → BeginsFrom b (drop i us)
+    → drop i us ≡ d ∷ ds → k ≡ vertex_of d.0 / 64 → k < 2 ^ 18 → AreOfBlock k (take j (drop i us)) → BeginsElsewhere k (drop j (drop i us))
+    → IsCutAround us k (take i us) (take j (drop i us)) (drop j (drop i us))
 cut_around us i j b k d ds s low from is at small of elsewhere =
     let rest : List (EdgeUpdate × ℤ) = drop i us in
     let here : List (EdgeUpdate × ℤ) = take j rest in
@@ -118,7 +122,8 @@ cut_around us i j b k d ds s low from is at small of elsewhere =
     let whole : us ≡ take i us ++ (here ++ above) = sym (take-append-drop i us) ∙ ap (λ r. take i us ++ r) (sym cut) in
     let first = first_cut k d ds at here above (sym is ∙ sym cut) elsewhere in
     let begins : b ≤ vertex_of d.0 / 64 = subst (BeginsFrom b) is from in
-    let order : FollowAscending d.0 (keys_of (first.0 ++ above)) = subst (λ ys. FollowAscending d.0 (keys_of ys)) first.2 (subst (λ ys. Ascend (keys_of ys)) is (ascend_back (take i us) rest (subst (λ ys. Ascend (keys_of ys)) (sym (take-append-drop i us)) s))) in
+    let order : FollowAscending d.0 (keys_of (first.0 ++ above)) = subst (λ ys. FollowAscending d.0 (keys_of ys)) first.2
+    (subst (λ ys. Ascend (keys_of ys)) is (ascend_back (take i us) rest (subst (λ ys. Ascend (keys_of ys)) (sym (take-append-drop i us)) s))) in
     record {
       whole = whole;
       small = small;

@@ -1,5 +1,6 @@
 -- What decides on edges when updates are made of entries and cut by blocks.
-use Rattle.std.proofs.Common.{◌≡◌, ◌≢◌, ℕ, ℤ, ◌+◌, ◌/◌, ◌^◌, ◌<◌, ◌≤◌, Option, option_to_list, Some, None, inl, inr, List, [], ◌∷◌, ◌++◌, length, get_or, take, drop, refl, sym, ap, ◌∙◌, subst, arith, length-append, length-drop}
+use Rattle.std.proofs.Common.{◌≡◌, ◌≢◌, ℕ, ℤ, ◌+◌, ◌/◌, ◌^◌, ◌<◌, ◌≤◌, Option, option_to_list, Some, None, inl, inr, List, [], ◌∷◌, ◌++◌, length, get_or, take, drop, refl, sym, ap, ◌∙◌, subst, arith}
+use Rattle.std.proofs.Common.{length-append, length-drop}
 use Rattle.std.specs.Option.{option_or}
 use Rattle.std.proofs.lemmas.Bool.{cases_eq, ne_eqb}
 use Rattle.std.proofs.lemmas.List.{append-nil, take_more, drop_more}
@@ -30,7 +31,8 @@ decided_pushed (x ∷ xs) d e =
     ap (λ o. option_or o (one_decided x e)) (decided_pushed xs d e) ∙ option_or-assoc (one_decided d e) (decided_weight xs e) (one_decided x e)
 
 -- updates of the first entries, and what one more says
-pub decided_more : (xs : List Entry) (i : ℕ) (d : Entry) (us vs : List (EdgeUpdate × ℤ)) (o : Option (EdgeUpdate × ℤ)) → i < length xs → IsUpdateOf (get_or xs i d) o → vs ≡ us ++ option_to_list o → ((e : Ends) → decided_weight us e ≡ decision (take i xs) e) → (e : Ends) → decided_weight vs e ≡ decision (take (i + 1) xs) e
+pub decided_more : (xs : List Entry) (i : ℕ) (d : Entry) (us vs : List (EdgeUpdate × ℤ)) (o : Option (EdgeUpdate × ℤ)) → i < length xs → IsUpdateOf (get_or xs i d) o → vs ≡ us ++ option_to_list o
+    → ((e : Ends) → decided_weight us e ≡ decision (take i xs) e) → (e : Ends) → decided_weight vs e ≡ decision (take (i + 1) xs) e
 decided_more xs i d us vs o lt says is same e =
     let x = get_or xs i d in
     let more : take (i + 1) xs ≡ take i xs ++ x ∷ [] = take_more xs i d lt in
@@ -118,7 +120,8 @@ module _ {V : Type 0} where
   lookup_before (e ∷ es) k v j ne = rw (lookup_before es k v j ne)
 
 -- the first update is in what is cut off in front of its block
-pub first_cut : (k : ℕ) (d : EdgeUpdate × ℤ) (ds : List (EdgeUpdate × ℤ)) → k ≡ vertex_of d.0 / 64 → (cut after : List (EdgeUpdate × ℤ)) → d ∷ ds ≡ cut ++ after → BeginsElsewhere k after → (r : List (EdgeUpdate × ℤ)) × (cut ≡ d ∷ r) × (ds ≡ r ++ after)
+pub first_cut : (k : ℕ) (d : EdgeUpdate × ℤ) (ds : List (EdgeUpdate × ℤ)) → k ≡ vertex_of d.0 / 64 → (cut after : List (EdgeUpdate × ℤ)) → d ∷ ds ≡ cut ++ after → BeginsElsewhere k after
+    → (r : List (EdgeUpdate × ℤ)) × (cut ≡ d ∷ r) × (ds ≡ r ++ after)
 first_cut k d ds at [] after w other = absurd (begins after w other)
   where
     begins : (ys : List (EdgeUpdate × ℤ)) → d ∷ ds ≡ ys → BeginsElsewhere k ys → ⊥
@@ -129,7 +132,8 @@ first_cut k d ds at (x ∷ xs) after w other = let same : x ≡ d = cc in let re
 pub same_change : (a c : BlockChange) → Some a ≡ Some c → a ≡ c
 same_change a c e = cc
 
-module _ (all : List (EdgeUpdate × ℤ)) (d : EdgeUpdate × ℤ) (ds cut after : List (EdgeUpdate × ℤ)) (blocks : List (ℕ × BlockChange)) (so_far : AreCutSoFar all (d ∷ ds) blocks) (whole : d ∷ ds ≡ cut ++ after) (of_block : AreOfBlock (vertex_of d.0 / 64) cut) (elsewhere : BeginsElsewhere (vertex_of d.0 / 64) after) where
+module _ (all : List (EdgeUpdate × ℤ)) (d : EdgeUpdate × ℤ) (ds cut after : List (EdgeUpdate × ℤ)) (blocks : List (ℕ × BlockChange)) (so_far : AreCutSoFar all (d ∷ ds) blocks)
+    (whole : d ∷ ds ≡ cut ++ after) (of_block : AreOfBlock (vertex_of d.0 / 64) cut) (elsewhere : BeginsElsewhere (vertex_of d.0 / 64) after) where
   abbrev k : ℕ
   k = vertex_of d.0 / 64
 

@@ -1,5 +1,6 @@
 -- What decides on an edge and its weight when entries are joined, filtered or sorted, and what a batch that fits asks for.
-use Rattle.std.proofs.Common.{◌≡◌, ℕ, zero, suc, ◌<◌, ◌≤◌, max, ◌⊎◌, ltb, length, slice_index_or, MatchOption, Bool, true, false, ℤ, ◌||◌, Option, Some, None, inl, inr, List, [], ◌∷◌, ◌++◌, refl, sym, ap, ◌∙◌, subst, arith, leb}
+use Rattle.std.proofs.Common.{◌≡◌, ℕ, zero, suc, ◌<◌, ◌≤◌, max, ◌⊎◌, ltb, length, slice_index_or, MatchOption, Bool, true, false, ℤ, ◌||◌, Option, Some, None, inl, inr, List, [], ◌∷◌, ◌++◌, refl, sym}
+use Rattle.std.proofs.Common.{ap, ◌∙◌, subst, arith, leb}
 use Rattle.std.proofs.lemmas.Bool.{cases_Bool, cases_lt, leb-false, le-leb, ltb-false, or_parts, and_parts, and_from, leb-true}
 use Rattle.std.proofs.lemmas.List.Elements.{All-nil, All-cons, All-head, All-tail}
 use Rattle.std.specs.Option.{option_or}
@@ -47,7 +48,8 @@ decided_within n [] e b inside is = cc
 decided_within n (x ∷ xs) e b inside is =
     elim (cases_Bool (is_between (named_by x) e)) [
       | inl names ↦ names_this (IsWithin n) x e names (All-head (NamesWithin n) x xs inside)
-      | inr other ↦ decided_within n xs e b (All-tail (NamesWithin n) x xs inside) (sym (option_or-none (decision xs e)) ∙ ap (λ o. option_or (decision xs e) o) (sym (entry_decision-other x e other)) ∙ is)
+      | inr other ↦ decided_within n xs e b (All-tail (NamesWithin n) x xs inside)
+      (sym (option_or-none (decision xs e)) ∙ ap (λ o. option_or (decision xs e) o) (sym (entry_decision-other x e other)) ∙ is)
     ]
 
 -- where no entry names the edge none decides

@@ -56,7 +56,8 @@ module _ (all : List (EdgeUpdate × ℤ)) (bs : List (ℕ × Block)) (t : Change
       let map = made.values.within 0 (2 ^ 18) ok.map made.cut.map in
       record { map = map; blocks = are_blocks 0 (2 ^ 18) new map (λ k b is. block_made k (lookup k changes) b (made.values.values k) is) }
 
-  member_made : (e : Ends) (o : Option BlockChange) → lookup (e.0 / 64) changes ≡ o → MadeAt IsBlockAfter o (lookup (e.0 / 64) bs) (lookup (e.0 / 64) new) → lookup e.1 (neighbours_of (e.0 % 64) (vertices_at (lookup (e.0 / 64) new))) ≡ unwrap_or (block_decided o e) (weight_between (lists_of bs) e)
+  member_made : (e : Ends) (o : Option BlockChange) → lookup (e.0 / 64) changes ≡ o → MadeAt IsBlockAfter o (lookup (e.0 / 64) bs) (lookup (e.0 / 64) new)
+      → lookup e.1 (neighbours_of (e.0 % 64) (vertices_at (lookup (e.0 / 64) new))) ≡ unwrap_or (block_decided o e) (weight_between (lists_of bs) e)
   member_made e None there was = ap (λ o. lookup e.1 (neighbours_of (e.0 % 64) (vertices_at o))) was ∙ ap (λ xs. lookup e.1 xs) (sym (in_block e.0 bs ok))
   member_made e (Some c) there was =
       let here = made.cut.cuts (e.0 / 64) c there in
@@ -86,7 +87,9 @@ module _ (n count : ℕ) (out into : List (ℕ × Block)) (ok : IsGraph n count 
       (neighbours_ascend v (lists_of into) (neighbour_lists into ok.into.blocks))
       (λ u. source_weight (edges_of (lists_of out)) u v ∙ edge_weights 0 (2 ^ 24) (lists_of out) (u, v) (graph_rises out ok.out) ∙ sym (ok.converse u v))
 
-  module _ (batch : List Entry) (inside : misfits n batch ≡ false) (us transposed : List (EdgeUpdate × ℤ)) (same : (e : Ends) → decided_weight us e ≡ decision batch e) (turns : (e : Ends) → decided_weight transposed e ≡ decided_weight us (e.1, e.0)) (outs ins : Changed VertexBlock) (out_made : IsChangedTree us out outs) (into_made : IsChangedTree transposed into ins) where
+  module _ (batch : List Entry) (inside : misfits n batch ≡ false) (us transposed : List (EdgeUpdate × ℤ)) (same : (e : Ends) → decided_weight us e ≡ decision batch e)
+      (turns : (e : Ends) → decided_weight transposed e ≡ decided_weight us (e.1, e.0)) (outs ins : Changed VertexBlock) (out_made : IsChangedTree us out outs)
+      (into_made : IsChangedTree transposed into ins) where
     abbrev out' : List (ℕ × Block)
     out' = outs.tree.entries
 
@@ -110,7 +113,8 @@ module _ (n count : ℕ) (out into : List (ℕ × Block)) (ok : IsGraph n count 
     edges_after : AreEdgesAfter (edges_of (lists_of out)) batch (edges_of (lists_of out'))
     edges_after = record {
       ascending = ascending;
-      weights = λ e. edge_weights 0 (2 ^ 24) (lists_of out') e (graph_rises out' out_ok) ∙ out_members e ∙ ap (λ o. unwrap_or o (weight_between (lists_of out) e)) (same e) ∙ ap (λ h. unwrap_or (decision batch e) h) (sym (edge_weights 0 (2 ^ 24) (lists_of out) e (graph_rises out ok.out)));
+      weights = λ e. edge_weights 0 (2 ^ 24) (lists_of out') e (graph_rises out' out_ok) ∙ out_members e ∙ ap (λ o. unwrap_or o (weight_between (lists_of out) e)) (same e)
+      ∙ ap (λ h. unwrap_or (decision batch e) h) (sym (edge_weights 0 (2 ^ 24) (lists_of out) e (graph_rises out ok.out)));
     }
 
     -- the new edges are those after the batch

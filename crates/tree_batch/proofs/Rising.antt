@@ -81,7 +81,8 @@ no_earlier x y xs ys high rises same = elim (cases_lt (index (ends_of x)) (index
 ]
 
 -- without their first edge too, the two give the same weights
-same_rest : (x : Edge) (xs ys : List Edge) (low high : ℕ) → Rises (index (ends_of x) + 1) low xs → Rises (index (ends_of x) + 1) high ys → ((p : Ends) → weight_in p (x ∷ xs) ≡ weight_in p (x ∷ ys)) → (p : Ends) → weight_in p xs ≡ weight_in p ys
+same_rest : (x : Edge) (xs ys : List Edge) (low high : ℕ) → Rises (index (ends_of x) + 1) low xs → Rises (index (ends_of x) + 1) high ys → ((p : Ends) → weight_in p (x ∷ xs) ≡ weight_in p (x ∷ ys))
+    → (p : Ends) → weight_in p xs ≡ weight_in p ys
 same_rest x xs ys low high h k same p = elim (cases_Bool (ends_eq (ends_of x) p)) [
   | inl here ↦
       let is : ends_of x ≡ p = ends_eq-true (ends_of x) p here in

@@ -1,5 +1,6 @@
 -- Lists of edges in order, and the weights that they give ends.
-use Rattle.std.specs.Prelude.{ℕ, ◌+◌, ◌*◌, ◌^◌, ◌<◌, ◌≤◌, ◌==◌, ℤ, Bool, ◌&&◌, if◌then◌else◌, Option, Some, None, zero, suc, List, [], ◌∷◌, map, not, false, max, nat_le, nat_lt, ◌||◌, unwrap_or, ◌≡◌}
+use Rattle.std.specs.Prelude.{ℕ, ◌+◌, ◌*◌, ◌^◌, ◌<◌, ◌≤◌, ◌==◌, ℤ, Bool, ◌&&◌, if◌then◌else◌, Option, Some, None, zero, suc, List, [], ◌∷◌, map, not, false}
+use Rattle.std.specs.Prelude.{max, nat_le, nat_lt, ◌||◌, unwrap_or, ◌≡◌}
 use Rattle.std.specs.List.{flat_map, list_any}
 use Rattle.std.specs.Option.{option_or}
 use Rattle.weighted_edges.specs.Edge.{Edge}
@@ -95,7 +96,8 @@ most_asked (x ∷ xs) = max (count_asked x) (most_asked xs)
 abbrev pub vertices_after : ℕ → List Entry → ℕ
 vertices_after n batch = max n (most_asked batch)
 
--- whether an entry does not fit a batch by which n vertices become m: it names one that is none of the m, or it asks for fewer than the n or for more than a graph may have
+-- whether an entry does not fit a batch by which n vertices become m: it names one that is none of the m, or it asks for fewer than the n or for more than a
+-- graph may have
 abbrev pub entry_misfits : ℕ → ℕ → Entry → Bool
 entry_misfits n m (Add u v w) = nat_le m u || nat_le m v
 entry_misfits n m (Remove u v) = nat_le m u || nat_le m v

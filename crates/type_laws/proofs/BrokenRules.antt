@@ -4,7 +4,8 @@ use Rattle.std.specs.Prelude.{map}
 use Rattle.std.specs.List.{AllByRecursion, Contains}
 use Rattle.syntax.specs.Terminals.{Identifier}
 use Rattle.syntax.specs.SourceTrees as tree
-use Rattle.syntax.specs.SourceTrees.{ExpressionTree, ConjunctionTree, ComparisonTree, SumTree, TermTree, UnaryTree, PrimaryTree, StatementKindTree, BlockTree, DeclarationTree, EndsTree, InitialTree, ParameterTree, SourceTree}
+use Rattle.syntax.specs.SourceTrees.{ExpressionTree, ConjunctionTree, ComparisonTree, SumTree, TermTree, UnaryTree, PrimaryTree, StatementKindTree, BlockTree, DeclarationTree, EndsTree, InitialTree}
+use Rattle.syntax.specs.SourceTrees.{ParameterTree, SourceTree}
 use Rattle.syntax.specs.SourceTrees as source
 use Rattle.typed_tree.specs.declared.expression.Endpoint.{Endpoint}
 use Rattle.typed_tree.specs.declared.expression.Endpoint.TheVariants as endpoint
@@ -21,7 +22,8 @@ use Rattle.expression_types.proofs.LeastLaws.{told_is_least}
 use Rattle.type_laws.specs.BrokenRules.{Breaks, BreaksNoRule, BreaksRule, IsLeastBroken}
 use Rattle.type_laws.specs.ExpressionParts as form
 use Rattle.type_laws.specs.ExpressionParts.{Form, conjuncts_of, disjuncts_of, factors_of, summands_of}
-use Rattle.type_laws.specs.SourceParts.{Part, Source, Declarations, Declaration, Parameters, MainBlock, MainStatement, FunctionBlock, FunctionStatement, Label, NewName, Initial, IntWanted, BoolWanted, VectorWanted, MainIndex, FunctionIndex, InExpression, body_part, initial_forms, name_before, parts_of}
+use Rattle.type_laws.specs.SourceParts.{Part, Source, Declarations, Declaration, Parameters, MainBlock, MainStatement, FunctionBlock, FunctionStatement, Label, NewName, Initial, IntWanted, BoolWanted}
+use Rattle.type_laws.specs.SourceParts.{VectorWanted, MainIndex, FunctionIndex, InExpression, body_part, initial_forms, name_before, parts_of}
 use Rattle.type_laws.proofs.PartSplits.{splits}
 use Rattle.type_laws.proofs.SplitFaults.{broken_is_fault, cons_cases, faults, none_contained, whole_breaks}
 use Rattle.type_laws.specs.KeptRules.{KeepsRules}
@@ -61,9 +63,11 @@ mutual
   conjuncts_broken f scope at (tree.ComparisonThen c others) = (comparison_broken f scope at c, conjuncts_broken f scope at others)
 
   comparison_broken : (f : Fault) (scope : ScopeTree) (at : ℕ) (c : ComparisonTree) → IsBroken f (InExpression scope at (form.Comparison c))
-  comparison_broken f scope at (tree.OneSum s) = by_parts f (InExpression scope at (form.Comparison (tree.OneSum s))) (by_parts f (InExpression scope at (form.Sum s)) (summands_broken f scope at s), tt)
+  comparison_broken f scope at (tree.OneSum s) = by_parts f (InExpression scope at (form.Comparison (tree.OneSum s)))
+      (by_parts f (InExpression scope at (form.Sum s)) (summands_broken f scope at s), tt)
   comparison_broken f scope at (tree.TwoSums left relation right) =
-      by_parts f (InExpression scope at (form.Comparison (tree.TwoSums left relation right))) (by_parts f (InExpression scope at (form.Sum left)) (summands_broken f scope at left), (by_parts f (InExpression scope at (form.Sum right)) (summands_broken f scope at right), tt))
+      by_parts f (InExpression scope at (form.Comparison (tree.TwoSums left relation right)))
+      (by_parts f (InExpression scope at (form.Sum left)) (summands_broken f scope at left), (by_parts f (InExpression scope at (form.Sum right)) (summands_broken f scope at right), tt))
 
   summands_broken : (f : Fault) (scope : ScopeTree) (at : ℕ) (s : SumTree) → AreBroken f (map (InExpression scope at) (summands_of s))
   summands_broken f scope at (tree.LastTerm t) = (by_parts f (InExpression scope at (form.Term t)) (factors_broken f scope at t), tt)
@@ -82,9 +86,11 @@ mutual
   primary_broken f scope at (tree.Truth b) = by_parts f (InExpression scope at (form.Primary (tree.Truth b))) tt
   primary_broken f scope at (tree.Variable name) = by_parts f (InExpression scope at (form.Primary (tree.Variable name))) (name_broken f scope at name, tt)
   primary_broken f scope at (tree.Entry vector index) =
-      by_parts f (InExpression scope at (form.Primary (tree.Entry vector index))) (name_broken f scope at vector, (index_from f scope at index (by_parts f (InExpression scope at (form.Expression index)) (disjuncts_broken f scope at index)), tt))
+      by_parts f (InExpression scope at (form.Primary (tree.Entry vector index)))
+      (name_broken f scope at vector, (index_from f scope at index (by_parts f (InExpression scope at (form.Expression index)) (disjuncts_broken f scope at index)), tt))
   primary_broken f scope at (tree.Size set) = by_parts f (InExpression scope at (form.Primary (tree.Size set))) (name_broken f scope at set, tt)
-  primary_broken f scope at (tree.Parentheses inner) = by_parts f (InExpression scope at (form.Primary (tree.Parentheses inner))) (by_parts f (InExpression scope at (form.Expression inner)) (disjuncts_broken f scope at inner), tt)
+  primary_broken f scope at (tree.Parentheses inner) = by_parts f (InExpression scope at (form.Primary (tree.Parentheses inner)))
+      (by_parts f (InExpression scope at (form.Expression inner)) (disjuncts_broken f scope at inner), tt)
 
 expression_broken : (f : Fault) (scope : ScopeTree) (at : ℕ) (e : ExpressionTree) → IsBroken f (InExpression scope at (form.Expression e))
 expression_broken f scope at e = by_parts f (InExpression scope at (form.Expression e)) (disjuncts_broken f scope at e)
@@ -151,11 +157,13 @@ mutual
   main_broken f c (source.SetEntry vector index e) =
       by_parts f (MainStatement c (source.SetEntry vector index e)) (vector_broken f c.scope vector.at vector, (main_index_broken f c.scope vector.at index, (int_broken f c.scope vector.at e, tt)))
   main_broken f c (source.ReduceEntry vector index by e) =
-      by_parts f (MainStatement c (source.ReduceEntry vector index by e)) (vector_broken f c.scope vector.at vector, (main_index_broken f c.scope vector.at index, (int_broken f c.scope vector.at e, tt)))
+      by_parts f (MainStatement c (source.ReduceEntry vector index by e)) (vector_broken f c.scope vector.at vector,
+      (main_index_broken f c.scope vector.at index, (int_broken f c.scope vector.at e, tt)))
   main_broken f c (source.AddVertex set e) = by_parts f (MainStatement c (source.AddVertex set e)) (name_broken f c.scope set.at set, (expression_broken f c.scope set.at e, tt))
   main_broken f c (source.Apply target sides function) =
       by_parts f (MainStatement c (source.Apply target sides function))
-      (name_broken f c.scope target.at target, before_broken f c.scope target.at sides.from _ (before_broken f c.scope target.at sides.to (form.Name function ∷ []) (name_broken f c.scope target.at function, tt)))
+      (name_broken f c.scope target.at target, before_broken f c.scope target.at sides.from _
+      (before_broken f c.scope target.at sides.to (form.Name function ∷ []) (name_broken f c.scope target.at function, tt)))
 
   main_block_broken : (f : Fault) (c : CheckerTree) (block : BlockTree) → IsBroken f (MainBlock c block)
   main_block_broken f c source.Empty = by_parts f (MainBlock c source.Empty) tt
@@ -167,7 +175,8 @@ mutual
   function_broken f c (source.Declare at p initial) = by_parts f (FunctionStatement c (source.Declare at p initial)) (initial_broken f c at initial, (new_broken f c.scope p.name, tt))
   function_broken f c (source.While at test body) = by_parts f (FunctionStatement c (source.While at test body)) (bool_broken f c.scope at test, (function_block_broken f _ body, tt))
   function_broken f c (source.For at name first limit body) =
-      by_parts f (FunctionStatement c (source.For at name first limit body)) (int_broken f c.scope at first, (int_broken f c.scope at limit, (new_broken f c.scope name, (function_block_broken f _ body, tt))))
+      by_parts f (FunctionStatement c (source.For at name first limit body)) (int_broken f c.scope at first,
+      (int_broken f c.scope at limit, (new_broken f c.scope name, (function_block_broken f _ body, tt))))
   function_broken f c (source.If at test body) = by_parts f (FunctionStatement c (source.If at test body)) (bool_broken f c.scope at test, (function_block_broken f _ body, tt))
   function_broken f c (source.IfElse at test body otherwise) =
       by_parts f (FunctionStatement c (source.IfElse at test body otherwise)) (bool_broken f c.scope at test, (function_block_broken f _ body, (function_block_broken f _ otherwise, tt)))
@@ -175,13 +184,16 @@ mutual
   function_broken f c (source.Assign name initial) = by_parts f (FunctionStatement c (source.Assign name initial)) (name_broken f c.scope name.at name, (initial_broken f c name.at initial, tt))
   function_broken f c (source.Reduce name by e) = by_parts f (FunctionStatement c (source.Reduce name by e)) (name_broken f c.scope name.at name, (expression_broken f c.scope name.at e, tt))
   function_broken f c (source.SetEntry vector index e) =
-      by_parts f (FunctionStatement c (source.SetEntry vector index e)) (vector_broken f c.scope vector.at vector, (function_index_broken f c.scope vector.at index, (int_broken f c.scope vector.at e, tt)))
+      by_parts f (FunctionStatement c (source.SetEntry vector index e)) (vector_broken f c.scope vector.at vector,
+      (function_index_broken f c.scope vector.at index, (int_broken f c.scope vector.at e, tt)))
   function_broken f c (source.ReduceEntry vector index by e) =
-      by_parts f (FunctionStatement c (source.ReduceEntry vector index by e)) (vector_broken f c.scope vector.at vector, (function_index_broken f c.scope vector.at index, (int_broken f c.scope vector.at e, tt)))
+      by_parts f (FunctionStatement c (source.ReduceEntry vector index by e)) (vector_broken f c.scope vector.at vector,
+      (function_index_broken f c.scope vector.at index, (int_broken f c.scope vector.at e, tt)))
   function_broken f c (source.AddVertex set e) = by_parts f (FunctionStatement c (source.AddVertex set e)) (name_broken f c.scope set.at set, (expression_broken f c.scope set.at e, tt))
   function_broken f c (source.Apply target sides function) =
       by_parts f (FunctionStatement c (source.Apply target sides function))
-      (name_broken f c.scope target.at target, before_broken f c.scope target.at sides.from _ (before_broken f c.scope target.at sides.to (form.Name function ∷ []) (name_broken f c.scope target.at function, tt)))
+      (name_broken f c.scope target.at target, before_broken f c.scope target.at sides.from _
+      (before_broken f c.scope target.at sides.to (form.Name function ∷ []) (name_broken f c.scope target.at function, tt)))
 
   function_block_broken : (f : Fault) (c : CheckerTree) (block : BlockTree) → IsBroken f (FunctionBlock c block)
   function_block_broken f c source.Empty = by_parts f (FunctionBlock c source.Empty) tt
@@ -194,7 +206,8 @@ parameters_broken : (f : Fault) (weighted : Bool) (k : FunctionKindTree) (c : Ch
 parameters_broken f weighted k c p [] None = by_parts f (Parameters weighted k c p [] None) tt
 parameters_broken f weighted k c p [] (Some result) = by_parts f (Parameters weighted k c p [] (Some result)) (new_broken f c.scope result.name, tt)
 parameters_broken f weighted k c p (v ∷ others) result =
-    by_parts f (Parameters weighted k c p (v ∷ others) result) (new_broken f c.scope v.name, (parameters_broken f weighted k (declared_in c v.name (parameter weighted p v.declared)).value endpoint.Destination others result, tt))
+    by_parts f (Parameters weighted k c p (v ∷ others) result) (new_broken f c.scope v.name,
+    (parameters_broken f weighted k (declared_in c v.name (parameter weighted p v.declared)).value endpoint.Destination others result, tt))
 
 body_broken : (f : Fault) (k : FunctionKindTree) (c : CheckerTree) (body : BlockTree) → IsBroken f (body_part k c body)
 body_broken f (MainKind fits) c body = main_block_broken f c body

@@ -6,7 +6,8 @@ use Rattle.std.proofs.lemmas.Slice.Eq.{bytes_eq-Decides}
 use Rattle.syntax.specs.Terminals.{Identifier}
 use Rattle.syntax.specs.SourceTrees as source
 use Rattle.syntax.specs.SourceTrees.{ParameterTree, DeclarationTree}
-use Rattle.types.specs.Declaration.{DeclaredTree, FunctionKindTree, MainKind, EdgeKind, VertexKind, FilterKind, NoKind, declaration_typed, declarations_typed, declare_function, is_bool, is_vertex, kind_of, main_bytes, main_declared, steps_declared, takes_nothing, is_int}
+use Rattle.types.specs.Declaration.{DeclaredTree, FunctionKindTree, MainKind, EdgeKind, VertexKind, FilterKind, NoKind, declaration_typed, declarations_typed, declare_function, is_bool, is_vertex}
+use Rattle.types.specs.Declaration.{kind_of, main_bytes, main_declared, steps_declared, takes_nothing, is_int}
 use Rattle.type_laws.proofs.Faultless.{no_left, no_right}
 
 -- what holds of each declaration, where something is known before it and after it

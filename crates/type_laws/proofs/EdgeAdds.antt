@@ -21,7 +21,8 @@ use Rattle.expression_types.specs.ScopeTree.{found}
 use Rattle.expression_types.specs.ValueTree.{ValueTree, Integer, Condition, Vertex, Set, ErrorValue}
 use Rattle.types.specs.Checker.{CheckerTree, labelled, new_label, condition_in, integer_in}
 use Rattle.types.specs.Initial.{InitializerTree, initializer_of}
-use Rattle.types.specs.Step.{at_own, declare_step_as, may_reduce, one_reduction, own_vertex, reduce_entry_step, reduced_as, reduction_step, same_endpoint, same_reduction, step_after, step_typed, steps_after, steps_typed, written_at, written_with}
+use Rattle.types.specs.Step.{at_own, declare_step_as, may_reduce, one_reduction, own_vertex, reduce_entry_step, reduced_as, reduction_step, same_endpoint, same_reduction, step_after, step_typed}
+use Rattle.types.specs.Step.{steps_after, steps_typed, written_at, written_with}
 use Rattle.type_laws.proofs.ClearValues.{IsClear}
 use Rattle.type_laws.proofs.EntryAccess.{Body}
 use Rattle.type_laws.proofs.EntryReads.{expression_reads, index_clear}
@@ -106,7 +107,8 @@ declare_adds c at name initializer declared.WeightedEdgeSet = refl
 same_adds : (old new : Writes) (vectors : List ℕ) → new ≡ old → Adds old new vectors
 same_adds old new vectors same vector is = inl (subst (λ writes. is_written writes vector ≡ true) same is)
 
-after_writes : (so_far : FunctionStatementsTree) (step : FunctionStatementTree) (vector : ℕ) → Contains (steps_write so_far) vector ⊎ Contains (step_writes step) vector → Contains (steps_write (step_after so_far step)) vector
+after_writes : (so_far : FunctionStatementsTree) (step : FunctionStatementTree) (vector : ℕ) → Contains (steps_write so_far) vector ⊎ Contains (step_writes step) vector
+    → Contains (steps_write (step_after so_far step)) vector
 after_writes NoStep step vector (inl (k, within, is)) = absurd (omega (arith, within))
 after_writes NoStep step vector (inr is) = Contains-append_left (step_writes step) [] vector is
 after_writes (StepThen s others) step vector (inl is) =
@@ -132,7 +134,8 @@ module _ {At : Vertices} {Read Write : ExpressionTree → Type 0} (body : Body A
       let behind_index = no_right v.faults _ after_may in
       let clear = index_clear c.scope subscript (value_of c.scope at subscript) (λ fine. (expression_reads c.scope at (body.reads c.scope at known) subscript fine).1) (no_left v.faults _ after_may) in
       let own = written_own at (own_vertex c.scope.inside) v.value clear (no_left w.faults _ behind_index) in
-      subst (λ i. (may_reduce at i index.value by c.writes).faults ≡ [] → Adds c.writes (may_reduce at i index.value by c.writes).value.1 (step_writes (reduction_step (may_reduce at i index.value by c.writes).value.0 w.value index.value by x)))
+      subst (λ i. (may_reduce at i index.value by c.writes).faults ≡ [] → Adds c.writes (may_reduce at i index.value by c.writes).value.1
+      (step_writes (reduction_step (may_reduce at i index.value by c.writes).value.0 w.value index.value by x)))
       (sym known.0) (one_adds at index.value by c.writes w.value x own) (no_left may.faults _ after_vector)
 
   mutual

@@ -20,7 +20,8 @@ use Rattle.expression_types.specs.ScopeTree.{ScopeTree}
 use Rattle.expression_types.specs.ValueTree.{ValueTree, Integer, Condition, Vertex, Set, ErrorValue, condition_reads_entry, reads_entry}
 use Rattle.types.specs.Block.{action_typed, behind, closed, statements_typed}
 use Rattle.types.specs.Checker.{CheckerTree, counted, declared_in, integer_slot, labelled, restarted, as_index, condition_in, integer_in, no_index}
-use Rattle.types.specs.Declaration.{DeclaredTree, FunctionKindTree, MainKind, EdgeKind, VertexKind, FilterKind, NoKind, declaration_typed, declarations_typed, inside_of, is_bool, is_vertex, kind_fits, kind_of, main_declared, opened, steps_declared, takes_nothing, is_int, takes_weight}
+use Rattle.types.specs.Declaration.{DeclaredTree, FunctionKindTree, MainKind, EdgeKind, VertexKind, FilterKind, NoKind, declaration_typed, declarations_typed, inside_of, is_bool, is_vertex, kind_fits}
+use Rattle.types.specs.Declaration.{kind_of, main_declared, opened, steps_declared, takes_nothing, is_int, takes_weight}
 use Rattle.type_laws.specs.EntryAccess.{AccessesEntriesWell, AccessesOwnVertices, ActionAccesses, BlockAccesses, ExpressionReadsAt, HasNoEntry, InitialReadsAt, IsNameAmong}
 use Rattle.types.specs.Initial.{initializer_of}
 use Rattle.types.specs.Program.{opening, program_of, set_count}
@@ -343,7 +344,8 @@ edge_body src dst = user_body (named src dst) inside.EdgeFunction (src ∷ dst �
 
 -- functions
 steps_declared_access : {At : Vertices} {Read Write : ExpressionTree → Type 0} (d : DeclaredTree) (at : ℕ) (kind : FunctionKindTree) (name : Identifier) (parameters : List ParameterTree)
-    (result : Option ParameterTree) (body : source.BlockTree) → Body At (inside_of kind) Read Write → ParametersFit (takes_weight kind) At endpoint.Source parameters → ResultFits kind result → AllKnown d
+    (result : Option ParameterTree) (body : source.BlockTree) → Body At (inside_of kind) Read Write → ParametersFit (takes_weight kind) At endpoint.Source parameters → ResultFits kind result
+    → AllKnown d
     → (steps_declared d at kind name parameters result body).faults ≡ [] → BlockAccesses Read Write body
 steps_declared_access {At = At} d at kind name parameters result body may fit fits known none =
     let c = opened d.checker kind parameters result in
@@ -405,7 +407,8 @@ main_accesses d name parameters result body nothing known none =
     let b = statements_typed c.value Empty body in
     statements_access c.value Empty body (refl, known.1) (no_left b.faults _ (no_right c.faults _ none'))
 
-declaration_accesses : (d : DeclaredTree) (x : DeclarationTree) → AllKnown d → (declaration_typed d x).faults ≡ [] → (MainTakesNothing x → AccessesEntriesWell x) × AllKnown (declaration_typed d x).value
+declaration_accesses : (d : DeclaredTree) (x : DeclarationTree) → AllKnown d → (declaration_typed d x).faults ≡ [] → (MainTakesNothing x → AccessesEntriesWell x)
+    × AllKnown (declaration_typed d x).value
 declaration_accesses d (source.Constant at x initial) known none = (λ nothing. tt, declaration_known d (source.Constant at x initial) known none)
 declaration_accesses d (source.Function at name parameters result body) known none = (
   λ nothing. (

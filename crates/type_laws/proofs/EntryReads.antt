@@ -6,13 +6,15 @@ use Rattle.syntax.specs.SourceTrees as tree
 use Rattle.syntax.specs.SourceTrees.{ExpressionTree, ConjunctionTree, ComparisonTree, SumTree, TermTree, UnaryTree, PrimaryTree}
 use Rattle.typed_tree.specs.declared.expression.Connective.TheVariants as connective
 use Rattle.expression_types.specs.declared.scope.Inside.{Inside}
-use Rattle.expression_types.specs.Expression.{comparison_value, conjunction_value, conjuncts, disjuncts, factors, index_as, index_lacks_value, index_value, no_vertex, primary_value, sum_value, summands, term_value, unary_value, used, value_of, vector_index}
+use Rattle.expression_types.specs.Expression.{comparison_value, conjunction_value, conjuncts, disjuncts, factors, index_as, index_lacks_value, index_value, no_vertex, primary_value, sum_value}
+use Rattle.expression_types.specs.Expression.{summands, term_value, unary_value, used, value_of, vector_index}
 use Rattle.expression_types.specs.Operators.{ConditionsTree, IntegersTree, added, beside_condition, beside_integer, entry_value, first_condition, first_integer, multiplied}
 use Rattle.expression_types.specs.Faults.{WithFaults, sure}
 use Rattle.expression_types.specs.ScopeTree.{ScopeTree}
 use Rattle.expression_types.specs.ValueTree.{ValueTree}
 use Rattle.type_laws.specs.EntryAccess.{ComparisonReadsAt, ConjunctionReadsAt, ExpressionReadsAt, PrimaryReadsAt, SumReadsAt, TermReadsAt, UnaryReadsAt}
-use Rattle.type_laws.proofs.ClearValues.{ConditionsAreClear, IntegersAreClear, IsClear, IsThere, beside_condition_clear, beside_integer_clear, entry_clear, entry_parts, first_condition_clear, first_integer_clear, grouped_conditions_clear, grouped_integers_clear, named_clear, related_clear, signed_clear, size_clear, vector_there}
+use Rattle.type_laws.proofs.ClearValues.{ConditionsAreClear, IntegersAreClear, IsClear, IsThere, beside_condition_clear, beside_integer_clear, entry_clear, entry_parts, first_condition_clear}
+use Rattle.type_laws.proofs.ClearValues.{first_integer_clear, grouped_conditions_clear, grouped_integers_clear, named_clear, related_clear, signed_clear, size_clear, vector_there}
 use Rattle.type_laws.proofs.Faultless.{both_none, no_left, no_right}
 use Rattle.type_laws.proofs.KnownScopes.{IsKnown, Vertices, used_known}
 

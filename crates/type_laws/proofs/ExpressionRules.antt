@@ -27,15 +27,20 @@ use Rattle.expression_types.specs.declared.scope.Entity.{Entity}
 use Rattle.expression_types.specs.declared.scope.Entity.TheVariants as entity
 use Rattle.expression_types.specs.declared.scope.Inside.{Inside}
 use Rattle.expression_types.specs.declared.scope.Inside.TheVariants as inside
-use Rattle.expression_types.specs.Expression.{as_size, comparison_value, conjunction_value, conjuncts, disjuncts, entry_of, factors, index_lacks_value, index_value, no_vertex, primary_value, sum_value, summands, term_value, unary_value, used, used_as, value_of}
+use Rattle.expression_types.specs.Expression.{as_size, comparison_value, conjunction_value, conjuncts, disjuncts, entry_of, factors, index_lacks_value, index_value, no_vertex, primary_value}
+use Rattle.expression_types.specs.Expression.{sum_value, summands, term_value, unary_value, used, used_as, value_of}
 use Rattle.expression_types.specs.ScopeTree.{found, ScopeTree}
-use Rattle.expression_types.specs.Operators.{ConditionsTree, Conditions, MixedConditions, ErrorConditions, IntegersTree, Integers, MixedIntegers, ErrorIntegers, added, beside_condition, beside_integer, compared_value, condition_index, equated_value, first_condition, first_integer, given, grouped_conditions, grouped_integers, multiplied, related_value, signed_value}
+use Rattle.expression_types.specs.Operators.{ConditionsTree, Conditions, MixedConditions, ErrorConditions, IntegersTree, Integers, MixedIntegers, ErrorIntegers, added, beside_condition}
+use Rattle.expression_types.specs.Operators.{beside_integer, compared_value, condition_index, equated_value, first_condition, first_integer, given, grouped_conditions, grouped_integers, multiplied}
+use Rattle.expression_types.specs.Operators.{related_value, signed_value}
 use Rattle.expression_types.specs.ValueTree.{ValueTree, Integer, Condition, Vertex, Set, ErrorValue, condition_reads_entry, is_error, named_set, named_value, named_vector, reads_entry}
 use Rattle.expression_types.specs.Faults.{WithFaults, fault_at, sure}
 use Rattle.types.specs.Initial.{names_error}
 use Rattle.type_laws.specs.ExpressionRules.{all_bools, all_ints, is_bool, is_int, may_be_index, own_faults, takes, takes_index, takes_sign}
-use Rattle.type_laws.specs.ExpressionParts.{Form, Expression, Conjunction, Comparison, Sum, Term, Unary, Primary, Index, Name, any_faulty, conjuncts_of, disjuncts_of, factors_of, faults_of_all, form_faults, parts, summands_of}
-use Rattle.type_laws.proofs.FaultyParts.{conjuncts_error, conjuncts_faults, disjuncts_error, disjuncts_faults, entry_at_error, factors_error, factors_faults, first_integers, first_row, is_error_integers, is_error_row, summands_error, summands_faults}
+use Rattle.type_laws.specs.ExpressionParts.{Form, Expression, Conjunction, Comparison, Sum, Term, Unary, Primary, Index, Name, any_faulty, conjuncts_of, disjuncts_of, factors_of, faults_of_all}
+use Rattle.type_laws.specs.ExpressionParts.{form_faults, parts, summands_of}
+use Rattle.type_laws.proofs.FaultyParts.{conjuncts_error, conjuncts_faults, disjuncts_error, disjuncts_faults, entry_at_error, factors_error, factors_faults, first_integers, first_row}
+use Rattle.type_laws.proofs.FaultyParts.{is_error_integers, is_error_row, summands_error, summands_faults}
 
 -- a fault of 223, if there is one
 abbrev wrong_type : ℕ → Bool → List Fault
@@ -262,7 +267,8 @@ if_entry_sound i at e v =
     if names_error e || (is_error v || false) then []
     else entry_faults at (not (is_some (named_vector e) && takes_index i v)) (is_some (named_vector e) && not (may_be_index i v))
 
-integer_own : (at vector : ℕ) (e : IntExpressionTree) (reads : Bool) → (if reads then fault_at at rule.WrongIndex ErrorValue else sure (Integer (integer.Entry vector e))).faults ≡ entry_faults at false (not (not reads))
+integer_own : (at vector : ℕ) (e : IntExpressionTree) (reads : Bool) → (if reads then fault_at at rule.WrongIndex ErrorValue else sure
+    (Integer (integer.Entry vector e))).faults ≡ entry_faults at false (not (not reads))
 integer_own at vector e true = refl
 integer_own at vector e false = refl
 

@@ -22,14 +22,18 @@ use Rattle.expression_types.specs.declared.scope.Entity.{Entity}
 use Rattle.expression_types.specs.declared.scope.Entity.TheVariants as entity
 use Rattle.expression_types.specs.declared.scope.Inside.{Inside}
 use Rattle.expression_types.specs.declared.scope.Inside.TheVariants as inside
-use Rattle.expression_types.specs.Expression.{as_size, as_vector, comparison_value, conjunction_value, conjuncts, disjuncts, factors, index_lacks_value, index_value, no_vertex, primary_value, sum_value, summands, term_value, unary_value, used, used_as, value_of, vector_index}
+use Rattle.expression_types.specs.Expression.{as_size, as_vector, comparison_value, conjunction_value, conjuncts, disjuncts, factors, index_lacks_value, index_value, no_vertex, primary_value}
+use Rattle.expression_types.specs.Expression.{sum_value, summands, term_value, unary_value, used, used_as, value_of, vector_index}
 use Rattle.expression_types.specs.ScopeTree.{found, ScopeTree}
-use Rattle.expression_types.specs.Operators.{ConditionsTree, Conditions, MixedConditions, ErrorConditions, IntegersTree, Integers, MixedIntegers, ErrorIntegers, added, beside_condition, beside_integer, compared, compared_value, condition_index, entry_value, equated, equated_value, first_condition, first_integer, function_entry, given, grouped_conditions, grouped_integers, main_entry, multiplied, related_value, signed_value}
+use Rattle.expression_types.specs.Operators.{ConditionsTree, Conditions, MixedConditions, ErrorConditions, IntegersTree, Integers, MixedIntegers, ErrorIntegers, added, beside_condition}
+use Rattle.expression_types.specs.Operators.{beside_integer, compared, compared_value, condition_index, entry_value, equated, equated_value, first_condition, first_integer, function_entry, given}
+use Rattle.expression_types.specs.Operators.{grouped_conditions, grouped_integers, main_entry, multiplied, related_value, signed_value}
 use Rattle.expression_types.specs.ValueTree as value
 use Rattle.expression_types.specs.ValueTree.{ValueTree, condition_reads_entry, named_value, reads_entry}
 use Rattle.expression_types.specs.Faults.{WithFaults, fault_at, sure}
 use Rattle.type_laws.specs.EntryAccess.{HasNoEntry}
-use Rattle.type_laws.specs.ExpressionTypes.{ComparisonHas, ConjunctionHas, ExpressionHas, ExpressionType, IndexFits, IsEquality, Number, PrimaryHas, ReadsAsNumber, Set, SumHas, TermHas, Truth, UnaryHas, Vertex, type_named}
+use Rattle.type_laws.specs.ExpressionTypes.{ComparisonHas, ConjunctionHas, ExpressionHas, ExpressionType, IndexFits, IsEquality, Number, PrimaryHas, ReadsAsNumber, Set, SumHas, TermHas, Truth}
+use Rattle.type_laws.specs.ExpressionTypes.{UnaryHas, Vertex, type_named}
 use Rattle.type_laws.specs.Meanings as meaning
 use Rattle.type_laws.specs.ScopeMeanings.{AreMeant, meaning_of, meanings_of}
 use Rattle.type_laws.specs.Meanings.{Meaning, Meanings}
@@ -297,7 +301,8 @@ values_compared : (at : ℕ) (o : ComparisonOperator) (a b : ValueTree) → NoEr
     → BothIntegers (given at rule.WrongType (compared_value o a b)) (first_integer a) (first_integer b)
 values_compared at o a b first second none = compared_are at o (first_integer a) (first_integer b) first second none
 
-values_equated : (r : Relation) (at : ℕ) (c : Connective) (o : ComparisonOperator) (a b : ValueTree) → IsEquality r → NoError (first_condition a) → NoError (first_condition b) → NoErrors (first_integer a)
+values_equated : (r : Relation) (at : ℕ) (c : Connective) (o : ComparisonOperator) (a b : ValueTree) → IsEquality r → NoError (first_condition a) → NoError (first_condition b)
+    → NoErrors (first_integer a)
     → NoErrors (first_integer b) → (given at rule.WrongType (equated_value c o a b)).faults ≡ [] → AreRelated r (given at rule.WrongType (equated_value c o a b)) a b
 values_equated r at c o (value.Integer a) b equality x y first second none = inl (values_compared at o (value.Integer a) b first second none)
 values_equated r at c o (value.Condition a) b equality x y first second none = inr (equality, equated_are at c (Conditions a) (first_condition b) x y none)
@@ -488,12 +493,14 @@ mutual
       elim (values_related at r a.value b.value x.0 y.0 x.1 y.1 (no_right b.faults _ behind)) [
         | inl numbers ↦ record {
           type = Truth;
-          has = (refl, inl (as_number a (SumHas (meanings_of scope.visible) scope.inside left) first numbers.first, as_number b (SumHas (meanings_of scope.visible) scope.inside right) second numbers.second));
+          has = (refl, inl (as_number a (SumHas (meanings_of scope.visible) scope.inside left) first numbers.first,
+          as_number b (SumHas (meanings_of scope.visible) scope.inside right) second numbers.second));
           is = numbers.is;
         }
         | inr truths ↦ record {
           type = Truth;
-          has = (refl, inr (truths.0, as_truth a (SumHas (meanings_of scope.visible) scope.inside left) first truths.1.first, as_truth b (SumHas (meanings_of scope.visible) scope.inside right) second truths.1.second));
+          has = (refl, inr (truths.0, as_truth a (SumHas (meanings_of scope.visible) scope.inside left) first truths.1.first,
+          as_truth b (SumHas (meanings_of scope.visible) scope.inside right) second truths.1.second));
           is = truths.1.is;
         }
       ]

@@ -28,14 +28,19 @@ use Rattle.expression_types.specs.ValueTree.{ValueTree, is_error, named_set}
 use Rattle.expression_types.specs.Faults.{WithFaults, fault_at, sure}
 use Rattle.types.specs.Block.{statements_typed}
 use Rattle.types.specs.Checker.{CheckerTree, condition_slot, declared_in, restarted, with_scope}
-use Rattle.types.specs.Declaration.{DeclaredTree, EdgeKind, FilterKind, MainKind, NoKind, VertexKind, begins, declaration_typed, declarations_typed, declare_constant_as, declare_function, declare_name, has_all, is_bool, is_vertex, kind_of, literal_or_fault, loads, main_bytes, main_declared, next_name, only_edges, opened, parameter, steps_declared, takes_nothing, wanted, is_int}
+use Rattle.types.specs.Declaration.{DeclaredTree, EdgeKind, FilterKind, MainKind, NoKind, VertexKind, begins, declaration_typed, declarations_typed, declare_constant_as, declare_function}
+use Rattle.types.specs.Declaration.{declare_name, has_all, is_bool, is_vertex, kind_of, literal_or_fault, loads, main_bytes, main_declared, next_name, only_edges, opened, parameter, steps_declared}
+use Rattle.types.specs.Declaration.{takes_nothing, wanted, is_int}
 use Rattle.types.specs.Initial as initial_value
-use Rattle.types.specs.Initial.{ApplyEndTree, Degrees, ErrorInitializer, InitializerTree, Loaded, end_of, edge_function, ends_given, filter_function, filtered, filtered_by, initializer_of, is_all, is_degrees, is_edges, is_error_end, is_loaded, is_sound, is_wrong, loaded, modified, modified_by, names_error, new_set, of_edges, vector_of, writes_vector, lacks_weights}
+use Rattle.types.specs.Initial.{ApplyEndTree, Degrees, ErrorInitializer, InitializerTree, Loaded, end_of, edge_function, ends_given, filter_function, filtered, filtered_by, initializer_of, is_all}
+use Rattle.types.specs.Initial.{is_degrees, is_edges, is_error_end, is_loaded, is_sound, is_wrong, loaded, modified, modified_by, names_error, new_set, of_edges, vector_of, writes_vector}
+use Rattle.types.specs.Initial.{lacks_weights}
 use Rattle.types.specs.Literal.{literal_condition, literal_integer}
 use Rattle.types.specs.Program.{main_of, opening, program_of, set_count}
 use Rattle.types.specs.Step.{steps_typed}
 use Rattle.type_laws.specs.ExpressionTypes.{ExpressionType, Number, Set, Truth, Vertex}
-use Rattle.type_laws.specs.KeptRules.{ConstantKeeps, DeclarationKeeps, Declarations, DeclarationsKeep, FunctionKeeps, KeepsRules, MainKeeps, after_declaration, after_function, after_main, constant_meaning, known_at_vertex, known_in_filter, known_in_main, known_on_edge, nothing_declared, known_on_weighted_edge, BlockKeeps}
+use Rattle.type_laws.specs.KeptRules.{ConstantKeeps, DeclarationKeeps, Declarations, DeclarationsKeep, FunctionKeeps, KeepsRules, MainKeeps, after_declaration, after_function, after_main}
+use Rattle.type_laws.specs.KeptRules.{constant_meaning, known_at_vertex, known_in_filter, known_in_main, known_on_edge, nothing_declared, known_on_weighted_edge, BlockKeeps}
 use Rattle.type_laws.specs.Meanings as meaning
 use Rattle.type_laws.specs.Meanings.{IsNew, Known, closed_known, known_after, with_name}
 use Rattle.type_laws.proofs.Booleans.{false_is_not_true}
@@ -122,12 +127,14 @@ modified_by_plain : (c : CheckerTree) (at : ℕ) (ends : ApplyEnds) (f v : Optio
 modified_by_plain c at ends None v = (refl, refl, refl)
 modified_by_plain c at ends (Some function) None = (refl, refl, refl)
 modified_by_plain c at ends (Some function) (Some vector) =
-    if_plain (writes_vector c.written function vector) (sure (initial_value.Members (set.Modified ends function vector))) (fault_at at rule.WrongType ErrorInitializer) (refl, refl, refl) (refl, refl, refl)
+    if_plain (writes_vector c.written function vector) (sure (initial_value.Members (set.Modified ends function vector))) (fault_at at rule.WrongType ErrorInitializer) (refl, refl, refl)
+    (refl, refl, refl)
 
 modified_plain : (c : CheckerTree) (at : ℕ) (e : Entity) (a b : ApplyEndTree) (f v : Entity) → Plain (modified c at e a b f v).value
 modified_plain c at e a b f v =
     let inner = if is_wrong a || is_wrong b || lacks_weights e f then fault_at at rule.WrongType ErrorInitializer else modified_by c at (ends_given a b) (edge_function f) (vector_of v) in
-    if_plain (names_error e || is_error_end a || is_error_end b || names_error f || names_error v) (sure ErrorInitializer) (if is_edges e then inner else fault_at at rule.WrongType ErrorInitializer) (refl, refl, refl)
+    if_plain (names_error e || is_error_end a || is_error_end b || names_error f || names_error v) (sure ErrorInitializer) (if is_edges e then inner else fault_at at rule.WrongType ErrorInitializer)
+    (refl, refl, refl)
     (if_plain (is_edges e) inner (fault_at at rule.WrongType ErrorInitializer)
     (if_plain (is_wrong a || is_wrong b || lacks_weights e f) (fault_at at rule.WrongType ErrorInitializer) (modified_by c at (ends_given a b) (edge_function f) (vector_of v)) (refl, refl, refl)
     (modified_by_plain c at (ends_given a b) (edge_function f) (vector_of v))) (refl, refl, refl))
@@ -150,7 +157,8 @@ only_first : (name : Identifier) (index : ℕ) (o : Option ℕ) → (only_edges 
 only_first name index None none = refl
 only_first name index (Some x) none = absurd (not_empty _ _ none)
 
-vertices_wanted : (d : DeclaredTree) (k : Declarations) → SeesAll d k → (at : ℕ) (initial : InitialTree) → (initializer_of d.checker at initial).faults ≡ [] → is_all (initializer_of d.checker at initial).value ≡ true
+vertices_wanted : (d : DeclaredTree) (k : Declarations) → SeesAll d k → (at : ℕ) (initial : InitialTree) → (initializer_of d.checker at initial).faults ≡ []
+    → is_all (initializer_of d.checker at initial).value ≡ true
     → ConstantKeeps k declared.VertexSet initial
 vertices_wanted d k s at (source.Vertices edges) none all =
     (initial_gives inside.Main d.checker (record k.known { reduced = d.checker.writes }) (checker_sees d.checker k.known s.agrees.checker s.some) at (source.Vertices edges) none).0
@@ -172,7 +180,8 @@ abbrev LoadsFirst : Declarations → InitialTree → Type 0
 LoadsFirst k (source.Load argument) = (argument ≡ pos 1) × (k.edges ≡ false)
 LoadsFirst k _ = ⊥
 
-loaded_wanted : (d : DeclaredTree) (k : Declarations) → SeesAll d k → (at : ℕ) (initial : InitialTree) → (initializer_of d.checker at initial).faults ≡ [] → is_loaded (initializer_of d.checker at initial).value ≡ true
+loaded_wanted : (d : DeclaredTree) (k : Declarations) → SeesAll d k → (at : ℕ) (initial : InitialTree) → (initializer_of d.checker at initial).faults ≡ []
+    → is_loaded (initializer_of d.checker at initial).value ≡ true
     → k.edges ≡ false → LoadsFirst k initial
 loaded_wanted d k s at (source.Load argument) none all before =
     ((initial_gives inside.Main d.checker (record k.known { reduced = d.checker.writes }) (checker_sees d.checker k.known s.agrees.checker s.some) at (source.Load argument) none).0, before)
@@ -182,7 +191,8 @@ loaded_wanted d k s at (source.Vertices edges) none all before =
     (ap is_loaded (initial_gives inside.Main d.checker (record k.known { reduced = d.checker.writes }) (checker_sees d.checker k.known s.agrees.checker s.some) at (source.Vertices edges) none).1) all
 loaded_wanted d k s at (source.OutDegrees edges) none all before =
     never (is_loaded (initializer_of d.checker at (source.OutDegrees edges)).value)
-    (ap is_loaded (initial_gives inside.Main d.checker (record k.known { reduced = d.checker.writes }) (checker_sees d.checker k.known s.agrees.checker s.some) at (source.OutDegrees edges) none).1) all
+    (ap is_loaded (initial_gives inside.Main d.checker (record k.known { reduced = d.checker.writes }) (checker_sees d.checker k.known s.agrees.checker s.some) at
+    (source.OutDegrees edges) none).1) all
 loaded_wanted d k s at (source.Filter x f) none all before = never _ (filtered_plain at (used d.checker.scope x).value (used d.checker.scope f).value).1 all
 loaded_wanted d k s at (source.ApplyModified edges ends f v) none all before =
     never _ (modified_plain d.checker at (used d.checker.scope edges).value (end_of d.checker.scope ends.from).value (end_of d.checker.scope ends.to).value (used d.checker.scope f).value
@@ -190,7 +200,8 @@ loaded_wanted d k s at (source.ApplyModified edges ends f v) none all before =
 loaded_wanted d k s at (source.Value e) none all before = false_is_not_true all
 
 -- a vector begins with a literal, where it does not begin with degrees
-begins_literal : (at : ℕ) (given : InitializerTree) (initial : InitialTree) → is_sound given ≡ true → is_degrees given ≡ false → (begins at given initial).faults ≡ [] → IsSome (literal_integer initial)
+begins_literal : (at : ℕ) (given : InitializerTree) (initial : InitialTree) → is_sound given ≡ true → is_degrees given ≡ false → (begins at given initial).faults ≡ []
+    → IsSome (literal_integer initial)
 begins_literal at given initial sound plain none = at_degrees (is_degrees given) plain none
   where
     at_degrees : (b : Bool) → b ≡ false → (if b then sure beginning.OutDegrees else (record {
@@ -198,17 +209,32 @@ begins_literal at given initial sound plain none = at_degrees (is_degrees given)
       value = beginning.Number (literal_or_fault at (is_sound given) (pos 0) (literal_integer initial)).value;
     })).faults ≡ [] → IsSome (literal_integer initial)
     at_degrees true plain none = absurd cc
-    at_degrees false plain none = literal_is at (is_sound given) (pos 0) (literal_integer initial) sound (no_left (literal_or_fault at (is_sound given) (pos 0) (literal_integer initial)).faults [] none)
+    at_degrees false plain none = literal_is at (is_sound given) (pos 0) (literal_integer initial) sound
+    (no_left (literal_or_fault at (is_sound given) (pos 0) (literal_integer initial)).faults [] none)
 
 vector_wanted : (d : DeclaredTree) (k : Declarations) → SeesAll d k → (at : ℕ) (initial : InitialTree) → (initializer_of d.checker at initial).faults ≡ []
     → (begins at (initializer_of d.checker at initial).value initial).faults ≡ [] → ConstantKeeps k declared.Vector initial
-vector_wanted d k s at (source.OutDegrees edges) none wanted = (initial_gives inside.Main d.checker (record k.known { reduced = d.checker.writes }) (checker_sees d.checker k.known s.agrees.checker s.some) at (source.OutDegrees edges) none).0
-vector_wanted d k s at (source.NewSet size) none wanted = begins_literal at (initializer_of d.checker at (source.NewSet size)).value (source.NewSet size) (given_sound d.checker (record k.known { reduced = d.checker.writes }) (checker_sees d.checker k.known s.agrees.checker s.some) at (source.NewSet size) none) (new_set_plain at size).2 wanted
-vector_wanted d k s at (source.Load argument) none wanted = begins_literal at (initializer_of d.checker at (source.Load argument)).value (source.Load argument) (given_sound d.checker (record k.known { reduced = d.checker.writes }) (checker_sees d.checker k.known s.agrees.checker s.some) at (source.Load argument) none) (ap is_degrees (initial_gives inside.Main d.checker (record k.known { reduced = d.checker.writes }) (checker_sees d.checker k.known s.agrees.checker s.some) at (source.Load argument) none).1) wanted
-vector_wanted d k s at (source.Vertices edges) none wanted = begins_literal at (initializer_of d.checker at (source.Vertices edges)).value (source.Vertices edges) (given_sound d.checker (record k.known { reduced = d.checker.writes }) (checker_sees d.checker k.known s.agrees.checker s.some) at (source.Vertices edges) none) (ap is_degrees (initial_gives inside.Main d.checker (record k.known { reduced = d.checker.writes }) (checker_sees d.checker k.known s.agrees.checker s.some) at (source.Vertices edges) none).1) wanted
-vector_wanted d k s at (source.Filter x f) none wanted = begins_literal at (initializer_of d.checker at (source.Filter x f)).value (source.Filter x f) (given_sound d.checker (record k.known { reduced = d.checker.writes }) (checker_sees d.checker k.known s.agrees.checker s.some) at (source.Filter x f) none) (filtered_plain at (used d.checker.scope x).value (used d.checker.scope f).value).2 wanted
-vector_wanted d k s at (source.ApplyModified edges ends f v) none wanted = begins_literal at (initializer_of d.checker at (source.ApplyModified edges ends f v)).value (source.ApplyModified edges ends f v) (given_sound d.checker (record k.known { reduced = d.checker.writes }) (checker_sees d.checker k.known s.agrees.checker s.some) at (source.ApplyModified edges ends f v) none) (modified_plain d.checker at (used d.checker.scope edges).value (end_of d.checker.scope ends.from).value (end_of d.checker.scope ends.to).value (used d.checker.scope f).value (used d.checker.scope v).value).2 wanted
-vector_wanted d k s at (source.Value e) none wanted = begins_literal at (initializer_of d.checker at (source.Value e)).value (source.Value e) (given_sound d.checker (record k.known { reduced = d.checker.writes }) (checker_sees d.checker k.known s.agrees.checker s.some) at (source.Value e) none) refl wanted
+vector_wanted d k s at (source.OutDegrees edges) none wanted = (initial_gives inside.Main d.checker (record k.known { reduced = d.checker.writes })
+    (checker_sees d.checker k.known s.agrees.checker s.some) at (source.OutDegrees edges) none).0
+vector_wanted d k s at (source.NewSet size) none wanted = begins_literal at (initializer_of d.checker at (source.NewSet size)).value (source.NewSet size)
+    (given_sound d.checker (record k.known { reduced = d.checker.writes }) (checker_sees d.checker k.known s.agrees.checker s.some) at (source.NewSet size) none) (new_set_plain at size).2 wanted
+vector_wanted d k s at (source.Load argument) none wanted = begins_literal at (initializer_of d.checker at (source.Load argument)).value (source.Load argument)
+    (given_sound d.checker (record k.known { reduced = d.checker.writes }) (checker_sees d.checker k.known s.agrees.checker s.some) at (source.Load argument) none)
+    (ap is_degrees (initial_gives inside.Main d.checker (record k.known { reduced = d.checker.writes }) (checker_sees d.checker k.known s.agrees.checker s.some) at
+    (source.Load argument) none).1) wanted
+vector_wanted d k s at (source.Vertices edges) none wanted = begins_literal at (initializer_of d.checker at (source.Vertices edges)).value (source.Vertices edges)
+    (given_sound d.checker (record k.known { reduced = d.checker.writes }) (checker_sees d.checker k.known s.agrees.checker s.some) at (source.Vertices edges) none)
+    (ap is_degrees (initial_gives inside.Main d.checker (record k.known { reduced = d.checker.writes }) (checker_sees d.checker k.known s.agrees.checker s.some) at
+    (source.Vertices edges) none).1) wanted
+vector_wanted d k s at (source.Filter x f) none wanted = begins_literal at (initializer_of d.checker at (source.Filter x f)).value (source.Filter x f)
+    (given_sound d.checker (record k.known { reduced = d.checker.writes }) (checker_sees d.checker k.known s.agrees.checker s.some) at (source.Filter x f) none)
+    (filtered_plain at (used d.checker.scope x).value (used d.checker.scope f).value).2 wanted
+vector_wanted d k s at (source.ApplyModified edges ends f v) none wanted = begins_literal at (initializer_of d.checker at (source.ApplyModified edges ends f v)).value
+    (source.ApplyModified edges ends f v) (given_sound d.checker (record k.known { reduced = d.checker.writes }) (checker_sees d.checker k.known s.agrees.checker s.some) at
+    (source.ApplyModified edges ends f v) none) (modified_plain d.checker at (used d.checker.scope edges).value (end_of d.checker.scope ends.from).value (end_of d.checker.scope ends.to).value
+    (used d.checker.scope f).value (used d.checker.scope v).value).2 wanted
+vector_wanted d k s at (source.Value e) none wanted = begins_literal at (initializer_of d.checker at (source.Value e)).value (source.Value e)
+    (given_sound d.checker (record k.known { reduced = d.checker.writes }) (checker_sees d.checker k.known s.agrees.checker s.some) at (source.Value e) none) refl wanted
 
 loads_edges : (k : Declarations) (initial : InitialTree) → LoadsFirst k initial → ConstantKeeps k declared.EdgeSet initial
 loads_edges k (source.Load argument) first = first
@@ -314,7 +340,8 @@ bool_declared declared.EdgeSet is = absurd cc
 bool_declared declared.WeightedEdgeSet is = absurd cc
 
 -- a parameter that is opened is new
-parameter_is_new : (weighted : Bool) (i : Inside) (c : CheckerTree) (k : Known) → Sees i c k → (v : ParameterTree) (p : Endpoint) → (declared_in c v.name (parameter weighted p v.declared)).faults ≡ [] → IsNew k v.name
+parameter_is_new : (weighted : Bool) (i : Inside) (c : CheckerTree) (k : Known) → Sees i c k → (v : ParameterTree) (p : Endpoint) → (declared_in c v.name (parameter weighted p v.declared)).faults ≡ []
+    → IsNew k v.name
 parameter_is_new weighted i c k s v p none = declares_new i c k s v.name (parameter weighted p v.declared) none
 
 begun_sees : (c : CheckerTree) (k : Known) (i : Inside) → CheckerAgrees c k → AreSome k.names → Sees i (begun c i) (known_in_main k)
@@ -335,7 +362,8 @@ vertex_function_keeps d k s at name v body is none =
     let new = parameter_is_new false inside.VertexFunction (begun d.checker inside.VertexFunction) (known_in_main k.known) first v endpoint.Source
     (no_left p.faults [] (no_left (p.faults ++ []) [] (no_left o.faults _ none))) in
     let opens = vertex_opens d.checker k.known s.agrees.checker v is new in
-    let within : Sees inside.VertexFunction o.value (known_at_vertex k.known v) = record { matches = opens.1; some = more_some k.known.names v.name.bytes (meaning.Parameter endpoint.Source) s.some tt } in
+    let within : Sees inside.VertexFunction o.value (known_at_vertex k.known v) =
+    record { matches = opens.1; some = more_some k.known.names v.name.bytes (meaning.Parameter endpoint.Source) s.some tt } in
     let b = steps_typed o.value NoStep body in
     let after_o = no_right o.faults _ none in
     let keeps = steps_keep inside.VertexFunction o.value (known_at_vertex k.known v) tt within NoStep body (no_left b.faults _ after_o) in
@@ -348,7 +376,8 @@ vertex_function_keeps d k s at name v body is none =
       (is, new, keeps),
     )
 
-filter_keeps : (d : DeclaredTree) (k : Declarations) → SeesAll d k → (at : ℕ) (name : Identifier) (v test : ParameterTree) (body : source.BlockTree) → v.declared ≡ declared.Vertex → test.declared ≡ declared.Bool
+filter_keeps : (d : DeclaredTree) (k : Declarations) → SeesAll d k → (at : ℕ) (name : Identifier) (v test : ParameterTree) (body : source.BlockTree) → v.declared ≡ declared.Vertex
+    → test.declared ≡ declared.Bool
     → (steps_declared d at FilterKind name (v ∷ []) (Some test) body).faults ≡ [] → IsNew k.known name × FunctionKeeps k.known (v ∷ []) (Some test) body
 filter_keeps d k s at name v test body is also none =
     let o = opened d.checker FilterKind (v ∷ []) (Some test) in
@@ -362,7 +391,8 @@ filter_keeps d k s at name v test body is also none =
     let inner : Sees inside.Filter p.value (known_at_vertex k.known v) = record { matches = one.1; some = more_some k.known.names v.name.bytes (meaning.Parameter endpoint.Source) s.some tt } in
     let result_new = declares_new inside.Filter p.value (known_at_vertex k.known v) inner test.name (entity.ConditionVariable (condition_slot p.value)) (no_right (p.faults ++ []) r.faults sound) in
     let opens = filter_opens d.checker k.known s.agrees.checker v test is new result_new in
-    let within : Sees inside.Filter o.value (known_in_filter k.known v test) = record { matches = opens.1; some = more_some (known_at_vertex k.known v).names test.name.bytes meaning.TruthVariable inner.some tt } in
+    let within : Sees inside.Filter o.value (known_in_filter k.known v test) = record { matches = opens.1; some =
+    more_some (known_at_vertex k.known v).names test.name.bytes meaning.TruthVariable inner.some tt } in
     let b = steps_typed o.value NoStep body in
     let after_o = no_right o.faults _ none in
     let keeps = steps_keep inside.Filter o.value (known_in_filter k.known v test) tt within NoStep body (no_left b.faults _ after_o) in
@@ -394,7 +424,8 @@ edge_body_keeps d k s at name weighted parameters start body opens some none =
       keeps,
     )
 
-edge_function_keeps : (d : DeclaredTree) (k : Declarations) → SeesAll d k → (at : ℕ) (name : Identifier) (src dst : ParameterTree) (body : source.BlockTree) → src.declared ≡ declared.Vertex → dst.declared ≡ declared.Vertex
+edge_function_keeps : (d : DeclaredTree) (k : Declarations) → SeesAll d k → (at : ℕ) (name : Identifier) (src dst : ParameterTree) (body : source.BlockTree) → src.declared ≡ declared.Vertex
+    → dst.declared ≡ declared.Vertex
     → (steps_declared d at (EdgeKind false) name (src ∷ dst ∷ []) None body).faults ≡ [] → IsNew k.known name × FunctionKeeps k.known (src ∷ dst ∷ []) None body
 edge_function_keeps d k s at name src dst body is also none =
     let o = opened d.checker (EdgeKind false) (src ∷ dst ∷ []) None in
@@ -405,7 +436,8 @@ edge_function_keeps d k s at name src dst body is also none =
     let sound = no_left (p.faults ++ (q.faults ++ [])) [] (no_left o.faults _ none) in
     let new = parameter_is_new false inside.EdgeFunction c (known_in_main k.known) first src endpoint.Source (no_left p.faults _ sound) in
     let one = parameter_opens false inside.EdgeFunction c (known_in_main k.known) first.matches endpoint.Source src is new in
-    let inner : Sees inside.EdgeFunction p.value (known_at_vertex k.known src) = record { matches = one.1; some = more_some k.known.names src.name.bytes (meaning.Parameter endpoint.Source) s.some tt } in
+    let inner : Sees inside.EdgeFunction p.value (known_at_vertex k.known src) =
+    record { matches = one.1; some = more_some k.known.names src.name.bytes (meaning.Parameter endpoint.Source) s.some tt } in
     let second = parameter_is_new false inside.EdgeFunction p.value (known_at_vertex k.known src) inner dst endpoint.Destination (no_left q.faults [] (no_right p.faults _ sound)) in
     let opens = edge_opens d.checker k.known s.agrees.checker src dst is also new second in
     let all = edge_body_keeps d k s at name false (src ∷ dst ∷ []) (known_on_edge k.known src dst) body opens
@@ -444,13 +476,15 @@ fits_one : (d : DeclaredTree) (k : Declarations) → SeesAll d k → (at : ℕ) 
 fits_one d k s at name v body true is none = vertex_function_keeps d k s at name v body (vertex_declared v.declared is) none
 fits_one d k s at name v body false is none = absurd (not_empty _ _ none)
 
-fits_filter : (d : DeclaredTree) (k : Declarations) → SeesAll d k → (at : ℕ) (name : Identifier) (v test : ParameterTree) (body : source.BlockTree) (a b : Bool) → is_vertex v.declared ≡ a → is_bool test.declared ≡ b
+fits_filter : (d : DeclaredTree) (k : Declarations) → SeesAll d k → (at : ℕ) (name : Identifier) (v test : ParameterTree) (body : source.BlockTree) (a b : Bool) → is_vertex v.declared ≡ a
+    → is_bool test.declared ≡ b
     → (declare_function d at name (v ∷ []) (Some test) body (if a && b then FilterKind else NoKind)).faults ≡ [] → IsNew k.known name × FunctionKeeps k.known (v ∷ []) (Some test) body
 fits_filter d k s at name v test body true true is also none = filter_keeps d k s at name v test body (vertex_declared v.declared is) (bool_declared test.declared also) none
 fits_filter d k s at name v test body true false is also none = absurd (not_empty _ _ none)
 fits_filter d k s at name v test body false b is also none = absurd (not_empty _ _ none)
 
-fits_edge : (d : DeclaredTree) (k : Declarations) → SeesAll d k → (at : ℕ) (name : Identifier) (src dst : ParameterTree) (body : source.BlockTree) (a b : Bool) → is_vertex src.declared ≡ a → is_vertex dst.declared ≡ b
+fits_edge : (d : DeclaredTree) (k : Declarations) → SeesAll d k → (at : ℕ) (name : Identifier) (src dst : ParameterTree) (body : source.BlockTree) (a b : Bool) → is_vertex src.declared ≡ a
+    → is_vertex dst.declared ≡ b
     → (declare_function d at name (src ∷ dst ∷ []) None body (if a && b then EdgeKind false else NoKind)).faults ≡ [] → IsNew k.known name × FunctionKeeps k.known (src ∷ dst ∷ []) None body
 fits_edge d k s at name src dst body true true is also none = edge_function_keeps d k s at name src dst body (vertex_declared src.declared is) (vertex_declared dst.declared also) none
 fits_edge d k s at name src dst body true false is also none = absurd (not_empty _ _ none)
@@ -458,7 +492,8 @@ fits_edge d k s at name src dst body false b is also none = absurd (not_empty _ 
 
 fits_weighted : (d : DeclaredTree) (k : Declarations) → SeesAll d k → (at : ℕ) (name : Identifier) (src dst w : ParameterTree) (body : source.BlockTree) (a b c : Bool) → is_vertex src.declared ≡ a
     → is_vertex dst.declared ≡ b → is_int w.declared ≡ c
-    → (declare_function d at name (src ∷ dst ∷ w ∷ []) None body (if a && b && c then EdgeKind true else NoKind)).faults ≡ [] → IsNew k.known name × FunctionKeeps k.known (src ∷ dst ∷ w ∷ []) None body
+    → (declare_function d at name (src ∷ dst ∷ w ∷ []) None body (if a && b && c then EdgeKind true else NoKind)).faults ≡ [] → IsNew k.known name
+    × FunctionKeeps k.known (src ∷ dst ∷ w ∷ []) None body
 fits_weighted d k s at name src dst w body true true true is also int none =
     weighted_function_keeps d k s at name src dst w body (vertex_declared src.declared is) (vertex_declared dst.declared also) (int_type w.declared int) none
 fits_weighted d k s at name src dst w body true true false is also int none = absurd (not_empty _ _ none)
@@ -496,13 +531,15 @@ plain_main_keeps d k s name body none =
       (refl, refl, keeps),
     )
 
-main_keeps : (d : DeclaredTree) (k : Declarations) → SeesAll d k → (name : Identifier) (parameters : List ParameterTree) (result : Option ParameterTree) (body : source.BlockTree) → parameters ≡ [] → result ≡ None
+main_keeps : (d : DeclaredTree) (k : Declarations) → SeesAll d k → (name : Identifier) (parameters : List ParameterTree) (result : Option ParameterTree) (body : source.BlockTree) → parameters ≡ []
+    → result ≡ None
     → (main_declared d (takes_nothing parameters result) name parameters result body).faults ≡ [] → IsNew k.known name × MainKeeps k.known parameters result body
 main_keeps d k s name [] None body first second none = plain_main_keeps d k s name body none
 main_keeps d k s name [] (Some result) body first second none = absurd cc
 main_keeps d k s name (p ∷ others) result body first second none = absurd cc
 
-function_keeps : (d : DeclaredTree) (k : Declarations) → SeesAll d k → (at : ℕ) (name : Identifier) (parameters : List ParameterTree) (result : Option ParameterTree) (body : source.BlockTree) (b : Bool)
+function_keeps : (d : DeclaredTree) (k : Declarations) → SeesAll d k → (at : ℕ) (name : Identifier) (parameters : List ParameterTree) (result : Option ParameterTree) (body : source.BlockTree)
+    (b : Bool)
     → bytes_eq name.bytes main_bytes ≡ b → MainTakesNothing (source.Function at name parameters result body)
     → (declare_function d at name parameters result body (if b then MainKind (takes_nothing parameters result) else kind_of parameters result)).faults ≡ []
     → DeclarationKeeps k (source.Function at name parameters result body)

@@ -1,5 +1,6 @@
 -- A statement of main without a fault keeps the rules.
-use Rattle.std.proofs.Common.{◌≡◌, ◌⊎◌, inl, inr, refl, sym, subst, ap, ◌∙◌, ℕ, zero, suc, ℤ, pos, negsuc, Bool, true, false, not, ◌||◌, ◌&&◌, if◌then◌else◌, nat_eq, List, [], ◌∷◌, ◌++◌, get_or, Option, Some, None}
+use Rattle.std.proofs.Common.{◌≡◌, ◌⊎◌, inl, inr, refl, sym, subst, ap, ◌∙◌, ℕ, zero, suc, ℤ, pos, negsuc, Bool, true, false, not, ◌||◌, ◌&&◌, if◌then◌else◌, nat_eq, List, [], ◌∷◌, ◌++◌, get_or}
+use Rattle.std.proofs.Common.{Option, Some, None}
 use Rattle.std.specs.Prelude.{is_some, slice_index_or}
 use Rattle.std.specs.List.{Contains, list_any}
 use Rattle.std.specs.Map.{lookup}
@@ -29,14 +30,19 @@ use Rattle.expression_types.specs.ValueTree as value
 use Rattle.expression_types.specs.ValueTree.{ValueTree, condition_reads_entry, named_set, reads_entry}
 use Rattle.expression_types.specs.Faults.{WithFaults, fault_at, sure}
 use Rattle.types.specs.Block.{action_typed, behind, closed, statements_typed}
-use Rattle.types.specs.Checker.{CheckerTree, condition_slot, counted, declared_in, integer_slot, labelled, new_label, set_slot, as_condition, as_index, as_integer, as_members, condition_in, integer_in, no_index}
+use Rattle.types.specs.Checker.{CheckerTree, condition_slot, counted, declared_in, integer_slot, labelled, new_label, set_slot, as_condition, as_index, as_integer, as_members, condition_in}
+use Rattle.types.specs.Checker.{integer_in, no_index}
 use Rattle.types.specs.Initial as initial_value
-use Rattle.types.specs.Initial.{Absent, ApplyEndTree, Degrees, ErrorEnd, ErrorInitializer, InitializerTree, Loaded, Wrong, edge_function, end_of, ends_given, filter_function, filter_named, filtered, filtered_by, initializer_condition, initializer_integer, initializer_members, initializer_of, is_edges, is_error_end, is_wrong, lacks_weights, loaded, modified, modified_by, names_error, new_set, of_edges, reads_weight, vector_of, writes_vector}
-use Rattle.types.specs.Statement.{add_vertex, added, apply, applied, assign, assigned, declare_variable, edges_applied, has_ends, print, printed, reduce, reduce_entry, reduced, set_applied, set_entry, vertices_applied}
+use Rattle.types.specs.Initial.{Absent, ApplyEndTree, Degrees, ErrorEnd, ErrorInitializer, InitializerTree, Loaded, Wrong, edge_function, end_of, ends_given, filter_function, filter_named, filtered}
+use Rattle.types.specs.Initial.{filtered_by, initializer_condition, initializer_integer, initializer_members, initializer_of, is_edges, is_error_end, is_wrong, lacks_weights, loaded, modified}
+use Rattle.types.specs.Initial.{modified_by, names_error, new_set, of_edges, reads_weight, vector_of, writes_vector}
+use Rattle.types.specs.Statement.{add_vertex, added, apply, applied, assign, assigned, declare_variable, edges_applied, has_ends, print, printed, reduce, reduce_entry, reduced, set_applied, set_entry}
+use Rattle.types.specs.Statement.{vertices_applied}
 use Rattle.types.specs.Statement as statement
 use Rattle.type_laws.specs.EntryAccess.{HasNoEntry}
 use Rattle.type_laws.specs.ExpressionTypes.{ExpressionHas, ExpressionType, IsNumber, IsTruth, NameHas, Number, Set, Truth, Vertex, type_named}
-use Rattle.type_laws.specs.KeptRules.{ActionKeeps, AppliesEdges, AppliesVertices, ApplyFits, AssignFits, AssignsNumber, AssignsSet, AssignsTruth, BlockKeeps, EndFits, EndsFit, GivesMembers, GivesNumber, GivesTruth, Modifies, SeesWeights, VariableFits}
+use Rattle.type_laws.specs.KeptRules.{ActionKeeps, AppliesEdges, AppliesVertices, ApplyFits, AssignFits, AssignsNumber, AssignsSet, AssignsTruth, BlockKeeps, EndFits, EndsFit, GivesMembers}
+use Rattle.type_laws.specs.KeptRules.{GivesNumber, GivesTruth, Modifies, SeesWeights, VariableFits}
 use Rattle.type_laws.specs.Meanings as meaning
 use Rattle.type_laws.specs.ScopeMeanings.{AreMeant, meaning_of, meanings_of}
 use Rattle.type_laws.specs.Meanings.{IsNew, Known, LabelIsNew, Meaning, Meanings, MeansEdges, closed_known, known_after, known_behind, labelled_known, reduced_in, variable_meaning, with_name}
@@ -92,7 +98,8 @@ pub meant : (i : Inside) (c : CheckerTree) (k : Known) → Sees i c k → AreMea
 meant i c k s = all_meant c.scope.visible (subst AreSome (sym s.matches.names) s.some)
 
 -- expressions
-pub value_typed : (i : Inside) (c : CheckerTree) (k : Known) → Sees i c k → (at : ℕ) (e : ExpressionTree) → (value_of c.scope at e).faults ≡ [] → Typed (value_of c.scope at e) (ExpressionHas k.names i e)
+pub value_typed : (i : Inside) (c : CheckerTree) (k : Known) → Sees i c k → (at : ℕ) (e : ExpressionTree) → (value_of c.scope at e).faults ≡ []
+    → Typed (value_of c.scope at e) (ExpressionHas k.names i e)
 value_typed i c k s at e none =
     let t = expression_typed c.scope at (meant i c k s) e none in
     record { type = t.type; has = subst (λ n. ExpressionHas n i e t.type) s.matches.names (subst (λ j. ExpressionHas (meanings_of c.scope.visible) j e t.type) s.matches.inside t.has); is = t.is }
@@ -130,12 +137,14 @@ set_of at type (value.Vertex p) is none = absurd (not_empty _ _ none)
 set_of at type (value.Set slot) is none = set_type type slot is
 set_of at type value.ErrorValue is none = absurd (not_error type is)
 
-pub value_number : (i : Inside) (c : CheckerTree) (k : Known) → Sees i c k → (at : ℕ) (e : ExpressionTree) → (value_of c.scope at e).faults ≡ [] → (as_integer at (value_of c.scope at e).value).faults ≡ []
+pub value_number : (i : Inside) (c : CheckerTree) (k : Known) → Sees i c k → (at : ℕ) (e : ExpressionTree) → (value_of c.scope at e).faults ≡ []
+    → (as_integer at (value_of c.scope at e).value).faults ≡ []
     → IsNumber k.names i e
 value_number i c k s at e none wanted =
     let t = value_typed i c k s at e none in as_number (value_of c.scope at e) (ExpressionHas k.names i e) t (integer_of at t.type (value_of c.scope at e).value t.is wanted)
 
-pub value_truth : (i : Inside) (c : CheckerTree) (k : Known) → Sees i c k → (at : ℕ) (e : ExpressionTree) → (value_of c.scope at e).faults ≡ [] → (as_condition at (value_of c.scope at e).value).faults ≡ []
+pub value_truth : (i : Inside) (c : CheckerTree) (k : Known) → Sees i c k → (at : ℕ) (e : ExpressionTree) → (value_of c.scope at e).faults ≡ []
+    → (as_condition at (value_of c.scope at e).value).faults ≡ []
     → IsTruth k.names i e
 value_truth i c k s at e none wanted =
     let t = value_typed i c k s at e none in as_truth (value_of c.scope at e) (ExpressionHas k.names i e) t (condition_of at t.type (value_of c.scope at e).value t.is wanted)
@@ -151,7 +160,8 @@ pub used_is : (i : Inside) (c : CheckerTree) (k : Known) → Sees i c k → (nam
 used_is i c k s name none =
     let m = used_meant c.scope name (meant i c k s) none in record { means = subst (λ n. found name.bytes n ≡ Some (meaning_of (used c.scope name).value)) s.matches.names m.means; clear = m.clear }
 
-pub vector_is_found : (i : Inside) (c : CheckerTree) (k : Known) → Sees i c k → (at : ℕ) (name : Identifier) → (vector_index c.scope at name).faults ≡ [] → VectorFound (vector_index c.scope at name) k.names name
+pub vector_is_found : (i : Inside) (c : CheckerTree) (k : Known) → Sees i c k → (at : ℕ) (name : Identifier) → (vector_index c.scope at name).faults ≡ []
+    → VectorFound (vector_index c.scope at name) k.names name
 vector_is_found i c k s at name none =
     let v = vector_found c.scope at name (meant i c k s) none in
     record { vector = v.vector; means = subst (λ n. found name.bytes n ≡ Some (meaning.Vector v.vector)) s.matches.names v.means; index = v.index }
@@ -184,7 +194,8 @@ weights_are_seen false true lacks = absurd (false_is_not_true (sym lacks))
 weights_are_seen weights false lacks = tt
 
 function_fits_edges : (weights : Bool) (f : Entity) (index : ℕ) → edge_function f ≡ Some index → (not weights && reads_weight f) ≡ false → EdgesFit (entity.Edges weights) f index
-function_fits_edges weights (entity.EdgeFunction x weighted) index is lacks = record { weights = weights; weighted = weighted; edges = refl; function = cc; sees = weights_are_seen weights weighted lacks }
+function_fits_edges weights (entity.EdgeFunction x weighted) index is lacks = record { weights = weights; weighted = weighted; edges = refl; function = cc; sees =
+    weights_are_seen weights weighted lacks }
 function_fits_edges weights _ index is lacks = absurd cc
 
 edges_fit : (e f : Entity) (index : ℕ) → is_edges e ≡ true → edge_function f ≡ Some index → lacks_weights e f ≡ false → EdgesFit e f index
@@ -206,7 +217,8 @@ has_as : (names : Meanings) (name : Identifier) (e : Entity) (type : ExpressionT
 has_as names name e type is same = subst (λ o. type_named o ≡ Some type) (sym is.means) same
 
 -- initial values: the edges' own
-of_edges_is : (at : ℕ) (x : InitializerTree) (e : Entity) → (e ≡ entity.Error → ⊥) → (of_edges at x e).faults ≡ [] → ((weights : Bool) × (meaning_of e ≡ meaning.Edges weights)) × ((of_edges at x e).value ≡ x)
+of_edges_is : (at : ℕ) (x : InitializerTree) (e : Entity) → (e ≡ entity.Error → ⊥) → (of_edges at x e).faults ≡ [] → ((weights : Bool) × (meaning_of e ≡ meaning.Edges weights))
+    × ((of_edges at x e).value ≡ x)
 of_edges_is at x (entity.Edges weights) clear none = ((weights, refl), refl)
 of_edges_is at x entity.Error clear none = absurd (clear refl)
 of_edges_is at x _ clear none = absurd (not_empty _ _ none)
@@ -229,7 +241,8 @@ filtered_by_is at s f (Some slot) (Some index) one other none = record { set = s
 filtered_is : (at : ℕ) (s f : Entity) → (s ≡ entity.Error → ⊥) → (f ≡ entity.Error → ⊥) → (filtered at s f).faults ≡ [] → Filters (filtered at s f) s f
 filtered_is at s f clear also none =
     let neither = neither_true (names_error s) (names_error f) (clear_no_error s clear) (clear_no_error f also) in
-    subst (λ m. Filters m s f) (sym (at_test neither)) (filtered_by_is at s f (named_set s) (filter_function f) refl refl (subst (λ (m : WithFaults InitializerTree). m.faults ≡ []) (at_test neither) none))
+    subst (λ m. Filters m s f) (sym (at_test neither)) (filtered_by_is at s f (named_set s) (filter_function f) refl refl
+    (subst (λ (m : WithFaults InitializerTree). m.faults ≡ []) (at_test neither) none))
   where
     at_test : (names_error s || names_error f) ≡ false → filtered at s f ≡ filtered_by at (named_set s) (filter_function f)
     at_test is = ap (λ b. if b then sure ErrorInitializer else filtered_by at (named_set s) (filter_function f)) is
@@ -243,14 +256,16 @@ pub end_is_clear : (i : Inside) (c : CheckerTree) (k : Known) → Sees i c k →
 end_is_clear i c k s None none = refl
 end_is_clear i c k s (Some name) none = named_end_is_clear (used c.scope name).value (used_is i c k s name (no_left (used c.scope name).faults [] none)).clear
 
-named_end_fits : (names : Meanings) (name : Identifier) (e : Entity) → IsMeant names name e → is_wrong (filter_named e) ≡ false → NameHas names name Set ⊎ (found name.bytes names ≡ Some meaning.Filter)
+named_end_fits : (names : Meanings) (name : Identifier) (e : Entity) → IsMeant names name e → is_wrong (filter_named e) ≡ false → NameHas names name Set
+    ⊎ (found name.bytes names ≡ Some meaning.Filter)
 named_end_fits names name (entity.ConstantSet slot) is right = inl (has_as names name (entity.ConstantSet slot) Set is refl)
 named_end_fits names name (entity.SetVariable slot) is right = inl (has_as names name (entity.SetVariable slot) Set is refl)
 named_end_fits names name (entity.Filter index) is right = inr is.means
 named_end_fits names name entity.Error is right = absurd (is.clear refl)
 named_end_fits names name _ is right = absurd cc
 
-pub end_fits : (i : Inside) (c : CheckerTree) (k : Known) → Sees i c k → (name : Option Identifier) → (end_of c.scope name).faults ≡ [] → is_wrong (end_of c.scope name).value ≡ false → EndFits k.names name
+pub end_fits : (i : Inside) (c : CheckerTree) (k : Known) → Sees i c k → (name : Option Identifier) → (end_of c.scope name).faults ≡ [] → is_wrong (end_of c.scope name).value ≡ false
+    → EndFits k.names name
 end_fits i c k s None none right = tt
 end_fits i c k s (Some name) none right = named_end_fits k.names name (used c.scope name).value (used_is i c k s name (no_left (used c.scope name).faults [] none)) right
 
@@ -270,7 +285,8 @@ some_value : (o : Option Reduction) → is_some o ≡ true → (by : Reduction) 
 some_value None is = absurd (false_is_not_true is)
 some_value (Some by) is = (by, refl)
 
-modified_by_is : (c : CheckerTree) (at : ℕ) (e f v : Entity) (a b : ApplyEndTree) → is_edges e ≡ true → lacks_weights e f ≡ false → is_wrong a ≡ false → is_wrong b ≡ false → (g : Option ℕ) (w : Option ℕ)
+modified_by_is : (c : CheckerTree) (at : ℕ) (e f v : Entity) (a b : ApplyEndTree) → is_edges e ≡ true → lacks_weights e f ≡ false → is_wrong a ≡ false → is_wrong b ≡ false
+    → (g : Option ℕ) (w : Option ℕ)
     → edge_function f ≡ g → vector_of v ≡ w → (modified_by c at (ends_given a b) g w).faults ≡ [] → ModifiesBy (modified_by c at (ends_given a b) g w) c e f v a b
 modified_by_is c at e f v a b edges lacks from to None w one other none = absurd (not_empty _ _ none)
 modified_by_is c at e f v a b edges lacks from to (Some index) None one other none = absurd (not_empty _ _ none)
@@ -281,15 +297,18 @@ modified_by_is c at e f v a b edges lacks from to (Some index) (Some vector) one
         → ModifiesBy (if x then sure (initial_value.Members (set.Modified (ends_given a b) index vector)) else fault_at at rule.WrongType ErrorInitializer) c e f v a b
     at_test true is none =
         let by = some_value (lookup (nat_eq vector) (slice_index_or c.written index [])) is in
-        record { from = from; to = to; index = index; vector = vector; by = by.0; fit = edges_fit e f index edges one lacks; vector_means_it = vector_means v vector other; writes = by.1; members = tt }
+        record { from = from; to = to; index = index; vector = vector; by = by.0; fit = edges_fit e f index edges one lacks; vector_means_it = vector_means v vector other; writes = by.1; members =
+        tt }
     at_test false is none = absurd (not_empty _ _ none)
 
 abbrev modified_at : CheckerTree → ℕ → (f v : Entity) → (a b : ApplyEndTree) → (error edges wrong : Bool) → WithFaults InitializerTree
 modified_at c at f v a b error edges wrong =
     if error then sure ErrorInitializer
-    else (if edges then (if wrong then fault_at at rule.WrongType ErrorInitializer else modified_by c at (ends_given a b) (edge_function f) (vector_of v)) else fault_at at rule.WrongType ErrorInitializer)
+    else (if edges then (if wrong then fault_at at rule.WrongType ErrorInitializer else modified_by c at (ends_given a b) (edge_function f)
+    (vector_of v)) else fault_at at rule.WrongType ErrorInitializer)
 
-modified_where : (c : CheckerTree) (at : ℕ) (e f v : Entity) (a b : ApplyEndTree) (error edges wrong : Bool) → error ≡ false → is_edges e ≡ edges → (is_wrong a || is_wrong b || lacks_weights e f) ≡ wrong
+modified_where : (c : CheckerTree) (at : ℕ) (e f v : Entity) (a b : ApplyEndTree) (error edges wrong : Bool) → error ≡ false → is_edges e ≡ edges
+    → (is_wrong a || is_wrong b || lacks_weights e f) ≡ wrong
     → (modified_at c at f v a b error edges wrong).faults ≡ [] → ModifiesBy (modified_at c at f v a b error edges wrong) c e f v a b
 modified_where c at e f v a b true edges wrong clear are is none = absurd cc
 modified_where c at e f v a b false false wrong clear are is none = absurd (not_empty _ _ none)
@@ -299,12 +318,14 @@ modified_where c at e f v a b false true false clear are is none =
     let right = both_false (is_wrong a) (is_wrong b) all.0 in
     modified_by_is c at e f v a b are all.1 right.0 right.1 (edge_function f) (vector_of v) refl refl none
 
-modified_is : (c : CheckerTree) (at : ℕ) (e f v : Entity) (a b : ApplyEndTree) → (e ≡ entity.Error → ⊥) → (f ≡ entity.Error → ⊥) → (v ≡ entity.Error → ⊥) → is_error_end a ≡ false → is_error_end b ≡ false
+modified_is : (c : CheckerTree) (at : ℕ) (e f v : Entity) (a b : ApplyEndTree) → (e ≡ entity.Error → ⊥) → (f ≡ entity.Error → ⊥) → (v ≡ entity.Error → ⊥) → is_error_end a ≡ false
+    → is_error_end b ≡ false
     → (modified c at e a b f v).faults ≡ [] → ModifiesBy (modified c at e a b f v) c e f v a b
 modified_is c at e f v a b clear_e clear_f clear_v clear_a clear_b none =
     let all = neither_true (names_error e || is_error_end a || is_error_end b || names_error f) (names_error v)
     (neither_true (names_error e || is_error_end a || is_error_end b) (names_error f)
-    (neither_true (names_error e || is_error_end a) (is_error_end b) (neither_true (names_error e) (is_error_end a) (clear_no_error e clear_e) clear_a) clear_b) (clear_no_error f clear_f)) (clear_no_error v clear_v) in
+    (neither_true (names_error e || is_error_end a) (is_error_end b) (neither_true (names_error e) (is_error_end a) (clear_no_error e clear_e) clear_a) clear_b) (clear_no_error f clear_f))
+    (clear_no_error v clear_v) in
     modified_where c at e f v a b (names_error e || is_error_end a || is_error_end b || names_error f || names_error v) (is_edges e) (is_wrong a || is_wrong b || lacks_weights e f) all refl refl none
 
 -- What an initial value is that has no fault.
@@ -328,7 +349,8 @@ loaded_is at (pos (suc zero)) none = (refl, refl)
 loaded_is at (pos (suc (suc n))) none = absurd (not_empty _ _ none)
 loaded_is at (negsuc n) none = absurd (not_empty _ _ none)
 
-pub initial_gives : (i : Inside) (c : CheckerTree) (k : Known) → Sees i c k → (at : ℕ) (initial : InitialTree) → (initializer_of c at initial).faults ≡ [] → Gives i c k at initial (initializer_of c at initial).value
+pub initial_gives : (i : Inside) (c : CheckerTree) (k : Known) → Sees i c k → (at : ℕ) (initial : InitialTree) → (initializer_of c at initial).faults ≡ []
+    → Gives i c k at initial (initializer_of c at initial).value
 initial_gives i c k s at (source.NewSet size) none = new_set_is at size none
 initial_gives i c k s at (source.Load argument) none = loaded_is at argument none
 initial_gives i c k s at (source.Vertices edges) none =
@@ -453,7 +475,8 @@ declares_new i c k s name e none =
     subst (λ ns. found name.bytes ns ≡ None) s.matches.names
     (no_meaning_found name.bytes c.scope.visible (found name.bytes c.scope.visible) refl (not_redeclared name e c.scope (found name.bytes c.scope.visible) none))
 
-declare_keeps : (c : CheckerTree) (k : Known) → Sees inside.Main c k → (at : ℕ) (name : Identifier) (initial : InitialTree) (type : DeclaredType) → (declare_variable c at name type initial).faults ≡ []
+declare_keeps : (c : CheckerTree) (k : Known) → Sees inside.Main c k → (at : ℕ) (name : Identifier) (initial : InitialTree) (type : DeclaredType)
+    → (declare_variable c at name type initial).faults ≡ []
     → VariableFits inside.Main k type initial × IsNew k name
 declare_keeps c k s at name initial declared.Int none =
     let g = initializer_of c at initial in
@@ -485,7 +508,8 @@ declare_keeps c k s at name initial declared.EdgeSet none = absurd (not_empty _ 
 declare_keeps c k s at name initial declared.WeightedEdgeSet none = absurd (not_empty _ _ (no_right (initializer_of c at initial).faults _ none))
 
 -- assignments
-assigned_fits : (c : CheckerTree) (k : Known) → Sees inside.Main c k → (at : ℕ) (name : Identifier) (initial : InitialTree) → (initializer_of c at initial).faults ≡ [] → (e : Entity) → IsMeant k.names name e
+assigned_fits : (c : CheckerTree) (k : Known) → Sees inside.Main c k → (at : ℕ) (name : Identifier) (initial : InitialTree) → (initializer_of c at initial).faults ≡ [] → (e : Entity)
+    → IsMeant k.names name e
     → (assigned at (initializer_of c at initial).value e).faults ≡ [] → AssignFits inside.Main k name initial
 assigned_fits c k s at name initial given (entity.IntegerVariable slot) is none =
     AssignsNumber is.means (gives_number inside.Main c k s at initial given (no_left (initializer_integer at (initializer_of c at initial).value).faults [] none))
@@ -496,7 +520,8 @@ assigned_fits c k s at name initial given (entity.SetVariable slot) is none =
 assigned_fits c k s at name initial given entity.Error is none = absurd (is.clear refl)
 assigned_fits c k s at name initial given _ is none = absurd (not_empty _ _ none)
 
-assign_keeps : (c : CheckerTree) (k : Known) → Sees inside.Main c k → (at : ℕ) (name : Identifier) (initial : InitialTree) → (assign c at name initial).faults ≡ [] → AssignFits inside.Main k name initial
+assign_keeps : (c : CheckerTree) (k : Known) → Sees inside.Main c k → (at : ℕ) (name : Identifier) (initial : InitialTree) → (assign c at name initial).faults ≡ []
+    → AssignFits inside.Main k name initial
 assign_keeps c k s at name initial none =
     let u = used c.scope name in
     let g = initializer_of c at initial in
@@ -605,7 +630,8 @@ edge_function_there : (at : ℕ) (a b : ApplyEndTree) (f : Entity) (o : Option �
 edge_function_there at a b f None is none = absurd (not_empty _ _ none)
 edge_function_there at a b f (Some index) is none = (index, is)
 
-vertex_function_there : (at : ℕ) (slot : VarRef) (f : Entity) (o : Option ℕ) → initial_value.vertex_function f ≡ o → (vertices_applied at slot false o).faults ≡ [] → meaning_of f ≡ meaning.VertexFunction
+vertex_function_there : (at : ℕ) (slot : VarRef) (f : Entity) (o : Option ℕ) → initial_value.vertex_function f ≡ o → (vertices_applied at slot false o).faults ≡ []
+    → meaning_of f ≡ meaning.VertexFunction
 vertex_function_there at slot f None is none = absurd (not_empty _ _ none)
 vertex_function_there at slot f (Some index) is none = vertex_function_means f index is
 
@@ -613,11 +639,14 @@ set_applies : (at : ℕ) (t f : Entity) (a b : ApplyEndTree) (ends : Bool) (o : 
 set_applies at t f a b ends None clear is none = absurd (not_empty _ _ none)
 set_applies at t f a b true (Some slot) clear is none = absurd (not_empty _ _ none)
 set_applies at t f a b false (Some slot) clear is none = record {
-  edges = inr (set_means t slot is, refl, vertex_function_there at slot f (initial_value.vertex_function f) refl (subst (λ x. (vertices_applied at slot x (initial_value.vertex_function f)).faults ≡ []) clear none));
+  edges = inr (set_means t slot is, refl, vertex_function_there at slot f (initial_value.vertex_function f) refl
+      (subst (λ x. (vertices_applied at slot x (initial_value.vertex_function f)).faults ≡ []) clear none));
 }
 
-applied_where : (at : ℕ) (t f : Entity) (a b : ApplyEndTree) (ends : Bool) (error edges wrong : Bool) → error ≡ false → names_error f ≡ false → is_edges t ≡ edges → (is_wrong a || is_wrong b || lacks_weights t f) ≡ wrong
-    → (if error then sure statement.no_action else (if edges then (if wrong then fault_at at rule.WrongType statement.no_action else edges_applied at a b (names_error f) (edge_function f)) else set_applied at ends f (named_set t))).faults ≡ []
+applied_where : (at : ℕ) (t f : Entity) (a b : ApplyEndTree) (ends : Bool) (error edges wrong : Bool) → error ≡ false → names_error f ≡ false → is_edges t ≡ edges
+    → (is_wrong a || is_wrong b || lacks_weights t f) ≡ wrong
+    → (if error then sure statement.no_action else (if edges then (if wrong then fault_at at rule.WrongType statement.no_action else edges_applied at a b (names_error f)
+    (edge_function f)) else set_applied at ends f (named_set t))).faults ≡ []
     → AppliesTo t f a b ends
 applied_where at t f a b ends true edges wrong clear also are is none = absurd cc
 applied_where at t f a b ends false false wrong clear also are is none = set_applies at t f a b ends (named_set t) also refl none
@@ -713,7 +742,8 @@ label_some : (k : Known) (label : Option Identifier) → AreSome k.names → Are
 label_some k None some = some
 label_some k (Some label) some = some
 
-pub labelled_sees : (i : Inside) (c : CheckerTree) (k : Known) → Sees i c k → (label : Option Identifier) → (labelled c label).faults ≡ [] → LabelIsNew k label × Sees i (labelled c label).value.1 (labelled_known k label)
+pub labelled_sees : (i : Inside) (c : CheckerTree) (k : Known) → Sees i c k → (label : Option Identifier) → (labelled c label).faults ≡ [] → LabelIsNew k label
+    × Sees i (labelled c label).value.1 (labelled_known k label)
 labelled_sees i c k s label none =
     let new = label_keeps i c k s.matches label none in
     (new, record { matches = (labelled_kept i c k s.matches label new).1; some = label_some k label s.some })
@@ -734,7 +764,8 @@ mutual
       let after_a = no_right a.faults _ none in
       let after_z = no_right z.faults _ after_a in
       let new = declares_new inside.Main c k s name e (no_left d.faults _ after_z) in
-      let inner : Sees inside.Main d.value (with_name k name meaning.LoopName) = record { matches = (declared_kept inside.Main c k s.matches name e meaning.LoopName refl new).1; some = more_some k.names name.bytes meaning.LoopName s.some tt } in (
+      let inner : Sees inside.Main d.value (with_name k name meaning.LoopName) =
+      record { matches = (declared_kept inside.Main c k s.matches name e meaning.LoopName refl new).1; some = more_some k.names name.bytes meaning.LoopName s.some tt } in (
         tt,
         integer_number inside.Main c k s at first (no_left a.faults _ none),
         integer_number inside.Main c k s at limit (no_left z.faults _ after_a),
@@ -752,7 +783,8 @@ mutual
       let o = statements_typed d Empty otherwise in
       let after_t = no_right t.faults _ none in
       let first = statements_keep c k s Empty body (no_left b.faults _ after_t) in
-      let inner : Sees inside.Main d (closed_known k (known_after inside.Main k body)) = record { matches = closed_kept inside.Main inside.Main c b.value.1 k (known_after inside.Main k body) s.matches (statements_kept c k s.matches Empty body first).1; some = s.some } in (
+      let inner : Sees inside.Main d (closed_known k (known_after inside.Main k body)) =
+      record { matches = closed_kept inside.Main inside.Main c b.value.1 k (known_after inside.Main k body) s.matches (statements_kept c k s.matches Empty body first).1; some = s.some } in (
         condition_truth inside.Main c k s at test (no_left t.faults _ none),
         first,
         statements_keep d (closed_known k (known_after inside.Main k body)) inner Empty otherwise (no_left o.faults [] (no_right b.faults _ after_t)),
@@ -770,7 +802,8 @@ mutual
       let x = add_keeps c k s set.at set e (no_left (add_vertex c.scope set.at set e).faults [] none) in (tt, x.0, x.1)
   action_keeps c k s (source.Apply target ends function) none = (tt, apply_keeps c k s target.at target ends function (no_left (apply c.scope target.at target ends function).faults [] none))
 
-  pub statements_keep : (c : CheckerTree) (k : Known) → Sees inside.Main c k → (so_far : BlockTree) (block : source.BlockTree) → (statements_typed c so_far block).faults ≡ [] → BlockKeeps inside.Main k block
+  pub statements_keep : (c : CheckerTree) (k : Known) → Sees inside.Main c k → (so_far : BlockTree) (block : source.BlockTree) → (statements_typed c so_far block).faults ≡ []
+      → BlockKeeps inside.Main k block
   statements_keep c k s so_far source.Empty none = tt
   statements_keep c k s so_far (source.Then label action others) none =
       let l = labelled c label in
@@ -781,5 +814,6 @@ mutual
       let known = labelled_known k label in
       let here : Sees inside.Main d known = record { matches = counted_kept inside.Main l.value.1 known labels.1.matches; some = labels.1.some } in
       let keeps = action_keeps d known here action (no_left a.faults _ after_l) in
-      let next : Sees inside.Main a.value.1 (known_behind inside.Main known action) = record { matches = (action_kept d known here.matches action keeps).1; some = after_some inside.Main known action here.some keeps } in
+      let next : Sees inside.Main a.value.1 (known_behind inside.Main known action) =
+      record { matches = (action_kept d known here.matches action keeps).1; some = after_some inside.Main known action here.some keeps } in
       (labels.0, keeps, statements_keep a.value.1 (known_behind inside.Main known action) next (behind so_far (suc l.value.1.statements) l.value.0 a.value.0) others (no_right a.faults _ after_l))

@@ -22,7 +22,8 @@ use Rattle.expression_types.specs.ValueTree.{ValueTree}
 use Rattle.expression_types.specs.Faults.{WithFaults, sure}
 use Rattle.types.specs.Checker.{CheckerTree, condition_slot, declared_in, integer_slot, labelled, as_integer, condition_in, integer_in}
 use Rattle.types.specs.Initial.{initializer_condition, initializer_integer, initializer_of}
-use Rattle.types.specs.Step.{assign_step, assigned_step, at_own, declare_step, may_reduce, may_set, own_vertex, reduce_entry_step, reduce_step, reduced_as, reduced_step, same_endpoint, same_reduction, set_entry_step, step_after, step_typed, steps_after, steps_typed, written_at, written_with}
+use Rattle.types.specs.Step.{assign_step, assigned_step, at_own, declare_step, may_reduce, may_set, own_vertex, reduce_entry_step, reduce_step, reduced_as, reduced_step, same_endpoint, same_reduction}
+use Rattle.types.specs.Step.{set_entry_step, step_after, step_typed, steps_after, steps_typed, written_at, written_with}
 use Rattle.type_laws.specs.ExpressionTypes.{ExpressionHas, ExpressionType, IsNumber, Number, Set, Truth, Vertex}
 use Rattle.type_laws.specs.KeptRules.{ActionKeeps, AgreesWith, AssignFits, AssignsNumber, AssignsTruth, BlockKeeps, MayReduce, MaySet, ReducesEntry, VariableFits, WrittenAt}
 use Rattle.type_laws.specs.Meanings as meaning
@@ -32,9 +33,11 @@ use Rattle.type_laws.proofs.TypedExpressions.{IsOf}
 use Rattle.type_laws.proofs.FaultlessExpressions.{IsMeant, Typed}
 use Rattle.type_laws.proofs.KeptNames.{closed_kept}
 use Rattle.type_laws.proofs.KeptSteps.{IsUser, step_kept, steps_kept}
-use Rattle.type_laws.proofs.FaultlessStatements.{Sees, after_some, condition_truth, declares_new, gives_number, gives_truth, integer_number, labelled_sees, used_is, value_number, value_typed, vector_is_found}
+use Rattle.type_laws.proofs.FaultlessStatements.{Sees, after_some, condition_truth, declares_new, gives_number, gives_truth, integer_number, labelled_sees, used_is, value_number, value_typed}
+use Rattle.type_laws.proofs.FaultlessStatements.{vector_is_found}
 
-declare_step_keeps : (i : Inside) (c : CheckerTree) (k : Known) → Sees i c k → (at : ℕ) (name : Identifier) (initial : InitialTree) (type : DeclaredType) → (declare_step c at name type initial).faults ≡ []
+declare_step_keeps : (i : Inside) (c : CheckerTree) (k : Known) → Sees i c k → (at : ℕ) (name : Identifier) (initial : InitialTree) (type : DeclaredType)
+    → (declare_step c at name type initial).faults ≡ []
     → VariableFits i k type initial × IsNew k name
 declare_step_keeps i c k s at name initial declared.Int none =
     let g = initializer_of c at initial in
@@ -58,7 +61,8 @@ declare_step_keeps i c k s at name initial declared.Vector none = absurd (not_em
 declare_step_keeps i c k s at name initial declared.EdgeSet none = absurd (not_empty _ _ (no_right (initializer_of c at initial).faults _ none))
 declare_step_keeps i c k s at name initial declared.WeightedEdgeSet none = absurd (not_empty _ _ (no_right (initializer_of c at initial).faults _ none))
 
-assigned_step_fits : (i : Inside) (c : CheckerTree) (k : Known) → Sees i c k → (at : ℕ) (name : Identifier) (initial : InitialTree) → (initializer_of c at initial).faults ≡ [] → (e : Entity) → IsMeant k.names name e
+assigned_step_fits : (i : Inside) (c : CheckerTree) (k : Known) → Sees i c k → (at : ℕ) (name : Identifier) (initial : InitialTree) → (initializer_of c at initial).faults ≡ [] → (e : Entity)
+    → IsMeant k.names name e
     → (assigned_step at (initializer_of c at initial).value e).faults ≡ [] → AssignFits i k name initial
 assigned_step_fits i c k s at name initial given (entity.IntegerVariable slot) is none =
     AssignsNumber is.means (gives_number i c k s at initial given (no_left (initializer_integer at (initializer_of c at initial).value).faults [] none))
@@ -67,7 +71,8 @@ assigned_step_fits i c k s at name initial given (entity.ConditionVariable slot)
 assigned_step_fits i c k s at name initial given entity.Error is none = absurd (is.clear refl)
 assigned_step_fits i c k s at name initial given _ is none = absurd (not_empty _ _ none)
 
-assign_step_keeps : (i : Inside) (c : CheckerTree) (k : Known) → Sees i c k → (at : ℕ) (name : Identifier) (initial : InitialTree) → (assign_step c at name initial).faults ≡ [] → AssignFits i k name initial
+assign_step_keeps : (i : Inside) (c : CheckerTree) (k : Known) → Sees i c k → (at : ℕ) (name : Identifier) (initial : InitialTree) → (assign_step c at name initial).faults ≡ []
+    → AssignFits i k name initial
 assign_step_keeps i c k s at name initial none =
     let u = used c.scope name in
     let g = initializer_of c at initial in
@@ -164,7 +169,8 @@ may_reduce_is inside.EdgeFunction k at vector by none = agrees_once at vector by
 may_reduce_is inside.VertexFunction k at vector by none = tt
 may_reduce_is inside.Filter k at vector by none = absurd (not_empty _ _ none)
 
-reduced_at : (i : Inside) (k : Known) (vector : ℕ) (by : Reduction) (index : ExpressionTree) → IsUser i → MayReduce i k vector by → ExpressionHas k.names i index (Vertex (own_vertex i)) → WrittenAt i k.names index
+reduced_at : (i : Inside) (k : Known) (vector : ℕ) (by : Reduction) (index : ExpressionTree) → IsUser i → MayReduce i k vector by → ExpressionHas k.names i index (Vertex (own_vertex i))
+    → WrittenAt i k.names index
 reduced_at inside.Main k vector by index user may has = absurd user
 reduced_at inside.EdgeFunction k vector by index user may has = has
 reduced_at inside.VertexFunction k vector by index user may has = has
@@ -213,7 +219,8 @@ mutual
       let o = steps_typed d NoStep otherwise in
       let after_t = no_right t.faults _ none in
       let first = steps_keep i c k user s NoStep body (no_left b.faults _ after_t) in
-      let inner : Sees i d (closed_known k (known_after i k body)) = record { matches = closed_kept i i c b.value.1 k (known_after i k body) s.matches (steps_kept i c k user s.matches NoStep body first).1; some = s.some } in (
+      let inner : Sees i d (closed_known k (known_after i k body)) = record { matches =
+      closed_kept i i c b.value.1 k (known_after i k body) s.matches (steps_kept i c k user s.matches NoStep body first).1; some = s.some } in (
         condition_truth i c k s at test (no_left t.faults _ none),
         first,
         steps_keep i d (closed_known k (known_after i k body)) user inner NoStep otherwise (no_left o.faults [] (no_right b.faults _ after_t)),
@@ -234,7 +241,8 @@ mutual
   step_keeps i c k user s (source.AddVertex set e) none = absurd (not_empty _ _ none)
   step_keeps i c k user s (source.Apply target ends function) none = absurd (not_empty _ _ none)
 
-  pub steps_keep : (i : Inside) (c : CheckerTree) (k : Known) → IsUser i → Sees i c k → (so_far : FunctionStatementsTree) (block : source.BlockTree) → (steps_typed c so_far block).faults ≡ [] → BlockKeeps i k block
+  pub steps_keep : (i : Inside) (c : CheckerTree) (k : Known) → IsUser i → Sees i c k → (so_far : FunctionStatementsTree) (block : source.BlockTree) → (steps_typed c so_far block).faults ≡ []
+      → BlockKeeps i k block
   steps_keep i c k user s so_far source.Empty none = tt
   steps_keep i c k user s so_far (source.Then label action others) none =
       let l = labelled c label in
@@ -243,5 +251,6 @@ mutual
       let labels = labelled_sees i c k s label (no_left l.faults _ none) in
       let known = labelled_known k label in
       let keeps = step_keeps i l.value.1 known user labels.1 action (no_left a.faults _ after_l) in
-      let next : Sees i a.value.1 (known_behind i known action) = record { matches = (step_kept i l.value.1 known user labels.1.matches action keeps).1; some = after_some i known action labels.1.some keeps } in
+      let next : Sees i a.value.1 (known_behind i known action) = record { matches = (step_kept i l.value.1 known user labels.1.matches action keeps).1; some =
+      after_some i known action labels.1.some keeps } in
       (labels.0, keeps, steps_keep i a.value.1 (known_behind i known action) user next (step_after so_far a.value.0) others (no_right a.faults _ after_l))

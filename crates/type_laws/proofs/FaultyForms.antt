@@ -17,15 +17,20 @@ use Rattle.expression_types.specs.declared.scope.Entity.{Entity}
 use Rattle.expression_types.specs.declared.scope.Entity.TheVariants as entity
 use Rattle.expression_types.specs.declared.scope.Inside.{Inside}
 use Rattle.expression_types.specs.declared.scope.Inside.TheVariants as inside
-use Rattle.expression_types.specs.Expression.{as_size, as_vector, comparison_value, conjunction_value, conjuncts, disjuncts, entry_of, factors, index_lacks_value, index_value, no_vertex, primary_value, size_of, sum_value, summands, term_value, unary_value, used, used_as, value_of, vector_at}
+use Rattle.expression_types.specs.Expression.{as_size, as_vector, comparison_value, conjunction_value, conjuncts, disjuncts, entry_of, factors, index_lacks_value, index_value, no_vertex}
+use Rattle.expression_types.specs.Expression.{primary_value, size_of, sum_value, summands, term_value, unary_value, used, used_as, value_of, vector_at}
 use Rattle.expression_types.specs.ScopeTree.{found, ScopeTree}
-use Rattle.expression_types.specs.Operators.{ConditionsTree, Conditions, MixedConditions, ErrorConditions, IntegersTree, Integers, MixedIntegers, ErrorIntegers, added, beside_condition, beside_integer, condition_index, entry_value, first_condition, first_integer, function_entry, given, grouped_conditions, grouped_integers, main_entry, multiplied, related_value, signed_value}
+use Rattle.expression_types.specs.Operators.{ConditionsTree, Conditions, MixedConditions, ErrorConditions, IntegersTree, Integers, MixedIntegers, ErrorIntegers, added, beside_condition}
+use Rattle.expression_types.specs.Operators.{beside_integer, condition_index, entry_value, first_condition, first_integer, function_entry, given, grouped_conditions, grouped_integers, main_entry}
+use Rattle.expression_types.specs.Operators.{multiplied, related_value, signed_value}
 use Rattle.expression_types.specs.ValueTree.{ValueTree, Integer, Condition, Vertex, Set, ErrorValue, condition_reads_entry, is_error, named_set, named_value, named_vector, reads_entry}
 use Rattle.expression_types.specs.Faults.{WithFaults, fault_at, sure, ◌>>=◌}
 use Rattle.types.specs.Initial.{names_error}
-use Rattle.type_laws.specs.ExpressionParts.{Form, Expression, Conjunction, Comparison, Sum, Term, Unary, Primary, Index, Name, any_faulty, conjuncts_of, disjuncts_of, factors_of, form_faults, is_faulty, summands_of}
+use Rattle.type_laws.specs.ExpressionParts.{Form, Expression, Conjunction, Comparison, Sum, Term, Unary, Primary, Index, Name, any_faulty, conjuncts_of, disjuncts_of, factors_of, form_faults}
+use Rattle.type_laws.specs.ExpressionParts.{is_faulty, summands_of}
 use Rattle.type_laws.proofs.Faultless.{both_none}
-use Rattle.type_laws.proofs.FaultyParts.{beside_number, beside_value, conjuncts_error, disjuncts_error, entry_at_error, entry_silent, factors_error, first_integers, first_row, given_silent, grouped_integers_silent, grouped_silent, is_error_integers, is_error_row, named_silent, related_silent, signed_silent, size_silent, summands_error}
+use Rattle.type_laws.proofs.FaultyParts.{beside_number, beside_value, conjuncts_error, disjuncts_error, entry_at_error, entry_silent, factors_error, first_integers, first_row, given_silent}
+use Rattle.type_laws.proofs.FaultyParts.{grouped_integers_silent, grouped_silent, is_error_integers, is_error_row, named_silent, related_silent, signed_silent, size_silent, summands_error}
 
 -- it has no fault, or it is faulty
 abbrev FaultyOrNone : {A : Type 0} → (A → Bool) → WithFaults A → Type 0

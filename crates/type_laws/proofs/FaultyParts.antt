@@ -22,15 +22,19 @@ use Rattle.expression_types.specs.declared.scope.Entity.{Entity}
 use Rattle.expression_types.specs.declared.scope.Entity.TheVariants as entity
 use Rattle.expression_types.specs.declared.scope.Inside.{Inside}
 use Rattle.expression_types.specs.declared.scope.Inside.TheVariants as inside
-use Rattle.expression_types.specs.Expression.{as_size, as_vector, comparison_value, conjunction_value, conjuncts, disjuncts, entry_of, factors, index_lacks_value, index_value, no_vertex, primary_value, sum_value, summands, term_value, unary_value, used, value_of}
-use Rattle.expression_types.specs.Operators.{ConditionsTree, Conditions, MixedConditions, ErrorConditions, IntegersTree, Integers, MixedIntegers, ErrorIntegers, added, beside_condition, beside_integer, compared_value, entry_value, equated_value, first_condition, first_integer, given, grouped_conditions, grouped_integers, multiplied, related_value, signed_value}
+use Rattle.expression_types.specs.Expression.{as_size, as_vector, comparison_value, conjunction_value, conjuncts, disjuncts, entry_of, factors, index_lacks_value, index_value, no_vertex}
+use Rattle.expression_types.specs.Expression.{primary_value, sum_value, summands, term_value, unary_value, used, value_of}
+use Rattle.expression_types.specs.Operators.{ConditionsTree, Conditions, MixedConditions, ErrorConditions, IntegersTree, Integers, MixedIntegers, ErrorIntegers, added, beside_condition}
+use Rattle.expression_types.specs.Operators.{beside_integer, compared_value, entry_value, equated_value, first_condition, first_integer, given, grouped_conditions, grouped_integers, multiplied}
+use Rattle.expression_types.specs.Operators.{related_value, signed_value}
 use Rattle.expression_types.specs.ScopeTree.{ScopeTree}
 use Rattle.expression_types.specs.ValueTree.{ValueTree, Integer, Condition, Vertex, Set, ErrorValue, is_error, named_value}
 use Rattle.expression_types.specs.Faults.{WithFaults, sure}
 use Rattle.types.specs.Checker.{CheckerTree}
 use Rattle.types.specs.Initial.{ErrorInitializer, InitializerTree, end_of, filter_named, initializer_of, is_error_end, is_sound, names_error}
 use Rattle.type_laws.specs.SourceParts.{initial_forms, name_before}
-use Rattle.type_laws.specs.ExpressionParts.{Form, Expression, Conjunction, Comparison, Sum, Term, Unary, Primary, Index, Name, any_faulty, conjuncts_of, disjuncts_of, factors_of, faults_of_all, form_faults, is_faulty, parts, summands_of}
+use Rattle.type_laws.specs.ExpressionParts.{Form, Expression, Conjunction, Comparison, Sum, Term, Unary, Primary, Index, Name, any_faulty, conjuncts_of, disjuncts_of, factors_of, faults_of_all}
+use Rattle.type_laws.specs.ExpressionParts.{form_faults, is_faulty, parts, summands_of}
 
 -- tests
 pub or_false : (a : Bool) → (a || false) ≡ a
@@ -307,13 +311,15 @@ faulty_parts scope at (Sum (tree.LastTerm t)) is = one_part (term_value scope at
 faulty_parts scope at (Sum (tree.TermThen t o others)) is =
     let x = term_value scope at t in
     let rest = summands scope at (first_integer x.value) o others in
-    let silent = grouped_integers_silent at rest.value (summands_error scope at (first_integer x.value) o others ∙ ap (λ b. b || any_faulty scope at (summands_of others)) (first_integers x.value) ∙ is) in
+    let silent = grouped_integers_silent at rest.value (summands_error scope at (first_integer x.value) o others ∙ ap (λ b. b || any_faulty scope at (summands_of others)) (first_integers x.value)
+    ∙ is) in
     (row_faults x.faults rest.faults _ _ (summands_faults scope at (first_integer x.value) o others) silent.0, silent.1)
 faulty_parts scope at (Term (tree.LastUnary u)) is = one_part (unary_value scope at u) is
 faulty_parts scope at (Term (tree.UnaryThen u o others)) is =
     let x = unary_value scope at u in
     let rest = factors scope at (first_integer x.value) o others in
-    let silent = grouped_integers_silent at rest.value (factors_error scope at (first_integer x.value) o others ∙ ap (λ b. b || any_faulty scope at (factors_of others)) (first_integers x.value) ∙ is) in
+    let silent = grouped_integers_silent at rest.value (factors_error scope at (first_integer x.value) o others ∙ ap (λ b. b || any_faulty scope at (factors_of others)) (first_integers x.value)
+    ∙ is) in
     (row_faults x.faults rest.faults _ _ (factors_faults scope at (first_integer x.value) o others) silent.0, silent.1)
 faulty_parts scope at (Unary (tree.Bare e)) is = one_part (primary_value scope at e) is
 faulty_parts scope at (Unary (tree.Signed sign u)) is =

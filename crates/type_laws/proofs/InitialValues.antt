@@ -10,7 +10,8 @@ use Rattle.expression_types.specs.declared.scope.Entity.TheVariants as entity
 use Rattle.expression_types.specs.Expression.{used}
 use Rattle.types.specs.Block.{action_typed, behind, closed, statements_typed}
 use Rattle.types.specs.Checker.{CheckerTree, counted, declared_in, integer_slot, labelled, restarted, condition_in, integer_in}
-use Rattle.types.specs.Declaration.{DeclaredTree, FunctionKindTree, MainKind, EdgeKind, VertexKind, FilterKind, NoKind, declaration_typed, declarations_typed, declare_function, kind, kind_fits, main_declared, opened, steps_declared}
+use Rattle.types.specs.Declaration.{DeclaredTree, FunctionKindTree, MainKind, EdgeKind, VertexKind, FilterKind, NoKind, declaration_typed, declarations_typed, declare_function, kind, kind_fits}
+use Rattle.types.specs.Declaration.{main_declared, opened, steps_declared}
 use Rattle.types.specs.Initial.{initializer_of, loaded, new_set}
 use Rattle.type_laws.specs.InitialValues.{ActionInitialsFit, BlockInitialsFit, DeclarationInitialsFit, InitialFits}
 use Rattle.types.specs.Program.{opening, program_of, set_count}

@@ -65,7 +65,8 @@ primary_literal scope at (tree.Entry name index) is = absurd (false_is_not_true 
 primary_literal scope at (tree.Size name) is = absurd (false_is_not_true is)
 primary_literal scope at (tree.Parentheses e) is = absurd (false_is_not_true is)
 
-minus_literal : (scope : ScopeTree) (at : ℕ) (e : PrimaryTree) → IsSome (unary_number (tree.Signed prefix.Minus (tree.Bare e))) → (unary_value scope at (tree.Signed prefix.Minus (tree.Bare e))).faults ≡ []
+minus_literal : (scope : ScopeTree) (at : ℕ) (e : PrimaryTree) → IsSome (unary_number (tree.Signed prefix.Minus (tree.Bare e)))
+    → (unary_value scope at (tree.Signed prefix.Minus (tree.Bare e))).faults ≡ []
 minus_literal scope at (tree.Literal n) is = refl
 minus_literal scope at (tree.Truth b) is = absurd (false_is_not_true is)
 minus_literal scope at (tree.Variable name) is = absurd (false_is_not_true is)

@@ -20,10 +20,12 @@ use Rattle.expression_types.specs.ScopeTree.{entered}
 use Rattle.expression_types.specs.Faults.{WithFaults}
 use Rattle.types.specs.Block.{statements_typed}
 use Rattle.types.specs.Checker.{CheckerTree, condition_slot, declared_in, restarted, with_scope}
-use Rattle.types.specs.Declaration.{DeclaredTree, EdgeKind, FilterKind, MainKind, NoKind, VertexKind, declaration_typed, declarations_typed, declare_function, declare_name, is_bool, is_vertex, kind_of, main_bytes, main_declared, opened, parameter, steps_declared, takes_nothing, is_int}
+use Rattle.types.specs.Declaration.{DeclaredTree, EdgeKind, FilterKind, MainKind, NoKind, VertexKind, declaration_typed, declarations_typed, declare_function, declare_name, is_bool, is_vertex}
+use Rattle.types.specs.Declaration.{kind_of, main_bytes, main_declared, opened, parameter, steps_declared, takes_nothing, is_int}
 use Rattle.types.specs.Program.{main_of, opening, program_of, set_count}
 use Rattle.types.specs.Step.{steps_typed, with_writes}
-use Rattle.type_laws.specs.KeptRules.{BlockKeeps, DeclarationKeeps, Declarations, DeclarationsKeep, FunctionKeeps, KeepsRules, MainKeeps, after_declaration, after_function, after_main, known_at_vertex, known_in_filter, known_in_main, known_on_edge, nothing_declared, known_on_weighted_edge, edge_function_after}
+use Rattle.type_laws.specs.KeptRules.{BlockKeeps, DeclarationKeeps, Declarations, DeclarationsKeep, FunctionKeeps, KeepsRules, MainKeeps, after_declaration, after_function, after_main}
+use Rattle.type_laws.specs.KeptRules.{known_at_vertex, known_in_filter, known_in_main, known_on_edge, nothing_declared, known_on_weighted_edge, edge_function_after}
 use Rattle.type_laws.specs.Meanings as meaning
 use Rattle.type_laws.specs.ScopeMeanings.{meaning_of}
 use Rattle.type_laws.specs.Meanings.{IsNew, Known, closed_known, known_after, known_behind, labelled_known, reduced_in, with_name}
@@ -145,7 +147,8 @@ vertex_function_kept d k a at name v body new keeps =
     let f = entity.VertexFunction (length d.vertex_functions) in
     let named = name_declared e (closed_known k.known after) (left_agrees inside.VertexFunction d.checker b.value.1 k.known after a.checker inner.1) name f meaning.VertexFunction refl new in (
       both_none o.faults _ opens.0 (both_none b.faults _ inner.0 (both_none (declare_name e name f).faults [] named.0 refl)),
-      record { checker = named.1; vectors = a.vectors; functions = a.functions ∙ ap length (sym (after_written inside.VertexFunction (known_at_vertex k.known v) body)); edges = a.edges; main = a.main },
+      record { checker = named.1; vectors = a.vectors; functions = a.functions ∙ ap length (sym (after_written inside.VertexFunction (known_at_vertex k.known v) body)); edges = a.edges; main =
+      a.main },
     )
 
 filter_kept : (d : DeclaredTree) (k : Declarations) → Agrees d k → (at : ℕ) (name : Identifier) (v test : ParameterTree) (body : source.BlockTree) → IsNew k.known name
@@ -215,7 +218,8 @@ main_kept d k a name parameters result body new keeps =
     plain_main within =
         let s = begun (restarted d.checker) inside.Main in
         let b = statements_typed s Empty body in
-        let inner = statements_kept s (known_in_main k.known) (record { names = a.checker.names; labels = a.checker.labels; reduced = refl; written = a.checker.written; inside = refl }) Empty body within in
+        let inner = statements_kept s (known_in_main k.known) (record { names = a.checker.names; labels = a.checker.labels; reduced = refl; written = a.checker.written; inside =
+        refl }) Empty body within in
         let after = known_after inside.Main (known_in_main k.known) body in
         let e = record d { checker = with_scope b.value.1 d.checker.scope } in
         let named = name_declared e (closed_known k.known after) (left_agrees inside.Main d.checker b.value.1 k.known after a.checker inner.1) name entity.Main meaning.Main refl new in (
@@ -233,7 +237,8 @@ filter_kind v test is also =
 
 pub edge_kind : (src dst : DeclaredType) → src ≡ declared.Vertex → dst ≡ declared.Vertex → (if is_vertex src && is_vertex dst then EdgeKind false else NoKind) ≡ EdgeKind false
 edge_kind src dst is also =
-    subst (λ t. (if is_vertex t && is_vertex dst then EdgeKind false else NoKind) ≡ EdgeKind false) (sym is) (subst (λ t. (if is_vertex t then EdgeKind false else NoKind) ≡ EdgeKind false) (sym also) refl)
+    subst (λ t. (if is_vertex t && is_vertex dst then EdgeKind false else NoKind) ≡ EdgeKind false) (sym is)
+    (subst (λ t. (if is_vertex t then EdgeKind false else NoKind) ≡ EdgeKind false) (sym also) refl)
 
 pub weighted_kind : (src dst w : DeclaredType) → src ≡ declared.Vertex → dst ≡ declared.Vertex → w ≡ declared.Int
     → (if is_vertex src && is_vertex dst && is_int w then EdgeKind true else NoKind) ≡ EdgeKind true
@@ -247,7 +252,8 @@ user_function_kept : (d : DeclaredTree) (k : Declarations) → Agrees d k → (a
     → Fits (declare_function d at name parameters result body (kind_of parameters result)) (after_function k name parameters result body)
 user_function_kept d k a at name [] result body new keeps = absurd keeps
 user_function_kept d k a at name (v ∷ []) None body new keeps =
-    subst (λ f. Fits (declare_function d at name (v ∷ []) None body f) (after_function k name (v ∷ []) None body)) (sym (vertex_kind v.declared keeps.0)) (vertex_function_kept d k a at name v body new keeps)
+    subst (λ f. Fits (declare_function d at name (v ∷ []) None body f) (after_function k name (v ∷ []) None body)) (sym (vertex_kind v.declared keeps.0))
+    (vertex_function_kept d k a at name v body new keeps)
 user_function_kept d k a at name (v ∷ []) (Some test) body new keeps =
     subst (λ f. Fits (declare_function d at name (v ∷ []) (Some test) body f) (after_function k name (v ∷ []) (Some test) body)) (sym (filter_kind v.declared test.declared keeps.0 keeps.1))
     (filter_kept d k a at name v test body new keeps)
@@ -291,7 +297,8 @@ main_there length (Some main) is = refl
 pub source_kept : (source : SourceTree) (length : ℕ) → KeepsRules source → (program_of source length).faults ≡ []
 source_kept source length keeps =
     let begins = opening (set_count source.declarations) in
-    let all = declarations_kept begins nothing_declared (record { checker = record { names = refl; labels = refl; written = refl; inside = refl }; vectors = refl; functions = refl; edges = refl; main = refl })
+    let all = declarations_kept begins nothing_declared (record { checker = record { names = refl; labels = refl; written = refl; inside = refl }; vectors = refl; functions = refl; edges =
+    refl; main = refl })
     source.declarations keeps in
     let d = declarations_typed begins source.declarations in
     both_none d.faults _ all.0 (both_none (main_of length d.value.main).faults [] (main_there length d.value.main all.1) refl)

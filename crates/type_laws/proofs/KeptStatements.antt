@@ -24,17 +24,21 @@ use Rattle.expression_types.specs.Faults.{WithFaults, fault_at, sure}
 use Rattle.types.specs.Block.{action_typed, behind, closed, in_place, statements_typed}
 use Rattle.types.specs.Checker.{CheckerTree, condition_slot, counted, declared_in, integer_slot, labelled, set_slot, as_index, as_integer, as_members, condition_in, integer_in, unread}
 use Rattle.types.specs.Initial as initial_value
-use Rattle.types.specs.Initial.{ApplyEndTree, Absent, Wrong, ErrorEnd, InitializerTree, edge_function, end_of, ends_given, filter_named, filtered, initializer_condition, initializer_integer, initializer_members, initializer_of, is_edges, is_error_end, is_wrong, modified, modified_by, names_error, new_set, of_edges, vector_of, writes_vector}
+use Rattle.types.specs.Initial.{ApplyEndTree, Absent, Wrong, ErrorEnd, InitializerTree, edge_function, end_of, ends_given, filter_named, filtered, initializer_condition, initializer_integer}
+use Rattle.types.specs.Initial.{initializer_members, initializer_of, is_edges, is_error_end, is_wrong, modified, modified_by, names_error, new_set, of_edges, vector_of, writes_vector}
 use Rattle.types.specs.Statement.{add_vertex, added, apply, applied, edges_applied, no_action, assign, assigned, declare_variable, has_ends, print, printed, reduce, reduce_entry, reduced, set_entry}
 use Rattle.type_laws.specs.EntryAccess.{HasNoEntry}
 use Rattle.type_laws.specs.ExpressionTypes.{IsNumber, IsTruth, Set, Truth, type_named}
-use Rattle.type_laws.specs.KeptRules.{ActionKeeps, AppliesEdges, AppliesVertices, ApplyFits, AssignFits, AssignsNumber, AssignsSet, AssignsTruth, BlockKeeps, EndFits, EndsFit, GivesMembers, GivesNumber, GivesTruth, Modifies, SeesWeights, VariableFits}
+use Rattle.type_laws.specs.KeptRules.{ActionKeeps, AppliesEdges, AppliesVertices, ApplyFits, AssignFits, AssignsNumber, AssignsSet, AssignsTruth, BlockKeeps, EndFits, EndsFit, GivesMembers}
+use Rattle.type_laws.specs.KeptRules.{GivesNumber, GivesTruth, Modifies, SeesWeights, VariableFits}
 use Rattle.type_laws.specs.Meanings as meaning
 use Rattle.type_laws.specs.ScopeMeanings.{meaning_of}
 use Rattle.type_laws.specs.Meanings.{IsNew, Known, closed_known, known_after, known_behind, labelled_known, variable_meaning, with_name}
 use Rattle.type_laws.proofs.PlainEntries.{ReadsNone, expression_reads_none}
 use Rattle.type_laws.proofs.TypedExpressions.{IsNumeric, IsOf}
-use Rattle.type_laws.proofs.KeptNames.{Matches, closed_kept, counted_kept, declared_kept, edge_function_entity, edges_are, expression_kept, filter_entity, labelled_kept, number_kept, number_value, number_variable, numeric_integer, set_kept, set_variable, truth_condition, truth_kept, truth_variable, used_kept, vector_entity, vector_kept, vertex_function_entity}
+use Rattle.type_laws.proofs.KeptNames.{Matches, closed_kept, counted_kept, declared_kept, edge_function_entity, edges_are, expression_kept, filter_entity, labelled_kept, number_kept, number_value}
+use Rattle.type_laws.proofs.KeptNames.{number_variable, numeric_integer, set_kept, set_variable, truth_condition, truth_kept, truth_variable, used_kept, vector_entity, vector_kept}
+use Rattle.type_laws.proofs.KeptNames.{vertex_function_entity}
 use Rattle.type_laws.proofs.Faultless.{both_none}
 
 -- initial and assigned values
@@ -157,7 +161,8 @@ modified_fine i c k m at edges ends f v fit modifies =
     ap is_some (subst (λ ws. lookup (nat_eq modifies.written) (slice_index_or ws modifies.index []) ≡ Some modifies.by) (sym m.written) modifies.writes) in
     let all = subst (λ e. GivesSet at (modified c at e x y (used c.scope f).value (used c.scope v).value)) (sym (edges_are (used c.scope edges).value modifies.weights e.1))
     (subst (λ g. GivesSet at (modified c at (entity.Edges modifies.weights) x y g (used c.scope v).value)) (sym (edge_function_entity (used c.scope f).value modifies.index modifies.weighted g.1))
-    (subst (λ w. GivesSet at (modified c at (entity.Edges modifies.weights) x y (entity.EdgeFunction modifies.index modifies.weighted) w)) (sym (vector_entity (used c.scope v).value modifies.written w.1))
+    (subst (λ w. GivesSet at (modified c at (entity.Edges modifies.weights) x y (entity.EdgeFunction modifies.index modifies.weighted) w))
+    (sym (vector_entity (used c.scope v).value modifies.written w.1))
     (modified_good c at x y modifies.weights modifies.index modifies.weighted modifies.written a.1 b.1 modifies.sees writes))) in (
       both_none (used c.scope edges).faults _ e.0 (both_none (end_of c.scope ends.from).faults _ a.0 (both_none (end_of c.scope ends.to).faults _ b.0
           (both_none (used c.scope f).faults _ g.0 (both_none (used c.scope v).faults _ w.0 all.0)))),

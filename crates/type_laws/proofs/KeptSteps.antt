@@ -21,14 +21,17 @@ use Rattle.expression_types.specs.ValueTree.{ValueTree}
 use Rattle.expression_types.specs.Faults.{WithFaults}
 use Rattle.types.specs.Checker.{CheckerTree, condition_slot, integer_slot, labelled, as_integer, condition_in, integer_in}
 use Rattle.types.specs.Initial.{initializer_condition, initializer_integer, initializer_of}
-use Rattle.types.specs.Step.{assign_step, assigned_step, at_own, declare_step, may_reduce, may_set, one_reduction, own_vertex, reduce_entry_step, reduce_step, reduced_as, reduced_step, same_endpoint, same_reduction, set_entry_step, step_after, step_in_place, step_typed, steps_after, steps_typed, with_writes, written_at, written_with}
+use Rattle.types.specs.Step.{assign_step, assigned_step, at_own, declare_step, may_reduce, may_set, one_reduction, own_vertex, reduce_entry_step, reduce_step, reduced_as, reduced_step, same_endpoint}
+use Rattle.types.specs.Step.{same_reduction, set_entry_step, step_after, step_in_place, step_typed, steps_after, steps_typed, with_writes, written_at, written_with}
 use Rattle.type_laws.specs.ExpressionTypes.{ExpressionHas, IsNumber, Vertex}
-use Rattle.type_laws.specs.KeptRules.{ActionKeeps, AgreesWith, AssignFits, AssignsNumber, AssignsSet, AssignsTruth, BlockKeeps, IsMain, MayHoldSets, MayReduce, MaySet, ReducesEntry, VariableFits, WrittenAt}
+use Rattle.type_laws.specs.KeptRules.{ActionKeeps, AgreesWith, AssignFits, AssignsNumber, AssignsSet, AssignsTruth, BlockKeeps, IsMain, MayHoldSets, MayReduce, MaySet, ReducesEntry, VariableFits}
+use Rattle.type_laws.specs.KeptRules.{WrittenAt}
 use Rattle.type_laws.specs.Meanings as meaning
 use Rattle.type_laws.specs.ScopeMeanings.{meanings_of}
 use Rattle.type_laws.specs.Meanings.{IsNew, Known, closed_known, known_after, known_behind, labelled_known, reduced_in, reduced_with, variable_meaning, with_name, with_reduction}
 use Rattle.type_laws.proofs.TypedExpressions.{IsOf, index_is_value}
-use Rattle.type_laws.proofs.KeptNames.{Matches, closed_kept, expression_kept, labelled_kept, number_kept, number_value, number_variable, numeric_integer, truth_kept, truth_variable, used_kept, vector_kept}
+use Rattle.type_laws.proofs.KeptNames.{Matches, closed_kept, expression_kept, labelled_kept, number_kept, number_value, number_variable, numeric_integer, truth_kept, truth_variable, used_kept}
+use Rattle.type_laws.proofs.KeptNames.{vector_kept}
 use Rattle.type_laws.proofs.KeptStatements.{declares, given_number, given_truth}
 use Rattle.type_laws.proofs.Faultless.{both_none}
 
@@ -84,7 +87,8 @@ assign_step_kept i c k user m at name initial (AssignsTruth means gives) =
     (subst (λ e. (assigned_step at g.value e).faults ≡ []) (sym is.1) (both_none (initializer_condition at g.value).faults [] x.1 refl)))
 assign_step_kept i c k user m at name initial (AssignsSet means may gives) = no_sets i user may
 
-reduce_step_kept : (i : Inside) (c : CheckerTree) (k : Known) → Matches i c k → (at : ℕ) (name : Identifier) (by : Reduction) (e : ExpressionTree) → found name.bytes k.names ≡ Some meaning.NumberVariable
+reduce_step_kept : (i : Inside) (c : CheckerTree) (k : Known) → Matches i c k → (at : ℕ) (name : Identifier) (by : Reduction) (e : ExpressionTree)
+    → found name.bytes k.names ≡ Some meaning.NumberVariable
     → IsNumber k.names i e → (reduce_step c.scope at name by e).faults ≡ []
 reduce_step_kept i c k m at name by e means number =
     let u = used_kept i c k m name meaning.NumberVariable means in
@@ -111,7 +115,8 @@ index_and_value : (i : Inside) (c : CheckerTree) (k : Known) → Matches i c k �
     → (index_value c.scope at index).faults ++ ((written_at at (own_vertex c.scope.inside) (index_value c.scope at index).value).faults ++ ((integer_in c.scope at e).faults ++ [])) ≡ []
 index_and_value i c k m at index e has number =
     let v = expression_kept i c k m at index (Vertex (own_vertex i)) has in
-    let here = subst (λ j. ExpressionHas (meanings_of c.scope.visible) j index (Vertex (own_vertex i))) (sym m.inside) (subst (λ n. ExpressionHas n i index (Vertex (own_vertex i))) (sym m.names) has) in
+    let here = subst (λ j. ExpressionHas (meanings_of c.scope.visible) j index (Vertex (own_vertex i))) (sym m.inside)
+    (subst (λ n. ExpressionHas n i index (Vertex (own_vertex i))) (sym m.names) has) in
     let is = index_is_value c.scope at index (Vertex (own_vertex i)) here in
     subst (λ x. x.faults ++ ((written_at at (own_vertex c.scope.inside) x.value).faults ++ ((integer_in c.scope at e).faults ++ [])) ≡ []) (sym is)
     (both_none (value_of c.scope at index).faults _ v.none

@@ -16,7 +16,9 @@ use Rattle.expression_types.specs.declared.scope.Inside.TheVariants as inside
 use Rattle.expression_types.specs.ScopeTree.{entered}
 use Rattle.types.specs.Block.{statements_typed}
 use Rattle.types.specs.Checker.{CheckerTree, condition_slot, declared_in, restarted, with_scope}
-use Rattle.types.specs.Declaration.{DeclaredTree, FunctionKindTree, MainKind, EdgeKind, VertexKind, FilterKind, NoKind, begins, declaration_typed, declare_constant_as, declare_function, declare_name, function_declared, has_all, inside_of, is_vertex, kind, kind_fits, literal_or_fault, loads, main_declared, next_name, only_edges, opened, parameter, parameters_declared, result_declared, steps_declared, with_main, takes_weight, is_int}
+use Rattle.types.specs.Declaration.{DeclaredTree, FunctionKindTree, MainKind, EdgeKind, VertexKind, FilterKind, NoKind, begins, declaration_typed, declare_constant_as, declare_function, declare_name}
+use Rattle.types.specs.Declaration.{function_declared, has_all, inside_of, is_vertex, kind, kind_fits, literal_or_fault, loads, main_declared, next_name, only_edges, opened, parameter}
+use Rattle.types.specs.Declaration.{parameters_declared, result_declared, steps_declared, with_main, takes_weight, is_int}
 use Rattle.types.specs.Initial.{InitializerTree, initializer_of, is_sound}
 use Rattle.types.specs.Literal.{literal_condition, literal_integer}
 use Rattle.types.specs.Step.{steps_typed, with_writes}
@@ -85,7 +87,8 @@ result_known At i c VertexKind (Some result) fits known none = absurd fits
 result_known At i c FilterKind (Some result) fits known none = declared_known At i c result.name (entity.ConditionVariable (condition_slot c)) known tt none
 result_known At i c NoKind (Some result) fits known none = absurd fits
 
-pub opened_known : (At : Vertices) (c : CheckerTree) (kind : FunctionKindTree) (parameters : List ParameterTree) (result : Option ParameterTree) → ParametersFit (takes_weight kind) At endpoint.Source parameters
+pub opened_known : (At : Vertices) (c : CheckerTree) (kind : FunctionKindTree) (parameters : List ParameterTree) (result : Option ParameterTree)
+    → ParametersFit (takes_weight kind) At endpoint.Source parameters
     → ResultFits kind result → IsKnown nowhere inside.Main c.scope → (opened c kind parameters result).faults ≡ [] → IsKnown At (inside_of kind) (opened c kind parameters result).value.scope
 opened_known At c kind parameters result fit fits known none =
     let e = with_writes (with_scope c (entered (inside_of kind) c.scope)) [] in

@@ -20,7 +20,9 @@ use Rattle.expression_types.specs.declared.scope.Entity.TheVariants as entity
 use Rattle.expression_types.specs.ScopeTree.{found, entered}
 use Rattle.types.specs.Block.{action_typed, behind, closed, statements_typed}
 use Rattle.types.specs.Checker.{CheckerTree, counted, declared_in, integer_slot, labelled, new_label, restarted, with_scope, without_ends, condition_in, integer_in}
-use Rattle.types.specs.Declaration.{DeclaredTree, FunctionKindTree, MainKind, EdgeKind, VertexKind, FilterKind, NoKind, declaration_typed, declarations_typed, declare_constant_as, declare_function, declare_name, function_declared, inside_of, kind, kind_fits, main_declared, opened, parameter, parameters_declared, result_declared, steps_declared, with_main, takes_weight}
+use Rattle.types.specs.Declaration.{DeclaredTree, FunctionKindTree, MainKind, EdgeKind, VertexKind, FilterKind, NoKind, declaration_typed, declarations_typed, declare_constant_as, declare_function}
+use Rattle.types.specs.Declaration.{declare_name, function_declared, inside_of, kind, kind_fits, main_declared, opened, parameter, parameters_declared, result_declared, steps_declared, with_main}
+use Rattle.types.specs.Declaration.{takes_weight}
 use Rattle.types.specs.Initial.{InitializerTree, initializer_of}
 use Rattle.type_laws.specs.Labels.{block_labels, inner_labels, labels_of, own_label}
 use Rattle.types.specs.Program.{opening, program_of, set_count}

@@ -18,8 +18,10 @@ use Rattle.expression_types.specs.ValueTree as value
 use Rattle.expression_types.specs.ValueTree.{ValueTree, named_set}
 use Rattle.types.specs.Block.{action_typed, behind, closed, statements_typed}
 use Rattle.types.specs.Checker.{CheckerTree, condition_slot, counted, declared_in, integer_slot, labelled, set_slot, as_index, condition_in, integer_in}
-use Rattle.types.specs.Initial.{ApplyEndTree, InitializerTree, edge_function, end_of, initializer_condition, initializer_integer, initializer_members, initializer_of, is_edges, is_error_end, is_wrong, lacks_weights, names_error, vertex_function}
-use Rattle.types.specs.Statement.{add_vertex, added, applied, apply, assign, assigned, declare_as, edges_applied, entry_reduced, entry_set, has_ends, print, printed, reduce, reduce_entry, reduced, set_applied, set_entry, vertices_applied}
+use Rattle.types.specs.Initial.{ApplyEndTree, InitializerTree, edge_function, end_of, initializer_condition, initializer_integer, initializer_members, initializer_of, is_edges, is_error_end, is_wrong}
+use Rattle.types.specs.Initial.{lacks_weights, names_error, vertex_function}
+use Rattle.types.specs.Statement.{add_vertex, added, applied, apply, assign, assigned, declare_as, edges_applied, entry_reduced, entry_set, has_ends, print, printed, reduce, reduce_entry, reduced}
+use Rattle.types.specs.Statement.{set_applied, set_entry, vertices_applied}
 use Rattle.type_laws.specs.LoopVariables.{IsOutside, KeepsInside, KeepsLoops, integers_behind}
 use Rattle.type_laws.proofs.Faultless.{no_left, no_right, not_empty}
 use Rattle.type_laws.proofs.KnownScopes.{labelled_scope}

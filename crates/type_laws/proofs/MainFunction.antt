@@ -12,7 +12,8 @@ use Rattle.typed_tree.specs.BlockTree.{BlockTree, Empty}
 use Rattle.expression_types.specs.declared.scope.Entity.TheVariants as entity
 use Rattle.types.specs.Block.{statements_typed}
 use Rattle.types.specs.Checker.{restarted, with_scope}
-use Rattle.types.specs.Declaration.{DeclaredTree, FunctionKindTree, MainKind, EdgeKind, VertexKind, FilterKind, NoKind, declaration_typed, declarations_typed, declare_constant_as, declare_function, declare_name, kind_of, main_bytes, opened, takes_nothing, with_main}
+use Rattle.types.specs.Declaration.{DeclaredTree, FunctionKindTree, MainKind, EdgeKind, VertexKind, FilterKind, NoKind, declaration_typed, declarations_typed, declare_constant_as, declare_function}
+use Rattle.types.specs.Declaration.{declare_name, kind_of, main_bytes, opened, takes_nothing, with_main}
 use Rattle.types.specs.Initial.{InitializerTree, initializer_of}
 use Rattle.type_laws.specs.MainFunction.{DeclaresMain, IsMain, functions_named}
 use Rattle.type_laws.specs.NewNames.{DeclarationsDeclareNew, IsNew}

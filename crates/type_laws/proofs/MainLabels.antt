@@ -19,10 +19,12 @@ use Rattle.expression_types.specs.ValueTree as value
 use Rattle.expression_types.specs.ValueTree.{ValueTree, named_set}
 use Rattle.types.specs.Block.{action_typed, behind, closed, statements_typed}
 use Rattle.types.specs.Checker.{CheckerTree, counted, declared_in, integer_slot, labelled, new_label, restarted, with_scope, as_index, condition_in, integer_in}
-use Rattle.types.specs.Declaration.{DeclaredTree, FunctionKindTree, MainKind, EdgeKind, VertexKind, FilterKind, NoKind, declaration_typed, declarations_typed, declare_constant_as, declare_function, declare_name, kind, opened, with_main}
+use Rattle.types.specs.Declaration.{DeclaredTree, FunctionKindTree, MainKind, EdgeKind, VertexKind, FilterKind, NoKind, declaration_typed, declarations_typed, declare_constant_as, declare_function}
+use Rattle.types.specs.Declaration.{declare_name, kind, opened, with_main}
 use Rattle.types.specs.Initial.{ApplyEndTree, InitializerTree, edge_function, end_of, initializer_of, is_edges, names_error, is_error_end, is_wrong, vertex_function, lacks_weights}
 use Rattle.types.specs.Program.{main_of, opening, program_of, set_count}
-use Rattle.types.specs.Statement.{add_vertex, added, applied, apply, assign, assigned, declare_as, edges_applied, entry_reduced, entry_set, has_ends, print, printed, reduce, reduce_entry, reduced, set_applied, set_entry, vertices_applied}
+use Rattle.types.specs.Statement.{add_vertex, added, applied, apply, assign, assigned, declare_as, edges_applied, entry_reduced, entry_set, has_ends, print, printed, reduce, reduce_entry, reduced}
+use Rattle.types.specs.Statement.{set_applied, set_entry, vertices_applied}
 use Rattle.type_laws.specs.LabelIndices.{LabelsAreInOrder, inner_indices, label_indices, own_index}
 use Rattle.type_laws.specs.Numbers.{InOrder}
 use Rattle.type_laws.proofs.Faultless.{no_left, no_right, not_empty}
@@ -169,13 +171,16 @@ mutual
   action_follows c (source.Reduce name by e) none =
       plain_follows (met c) (reduce c.scope name.at name by e).value (reduced_plain name.at by (value_of c.scope name.at e).value (used c.scope name).value)
   action_follows c (source.SetEntry vector index e) none =
-      plain_follows (met c) (set_entry c.scope vector.at vector index e).value (set_plain (vector_index c.scope vector.at vector).value (as_index vector.at (value_of c.scope vector.at index).value).value (integer_in c.scope vector.at e).value)
+      plain_follows (met c) (set_entry c.scope vector.at vector index e).value (set_plain (vector_index c.scope vector.at vector).value
+      (as_index vector.at (value_of c.scope vector.at index).value).value (integer_in c.scope vector.at e).value)
   action_follows c (source.ReduceEntry vector index by e) none =
-      plain_follows (met c) (reduce_entry c.scope vector.at vector index by e).value (entry_plain (vector_index c.scope vector.at vector).value (as_index vector.at (value_of c.scope vector.at index).value).value by (integer_in c.scope vector.at e).value)
+      plain_follows (met c) (reduce_entry c.scope vector.at vector index by e).value
+      (entry_plain (vector_index c.scope vector.at vector).value (as_index vector.at (value_of c.scope vector.at index).value).value by (integer_in c.scope vector.at e).value)
   action_follows c (source.AddVertex set e) none =
       plain_follows (met c) (add_vertex c.scope set.at set e).value (added_plain set.at (value_of c.scope set.at e).value (used c.scope set).value)
   action_follows c (source.Apply target ends function) none =
-      plain_follows (met c) (apply c.scope target.at target ends function).value (applied_plain target.at (used c.scope target).value (end_of c.scope ends.from).value (end_of c.scope ends.to).value (has_ends ends) (used c.scope function).value)
+      plain_follows (met c) (apply c.scope target.at target ends function).value
+      (applied_plain target.at (used c.scope target).value (end_of c.scope ends.from).value (end_of c.scope ends.to).value (has_ends ends) (used c.scope function).value)
 
   statements_follow : (n : ℕ) (c : CheckerTree) (so_far : BlockTree) (block : source.BlockTree) → (statements_typed c so_far block).faults ≡ [] → Follow n (label_indices so_far) (met c)
       → BlockFollows n (statements_typed c so_far block).value

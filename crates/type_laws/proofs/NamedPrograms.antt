@@ -1,5 +1,6 @@
 -- A program without a fault names visible vertex sets apart, and asks for written vectors.
-use Rattle.std.proofs.Common.{◌≡◌, refl, ap, sym, subst, ◌∙◌, inl, inr, ◌⊎◌, ℕ, zero, suc, ◌+◌, ◌<◌, pos, Bool, true, false, ◌&&◌, if◌then◌else◌, List, [], ◌∷◌, ◌++◌, length, length-append, arith, nat_eq, Option, Some, None}
+use Rattle.std.proofs.Common.{◌≡◌, refl, ap, sym, subst, ◌∙◌, inl, inr, ◌⊎◌, ℕ, zero, suc, ◌+◌, ◌<◌, pos, Bool, true, false, ◌&&◌, if◌then◌else◌, List, [], ◌∷◌, ◌++◌, length, length-append, arith}
+use Rattle.std.proofs.Common.{nat_eq, Option, Some, None}
 use Rattle.std.specs.Prelude.{slice_get, slice_index_or, is_some}
 use Rattle.std.specs.Str.{bytes_eq}
 use Rattle.std.specs.List.{Contains}
@@ -24,7 +25,10 @@ use Rattle.expression_types.specs.declared.scope.Inside.TheVariants as inside
 use Rattle.expression_types.specs.ScopeTree.{entered, sets_of}
 use Rattle.types.specs.Block.{statements_typed}
 use Rattle.types.specs.Checker.{CheckerTree, declared_in, integer_slot, labelled, restarted, with_scope}
-use Rattle.types.specs.Declaration.{DeclaredTree, FunctionKindTree, MainKind, EdgeKind, VertexKind, FilterKind, NoKind, begins, declaration_typed, declarations_typed, declare_constant_as, declare_function, declare_name, function_declared, function_of, has_all, inside_of, is_bool, is_vertex, kind, kind_fits, kind_of, literal_or_fault, loads, main_bytes, main_declared, next_name, only_edges, opened, parameter, parameters_declared, result_declared, steps_declared, takes_nothing, with_main, takes_weight, is_int}
+use Rattle.types.specs.Declaration.{DeclaredTree, FunctionKindTree, MainKind, EdgeKind, VertexKind, FilterKind, NoKind, begins, declaration_typed, declarations_typed, declare_constant_as}
+use Rattle.types.specs.Declaration.{declare_function, declare_name, function_declared, function_of, has_all, inside_of, is_bool, is_vertex, kind, kind_fits, kind_of, literal_or_fault, loads}
+use Rattle.types.specs.Declaration.{main_bytes, main_declared, next_name, only_edges, opened, parameter, parameters_declared, result_declared, steps_declared, takes_nothing, with_main, takes_weight}
+use Rattle.types.specs.Declaration.{is_int}
 use Rattle.types.specs.Initial.{InitializerTree, initializer_of, is_sound, writes_vector}
 use Rattle.types.specs.Literal.{literal_condition, literal_integer}
 use Rattle.types.specs.Program.{main_of, opening, program_of, set_count}
@@ -36,7 +40,8 @@ use Rattle.type_laws.proofs.EdgeAdds.{Adds, adds_none, is_written, steps_add}
 use Rattle.type_laws.proofs.EntryAccess.{edge_body, named}
 use Rattle.type_laws.proofs.Faultless.{no_left, no_right, not_empty}
 use Rattle.type_laws.proofs.KnownDeclarations.{AllKnown, declaration_known, opened_known, ParametersFit}
-use Rattle.type_laws.proofs.NamedSets.{EntityStands, Holds, InNames, MainFits, SetsFit, Visible, WrittenFits, all_stand, declared_count, declared_sets, get_cases, labelled_written, other_declared, statements_fit}
+use Rattle.type_laws.proofs.NamedSets.{EntityStands, Holds, InNames, MainFits, SetsFit, Visible, WrittenFits, all_stand, declared_count, declared_sets, get_cases, labelled_written, other_declared}
+use Rattle.type_laws.proofs.NamedSets.{statements_fit}
 use Rattle.type_laws.proofs.NamesGrow.{Begins, declared_grow, opened_grow, statements_grow, steps_grow}
 use Rattle.type_laws.proofs.ResolvedPrograms.{sets_counted}
 use Rattle.type_laws.proofs.ResolvedScopes.{get_before, get_last}
@@ -116,7 +121,8 @@ other_shape (x ∷ y ∷ []) None =
     if_shape (is_vertex x.declared && is_vertex y.declared) (EdgeKind false) NoKind (x ∷ y ∷ []) None (λ b. and_parts (is_vertex x.declared) (is_vertex y.declared) b) tt
 other_shape (x ∷ y ∷ []) (Some result) = tt
 other_shape (x ∷ y ∷ z ∷ []) None =
-    if_shape (is_vertex x.declared && is_vertex y.declared && is_int z.declared) (EdgeKind true) NoKind (x ∷ y ∷ z ∷ []) None (λ b. three_parts (is_vertex x.declared) (is_vertex y.declared) (is_int z.declared) b) tt
+    if_shape (is_vertex x.declared && is_vertex y.declared && is_int z.declared) (EdgeKind true) NoKind (x ∷ y ∷ z ∷ []) None
+    (λ b. three_parts (is_vertex x.declared) (is_vertex y.declared) (is_int z.declared) b) tt
   where
     three_parts : (a b c : Bool) → (a && b && c) ≡ true → (a ≡ true) × (b ≡ true) × (c ≡ true)
     three_parts a b c is = let all = and_parts (a && b) c is in let both = and_parts a b all.0 in (both.0, both.1, all.1)
@@ -132,7 +138,8 @@ parameters_write_nothing w c at [] = refl
 parameters_write_nothing w c at (x ∷ others) = parameters_write_nothing w (declared_in c x.name (parameter w at x.declared)).value endpoint.Destination others
 
 -- what the statements of an edge function add, where nothing was written before
-edge_adds : (d : DeclaredTree) (weighted : Bool) (parameters : List ParameterTree) (src dst : List ℕ) (body : source.BlockTree) → ParametersFit weighted (named src dst) endpoint.Source parameters → AllKnown d
+edge_adds : (d : DeclaredTree) (weighted : Bool) (parameters : List ParameterTree) (src dst : List ℕ) (body : source.BlockTree) → ParametersFit weighted (named src dst) endpoint.Source parameters
+    → AllKnown d
     → (opened d.checker (EdgeKind weighted) parameters None).faults ≡ [] → (steps_typed (opened d.checker (EdgeKind weighted) parameters None).value NoStep body).faults ≡ []
     → Adds [] (steps_typed (opened d.checker (EdgeKind weighted) parameters None).value NoStep body).value.1.writes
     (steps_write (steps_typed (opened d.checker (EdgeKind weighted) parameters None).value NoStep body).value.0)
@@ -144,7 +151,8 @@ edge_adds d weighted parameters src dst body fits known first none =
     steps_add (edge_body src dst) [] c.value NoStep body inner none (subst (λ writes. Adds [] writes []) (sym nothing) (adds_none []))
 
 -- a list with one more, at an index
-index_cases : {A : Type 0} (xs : List A) (last other : A) (k : ℕ) → (slice_index_or (xs ++ last ∷ []) k other ≡ slice_index_or xs k other) ⊎ ((k ≡ length xs) × (slice_index_or (xs ++ last ∷ []) k other ≡ last))
+index_cases : {A : Type 0} (xs : List A) (last other : A) (k : ℕ) → (slice_index_or (xs ++ last ∷ []) k other ≡ slice_index_or xs k other)
+    ⊎ ((k ≡ length xs) × (slice_index_or (xs ++ last ∷ []) k other ≡ last))
 index_cases [] last other zero = inr (refl, refl)
 index_cases [] last other (suc k) = inl refl
 index_cases (x ∷ xs) last other zero = inl refl
@@ -193,15 +201,19 @@ module _ (p : ProgramTree) where
       → IsWithin (declare_constant_as d at name initial type initializer).value → IsWithin d
   constant_within d at name initial declared.Int initializer x = record { names = λ k n is. x.names k n (get_before d.checker.names (name.bytes ∷ []) k n is); sets = x.sets; functions = x.functions }
   constant_within d at name initial declared.Bool initializer x = record { names = λ k n is. x.names k n (get_before d.checker.names (name.bytes ∷ []) k n is); sets = x.sets; functions = x.functions }
-  constant_within d at name initial declared.Vertex initializer x = record { names = λ k n is. x.names k n (get_before d.checker.names (name.bytes ∷ []) k n is); sets = x.sets; functions = x.functions }
+  constant_within d at name initial declared.Vertex initializer x = record { names = λ k n is. x.names k n (get_before d.checker.names (name.bytes ∷ []) k n is); sets = x.sets; functions =
+      x.functions }
   constant_within d at name initial declared.VertexSet initializer x = record {
     names = λ k n is. x.names k n (get_before d.checker.names (name.bytes ∷ []) k n is);
     sets = λ k n is. x.sets k n (get_before d.sets (next_name d ∷ []) k n is);
     functions = x.functions;
   }
-  constant_within d at name initial declared.Vector initializer x = record { names = λ k n is. x.names k n (get_before d.checker.names (name.bytes ∷ []) k n is); sets = x.sets; functions = x.functions }
-  constant_within d at name initial declared.EdgeSet initializer x = record { names = λ k n is. x.names k n (get_before d.checker.names (name.bytes ∷ []) k n is); sets = x.sets; functions = x.functions }
-  constant_within d at name initial declared.WeightedEdgeSet initializer x = record { names = λ k n is. x.names k n (get_before d.checker.names (name.bytes ∷ []) k n is); sets = x.sets; functions = x.functions }
+  constant_within d at name initial declared.Vector initializer x = record { names = λ k n is. x.names k n (get_before d.checker.names (name.bytes ∷ []) k n is); sets = x.sets; functions =
+      x.functions }
+  constant_within d at name initial declared.EdgeSet initializer x = record { names = λ k n is. x.names k n (get_before d.checker.names (name.bytes ∷ []) k n is); sets = x.sets; functions =
+      x.functions }
+  constant_within d at name initial declared.WeightedEdgeSet initializer x = record { names = λ k n is. x.names k n (get_before d.checker.names (name.bytes ∷ []) k n is); sets = x.sets; functions =
+      x.functions }
 
   function_within : (d : DeclaredTree) (kind : FunctionKindTree) (name : Identifier) (steps : FunctionStatementsTree) → IsWithin (function_declared d kind name steps).value → IsWithin d
   function_within d (MainKind fits) name steps x = record { names = λ k n is. x.names k n (get_before d.checker.names (name.bytes ∷ []) k n is); sets = x.sets; functions = x.functions }
@@ -472,7 +484,8 @@ module _ (p : ProgramTree) where
       let rest = parameters_declared w d.value endpoint.Destination others in
       let between : Begins d.value.names p.names = λ k n is. within k n (parameters_keep w d.value endpoint.Destination others k n is) in
       parameters_fit w functions names d.value endpoint.Destination others (no_right d.faults rest.faults none) within
-      (other_declared p functions names c x.name e (no_left d.faults rest.faults none) between (parameter_stands (InNames names) at (is_vertex x.declared) (w && is_int x.declared)) (parameter_sets at (is_vertex x.declared) (w && is_int x.declared)) fits)
+      (other_declared p functions names c x.name e (no_left d.faults rest.faults none) between (parameter_stands (InNames names) at (is_vertex x.declared) (w && is_int x.declared))
+      (parameter_sets at (is_vertex x.declared) (w && is_int x.declared)) fits)
     where
       parameters_keep : (w : Bool) (c : CheckerTree) (at : Endpoint) (parameters : List ParameterTree) → Begins c.names (parameters_declared w c at parameters).value.names
       parameters_keep w c at [] k n is = is
@@ -484,7 +497,8 @@ module _ (p : ProgramTree) where
   result_fits functions names c fits None none within all = all
   result_fits functions names c fits (Some result) none within all = other_declared p functions names c result.name entity.Error none within tt refl all
 
-  main_opened : (functions : ℕ) (names : SetNames) (c : CheckerTree) (fits : Bool) (parameters : List ParameterTree) (result : Option ParameterTree) → (opened c (MainKind fits) parameters result).faults ≡ []
+  main_opened : (functions : ℕ) (names : SetNames) (c : CheckerTree) (fits : Bool) (parameters : List ParameterTree) (result : Option ParameterTree)
+      → (opened c (MainKind fits) parameters result).faults ≡ []
       → Begins (opened c (MainKind fits) parameters result).value.names p.names → MainFits p functions names c → MainFits p functions names (opened c (MainKind fits) parameters result).value
   main_opened functions names c fits parameters result none within all =
       let e = with_writes (with_scope c (entered inside.Main c.scope)) [] in
@@ -493,7 +507,8 @@ module _ (p : ProgramTree) where
       let sets : SetsFit p (InNames names) e.scope = record { known = all.sets.known; named = all.sets.named; apart = all.sets.apart } in
       let start : MainFits p functions names e = record { sets = sets; count = all.count; low = all.low; written = all.written } in
       let between : Begins d.value.names p.names = λ k n is. within k n (result_keeps d.value fits result k n is) in
-      result_fits functions names d.value fits result (no_right d.faults r.faults none) within (parameters_fit false functions names e endpoint.Source parameters (no_left d.faults r.faults none) between start)
+      result_fits functions names d.value fits result (no_right d.faults r.faults none) within
+      (parameters_fit false functions names e endpoint.Source parameters (no_left d.faults r.faults none) between start)
     where
       result_keeps : (c : CheckerTree) (fits : Bool) (result : Option ParameterTree) → Begins c.names (result_declared c (MainKind fits) result).value.names
       result_keeps c fits None k n is = is
@@ -542,13 +557,15 @@ module _ (p : ProgramTree) where
       let both = no_right c.faults (b.faults ++ (e.faults ++ [])) none in
       let end = main_end_within d fits name parameters result body within in
       let between : Begins c.value.names p.names = λ k n is. end.names k n (statements_grow c.value Empty body k n is) in
-      let first = main_opened functions names (restarted d.checker) fits parameters result (no_left c.faults (b.faults ++ (e.faults ++ [])) none) between (main_start d (main_within d fits name parameters result body within) all) in
+      let first = main_opened functions names (restarted d.checker) fits parameters result (no_left c.faults (b.faults ++ (e.faults ++ [])) none) between
+      (main_start d (main_within d fits name parameters result body within) all) in
       let inner = statements_fit p functions names c.value Empty body (no_left b.faults (e.faults ++ []) both) end.names tt first in
       let named = no_left e.faults [] (no_right b.faults (e.faults ++ []) both) in
       let left = no_left (declared_in (with_scope b.value.1 d.checker.scope) name entity.Main).faults [] named in
       let again : CheckerFits d.sets functions (with_scope b.value.1 d.checker.scope) = record { sets = all.sets; count = all.count; written = inner.1.written } in
       with_main_fits e.value fits b.value.0
-      (no_set d.sets functions (with_scope b.value.1 d.checker.scope) name entity.Main left (with_main_within e.value fits b.value.0 within).names tt refl again) known all.main (length d.sets, inner.0)
+      (no_set d.sets functions (with_scope b.value.1 d.checker.scope) name entity.Main left (with_main_within e.value fits b.value.0 within).names tt refl again) known all.main
+      (length d.sets, inner.0)
 
   -- declarations
   declared_function_fits : (d : DeclaredTree) (at : ℕ) (name : Identifier) (parameters : List ParameterTree) (result : Option ParameterTree) (body : source.BlockTree) (kind : FunctionKindTree)
@@ -560,7 +577,8 @@ module _ (p : ProgramTree) where
   declared_function_fits d at name parameters result body FilterKind shape none within known all = steps_fits d at FilterKind name parameters result body tt none within known all
   declared_function_fits d at name parameters result body NoKind shape none within known all = steps_fits d at NoKind name parameters result body tt none within known all
 
-  declaration_fits : (d : DeclaredTree) (x : DeclarationTree) → (declaration_typed d x).faults ≡ [] → IsWithin (declaration_typed d x).value → DeclaredFits d → DeclaredFits (declaration_typed d x).value
+  declaration_fits : (d : DeclaredTree) (x : DeclarationTree) → (declaration_typed d x).faults ≡ [] → IsWithin (declaration_typed d x).value → DeclaredFits d
+      → DeclaredFits (declaration_typed d x).value
   declaration_fits d (source.Constant at x initial) none within all =
       let initializer = initializer_of d.checker at initial in
       constant_fits d at x.name initial x.declared initializer.value (no_right initializer.faults _ none) within (declaration_known d (source.Constant at x initial) all.known none) all

@@ -1,5 +1,6 @@
 -- The statements of a main without a fault name visible vertex sets apart, and ask for written vectors.
-use Rattle.std.proofs.Common.{◌≡◌, ◌≢◌, refl, ap, sym, subst, ◌∙◌, inl, inr, ◌⊎◌, ℕ, zero, suc, ◌+◌, ◌≤◌, ℤ, pos, negsuc, Bool, true, false, ◌||◌, if◌then◌else◌, List, [], ◌∷◌, ◌++◌, length, length-append, map, arith, Option, Some, None}
+use Rattle.std.proofs.Common.{◌≡◌, ◌≢◌, refl, ap, sym, subst, ◌∙◌, inl, inr, ◌⊎◌, ℕ, zero, suc, ◌+◌, ◌≤◌, ℤ, pos, negsuc, Bool, true, false, ◌||◌, if◌then◌else◌, List, [], ◌∷◌, ◌++◌, length}
+use Rattle.std.proofs.Common.{length-append, map, arith, Option, Some, None}
 use Rattle.std.specs.Prelude.{slice_get}
 use Rattle.std.specs.List.{AllByRecursion, Contains}
 use Rattle.std.proofs.lemmas.List.{map-append}
@@ -27,8 +28,11 @@ use Rattle.expression_types.specs.ValueTree as value
 use Rattle.expression_types.specs.ValueTree.{ValueTree, named_set}
 use Rattle.types.specs.Block.{action_typed, behind, closed, statements_typed}
 use Rattle.types.specs.Checker.{CheckerTree, condition_slot, counted, declared_in, integer_slot, labelled, new_label, set_slot, as_index, as_members, condition_in, integer_in}
-use Rattle.types.specs.Initial.{ApplyEndTree, InitializerTree, Typed, Members, Loaded, Degrees, ErrorInitializer, edge_function, end_of, ends_given, filter_function, filter_named, filtered, filtered_by, given_filter, initializer_condition, initializer_integer, initializer_members, initializer_of, is_edges, is_error_end, is_wrong, loaded, modified, modified_by, names_error, new_set, of_edges, vector_of, vertex_function, writes_vector, lacks_weights}
-use Rattle.types.specs.Statement.{add_vertex, added, applied, apply, assign, assigned, declare_as, edges_applied, entry_reduced, entry_set, has_ends, print, printed, reduce, reduce_entry, reduced, set_applied, set_entry, vertices_applied}
+use Rattle.types.specs.Initial.{ApplyEndTree, InitializerTree, Typed, Members, Loaded, Degrees, ErrorInitializer, edge_function, end_of, ends_given, filter_function, filter_named, filtered}
+use Rattle.types.specs.Initial.{filtered_by, given_filter, initializer_condition, initializer_integer, initializer_members, initializer_of, is_edges, is_error_end, is_wrong, loaded, modified}
+use Rattle.types.specs.Initial.{modified_by, names_error, new_set, of_edges, vector_of, vertex_function, writes_vector, lacks_weights}
+use Rattle.types.specs.Statement.{add_vertex, added, applied, apply, assign, assigned, declare_as, edges_applied, entry_reduced, entry_set, has_ends, print, printed, reduce, reduce_entry, reduced}
+use Rattle.types.specs.Statement.{set_applied, set_entry, vertices_applied}
 use Rattle.type_laws.specs.AskedVectors.{AsksForWritten, ValueAsksForWritten}
 use Rattle.type_laws.specs.EachStatement.{HoldsInside, HoldsOfEach, SetNames, names_after}
 use Rattle.type_laws.specs.VisibleSets.{EndIsVisible, EndsAreVisible, IsVisible, NamesSets, SetsAreVisible, ValueIsVisible}
@@ -118,7 +122,9 @@ module _ (p : ProgramTree) where
   all_stand V W more (x ∷ others) all = (entity_stands V W more x.1 all.0, all_stand V W more others all.1)
 
   -- a declaration of a name, of a set at an index or of something else
-  module _ (V W : Visible) (c : CheckerTree) (name : Identifier) (e : Entity) (none : (declared_in c name e).faults ≡ []) (there : slice_get p.names (length c.names) ≡ Some name.bytes) (fits : SetsFit V c.scope) (more : (index own : ℕ) → V index own → W index own) (at : ℕ) (less : (index own : ℕ) → W index own → V index own ⊎ ((index ≡ at) × (own ≡ length c.names))) (stands : EntityStands W e) where
+  module _ (V W : Visible) (c : CheckerTree) (name : Identifier) (e : Entity) (none : (declared_in c name e).faults ≡ []) (there : slice_get p.names (length c.names) ≡ Some name.bytes)
+      (fits : SetsFit V c.scope) (more : (index own : ℕ) → V index own → W index own) (at : ℕ) (less : (index own : ℕ) → W index own → V index own ⊎ ((index ≡ at) × (own ≡ length c.names)))
+      (stands : EntityStands W e) where
     is_name : name_at p.names (length c.names) ≡ name.bytes
     is_name = ap or_empty there
 
@@ -258,7 +264,8 @@ module _ (p : ProgramTree) where
     modified_stands names c at e a b f x from to written =
         if_initializer names (names_error e || is_error_end a || is_error_end b || names_error f || names_error x) _ _ (λ is. tt)
         (if_initializer names (is_edges e) _ _
-        (λ is. if_initializer names (is_wrong a || is_wrong b || lacks_weights e f) _ _ (λ wrong. tt) (modified_by_stands names c at (ends_given a b) (edge_function f) (vector_of x) (from, to) written)) tt)
+        (λ is. if_initializer names (is_wrong a || is_wrong b || lacks_weights e f) _ _ (λ wrong. tt)
+        (modified_by_stands names c at (ends_given a b) (edge_function f) (vector_of x) (from, to) written)) tt)
 
     new_set_stands : (names : SetNames) (at : ℕ) (n : ℤ) → InitializerStands names (new_set at n).value
     new_set_stands names at (pos zero) = (tt, tt)
@@ -351,7 +358,8 @@ module _ (p : ProgramTree) where
     set_applied_plain names at ends f (Some slot) is =
         if_plain names ends _ _ ((tt, tt), tt, refl) (vertices_plain names at slot (names_error f) (vertex_function f) is)
 
-    applied_plain : (names : SetNames) (at : ℕ) (t : Entity) (a b : ApplyEndTree) (ends : Bool) (f : Entity) → Stands names t → EndIsVisible names (given_filter a) → EndIsVisible names (given_filter b)
+    applied_plain : (names : SetNames) (at : ℕ) (t : Entity) (a b : ApplyEndTree) (ends : Bool) (f : Entity) → Stands names t → EndIsVisible names (given_filter a)
+    → EndIsVisible names (given_filter b)
         → Plain names (applied at t a b ends f).value
     applied_plain names at t a b ends f target from to =
         if_plain names (names_error t) _ _ ((tt, tt), tt, refl) (if_plain names (is_edges t) _ _
@@ -453,7 +461,8 @@ module _ (p : ProgramTree) where
     left_again names others c d fits inner = record { sets = fits.sets; count = fits.count; low = fits.low; written = inner.written }
 
     mutual
-      action_fits : (names : SetNames) (c : CheckerTree) (action : source.StatementKindTree) → (action_typed c action).faults ≡ [] → Begins (action_typed c action).value.1.names p.names → MainFits functions names c
+      action_fits : (names : SetNames) (c : CheckerTree) (action : source.StatementKindTree) → (action_typed c action).faults ≡ [] → Begins (action_typed c action).value.1.names p.names
+      → MainFits functions names c
           → ActionFits names (action_typed c action).value
       action_fits names c (source.Declare at x initial) none begins fits =
           let initializer = initializer_of c at initial in

@@ -27,12 +27,15 @@ use Rattle.expression_types.specs.ValueTree.{ValueTree, Integer, Condition, Vert
 use Rattle.expression_types.specs.Faults.{WithFaults, fault_at, sure, ◌>>=◌}
 use Rattle.types.specs.Checker.{CheckerTree, declared_in, labelled, new_label, as_condition, as_index, as_integer, as_members, no_index}
 use Rattle.types.specs.Declaration.{begins, literal_or_fault, wanted}
-use Rattle.types.specs.Initial.{ApplyEndTree, InitializerTree, Typed, Members, Loaded, Degrees, ErrorInitializer, edge_function, ends_given, filter_function, filtered_by, initializer_condition, initializer_integer, initializer_members, is_degrees, is_edges, is_error_end, is_sound, is_wrong, lacks_weights, loaded, modified, modified_by, names_error, new_set, of_edges, vector_of, vertex_function, writes_vector, filtered}
+use Rattle.types.specs.Initial.{ApplyEndTree, InitializerTree, Typed, Members, Loaded, Degrees, ErrorInitializer, edge_function, ends_given, filter_function, filtered_by, initializer_condition}
+use Rattle.types.specs.Initial.{initializer_integer, initializer_members, is_degrees, is_edges, is_error_end, is_sound, is_wrong, lacks_weights, loaded, modified, modified_by, names_error, new_set}
+use Rattle.types.specs.Initial.{of_edges, vector_of, vertex_function, writes_vector, filtered}
 use Rattle.types.specs.Literal.{literal_integer}
 use Rattle.types.specs.Program.{main_of}
 use Rattle.types.specs.Statement.{no_action, added, applied, assigned, edges_applied, printed, reduced, set_applied, vertices_applied}
 use Rattle.types.specs.Step.{assigned_step, at_own, may_reduce, may_set, one_reduction, reduced_as, reduced_step, same_endpoint, same_reduction, written_at, written_with}
-use Rattle.type_laws.specs.BrokenRules.{adds, applies, assigns_in_function, assigns_in_main, gives_bool, gives_int, gives_set, is_edge_function, is_filter, is_one, is_zero, may_be_bool, may_be_int, may_be_set, may_be_written, mixes, modifies, reduced_otherwise, reduces}
+use Rattle.type_laws.specs.BrokenRules.{adds, applies, assigns_in_function, assigns_in_main, gives_bool, gives_int, gives_set, is_edge_function, is_filter, is_one, is_zero, may_be_bool, may_be_int}
+use Rattle.type_laws.specs.BrokenRules.{may_be_set, may_be_written, mixes, modifies, reduced_otherwise, reduces}
 use Rattle.type_laws.specs.ExpressionRules.{holds_entry}
 use Rattle.type_laws.specs.SourceParts.{NewName}
 use Rattle.type_laws.proofs.SplitFaults.{faults}
@@ -172,7 +175,8 @@ modified_if at false false wrong fits m is = refl
 
 pub modified_own : (c : CheckerTree) (at : ℕ) (e : Entity) (a b : ApplyEndTree) (f v : Entity) (faulty : Bool)
     → (names_error e || is_error_end a || is_error_end b || names_error f || names_error v) ≡ faulty
-    → (modified c at e a b f v).faults ≡ fault_if at rule.WrongType (not (faulty || (is_edges e && (not (is_wrong a || is_wrong b || lacks_weights e f) && modifies c.written (edge_function f) (vector_of v)))))
+    → (modified c at e a b f v).faults ≡ fault_if at rule.WrongType (not (faulty
+    || (is_edges e && (not (is_wrong a || is_wrong b || lacks_weights e f) && modifies c.written (edge_function f) (vector_of v)))))
 modified_own c at e a b f v faulty is =
     let m = modified_by c at (ends_given a b) (edge_function f) (vector_of v) in
     let fits = modifies c.written (edge_function f) (vector_of v) in
@@ -241,7 +245,8 @@ set_own at has f None = refl
 set_own at has f (Some slot) =
     set_if at has (names_error f || is_some (vertex_function f)) (vertices_applied at slot (names_error f) (vertex_function f)) (vertices_own at slot (names_error f) (vertex_function f))
 
-applied_if : (at : ℕ) (faulty edges wrong fits set_fits : Bool) (m n : WithFaults StatementKindTree) → m.faults ≡ fault_if at rule.WrongType (not fits) → n.faults ≡ fault_if at rule.WrongType (not set_fits)
+applied_if : (at : ℕ) (faulty edges wrong fits set_fits : Bool) (m n : WithFaults StatementKindTree) → m.faults ≡ fault_if at rule.WrongType (not fits)
+    → n.faults ≡ fault_if at rule.WrongType (not set_fits)
     → (if faulty then sure no_action else (if edges then (if wrong then fault_at at rule.WrongType no_action else m) else n)).faults
     ≡ fault_if at rule.WrongType (not (faulty || (if edges then not wrong && fits else set_fits)))
 applied_if at true edges wrong fits set_fits m n one other = refl
@@ -293,7 +298,8 @@ written_with_own : (at vector : ℕ) (by : Reduction) (writes : List (ℕ × Red
 written_with_own at vector by writes None = refl
 written_with_own at vector by writes (Some first) = reduced_as_own at (same_reduction first by) writes
 
-one_reduction_own : (at : ℕ) (vector : Option ℕ) (by : Reduction) (writes : List (ℕ × Reduction)) → (one_reduction at vector by writes).faults ≡ fault_if at rule.MixedReductions (mixes writes vector by)
+one_reduction_own : (at : ℕ) (vector : Option ℕ) (by : Reduction) (writes : List (ℕ × Reduction))
+    → (one_reduction at vector by writes).faults ≡ fault_if at rule.MixedReductions (mixes writes vector by)
 one_reduction_own at None by writes = refl
 one_reduction_own at (Some vector) by writes = written_with_own at vector by writes (lookup (nat_eq vector) writes)
 

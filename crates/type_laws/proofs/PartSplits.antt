@@ -22,7 +22,9 @@ use Rattle.expression_types.specs.ScopeTree.{ScopeTree}
 use Rattle.expression_types.specs.ValueTree.{is_error}
 use Rattle.types.specs.Block.{behind, statements_typed, action_typed}
 use Rattle.types.specs.Checker.{CheckerTree, counted, declared_in, labelled, restarted, with_scope, as_index}
-use Rattle.types.specs.Declaration.{DeclaredTree, FunctionKindTree, MainKind, EdgeKind, VertexKind, FilterKind, NoKind, begins, declarations_typed, declaration_typed, declare_constant_as, declare_function, declare_name, declare_edges, kind, literal_or_fault, loads, next_name, only_edges, opened, parameters_declared, parameter, result_declared, result_entity, has_all}
+use Rattle.types.specs.Declaration.{DeclaredTree, FunctionKindTree, MainKind, EdgeKind, VertexKind, FilterKind, NoKind, begins, declarations_typed, declaration_typed, declare_constant_as}
+use Rattle.types.specs.Declaration.{declare_function, declare_name, declare_edges, kind, literal_or_fault, loads, next_name, only_edges, opened, parameters_declared, parameter, result_declared}
+use Rattle.types.specs.Declaration.{result_entity, has_all}
 use Rattle.types.specs.Initial.{InitializerTree, end_of, initializer_of, is_all, is_error_end, is_loaded, is_sound, names_error}
 use Rattle.types.specs.Literal.{literal_condition, literal_integer}
 use Rattle.types.specs.Program.{main_of, opening, set_count}
@@ -32,15 +34,19 @@ use Rattle.type_laws.specs.BrokenRules.{begins_constant, declares_in_function, d
 use Rattle.type_laws.specs.ExpressionParts as form
 use Rattle.type_laws.specs.ExpressionParts.{Form, any_faulty, faults_of_all, form_faults, parts}
 use Rattle.type_laws.specs.ExpressionRules.{all_rules, breaks_indexes, breaks_types, breaks_visibility, own_faults, place_of}
-use Rattle.type_laws.specs.SourceParts.{Part, Source, Declarations, Declaration, Parameters, MainBlock, MainStatement, FunctionBlock, FunctionStatement, Label, NewName, Initial, IntWanted, BoolWanted, VectorWanted, MainIndex, FunctionIndex, InExpression, ends_before, function_parts, in_for, initial_forms, name_before, parts_of}
+use Rattle.type_laws.specs.SourceParts.{Part, Source, Declarations, Declaration, Parameters, MainBlock, MainStatement, FunctionBlock, FunctionStatement, Label, NewName, Initial, IntWanted, BoolWanted}
+use Rattle.type_laws.specs.SourceParts.{VectorWanted, MainIndex, FunctionIndex, InExpression, ends_before, function_parts, in_for, initial_forms, name_before, parts_of}
 use Rattle.type_laws.proofs.ExpressionRules.{rules_and_parts}
 use Rattle.type_laws.proofs.FaultyParts.{end_faulty, or_left}
-use Rattle.type_laws.proofs.OwnFaults.{added_own, applied_own, as_condition_own, as_index_own, as_integer_own, as_vector_own, assigned_own, assigned_step_own, begins_own, condition_given, declared_own, declares, fault_if, filtered_own, integer_given, label_own, literal_own, loaded_own, main_own, may_reduce_own, may_set_own, members_given, modified_own, new_set_own, of_edges_own, printed_own, reduced_own, reduced_step_own, wanted_own, written_own}
+use Rattle.type_laws.proofs.OwnFaults.{added_own, applied_own, as_condition_own, as_index_own, as_integer_own, as_vector_own, assigned_own, assigned_step_own, begins_own, condition_given}
+use Rattle.type_laws.proofs.OwnFaults.{declared_own, declares, fault_if, filtered_own, integer_given, label_own, literal_own, loaded_own, main_own, may_reduce_own, may_set_own, members_given}
+use Rattle.type_laws.proofs.OwnFaults.{modified_own, new_set_own, of_edges_own, printed_own, reduced_own, reduced_step_own, wanted_own, written_own}
 use Rattle.type_laws.proofs.SplitFaults.{Splits, after, both_own, broken, ends, faults, faults_of_parts, here, last, none_contained, nothing, own_before, same_faults, same_parts}
 
 -- forms of expressions
 guarded : (faulty v t i : Bool) (a b c : Fault) → (faulty ≡ true → v ≡ false)
-    → (if faulty then [] else (if v then a ∷ (if t then b ∷ (if i then c ∷ [] else []) else (if i then c ∷ [] else [])) else (if t then b ∷ (if i then c ∷ [] else []) else (if i then c ∷ [] else []))))
+    → (if faulty then [] else (if v then a ∷ (if t then b ∷ (if i then c ∷ [] else []) else (if i then c ∷ [] else [])) else
+    (if t then b ∷ (if i then c ∷ [] else []) else (if i then c ∷ [] else []))))
     ≡ (if v then a ∷ (if not faulty && t then b ∷ (if not faulty && i then c ∷ [] else []) else (if not faulty && i then c ∷ [] else []))
     else (if not faulty && t then b ∷ (if not faulty && i then c ∷ [] else []) else (if not faulty && i then c ∷ [] else [])))
 guarded false v t i a b c seen = refl
@@ -64,7 +70,8 @@ forms_are_parts : (scope : ScopeTree) (at : ℕ) (all : List Form) → faults_of
 forms_are_parts scope at [] = refl
 forms_are_parts scope at (f ∷ others) = ap (λ fs. form_faults scope at f ++ fs) (forms_are_parts scope at others)
 
-form_splits : (scope : ScopeTree) (at : ℕ) (f : Form) → Splits (faults (InExpression scope at f)) (faults_of_parts (map (InExpression scope at) (parts scope f))) (broken (InExpression scope at f) all_rules)
+form_splits : (scope : ScopeTree) (at : ℕ) (f : Form) → Splits (faults (InExpression scope at f)) (faults_of_parts (map (InExpression scope at) (parts scope f)))
+    (broken (InExpression scope at f) all_rules)
 form_splits scope at f =
     let mine = broken (InExpression scope at f) all_rules in
     let all = faults_of_parts (map (InExpression scope at) (parts scope f)) in
@@ -315,7 +322,8 @@ two_own false b x y = refl
 
 edges_split : (weights : Bool) (d : DeclaredTree) (at : ℕ) (name : Identifier) (x : InitializerTree)
     → Splits (declare_edges weights d at name x).faults (faults (NewName d.checker.scope name) ++ [])
-    (if is_some d.edges then record { at = name.at; rule = rule.Redeclared } ∷ fault_if at rule.WrongType (not (not (is_sound x) || is_loaded x)) else fault_if at rule.WrongType (not (not (is_sound x) || is_loaded x)))
+    (if is_some d.edges then record { at = name.at; rule = rule.Redeclared } ∷ fault_if at rule.WrongType (not (not (is_sound x) || is_loaded x)) else fault_if at rule.WrongType
+    (not (not (is_sound x) || is_loaded x)))
 edges_split weights d at name x =
     let loading = loads at x in
     let edges = only_edges name (next_name d) d.edges in

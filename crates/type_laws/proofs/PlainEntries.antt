@@ -18,7 +18,8 @@ use Rattle.expression_types.specs.declared.fault.TypeRule.TheVariants as rule
 use Rattle.expression_types.specs.declared.scope.Entity.{Entity}
 use Rattle.expression_types.specs.declared.scope.Entity.TheVariants as entity
 use Rattle.expression_types.specs.Expression.{as_size, comparison_value, conjunction_value, conjuncts, disjuncts, factors, primary_value, sum_value, summands, term_value, unary_value, used, value_of}
-use Rattle.expression_types.specs.Operators.{ConditionsTree, Conditions, MixedConditions, ErrorConditions, IntegersTree, Integers, MixedIntegers, ErrorIntegers, added, beside_condition, beside_integer, compared, equated, first_condition, first_integer, given, grouped_conditions, grouped_integers, multiplied, related_value, signed_value}
+use Rattle.expression_types.specs.Operators.{ConditionsTree, Conditions, MixedConditions, ErrorConditions, IntegersTree, Integers, MixedIntegers, ErrorIntegers, added, beside_condition}
+use Rattle.expression_types.specs.Operators.{beside_integer, compared, equated, first_condition, first_integer, given, grouped_conditions, grouped_integers, multiplied, related_value, signed_value}
 use Rattle.expression_types.specs.ScopeTree.{ScopeTree}
 use Rattle.expression_types.specs.ValueTree.{ValueTree, Integer, Condition, Vertex, Set, ErrorValue, condition_reads_entry, named_value, reads_entry}
 use Rattle.type_laws.specs.EntryAccess.{ComparisonHasNoEntry, ConjunctionHasNoEntry, HasNoEntry, PrimaryHasNoEntry, SumHasNoEntry, TermHasNoEntry, UnaryHasNoEntry}

@@ -14,14 +14,18 @@ use Rattle.typed_tree.specs.declared.program.Vector.{Vector}
 use Rattle.typed_tree.specs.BlockTree.{BlockTree, Empty}
 use Rattle.typed_tree.specs.FunctionStatementTree.{FunctionStatementsTree, NoStep}
 use Rattle.typed_tree.specs.ProgramTree.{ProgramTree}
-use Rattle.typed_tree.specs.Resolved.{VisibleTree, BlockIsResolved, EdgeFunctionIsResolved, EdgesAreResolved, FilterIsResolved, IsName, IsResolved, IsVertex, StepsAreResolved, VectorIsResolved, VertexFunctionIsResolved, in_edge_function, in_filter, in_main, in_vertex_function}
+use Rattle.typed_tree.specs.Resolved.{VisibleTree, BlockIsResolved, EdgeFunctionIsResolved, EdgesAreResolved, FilterIsResolved, IsName, IsResolved, IsVertex, StepsAreResolved, VectorIsResolved}
+use Rattle.typed_tree.specs.Resolved.{VertexFunctionIsResolved, in_edge_function, in_filter, in_main, in_vertex_function}
 use Rattle.expression_types.specs.declared.scope.Entity.{Entity}
 use Rattle.expression_types.specs.declared.scope.Entity.TheVariants as entity
 use Rattle.expression_types.specs.declared.scope.Inside.TheVariants as inside
 use Rattle.expression_types.specs.ScopeTree.{conditions_of, entered, integers_of, sets_of}
 use Rattle.types.specs.Block.{statements_typed}
 use Rattle.types.specs.Checker.{CheckerTree, condition_slot, declared_in, restarted, with_scope}
-use Rattle.types.specs.Declaration.{DeclaredTree, FunctionKindTree, MainKind, EdgeKind, VertexKind, FilterKind, NoKind, begins, declaration_typed, declarations_typed, declare_constant_as, declare_function, declare_name, function_declared, function_of, has_all, inside_of, is_bool, is_vertex, kind, kind_fits, kind_of, literal_or_fault, loads, main_bytes, main_declared, next_name, only_edges, opened, parameter, parameters_declared, result_declared, result_entity, steps_declared, takes_nothing, with_main, takes_weight, is_int}
+use Rattle.types.specs.Declaration.{DeclaredTree, FunctionKindTree, MainKind, EdgeKind, VertexKind, FilterKind, NoKind, begins, declaration_typed, declarations_typed, declare_constant_as}
+use Rattle.types.specs.Declaration.{declare_function, declare_name, function_declared, function_of, has_all, inside_of, is_bool, is_vertex, kind, kind_fits, kind_of, literal_or_fault, loads}
+use Rattle.types.specs.Declaration.{main_bytes, main_declared, next_name, only_edges, opened, parameter, parameters_declared, result_declared, result_entity, steps_declared, takes_nothing, with_main}
+use Rattle.types.specs.Declaration.{takes_weight, is_int}
 use Rattle.types.specs.Initial.{InitializerTree, initializer_of, is_sound}
 use Rattle.types.specs.Literal.{literal_condition, literal_integer}
 use Rattle.types.specs.Program.{counting, main_of, opening, program_of, set_count}
@@ -98,7 +102,8 @@ other_kind p (x ∷ []) None = if_kind p (is_vertex x.declared) VertexKind NoKin
 other_kind p (x ∷ []) (Some result) =
     if_kind p (is_vertex x.declared && is_bool result.declared) FilterKind NoKind (x ∷ []) (Some result) (enough_one p x, tt) (enough (in_edge_function p) (omega arith) (x ∷ []), tt)
 other_kind p (x ∷ y ∷ []) None =
-    if_kind p (is_vertex x.declared && is_vertex y.declared) (EdgeKind false) NoKind (x ∷ y ∷ []) None (enough (in_edge_function p) (omega arith) (x ∷ y ∷ []), tt) (enough (in_edge_function p) (omega arith) (x ∷ y ∷ []), tt)
+    if_kind p (is_vertex x.declared && is_vertex y.declared) (EdgeKind false) NoKind (x ∷ y ∷ []) None (enough (in_edge_function p) (omega arith) (x ∷ y ∷ []), tt)
+    (enough (in_edge_function p) (omega arith) (x ∷ y ∷ []), tt)
 other_kind p (x ∷ y ∷ []) (Some result) = (enough (in_edge_function p) (omega arith) (x ∷ y ∷ []), tt)
 other_kind p (x ∷ y ∷ z ∷ []) None =
     if_kind p (is_vertex x.declared && is_vertex y.declared && is_int z.declared) (EdgeKind true) NoKind (x ∷ y ∷ z ∷ []) None
@@ -210,7 +215,8 @@ before_result_fits : (p : ProgramTree) (c : CheckerTree) (kind : FunctionKindTre
 before_result_fits p c kind parameters result none fits shape =
     let e = with_writes (with_scope c (entered (inside_of kind) c.scope)) [] in
     let d = parameters_declared (takes_weight kind) e endpoint.Source parameters in
-    parameters_fit (takes_weight kind) p (visible_in p kind) e endpoint.Source parameters (no_left d.faults (result_declared d.value kind result).faults none) (entered_fits p kind c fits) shape.0 (weight_on_edge p kind)
+    parameters_fit (takes_weight kind) p (visible_in p kind) e endpoint.Source parameters (no_left d.faults (result_declared d.value kind result).faults none) (entered_fits p kind c fits) shape.0
+    (weight_on_edge p kind)
 
 opened_fits : (p : ProgramTree) (c : CheckerTree) (kind : FunctionKindTree) (parameters : List ParameterTree) (result : Option ParameterTree)
     → result_entity (before_result c kind parameters) kind ≡ entity.Error → (opened c kind parameters result).faults ≡ [] → CheckerFits p (in_main p) c

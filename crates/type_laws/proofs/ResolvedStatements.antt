@@ -19,12 +19,17 @@ use Rattle.expression_types.specs.ValueTree as value
 use Rattle.expression_types.specs.ValueTree.{ValueTree, named_set}
 use Rattle.types.specs.Block.{action_typed, behind, closed, statements_typed}
 use Rattle.types.specs.Checker.{CheckerTree, condition_slot, counted, declared_in, integer_slot, labelled, set_slot, as_index, condition_in, integer_in}
-use Rattle.types.specs.Initial.{ApplyEndTree, InitializerTree, initializer_condition, edge_function, end_of, initializer_of, initializer_integer, is_edges, names_error, is_error_end, is_wrong, initializer_members, vertex_function, lacks_weights}
-use Rattle.types.specs.Statement.{add_vertex, added, applied, apply, assign, assigned, declare_as, edges_applied, entry_reduced, entry_set, has_ends, print, printed, reduce, reduce_entry, reduced, set_applied, set_entry, vertices_applied}
+use Rattle.types.specs.Initial.{ApplyEndTree, InitializerTree, initializer_condition, edge_function, end_of, initializer_of, initializer_integer, is_edges, names_error, is_error_end, is_wrong}
+use Rattle.types.specs.Initial.{initializer_members, vertex_function, lacks_weights}
+use Rattle.types.specs.Statement.{add_vertex, added, applied, apply, assign, assigned, declare_as, edges_applied, entry_reduced, entry_set, has_ends, print, printed, reduce, reduce_entry, reduced}
+use Rattle.types.specs.Statement.{set_applied, set_entry, vertices_applied}
 use Rattle.type_laws.proofs.Faultless.{no_left, no_right, not_empty}
 use Rattle.type_laws.proofs.ResolvedScopes.{CheckerFits, Grows, Within, declared_before, declared_fits, declared_name, get_before, get_last, labelled_before, labelled_fits, left_fits}
 use Rattle.type_laws.proofs.ResolvedSteps.{condition_declared, integer_declared}
-use Rattle.type_laws.proofs.ResolvedValues.{EndTreeIsResolved, EntityIsResolved, InitializerIsResolved, MaybeIndex, MaybeVariable, MaybeSet, ValueIsResolved, as_integer_resolved, initializer_condition_resolved, condition_in_resolved, edge_function_resolved, end_resolved, initializer_resolved, index_resolved, initializer_integer_resolved, integer_in_resolved, initializer_members_resolved, named_set_resolved, used_resolved, value_resolved, vector_resolved, vertex_function_resolved}
+use Rattle.type_laws.proofs.ResolvedValues.{EndTreeIsResolved, EntityIsResolved, InitializerIsResolved, MaybeIndex, MaybeVariable, MaybeSet, ValueIsResolved, as_integer_resolved}
+use Rattle.type_laws.proofs.ResolvedValues.{initializer_condition_resolved, condition_in_resolved, edge_function_resolved, end_resolved, initializer_resolved, index_resolved}
+use Rattle.type_laws.proofs.ResolvedValues.{initializer_integer_resolved, integer_in_resolved, initializer_members_resolved, named_set_resolved, used_resolved, value_resolved, vector_resolved}
+use Rattle.type_laws.proofs.ResolvedValues.{vertex_function_resolved}
 
 -- one more vertex set
 set_grows : (name : ℕ) (v : VisibleTree) → Grows v (with_set name v)
@@ -63,7 +68,8 @@ loop_declared p v c name none within fits =
     (length-append v.integers (Some (length c.names) ∷ None ∷ [])) (omega arith) (omega arith)
 
 -- what was met before a statement was met before its end
-declare_before : (p : ProgramTree) (c : CheckerTree) (at : ℕ) (name : Identifier) (initializer : InitializerTree) (type : DeclaredType) → Within p (declare_as c at name initializer type).value.1 → Within p c
+declare_before : (p : ProgramTree) (c : CheckerTree) (at : ℕ) (name : Identifier) (initializer : InitializerTree) (type : DeclaredType) → Within p (declare_as c at name initializer type).value.1
+    → Within p c
 declare_before p c at name initializer declared.Int within = declared_before p c name (entity.IntegerVariable (integer_slot c)) within
 declare_before p c at name initializer declared.Bool within = declared_before p c name (entity.ConditionVariable (condition_slot c)) within
 declare_before p c at name initializer declared.Vertex within = declared_before p c name entity.Error within
@@ -257,7 +263,8 @@ mutual
       plain_fits p v c (print c.scope at e).value fits (printed_plain p v at (value_of c.scope at e).value (value_resolved p v c.scope at fits.0.known e))
   action_fits p v c (source.Assign name initial) none within fits =
       plain_fits p v c (assign c name.at name initial).value fits
-      (assigned_plain p v name.at (initializer_of c name.at initial).value (used c.scope name).value (initializer_resolved p v c name.at fits.0.known initial) (used_resolved p v c.scope name fits.0.known))
+      (assigned_plain p v name.at (initializer_of c name.at initial).value (used c.scope name).value (initializer_resolved p v c name.at fits.0.known initial)
+      (used_resolved p v c.scope name fits.0.known))
   action_fits p v c (source.Reduce name by e) none within fits =
       plain_fits p v c (reduce c.scope name.at name by e).value fits
       (reduced_plain p v name.at by (value_of c.scope name.at e).value (used c.scope name).value (value_resolved p v c.scope name.at fits.0.known e) (used_resolved p v c.scope name fits.0.known))
@@ -279,7 +286,8 @@ mutual
   action_fits p v c (source.Apply target ends function) none within fits =
       plain_fits p v c (apply c.scope target.at target ends function).value fits
       (applied_plain p v target.at (used c.scope target).value (end_of c.scope ends.from).value (end_of c.scope ends.to).value (has_ends ends) (used c.scope function).value
-      (used_resolved p v c.scope target fits.0.known) (end_resolved p v c.scope fits.0.known ends.from) (end_resolved p v c.scope fits.0.known ends.to) (used_resolved p v c.scope function fits.0.known))
+      (used_resolved p v c.scope target fits.0.known) (end_resolved p v c.scope fits.0.known ends.from) (end_resolved p v c.scope fits.0.known ends.to)
+      (used_resolved p v c.scope function fits.0.known))
 
   pub statements_fit : (p : ProgramTree) (v : VisibleTree) (c : CheckerTree) (so_far : BlockTree) (block : source.BlockTree) → (statements_typed c so_far block).faults ≡ []
       → Within p (statements_typed c so_far block).value.1 → BlockIsResolved p v so_far → CheckerFits p (behind_block so_far v) c

@@ -16,10 +16,12 @@ use Rattle.expression_types.specs.Expression.{index_value, used, value_of, vecto
 use Rattle.expression_types.specs.ValueTree.{ValueTree}
 use Rattle.types.specs.Checker.{CheckerTree, condition_slot, declared_in, integer_slot, labelled, condition_in, integer_in}
 use Rattle.types.specs.Initial.{InitializerTree, initializer_condition, initializer_of, initializer_integer}
-use Rattle.types.specs.Step.{assign_step, assigned_step, declare_step_as, entry_step, may_reduce, may_set, own_vertex, reduce_entry_step, reduce_step, reduced_step, reduction_step, set_entry_step, step_after, step_typed, steps_after, steps_typed, written_at}
+use Rattle.types.specs.Step.{assign_step, assigned_step, declare_step_as, entry_step, may_reduce, may_set, own_vertex, reduce_entry_step, reduce_step, reduced_step, reduction_step, set_entry_step}
+use Rattle.types.specs.Step.{step_after, step_typed, steps_after, steps_typed, written_at}
 use Rattle.type_laws.proofs.Faultless.{no_left, no_right, not_empty}
 use Rattle.type_laws.proofs.ResolvedScopes.{CheckerFits, Grows, Within, declared_before, declared_fits, declared_name, get_before, get_last, labelled_before, labelled_fits, left_fits}
-use Rattle.type_laws.proofs.ResolvedValues.{EntityIsResolved, InitializerIsResolved, MaybeVariable, ValueIsResolved, as_integer_resolved, initializer_condition_resolved, condition_in_resolved, initializer_resolved, initializer_integer_resolved, integer_in_resolved, used_resolved, value_resolved, vector_resolved}
+use Rattle.type_laws.proofs.ResolvedValues.{EntityIsResolved, InitializerIsResolved, MaybeVariable, ValueIsResolved, as_integer_resolved, initializer_condition_resolved, condition_in_resolved}
+use Rattle.type_laws.proofs.ResolvedValues.{initializer_resolved, initializer_integer_resolved, integer_in_resolved, used_resolved, value_resolved, vector_resolved}
 
 -- one more variable
 pub integer_grows : (name : ℕ) (v : VisibleTree) → Grows v (with_integer name v)
@@ -57,7 +59,8 @@ condition_declared p v c name none within fits =
     (omega arith) (length-append v.conditions (length c.names ∷ [])) (omega arith)
 
 -- what was met before a statement was met before its end
-declare_before : (p : ProgramTree) (c : CheckerTree) (at : ℕ) (name : Identifier) (initializer : InitializerTree) (type : DeclaredType) → Within p (declare_step_as c at name initializer type).value.1 → Within p c
+declare_before : (p : ProgramTree) (c : CheckerTree) (at : ℕ) (name : Identifier) (initializer : InitializerTree) (type : DeclaredType) → Within p (declare_step_as c at name initializer type).value.1
+    → Within p c
 declare_before p c at name initializer declared.Int within = declared_before p c name (entity.IntegerVariable (integer_slot c)) within
 declare_before p c at name initializer declared.Bool within = declared_before p c name (entity.ConditionVariable (condition_slot c)) within
 declare_before p c at name initializer declared.Vertex within = declared_before p c name entity.Error within
@@ -187,7 +190,8 @@ mutual
   step_fits p v c (source.Print at e) none within fits = absurd (not_empty _ _ none)
   step_fits p v c (source.Assign name initial) none within fits =
       plain_fits p v c (assign_step c name.at name initial).value fits
-      (assigned_plain p v name.at (initializer_of c name.at initial).value (used c.scope name).value (initializer_resolved p v c name.at fits.0.known initial) (used_resolved p v c.scope name fits.0.known))
+      (assigned_plain p v name.at (initializer_of c name.at initial).value (used c.scope name).value (initializer_resolved p v c name.at fits.0.known initial)
+      (used_resolved p v c.scope name fits.0.known))
   step_fits p v c (source.Reduce name by e) none within fits =
       plain_fits p v c (reduce_step c.scope name.at name by e).value fits
       (reduced_plain p v name.at by (value_of c.scope name.at e).value (used c.scope name).value (value_resolved p v c.scope name.at fits.0.known e) (used_resolved p v c.scope name fits.0.known))

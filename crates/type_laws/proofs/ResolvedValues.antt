@@ -9,7 +9,8 @@ use Rattle.syntax.specs.declared.operators.Prefix.TheVariants as prefix
 use Rattle.syntax.specs.declared.operators.Relation.{Relation}
 use Rattle.syntax.specs.declared.operators.Relation.TheVariants as relation
 use Rattle.syntax.specs.Terminals.{Identifier}
-use Rattle.syntax.specs.SourceTrees.{ExpressionTree, ConjunctionTree, ComparisonTree, SumTree, TermTree, UnaryTree, PrimaryTree, LastConjunction, ConjunctionThen, LastComparison, ComparisonThen, OneSum, TwoSums, LastTerm, TermThen, LastUnary, UnaryThen, Bare, Signed, Literal, Truth, Variable, Entry, Size, Parentheses, InitialTree}
+use Rattle.syntax.specs.SourceTrees.{ExpressionTree, ConjunctionTree, ComparisonTree, SumTree, TermTree, UnaryTree, PrimaryTree, LastConjunction, ConjunctionThen, LastComparison, ComparisonThen}
+use Rattle.syntax.specs.SourceTrees.{OneSum, TwoSums, LastTerm, TermThen, LastUnary, UnaryThen, Bare, Signed, Literal, Truth, Variable, Entry, Size, Parentheses, InitialTree}
 use Rattle.syntax.specs.SourceTrees as source
 use Rattle.typed_tree.specs.declared.expression.Endpoint.TheVariants as endpoint
 use Rattle.typed_tree.specs.declared.expression.ComparisonOperator.{ComparisonOperator}
@@ -22,20 +23,26 @@ use Rattle.typed_tree.specs.declared.statement.ApplyEnds.{ApplyEnds}
 use Rattle.typed_tree.specs.declared.statement.SetValue.TheVariants as set
 use Rattle.typed_tree.specs.IntExpressionTree.{IntExpressionTree}
 use Rattle.typed_tree.specs.ProgramTree.{ProgramTree}
-use Rattle.typed_tree.specs.Resolved.{VisibleTree, ConditionIsResolved, EndIsResolved, EndsAreResolved, IntegerIsResolved, IsCondition, IsEdgeFunction, IsFilter, IsInteger, IsName, IsSet, IsVector, IsVertex, IsVertexFunction, SetIsResolved}
+use Rattle.typed_tree.specs.Resolved.{VisibleTree, ConditionIsResolved, EndIsResolved, EndsAreResolved, IntegerIsResolved, IsCondition, IsEdgeFunction, IsFilter, IsInteger, IsName, IsSet, IsVector}
+use Rattle.typed_tree.specs.Resolved.{IsVertex, IsVertexFunction, SetIsResolved}
 use Rattle.expression_types.specs.declared.fault.TypeRule.{TypeRule}
 use Rattle.expression_types.specs.declared.fault.TypeRule.TheVariants as rule
 use Rattle.expression_types.specs.declared.scope.Entity.{Entity}
 use Rattle.expression_types.specs.declared.scope.Entity.TheVariants as entity
 use Rattle.expression_types.specs.declared.scope.Inside.{Inside}
 use Rattle.expression_types.specs.declared.scope.Inside.TheVariants as inside
-use Rattle.expression_types.specs.Expression.{as_size, as_vector, comparison_value, conjunction_value, conjuncts, disjuncts, factors, index_lacks_value, index_value, no_vertex, primary_value, sum_value, summands, term_value, unary_value, used, used_as, value_of, vector_index}
+use Rattle.expression_types.specs.Expression.{as_size, as_vector, comparison_value, conjunction_value, conjuncts, disjuncts, factors, index_lacks_value, index_value, no_vertex, primary_value}
+use Rattle.expression_types.specs.Expression.{sum_value, summands, term_value, unary_value, used, used_as, value_of, vector_index}
 use Rattle.expression_types.specs.ScopeTree.{found, ScopeTree}
 use Rattle.expression_types.specs.Faults.{WithFaults, sure}
-use Rattle.expression_types.specs.Operators.{IntegersTree, Integers, MixedIntegers, ErrorIntegers, ConditionsTree, Conditions, MixedConditions, ErrorConditions, added, condition_index, beside_condition, beside_integer, compared, entry_value, equated, first_condition, first_integer, given, grouped_conditions, grouped_integers, multiplied, related_value, signed_value}
+use Rattle.expression_types.specs.Operators.{IntegersTree, Integers, MixedIntegers, ErrorIntegers, ConditionsTree, Conditions, MixedConditions, ErrorConditions, added, condition_index}
+use Rattle.expression_types.specs.Operators.{beside_condition, beside_integer, compared, entry_value, equated, first_condition, first_integer, given, grouped_conditions, grouped_integers, multiplied}
+use Rattle.expression_types.specs.Operators.{related_value, signed_value}
 use Rattle.expression_types.specs.ValueTree.{ValueTree, Integer, Condition, Vertex, Set, ErrorValue, condition_reads_entry, named_set, named_value, reads_entry}
 use Rattle.types.specs.Checker.{CheckerTree, as_condition, as_index, as_integer, as_members, condition_in, integer_in, no_index}
-use Rattle.types.specs.Initial.{ApplyEndTree, InitializerTree, Typed, Members, Loaded, Degrees, ErrorInitializer, initializer_condition, edge_function, end_of, ends_given, filter_function, filter_named, filtered, filtered_by, initializer_of, given_filter, initializer_integer, is_edges, names_error, is_error_end, is_wrong, initializer_members, modified, modified_by, new_set, loaded, of_edges, vector_of, vertex_function, writes_vector, lacks_weights}
+use Rattle.types.specs.Initial.{ApplyEndTree, InitializerTree, Typed, Members, Loaded, Degrees, ErrorInitializer, initializer_condition, edge_function, end_of, ends_given, filter_function}
+use Rattle.types.specs.Initial.{filter_named, filtered, filtered_by, initializer_of, given_filter, initializer_integer, is_edges, names_error, is_error_end, is_wrong, initializer_members, modified}
+use Rattle.types.specs.Initial.{modified_by, new_set, loaded, of_edges, vector_of, vertex_function, writes_vector, lacks_weights}
 
 -- what a name stands for is there
 abbrev pub EntityIsResolved : ProgramTree → VisibleTree → Entity → Type 0
@@ -277,7 +284,8 @@ function_entry_resolved p v at vector (Vertex e) there is = (there, is)
 function_entry_resolved p v at vector (Set slot) there is = tt
 function_entry_resolved p v at vector ErrorValue there is = tt
 
-entry_resolved : (p : ProgramTree) (v : VisibleTree) (i : Inside) (at : ℕ) (vector : Option ℕ) (x : ValueTree) → (i ≡ inside.Main → v.indexes ≡ true) → MaybeVariable (IsVector p) vector → ValueIsResolved p v x
+entry_resolved : (p : ProgramTree) (v : VisibleTree) (i : Inside) (at : ℕ) (vector : Option ℕ) (x : ValueTree) → (i ≡ inside.Main → v.indexes ≡ true) → MaybeVariable (IsVector p) vector
+    → ValueIsResolved p v x
     → ValueIsResolved p v (entry_value i at vector x).value
 entry_resolved p v i at None x main there is = tt
 entry_resolved p v inside.Main at (Some vector) x main there is = main_entry_resolved p v at vector x (main refl) there is

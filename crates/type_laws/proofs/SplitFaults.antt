@@ -21,7 +21,8 @@ use Rattle.types.specs.Step.{own_vertex, step_typed, steps_typed, written_at}
 use Rattle.type_laws.specs.BrokenRules.{Breaks, InPart, Itself, breaks_itself, place}
 use Rattle.type_laws.specs.ExpressionParts.{form_faults}
 use Rattle.type_laws.specs.ExpressionRules.{all_rules}
-use Rattle.type_laws.specs.SourceParts.{Part, Source, Declarations, Declaration, Parameters, MainBlock, MainStatement, FunctionBlock, FunctionStatement, Label, NewName, Initial, IntWanted, BoolWanted, VectorWanted, MainIndex, FunctionIndex, InExpression, parts_of}
+use Rattle.type_laws.specs.SourceParts.{Part, Source, Declarations, Declaration, Parameters, MainBlock, MainStatement, FunctionBlock, FunctionStatement, Label, NewName, Initial, IntWanted, BoolWanted}
+use Rattle.type_laws.specs.SourceParts.{VectorWanted, MainIndex, FunctionIndex, InExpression, parts_of}
 
 -- what the checker notes at a part
 abbrev pub faults : Part → List Fault
@@ -165,7 +166,8 @@ broken_there : (part : Part) (rules : List TypeRule) (f : Fault) → Contains (b
 broken_there part [] f has = absurd (none_contained f has)
 broken_there part (r ∷ others) f has = broken_if part r (broken part others) f (breaks_itself part r) refl (broken_there part others f) has
 
-there_if : (part : Part) (r : TypeRule) (others : List Fault) (b : Bool) → b ≡ true → Contains (if b then record { at = place part r; rule = r } ∷ others else others) (record { at = place part r; rule = r })
+there_if : (part : Part) (r : TypeRule) (others : List Fault) (b : Bool) → b ≡ true
+    → Contains (if b then record { at = place part r; rule = r } ∷ others else others) (record { at = place part r; rule = r })
 there_if part r others true is = first_of_all (record { at = place part r; rule = r }) others
 there_if part r others false is = absurd cc
 
@@ -220,6 +222,7 @@ in_some_part (p ∷ others) inner f there has = elim (cons_cases p others inner 
 pub broken_is_fault : ((part : Part) → Splits (faults part) (faults_of_parts (parts_of part)) (broken part all_rules)) → (at : ℕ) (r : TypeRule) (part : Part)
     → Breaks at r part → Contains (faults part) (record { at = at; rule = r })
 broken_is_fault splits at r _ (Itself part breaks is) =
-    (splits part).back (record { at = at; rule = r }) (inr (subst (λ (n : ℕ). Contains (broken part all_rules) (record { at = n; rule = r })) (sym is) (there_broken part all_rules r (each_rule r) breaks)))
+    (splits part).back (record { at = at; rule = r }) (inr (subst (λ (n : ℕ). Contains (broken part all_rules) (record { at = n; rule = r })) (sym is)
+    (there_broken part all_rules r (each_rule r) breaks)))
 broken_is_fault splits at r _ (InPart part inner there breaks) =
     (splits part).back (record { at = at; rule = r }) (inl (in_some_part (parts_of part) inner (record { at = at; rule = r }) there (broken_is_fault splits at r inner breaks)))

@@ -23,14 +23,18 @@ use Rattle.expression_types.specs.declared.scope.Entity.TheVariants as entity
 use Rattle.expression_types.specs.declared.scope.Inside.{Inside}
 use Rattle.expression_types.specs.declared.scope.Inside.TheVariants as inside
 use Rattle.expression_types.specs.BareNames.{bare_name, comparison_name, conjunction_name, primary_name, sum_name, term_name, unary_name}
-use Rattle.expression_types.specs.Expression.{as_size, as_vector, comparison_value, conjunction_value, conjuncts, disjuncts, entry_of, factors, index_lacks_value, index_value, lacks_value, name_lacks_value, name_value, no_vertex, primary_value, size_value, sum_value, summands, term_value, unary_value, used, used_as, value_of, vector_index}
+use Rattle.expression_types.specs.Expression.{as_size, as_vector, comparison_value, conjunction_value, conjuncts, disjuncts, entry_of, factors, index_lacks_value, index_value, lacks_value}
+use Rattle.expression_types.specs.Expression.{name_lacks_value, name_value, no_vertex, primary_value, size_value, sum_value, summands, term_value, unary_value, used, used_as, value_of, vector_index}
 use Rattle.expression_types.specs.ScopeTree.{found, ScopeTree}
-use Rattle.expression_types.specs.Operators.{Conditions, ConditionsTree, ErrorConditions, ErrorIntegers, Integers, IntegersTree, MixedConditions, MixedIntegers, added, beside_condition, beside_integer, compared_value, entry_value, equated_value, first_condition, first_integer, function_entry, given, grouped_conditions, grouped_integers, main_entry, multiplied, related_value, signed_value, unless_faulty}
+use Rattle.expression_types.specs.Operators.{Conditions, ConditionsTree, ErrorConditions, ErrorIntegers, Integers, IntegersTree, MixedConditions, MixedIntegers, added, beside_condition}
+use Rattle.expression_types.specs.Operators.{beside_integer, compared_value, entry_value, equated_value, first_condition, first_integer, function_entry, given, grouped_conditions, grouped_integers}
+use Rattle.expression_types.specs.Operators.{main_entry, multiplied, related_value, signed_value, unless_faulty}
 use Rattle.expression_types.specs.ValueTree as value
 use Rattle.expression_types.specs.ValueTree.{ValueTree, is_error, named_value, reads_entry}
 use Rattle.expression_types.specs.Faults.{WithFaults, fault_at, sure}
 use Rattle.type_laws.specs.EntryAccess.{HasNoEntry}
-use Rattle.type_laws.specs.ExpressionTypes.{ComparisonHas, ConjunctionHas, ExpressionHas, ExpressionType, IndexFits, IsEquality, NameHas, Number, PrimaryHas, ReadsAsNumber, Set, SumHas, TermHas, Truth, UnaryHas, Vertex, type_named}
+use Rattle.type_laws.specs.ExpressionTypes.{ComparisonHas, ConjunctionHas, ExpressionHas, ExpressionType, IndexFits, IsEquality, NameHas, Number, PrimaryHas, ReadsAsNumber, Set, SumHas, TermHas}
+use Rattle.type_laws.specs.ExpressionTypes.{Truth, UnaryHas, Vertex, type_named}
 use Rattle.type_laws.specs.Meanings as meaning
 use Rattle.type_laws.specs.ScopeMeanings.{meaning_of, meanings_of}
 use Rattle.type_laws.specs.Meanings.{Meaning, Meanings}
@@ -401,7 +405,8 @@ index_is_value scope at index type has =
 
 -- entries
 if_plain_entry : (at vector : ℕ) (e : IntExpressionTree) → reads_entry e ≡ false → Fine (main_entry at vector (value.Integer e)) Number
-if_plain_entry at vector e plain = subst (λ b. Fine (if b then fault_at at rule.WrongIndex value.ErrorValue else sure (value.Integer (Entry vector e))) Number) (sym plain) (record { none = refl; is = tt })
+if_plain_entry at vector e plain = subst (λ b. Fine (if b then fault_at at rule.WrongIndex value.ErrorValue else sure (value.Integer (Entry vector e))) Number) (sym plain)
+    (record { none = refl; is = tt })
 
 main_entry_fine : (at vector : ℕ) (v : ValueTree) → IsNumeric v → ReadsNone v → Fine (main_entry at vector v) Number
 main_entry_fine at vector (value.Integer e) is plain = if_plain_entry at vector e plain

@@ -16,20 +16,23 @@ use Rattle.expression_types.specs.declared.scope.Entity.TheVariants as entity
 use Rattle.expression_types.specs.declared.scope.Inside.{Inside}
 use Rattle.expression_types.specs.declared.scope.Inside.TheVariants as inside
 use Rattle.expression_types.specs.BareNames.{bare_name, comparison_name, conjunction_name, primary_name, sum_name, term_name, unary_name}
-use Rattle.expression_types.specs.Expression.{comparison_value, conjunction_value, conjuncts, disjuncts, factors, index_as, index_lacks_value, index_value, lacks_value, name_lacks_value, no_vertex, primary_value, sum_value, summands, term_value, unary_value, used, used_as, value_of, vector_index}
+use Rattle.expression_types.specs.Expression.{comparison_value, conjunction_value, conjuncts, disjuncts, factors, index_as, index_lacks_value, index_value, lacks_value, name_lacks_value, no_vertex}
+use Rattle.expression_types.specs.Expression.{primary_value, sum_value, summands, term_value, unary_value, used, used_as, value_of, vector_index}
 use Rattle.expression_types.specs.ScopeTree.{found, ScopeTree}
 use Rattle.expression_types.specs.Faults.{WithFaults, sure}
 use Rattle.expression_types.specs.Operators.{ConditionsTree, IntegersTree, first_condition, first_integer}
 use Rattle.expression_types.specs.ValueTree.{ValueTree}
 use Rattle.types.specs.Block.{action_typed, behind, closed, statements_typed}
 use Rattle.types.specs.Checker.{CheckerTree, counted, declared_in, integer_slot, labelled, restarted, as_index, condition_in, integer_in}
-use Rattle.types.specs.Declaration.{DeclaredTree, FunctionKindTree, MainKind, EdgeKind, VertexKind, FilterKind, NoKind, declaration_typed, declarations_typed, declare_function, kind, kind_fits, main_declared, opened, steps_declared}
+use Rattle.types.specs.Declaration.{DeclaredTree, FunctionKindTree, MainKind, EdgeKind, VertexKind, FilterKind, NoKind, declaration_typed, declarations_typed, declare_function, kind, kind_fits}
+use Rattle.types.specs.Declaration.{main_declared, opened, steps_declared}
 use Rattle.types.specs.Initial.{end_of, initializer_of}
 use Rattle.type_laws.specs.NewNames.{names_after, names_inside}
 use Rattle.types.specs.Program.{opening, program_of, set_count}
 use Rattle.types.specs.Statement.{add_vertex, apply, assign, print, reduce, reduce_entry, set_entry}
 use Rattle.types.specs.Step.{assign_step, may_reduce, may_set, own_vertex, reduce_step, set_entry_step, step_after, step_typed, steps_after, steps_typed, written_at}
-use Rattle.type_laws.specs.UsedNames.{ActionUsesVisible, BlockUsesVisible, ComparisonUsesVisible, ConjunctionUsesVisible, DeclarationUsesVisible, DeclarationsUseVisible, EndIsVisible, ExpressionUsesVisible, InitialUsesVisible, IsVisible, PrimaryUsesVisible, SumUsesVisible, TermUsesVisible, UnaryUsesVisible}
+use Rattle.type_laws.specs.UsedNames.{ActionUsesVisible, BlockUsesVisible, ComparisonUsesVisible, ConjunctionUsesVisible, DeclarationUsesVisible, DeclarationsUseVisible, EndIsVisible}
+use Rattle.type_laws.specs.UsedNames.{ExpressionUsesVisible, InitialUsesVisible, IsVisible, PrimaryUsesVisible, SumUsesVisible, TermUsesVisible, UnaryUsesVisible}
 use Rattle.type_laws.proofs.Booleans.{false_is_not_true}
 use Rattle.type_laws.proofs.NewNames.{action_new, declaration_new, declared_new, labelled_same, opened_new, step_new}
 use Rattle.type_laws.proofs.Faultless.{no_left, no_right, not_empty}

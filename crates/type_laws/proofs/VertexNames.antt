@@ -19,9 +19,11 @@ use Rattle.expression_types.specs.declared.scope.Entity.{Entity}
 use Rattle.expression_types.specs.declared.scope.Entity.TheVariants as entity
 use Rattle.expression_types.specs.declared.scope.Inside.{Inside}
 use Rattle.expression_types.specs.declared.scope.Inside.TheVariants as inside
-use Rattle.expression_types.specs.Expression.{as_size, comparison_value, conjunction_value, conjuncts, disjuncts, factors, index_lacks_value, index_value, no_vertex, primary_value, sum_value, summands, term_value, unary_value, used, value_of, vector_index}
+use Rattle.expression_types.specs.Expression.{as_size, comparison_value, conjunction_value, conjuncts, disjuncts, factors, index_lacks_value, index_value, no_vertex, primary_value, sum_value}
+use Rattle.expression_types.specs.Expression.{summands, term_value, unary_value, used, value_of, vector_index}
 use Rattle.expression_types.specs.Faults.{WithFaults, fault_at, sure}
-use Rattle.expression_types.specs.Operators.{IntegersTree, Integers, MixedIntegers, ErrorIntegers, ConditionsTree, Conditions, MixedConditions, ErrorConditions, compared, condition_index, entry_value, equated, first_condition, first_integer, function_entry, given, grouped_conditions, grouped_integers, main_entry, related_value, signed_value}
+use Rattle.expression_types.specs.Operators.{IntegersTree, Integers, MixedIntegers, ErrorIntegers, ConditionsTree, Conditions, MixedConditions, ErrorConditions, compared, condition_index, entry_value}
+use Rattle.expression_types.specs.Operators.{equated, first_condition, first_integer, function_entry, given, grouped_conditions, grouped_integers, main_entry, related_value, signed_value}
 use Rattle.expression_types.specs.ScopeTree.{ScopeTree}
 use Rattle.expression_types.specs.ValueTree.{ValueTree, Integer, Condition, Vertex, Set, ErrorValue, condition_reads_entry, named_value, reads_entry}
 use Rattle.expression_types.specs.BareNames.{comparison_name, conjunction_name, primary_name, sum_name, term_name, unary_name}
@@ -204,7 +206,8 @@ mutual
   primary_is_name scope at n (tree.Parentheses inside) none is = expression_is_name scope at n inside none is
 
 -- an index whose value is a vertex is a parameter's name too
-if_is_name : (So : Endpoint → Type 0) (names : List (List ℕ)) (index : ExpressionTree) (value : WithFaults ValueTree) (lacks : Bool) → (value.faults ≡ [] → IsVertexSo So value.value → IsNameAmong names index)
+if_is_name : (So : Endpoint → Type 0) (names : List (List ℕ)) (index : ExpressionTree) (value : WithFaults ValueTree) (lacks : Bool)
+    → (value.faults ≡ [] → IsVertexSo So value.value → IsNameAmong names index)
     → (if lacks then sure no_vertex else value).faults ≡ [] → IsVertexSo So (if lacks then sure no_vertex else value).value → IsNameAmong names index
 if_is_name So names index value true then_name none is = absurd is
 if_is_name So names index value false then_name none is = then_name none is

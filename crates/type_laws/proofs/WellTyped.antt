@@ -22,8 +22,11 @@ use Rattle.expression_types.specs.Expression.{used, value_of, vector_index}
 use Rattle.expression_types.specs.Faults.{WithFaults, fault_at, sure, ◌>>=◌}
 use Rattle.expression_types.specs.ValueTree.{ValueTree, Integer, Condition, Vertex, Set, ErrorValue, is_error, named_set}
 use Rattle.types.specs.Checker.{CheckerTree, condition_slot, integer_slot, labelled, condition_in}
-use Rattle.types.specs.Declaration.{DeclaredTree, FunctionKindTree, EdgeKind, VertexKind, FilterKind, NoKind, begins, declaration_typed, declarations_typed, declare_constant_as, has_all, inside_of, is_bool, is_vertex, kind_fits, kind_of, literal_or_fault, loads, opened, steps_declared, wanted, is_int}
-use Rattle.types.specs.Initial.{ApplyEndTree, InitializerTree, Members, Loaded, Degrees, ErrorInitializer, edge_function, end_of, ends_given, filter_function, filter_named, filtered, filtered_by, initializer_of, is_all, is_degrees, is_edges, is_loaded, is_sound, names_error, is_error_end, is_wrong, loaded, modified, modified_by, new_set, of_edges, vector_of, writes_vector, lacks_weights}
+use Rattle.types.specs.Declaration.{DeclaredTree, FunctionKindTree, EdgeKind, VertexKind, FilterKind, NoKind, begins, declaration_typed, declarations_typed, declare_constant_as, has_all, inside_of}
+use Rattle.types.specs.Declaration.{is_bool, is_vertex, kind_fits, kind_of, literal_or_fault, loads, opened, steps_declared, wanted, is_int}
+use Rattle.types.specs.Initial.{ApplyEndTree, InitializerTree, Members, Loaded, Degrees, ErrorInitializer, edge_function, end_of, ends_given, filter_function, filter_named, filtered, filtered_by}
+use Rattle.types.specs.Initial.{initializer_of, is_all, is_degrees, is_edges, is_loaded, is_sound, names_error, is_error_end, is_wrong, loaded, modified, modified_by, new_set, of_edges, vector_of}
+use Rattle.types.specs.Initial.{writes_vector, lacks_weights}
 use Rattle.types.specs.Literal.{literal_condition, literal_integer}
 use Rattle.types.specs.Program.{opening, program_of, set_count}
 use Rattle.types.specs.Step.{declare_step_as, may_reduce, may_set, set_entry_step, step_after, step_typed, steps_after, steps_typed}
@@ -49,7 +52,8 @@ variable_fits c at name initializer declared.EdgeSet none = absurd (not_empty _ 
 variable_fits c at name initializer declared.WeightedEdgeSet none = absurd (not_empty _ _ none)
 
 -- after a statement the checker is in the same function
-variable_inside : (c : CheckerTree) (at : ℕ) (name : Identifier) (initializer : InitializerTree) (type : DeclaredType) → (declare_step_as c at name initializer type).value.1.scope.inside ≡ c.scope.inside
+variable_inside : (c : CheckerTree) (at : ℕ) (name : Identifier) (initializer : InitializerTree) (type : DeclaredType)
+    → (declare_step_as c at name initializer type).value.1.scope.inside ≡ c.scope.inside
 variable_inside c at name initializer declared.Int = (declared_goes c name (entity.IntegerVariable (integer_slot c))).0
 variable_inside c at name initializer declared.Bool = (declared_goes c name (entity.ConditionVariable (condition_slot c))).0
 variable_inside c at name initializer declared.Vertex = (declared_goes c name entity.Error).0
@@ -267,7 +271,8 @@ modified_sound c at edges a b f v first second third fourth fifth =
     let error = neither_true (names_error edges || is_error_end a || is_error_end b || names_error f) (names_error v)
     (neither_true (names_error edges || is_error_end a || is_error_end b) (names_error f)
     (neither_true (names_error edges || is_error_end a) (is_error_end b) (neither_true (names_error edges) (is_error_end a) first second) third) fourth) fifth in
-    if_sound (names_error edges || is_error_end a || is_error_end b || names_error f || names_error v) (sure ErrorInitializer) (if is_edges edges then between else fault_at at rule.WrongType ErrorInitializer) error
+    if_sound (names_error edges || is_error_end a || is_error_end b || names_error f || names_error v) (sure ErrorInitializer)
+    (if is_edges edges then between else fault_at at rule.WrongType ErrorInitializer) error
     (if_then (is_edges edges) between at (if_else (is_wrong a || is_wrong b || lacks_weights edges f) by at (modified_by_sound c at (ends_given a b) (edge_function f) (vector_of v))))
 
 new_set_sound : (at : ℕ) (size : ℤ) → IsSound (new_set at size)
@@ -342,7 +347,8 @@ loaded_not Q at (negsuc n) broken load = broken
 
 of_edges_not : (Q : InitializerTree → Bool) (at : ℕ) (x : InitializerTree) (e : Entity) → Q ErrorInitializer ≡ false → Q x ≡ false → Q (of_edges at x e).value ≡ false
 of_edges_not Q at x e broken other =
-    if_not Q (names_error e) (sure ErrorInitializer) (if is_edges e then sure x else fault_at at rule.WrongType ErrorInitializer) broken (if_not Q (is_edges e) (sure x) (fault_at at rule.WrongType ErrorInitializer) other broken)
+    if_not Q (names_error e) (sure ErrorInitializer) (if is_edges e then sure x else fault_at at rule.WrongType ErrorInitializer) broken
+    (if_not Q (is_edges e) (sure x) (fault_at at rule.WrongType ErrorInitializer) other broken)
 
 filtered_by_not : (Q : InitializerTree → Bool) (at : ℕ) (s : Option VarRef) (f : Option ℕ) → Q ErrorInitializer ≡ false → ((slot : VarRef) (index : ℕ) → Q (Members (set.Filter slot index)) ≡ false)
     → Q (filtered_by at s f).value ≡ false
@@ -350,11 +356,13 @@ filtered_by_not Q at None f broken other = broken
 filtered_by_not Q at (Some slot) None broken other = broken
 filtered_by_not Q at (Some slot) (Some index) broken other = other slot index
 
-filtered_not : (Q : InitializerTree → Bool) (at : ℕ) (s f : Entity) → Q ErrorInitializer ≡ false → ((slot : VarRef) (index : ℕ) → Q (Members (set.Filter slot index)) ≡ false) → Q (filtered at s f).value ≡ false
+filtered_not : (Q : InitializerTree → Bool) (at : ℕ) (s f : Entity) → Q ErrorInitializer ≡ false → ((slot : VarRef) (index : ℕ) → Q (Members (set.Filter slot index)) ≡ false)
+    → Q (filtered at s f).value ≡ false
 filtered_not Q at s f broken other =
     if_not Q (names_error s || names_error f) (sure ErrorInitializer) (filtered_by at (named_set s) (filter_function f)) broken (filtered_by_not Q at (named_set s) (filter_function f) broken other)
 
-modified_by_not : (Q : InitializerTree → Bool) (c : CheckerTree) (at : ℕ) (ends : ApplyEnds) (f v : Option ℕ) → Q ErrorInitializer ≡ false → ((ends : ApplyEnds) (f v : ℕ) → Q (Members (set.Modified ends f v)) ≡ false)
+modified_by_not : (Q : InitializerTree → Bool) (c : CheckerTree) (at : ℕ) (ends : ApplyEnds) (f v : Option ℕ) → Q ErrorInitializer ≡ false
+    → ((ends : ApplyEnds) (f v : ℕ) → Q (Members (set.Modified ends f v)) ≡ false)
     → Q (modified_by c at ends f v).value ≡ false
 modified_by_not Q c at ends None v broken other = broken
 modified_by_not Q c at ends (Some f) None broken other = broken
@@ -368,7 +376,8 @@ modified_not Q c at edges a b f v broken other =
     let wrong = fault_at at rule.WrongType ErrorInitializer in
     let between = if is_wrong a || is_wrong b || lacks_weights edges f then wrong else by in
     if_not Q (names_error edges || is_error_end a || is_error_end b || names_error f || names_error v) (sure ErrorInitializer) (if is_edges edges then between else wrong) broken
-    (if_not Q (is_edges edges) between wrong (if_not Q (is_wrong a || is_wrong b || lacks_weights edges f) wrong by broken (modified_by_not Q c at (ends_given a b) (edge_function f) (vector_of v) broken other)) broken)
+    (if_not Q (is_edges edges) between wrong (if_not Q (is_wrong a || is_wrong b || lacks_weights edges f) wrong by broken
+    (modified_by_not Q c at (ends_given a b) (edge_function f) (vector_of v) broken other)) broken)
 
 clash : (b : Bool) → b ≡ false → b ≡ true → ⊥
 clash b first second = false_is_not_true (sym first ∙ second)
@@ -386,7 +395,8 @@ initializer_is_load c at (source.Vertices edges) is = clash _ (of_edges_not is_l
 initializer_is_load c at (source.OutDegrees edges) is = clash _ (of_edges_not is_loaded at Degrees (used c.scope edges).value refl refl) is
 initializer_is_load c at (source.Filter s f) is = clash _ (filtered_not is_loaded at (used c.scope s).value (used c.scope f).value refl (λ slot index. refl)) is
 initializer_is_load c at (source.ApplyModified edges ends f v) is =
-    clash _ (modified_not is_loaded c at (used c.scope edges).value (end_of c.scope ends.from).value (end_of c.scope ends.to).value (used c.scope f).value (used c.scope v).value refl (λ ends f v. refl)) is
+    clash _ (modified_not is_loaded c at (used c.scope edges).value (end_of c.scope ends.from).value (end_of c.scope ends.to).value (used c.scope f).value (used c.scope v).value refl
+    (λ ends f v. refl)) is
 initializer_is_load c at (source.Value e) is = false_is_not_true is
 
 initializer_is_all : (c : CheckerTree) (at : ℕ) (initial : InitialTree) → is_all (initializer_of c at initial).value ≡ true → IsAllVertices initial
@@ -396,7 +406,8 @@ initializer_is_all c at (source.Vertices edges) is = tt
 initializer_is_all c at (source.OutDegrees edges) is = clash _ (of_edges_not is_all at Degrees (used c.scope edges).value refl refl) is
 initializer_is_all c at (source.Filter s f) is = clash _ (filtered_not is_all at (used c.scope s).value (used c.scope f).value refl (λ slot index. refl)) is
 initializer_is_all c at (source.ApplyModified edges ends f v) is =
-    clash _ (modified_not is_all c at (used c.scope edges).value (end_of c.scope ends.from).value (end_of c.scope ends.to).value (used c.scope f).value (used c.scope v).value refl (λ ends f v. refl)) is
+    clash _ (modified_not is_all c at (used c.scope edges).value (end_of c.scope ends.from).value (end_of c.scope ends.to).value (used c.scope f).value (used c.scope v).value refl
+    (λ ends f v. refl)) is
 initializer_is_all c at (source.Value e) is = false_is_not_true is
 
 initializer_is_degrees : (c : CheckerTree) (at : ℕ) (initial : InitialTree) → is_degrees (initializer_of c at initial).value ≡ true → IsOutDegrees initial
@@ -406,7 +417,8 @@ initializer_is_degrees c at (source.Vertices edges) is = clash _ (of_edges_not i
 initializer_is_degrees c at (source.OutDegrees edges) is = tt
 initializer_is_degrees c at (source.Filter s f) is = clash _ (filtered_not is_degrees at (used c.scope s).value (used c.scope f).value refl (λ slot index. refl)) is
 initializer_is_degrees c at (source.ApplyModified edges ends f v) is =
-    clash _ (modified_not is_degrees c at (used c.scope edges).value (end_of c.scope ends.from).value (end_of c.scope ends.to).value (used c.scope f).value (used c.scope v).value refl (λ ends f v. refl)) is
+    clash _ (modified_not is_degrees c at (used c.scope edges).value (end_of c.scope ends.from).value (end_of c.scope ends.to).value (used c.scope f).value (used c.scope v).value refl
+    (λ ends f v. refl)) is
 initializer_is_degrees c at (source.Value e) is = false_is_not_true is
 
 -- constants
@@ -428,7 +440,8 @@ vector_begins : (at : ℕ) (initializer : InitializerTree) (initial : InitialTre
     → (is_degrees initializer ≡ true) ⊎ IsSome (literal_integer initial)
 vector_begins at initializer initial true is sound none = inl is
 vector_begins at initializer initial false is sound none =
-    let l = literal_or_fault at (is_sound initializer) (pos 0) (literal_integer initial) in inr (literal_is_there at (is_sound initializer) (pos 0) (literal_integer initial) sound (no_left l.faults [] none))
+    let l = literal_or_fault at (is_sound initializer) (pos 0) (literal_integer initial) in
+    inr (literal_is_there at (is_sound initializer) (pos 0) (literal_integer initial) sound (no_left l.faults [] none))
 
 constant_fits : (d : DeclaredTree) (at : ℕ) (name : Identifier) (initial : InitialTree) (type : DeclaredType) → AllKnown d → (initializer_of d.checker at initial).faults ≡ []
     → (declare_constant_as d at name initial type (initializer_of d.checker at initial).value).faults ≡ [] → ConstantFits type initial

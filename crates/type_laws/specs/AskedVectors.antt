@@ -3,7 +3,8 @@ use Rattle.std.specs.List.{Contains}
 use Rattle.typed_tree.specs.declared.statement.SetValue.{SetValue}
 use Rattle.typed_tree.specs.declared.statement.SetValue.TheVariants as set
 use Rattle.typed_tree.specs.Independence.{function_writes}
-use Rattle.typed_tree.specs.BlockTree.{StatementKindTree, DeclareInteger, DeclareCondition, SetInteger, SetCondition, ReduceInteger, SetEntry, ReduceEntry, DeclareSet, AssignSet, AddVertex, PrintInteger, PrintCondition, ApplyVertex, ApplyEdges, If, IfElse, While, For}
+use Rattle.typed_tree.specs.BlockTree.{StatementKindTree, DeclareInteger, DeclareCondition, SetInteger, SetCondition, ReduceInteger, SetEntry, ReduceEntry}
+use Rattle.typed_tree.specs.BlockTree.{DeclareSet, AssignSet, AddVertex, PrintInteger, PrintCondition, ApplyVertex, ApplyEdges, If, IfElse, While, For}
 use Rattle.typed_tree.specs.ProgramTree.{ProgramTree}
 use Rattle.type_laws.specs.EachStatement.{SetNames, HoldsOfEach}
 

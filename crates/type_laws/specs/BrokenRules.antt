@@ -1,5 +1,6 @@
 -- Broken rules of types: which rules each part of a source breaks itself and where, one definition for each rule.
-use Rattle.std.specs.Prelude.{◌≡◌, ◌⊎◌, ◌<◌, ◌≤◌, ℕ, ℤ, pos, negsuc, zero, suc, Bool, true, false, not, ◌&&◌, ◌||◌, if◌then◌else◌, is_some, nat_eq, List, Option, Some, None}
+use Rattle.std.specs.Prelude.{◌≡◌, ◌⊎◌, ◌<◌, ◌≤◌, ℕ, ℤ, pos, negsuc, zero, suc, Bool, true, false, not, ◌&&◌, ◌||◌, if◌then◌else◌, is_some, nat_eq, List}
+use Rattle.std.specs.Prelude.{Option, Some, None}
 use Rattle.std.specs.List.{Contains}
 use Rattle.std.specs.Map.{lookup}
 use Rattle.apply_options.specs.declared.reduction.Reduction.{Reduction}
@@ -21,14 +22,17 @@ use Rattle.expression_types.specs.ScopeTree.{found}
 use Rattle.expression_types.specs.ValueTree.{ValueTree, Integer, Condition, Vertex, Set, ErrorValue, is_error, named_set, named_vector}
 use Rattle.types.specs.Checker.{CheckerTree}
 use Rattle.types.specs.Declaration.{DeclaredTree, FunctionKindTree, NoKind, declarations_typed, kind}
-use Rattle.types.specs.Initial.{ApplyEndTree, InitializerTree, Typed, Members, Loaded, Degrees, ErrorInitializer, edge_function, end_of, filter_function, initializer_of, is_all, is_degrees, is_edges, is_loaded, is_sound, is_wrong, lacks_weights, names_error, vector_of, vertex_function, writes_vector}
+use Rattle.types.specs.Initial.{ApplyEndTree, InitializerTree, Typed, Members, Loaded, Degrees, ErrorInitializer, edge_function, end_of, filter_function}
+use Rattle.types.specs.Initial.{initializer_of, is_all, is_degrees, is_edges, is_loaded, is_sound, is_wrong, lacks_weights, names_error, vector_of}
+use Rattle.types.specs.Initial.{vertex_function, writes_vector}
 use Rattle.types.specs.Literal.{literal_condition, literal_integer}
 use Rattle.types.specs.Program.{opening, set_count}
 use Rattle.types.specs.Statement.{has_ends}
 use Rattle.types.specs.Step.{own_vertex, same_endpoint, same_reduction}
 use Rattle.type_laws.specs.ExpressionParts.{any_faulty, parts}
 use Rattle.type_laws.specs.ExpressionRules.{breaks_indexes, breaks_types, breaks_visibility, holds_entry, is_bool, is_int, place_of}
-use Rattle.type_laws.specs.SourceParts.{Part, Source, Declaration, MainStatement, FunctionStatement, Label, NewName, Initial, IntWanted, BoolWanted, VectorWanted, MainIndex, FunctionIndex, InExpression, initial_forms, parts_of}
+use Rattle.type_laws.specs.SourceParts.{Part, Source, Declaration, MainStatement, FunctionStatement, Label, NewName, Initial, IntWanted, BoolWanted}
+use Rattle.type_laws.specs.SourceParts.{VectorWanted, MainIndex, FunctionIndex, InExpression, initial_forms, parts_of}
 
 -- a value may stand where an int, a bool or a set is wanted; of a faulty one no type is known
 abbrev pub may_be_int : ValueTree → Bool

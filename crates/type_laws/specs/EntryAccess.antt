@@ -2,7 +2,8 @@
 use Rattle.std.specs.Prelude.{◌≡◌, ◌≢◌, ℕ, List, [], ◌∷◌, Option, Some, None}
 use Rattle.std.specs.List.{Contains}
 use Rattle.syntax.specs.SourceTrees as tree
-use Rattle.syntax.specs.SourceTrees.{ExpressionTree, ConjunctionTree, ComparisonTree, SumTree, TermTree, UnaryTree, PrimaryTree, InitialTree, ParameterTree, StatementKindTree, BlockTree, DeclarationTree}
+use Rattle.syntax.specs.SourceTrees.{ExpressionTree, ConjunctionTree, ComparisonTree, SumTree, TermTree, UnaryTree, PrimaryTree, InitialTree, ParameterTree}
+use Rattle.syntax.specs.SourceTrees.{StatementKindTree, BlockTree, DeclarationTree}
 use Rattle.syntax.specs.SourceTrees as source
 use Rattle.syntax.specs.Terminals.{Identifier}
 use Rattle.expression_types.specs.BareNames.{bare_name}

@@ -4,7 +4,8 @@ use Rattle.syntax.specs.Terminals.{Identifier}
 use Rattle.syntax.specs.SourceTrees as tree
 use Rattle.syntax.specs.SourceTrees.{ExpressionTree, ConjunctionTree, ComparisonTree, SumTree, TermTree, UnaryTree, PrimaryTree}
 use Rattle.expression_types.specs.declared.fault.Fault.{Fault}
-use Rattle.expression_types.specs.Expression.{comparison_value, conjunction_value, index_lacks_value, index_value, primary_value, sum_value, term_value, unary_value, used, value_of}
+use Rattle.expression_types.specs.Expression.{comparison_value, conjunction_value, index_lacks_value, index_value, primary_value, sum_value, term_value}
+use Rattle.expression_types.specs.Expression.{unary_value, used, value_of}
 use Rattle.expression_types.specs.ScopeTree.{ScopeTree}
 use Rattle.expression_types.specs.ValueTree.{is_error}
 use Rattle.types.specs.Initial.{names_error}

@@ -10,9 +10,11 @@ use Rattle.expression_types.specs.declared.fault.TypeRule.{TypeRule}
 use Rattle.expression_types.specs.declared.fault.TypeRule.TheVariants as rule
 use Rattle.expression_types.specs.declared.scope.Inside.{Inside}
 use Rattle.expression_types.specs.declared.scope.Inside.TheVariants as inside
-use Rattle.expression_types.specs.Expression.{comparison_value, conjunction_value, index_value, primary_value, sum_value, term_value, unary_value, used, value_of}
+use Rattle.expression_types.specs.Expression.{comparison_value, conjunction_value, index_value, primary_value, sum_value, term_value, unary_value, used}
+use Rattle.expression_types.specs.Expression.{value_of}
 use Rattle.expression_types.specs.ScopeTree.{found, ScopeTree}
-use Rattle.expression_types.specs.ValueTree.{ValueTree, Integer, Condition, Vertex, Set, ErrorValue, as_condition, as_integer, as_vertex, condition_reads_entry, named_set, named_value, named_vector, reads_entry}
+use Rattle.expression_types.specs.ValueTree.{ValueTree, Integer, Condition, Vertex, Set, ErrorValue, as_condition, as_integer, as_vertex, condition_reads_entry}
+use Rattle.expression_types.specs.ValueTree.{named_set, named_value, named_vector, reads_entry}
 use Rattle.type_laws.specs.ExpressionParts.{Form, Expression, Conjunction, Comparison, Sum, Term, Unary, Primary, Index, Name, any_faulty, parts}
 
 -- the value of a form; a name alone has none
@@ -127,7 +129,8 @@ form_breaks scope at form rule.BadLabel = false
 
 -- by their numbers
 abbrev pub all_rules : List TypeRule
-all_rules = rule.UnknownName ∷ rule.Redeclared ∷ rule.WrongType ∷ rule.NotReduction ∷ rule.MixedReductions ∷ rule.WrongIndex ∷ rule.PrintOutsideMain ∷ rule.NoMain ∷ rule.BadLabel ∷ []
+all_rules = rule.UnknownName ∷ rule.Redeclared ∷ rule.WrongType ∷ rule.NotReduction ∷ rule.MixedReductions ∷ rule.WrongIndex ∷ rule.PrintOutsideMain ∷
+    rule.NoMain ∷ rule.BadLabel ∷ []
 
 -- a broken rule is a fault at the name, or at the offset of the statement
 abbrev pub place_of : ℕ → Form → ℕ
@@ -137,7 +140,8 @@ place_of at _ = at
 abbrev pub broken_form_rules : ScopeTree → ℕ → Form → List TypeRule → List Fault
 broken_form_rules scope at form [] = []
 broken_form_rules scope at form (r ∷ others) =
-    if form_breaks scope at form r then record { at = place_of at form; rule = r } ∷ broken_form_rules scope at form others else broken_form_rules scope at form others
+    if form_breaks scope at form r then record { at = place_of at form; rule =
+    r } ∷ broken_form_rules scope at form others else broken_form_rules scope at form others
 
 -- the faults that a form has itself: none if a part is faulty
 abbrev pub own_faults : ScopeTree → ℕ → Form → List Fault

@@ -82,7 +82,8 @@ abbrev mutual
   ComparisonHas names i (tree.OneSum s) type = SumHas names i s type
   ComparisonHas names i (tree.TwoSums left relation right) type =
       (type ≡ Truth)
-      × ((ReadsAsNumber (SumHas names i left) × ReadsAsNumber (SumHas names i right)) ⊎ (IsEquality relation × SumHas names i left Truth × SumHas names i right Truth))
+      × ((ReadsAsNumber (SumHas names i left) × ReadsAsNumber (SumHas names i right))
+      ⊎ (IsEquality relation × SumHas names i left Truth × SumHas names i right Truth))
 
   pub SumHas : Meanings → Inside → SumTree → ExpressionType → Type 0
   SumHas names i (tree.LastTerm t) type = TermHas names i t type

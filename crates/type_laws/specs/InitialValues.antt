@@ -1,6 +1,8 @@
 -- Sources in which each `new vertexset` has no member and each `load` reads the first argument.
 use Rattle.std.specs.Prelude.{◌≡◌, pos}
-use Rattle.syntax.specs.SourceTrees.{InitialTree, NewSet, Load, Vertices, OutDegrees, Filter, ApplyModified, Value, StatementKindTree, Declare, While, For, If, IfElse, Print, Assign, Reduce, SetEntry, ReduceEntry, AddVertex, Apply, BlockTree, Empty, Then, DeclarationTree, Constant, Function}
+use Rattle.syntax.specs.SourceTrees.{InitialTree, NewSet, Load, Vertices, OutDegrees, Filter, ApplyModified, Value, StatementKindTree, Declare, While, For, If}
+use Rattle.syntax.specs.SourceTrees.{IfElse, Print, Assign, Reduce, SetEntry, ReduceEntry, AddVertex, Apply, BlockTree, Empty, Then, DeclarationTree, Constant}
+use Rattle.syntax.specs.SourceTrees.{Function}
 
 abbrev pub InitialFits : InitialTree → Type 0
 InitialFits (NewSet size) = size ≡ pos 0

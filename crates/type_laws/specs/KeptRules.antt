@@ -1,5 +1,6 @@
 -- Kept rules: sources that break no rule of types, said over the source alone, one case for each form of the language.
-use Rattle.std.specs.Prelude.{◌≡◌, ◌≢◌, ◌⊎◌, ℕ, suc, pos, Bool, true, false, nat_eq, List, ◌∷◌, ◌++◌, length, if◌then◌else◌, slice_index_or, Option, Some, None, IsSome}
+use Rattle.std.specs.Prelude.{◌≡◌, ◌≢◌, ◌⊎◌, ℕ, suc, pos, Bool, true, false, nat_eq, List, ◌∷◌, ◌++◌, length, if◌then◌else◌, slice_index_or, Option, Some, None}
+use Rattle.std.specs.Prelude.{IsSome}
 use Rattle.std.specs.Str.{bytes_eq}
 use Rattle.std.specs.Map.{lookup}
 use Rattle.apply_options.specs.declared.reduction.Reduction.{Reduction}
@@ -98,7 +99,8 @@ pub data AssignFits (i : Inside) (k : Known) (name : Identifier) (initial : Init
 pub data ApplyFits (k : Known) (target : Identifier) (ends : EndsTree) (function : Identifier) : Type 0 where
   AppliesEdges : (weights : Bool) (index : ℕ) (weighted : Bool) → Means k.names target (meaning.Edges weights) → EndsFit k.names ends
       → Means k.names function (meaning.EdgeFunction index weighted) → SeesWeights weights weighted → ApplyFits k target ends function
-  AppliesVertices : NameHas k.names target Set → ends.from ≡ None → ends.to ≡ None → Means k.names function meaning.VertexFunction → ApplyFits k target ends function
+  AppliesVertices : NameHas k.names target Set → ends.from ≡ None → ends.to ≡ None → Means k.names function meaning.VertexFunction
+      → ApplyFits k target ends function
 
 -- a vertex function alone sets entries; an edge function reduces a vector as it did before, if it did
 abbrev pub MaySet : Inside → Type 0
@@ -229,7 +231,8 @@ abbrev pub FunctionKeeps : Known → List ParameterTree → Option ParameterTree
 FunctionKeeps k [] result body = ⊥
 FunctionKeeps k (v ∷ []) None body = (v.declared ≡ declared.Vertex) × IsNew k v.name × BlockKeeps inside.VertexFunction (known_at_vertex k v) body
 FunctionKeeps k (v ∷ []) (Some test) body =
-    (v.declared ≡ declared.Vertex) × (test.declared ≡ declared.Bool) × IsNew k v.name × IsNew (known_at_vertex k v) test.name × BlockKeeps inside.Filter (known_in_filter k v test) body
+    (v.declared ≡ declared.Vertex) × (test.declared ≡ declared.Bool) × IsNew k v.name × IsNew (known_at_vertex k v) test.name
+    × BlockKeeps inside.Filter (known_in_filter k v test) body
 FunctionKeeps k (src ∷ dst ∷ []) None body =
     (src.declared ≡ declared.Vertex) × (dst.declared ≡ declared.Vertex) × IsNew k src.name × IsNew (known_at_vertex k src) dst.name
     × BlockKeeps inside.EdgeFunction (known_on_edge k src dst) body
@@ -256,7 +259,8 @@ function_after d name m after = record d { known = with_name (meaning.closed_kno
 -- what an edge function reduces is kept
 abbrev pub edge_function_after : Declarations → Identifier → (weighted : Bool) → Known → Declarations
 edge_function_after d name weighted after =
-    record d { known = record (with_name (meaning.closed_known d.known after) name (meaning.EdgeFunction (length d.known.written) weighted)) { written = after.written ++ after.reduced ∷ [] } }
+    record d { known = record (with_name (meaning.closed_known d.known after) name (meaning.EdgeFunction (length d.known.written) weighted)) { written =
+    after.written ++ after.reduced ∷ [] } }
 
 abbrev pub after_function : Declarations → Identifier → List ParameterTree → Option ParameterTree → BlockTree → Declarations
 after_function d name [] result body = d
@@ -273,7 +277,8 @@ after_function d name (a ∷ b ∷ c ∷ e ∷ others) result body = d
 abbrev pub DeclarationKeeps : Declarations → DeclarationTree → Type 0
 DeclarationKeeps d (source.Constant at p initial) = ConstantKeeps d p.declared initial × IsNew d.known p.name
 DeclarationKeeps d (source.Function at name parameters result body) =
-    IsNew d.known name × (name.bytes ≡ main_bytes → MainKeeps d.known parameters result body) × (name.bytes ≢ main_bytes → FunctionKeeps d.known parameters result body)
+    IsNew d.known name × (name.bytes ≡ main_bytes → MainKeeps d.known parameters result body)
+    × (name.bytes ≢ main_bytes → FunctionKeeps d.known parameters result body)
 
 abbrev pub after_declaration : Declarations → DeclarationTree → Declarations
 after_declaration d (source.Constant at p initial) = after_constant d p

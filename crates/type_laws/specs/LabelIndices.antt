@@ -1,6 +1,8 @@
 -- The labels of the statements of main, as indices among all labels.
 use Rattle.std.specs.Prelude.{ℕ, List, [], ◌∷◌, ◌++◌, Option, Some, None}
-use Rattle.typed_tree.specs.BlockTree.{StatementKindTree, DeclareInteger, DeclareCondition, SetInteger, SetCondition, ReduceInteger, SetEntry, ReduceEntry, DeclareSet, AssignSet, AddVertex, PrintInteger, PrintCondition, ApplyVertex, ApplyEdges, If, IfElse, While, For, BlockTree, Empty, Then}
+use Rattle.typed_tree.specs.BlockTree.{StatementKindTree, DeclareInteger, DeclareCondition, SetInteger, SetCondition, ReduceInteger, SetEntry, ReduceEntry}
+use Rattle.typed_tree.specs.BlockTree.{DeclareSet, AssignSet, AddVertex, PrintInteger, PrintCondition, ApplyVertex, ApplyEdges, If, IfElse, While, For}
+use Rattle.typed_tree.specs.BlockTree.{BlockTree, Empty, Then}
 use Rattle.typed_tree.specs.ProgramTree.{ProgramTree}
 use Rattle.type_laws.specs.Numbers.{InOrder}
 

@@ -1,7 +1,8 @@
 -- The labels of a source, with `#` at both ends, in the order of the text: that of a statement before those inside it.
 use Rattle.std.specs.Prelude.{ℕ, List, [], ◌∷◌, ◌++◌, Option, Some, None}
 use Rattle.syntax.specs.Terminals.{Identifier}
-use Rattle.syntax.specs.SourceTrees.{StatementKindTree, Declare, While, For, If, IfElse, Print, Assign, Reduce, SetEntry, ReduceEntry, AddVertex, Apply, BlockTree, Empty, Then, DeclarationTree, Constant, Function}
+use Rattle.syntax.specs.SourceTrees.{StatementKindTree, Declare, While, For, If, IfElse, Print, Assign, Reduce, SetEntry, ReduceEntry, AddVertex, Apply}
+use Rattle.syntax.specs.SourceTrees.{BlockTree, Empty, Then, DeclarationTree, Constant, Function}
 
 -- the label of a statement, where it has one
 abbrev pub own_label : Option Identifier → List (List ℕ)

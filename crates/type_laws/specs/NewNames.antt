@@ -4,7 +4,8 @@ use Rattle.std.specs.List.{AllByRecursion}
 use Rattle.syntax.specs.Terminals.{Identifier}
 use Rattle.syntax.specs.declared.declaration.DeclaredType.{DeclaredType}
 use Rattle.syntax.specs.declared.declaration.DeclaredType.TheVariants as declared
-use Rattle.syntax.specs.SourceTrees.{ParameterTree, StatementKindTree, Declare, While, For, If, IfElse, Print, Assign, Reduce, SetEntry, ReduceEntry, AddVertex, Apply, BlockTree, Empty, Then, DeclarationTree, Constant, Function}
+use Rattle.syntax.specs.SourceTrees.{ParameterTree, StatementKindTree, Declare, While, For, If, IfElse, Print, Assign, Reduce, SetEntry, ReduceEntry, AddVertex}
+use Rattle.syntax.specs.SourceTrees.{Apply, BlockTree, Empty, Then, DeclarationTree, Constant, Function}
 
 -- the visible names with one more
 abbrev pub with_new : List (List ℕ) → Identifier → List (List ℕ)
@@ -72,7 +73,8 @@ names_inside visible parameters result = with_result (with_parameters visible pa
 
 abbrev pub FunctionDeclaresNew : List (List ℕ) → List ParameterTree → Option ParameterTree → BlockTree → Type 0
 FunctionDeclaresNew visible parameters result body =
-    ParametersAreNew visible parameters × ResultIsNew (with_parameters visible parameters) result × BlockDeclaresNew (names_inside visible parameters result) body
+    ParametersAreNew visible parameters × ResultIsNew (with_parameters visible parameters) result
+    × BlockDeclaresNew (names_inside visible parameters result) body
 
 -- The name of a function is visible after its end.
 abbrev pub DeclarationDeclaresNew : List (List ℕ) → DeclarationTree → Type 0

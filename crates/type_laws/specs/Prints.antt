@@ -1,6 +1,7 @@
 -- Sources in which no function but main prints.
 use Rattle.std.specs.Prelude.{◌≢◌}
-use Rattle.syntax.specs.SourceTrees.{StatementKindTree, Declare, While, For, If, IfElse, Print, Assign, Reduce, SetEntry, ReduceEntry, AddVertex, Apply, BlockTree, Empty, Then, DeclarationTree, Constant, Function}
+use Rattle.syntax.specs.SourceTrees.{StatementKindTree, Declare, While, For, If, IfElse, Print, Assign, Reduce, SetEntry, ReduceEntry, AddVertex, Apply}
+use Rattle.syntax.specs.SourceTrees.{BlockTree, Empty, Then, DeclarationTree, Constant, Function}
 use Rattle.types.specs.Declaration.{main_bytes}
 
 abbrev mutual

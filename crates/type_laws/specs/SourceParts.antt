@@ -109,7 +109,8 @@ function_statement_parts c (source.Apply target ends function) = map (InExpressi
 abbrev pub main_block_parts : CheckerTree → BlockTree → List Part
 main_block_parts c source.Empty = []
 main_block_parts c (source.Then label action others) =
-    Label c label ∷ MainStatement (counted (labelled c label).value.1) action ∷ MainBlock (action_typed (counted (labelled c label).value.1) action).value.1 others ∷ []
+    Label c label ∷ MainStatement (counted (labelled c label).value.1) action ∷ MainBlock
+    (action_typed (counted (labelled c label).value.1) action).value.1 others ∷ []
 
 abbrev pub function_block_parts : CheckerTree → BlockTree → List Part
 function_block_parts c source.Empty = []
@@ -140,7 +141,8 @@ body_part k c body = FunctionBlock c body
 
 abbrev pub function_parts : DeclaredTree → FunctionKindTree → Identifier → List ParameterTree → Option ParameterTree → BlockTree → List Part
 function_parts d k name parameters result body =
-    Parameters (takes_weight k) k (before_parameters d k) endpoint.Source parameters result ∷ body_part k (at_body d k parameters result) body ∷ NewName d.checker.scope name ∷ []
+    Parameters (takes_weight k) k (before_parameters d k) endpoint.Source parameters result ∷ body_part k
+    (at_body d k parameters result) body ∷ NewName d.checker.scope name ∷ []
 
 abbrev pub declaration_parts : DeclaredTree → DeclarationTree → List Part
 declaration_parts d (source.Constant at p initial) = Initial d.checker at initial ∷ NewName d.checker.scope p.name ∷ []

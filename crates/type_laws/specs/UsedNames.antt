@@ -3,7 +3,8 @@ use Rattle.std.specs.Prelude.{ℕ, List, [], ◌∷◌, Option, Some, None}
 use Rattle.std.specs.List.{Contains}
 use Rattle.syntax.specs.Terminals.{Identifier}
 use Rattle.syntax.specs.SourceTrees as tree
-use Rattle.syntax.specs.SourceTrees.{ExpressionTree, ConjunctionTree, ComparisonTree, SumTree, TermTree, UnaryTree, PrimaryTree, EndsTree, InitialTree, StatementKindTree, BlockTree, DeclarationTree}
+use Rattle.syntax.specs.SourceTrees.{ExpressionTree, ConjunctionTree, ComparisonTree, SumTree, TermTree, UnaryTree, PrimaryTree, EndsTree, InitialTree}
+use Rattle.syntax.specs.SourceTrees.{StatementKindTree, BlockTree, DeclarationTree}
 use Rattle.syntax.specs.SourceTrees as source
 use Rattle.type_laws.specs.NewNames.{names_after, names_inside, with_declaration, with_new}
 

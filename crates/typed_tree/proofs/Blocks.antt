@@ -18,11 +18,13 @@ row_tree-items (more_of-MainStatement number label action rest) = ap (Then numbe
 pub statement_kind_tree-If : (c : BoolExpression) (body : Vec MainStatement) → statement_kind_tree (views.If c body) ≡ If (bool_expression_tree c) (block_tree body.items)
 statement_kind_tree-If c body = search (rules, the_lemmas, row_tree-items)
 
-pub statement_kind_tree-IfElse : (c : BoolExpression) (body other : Vec MainStatement) → statement_kind_tree (views.IfElse c body other) ≡ IfElse (bool_expression_tree c) (block_tree body.items) (block_tree other.items)
+pub statement_kind_tree-IfElse : (c : BoolExpression) (body other : Vec MainStatement)
+    → statement_kind_tree (views.IfElse c body other) ≡ IfElse (bool_expression_tree c) (block_tree body.items) (block_tree other.items)
 statement_kind_tree-IfElse c body other = search (rules, the_lemmas, row_tree-items)
 
 pub statement_kind_tree-While : (c : BoolExpression) (body : Vec MainStatement) → statement_kind_tree (views.While c body) ≡ While (bool_expression_tree c) (block_tree body.items)
 statement_kind_tree-While c body = search (rules, the_lemmas, row_tree-items)
 
-pub statement_kind_tree-For : (name : ℕ) (first end : IntExpression) (body : Vec MainStatement) → statement_kind_tree (views.For name first end body) ≡ For name (int_expression_tree first) (int_expression_tree end) (block_tree body.items)
+pub statement_kind_tree-For : (name : ℕ) (first end : IntExpression) (body : Vec MainStatement)
+    → statement_kind_tree (views.For name first end body) ≡ For name (int_expression_tree first) (int_expression_tree end) (block_tree body.items)
 statement_kind_tree-For name first end body = search (rules, the_lemmas, row_tree-items)

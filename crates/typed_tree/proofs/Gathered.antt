@@ -11,7 +11,8 @@ use Rattle.typed_tree.specs.IntExpressionTree.{IntExpressionTree}
 use Rattle.typed_tree.specs.IntExpressionTree as integer
 use Rattle.typed_tree.specs.BoolExpressionTree.{BoolExpressionTree}
 use Rattle.typed_tree.specs.BoolExpressionTree as condition
-use Rattle.typed_tree.specs.FunctionStatementTree.{FunctionTree, FunctionStatementTree, FunctionStatementsTree, DeclareInteger, DeclareCondition, SetInteger, SetCondition, ReduceInteger, SetEntry, ReduceEntry, If, IfElse, NoStep, StepThen}
+use Rattle.typed_tree.specs.FunctionStatementTree.{FunctionTree, FunctionStatementTree, FunctionStatementsTree, DeclareInteger, DeclareCondition, SetInteger, SetCondition, ReduceInteger, SetEntry}
+use Rattle.typed_tree.specs.FunctionStatementTree.{ReduceEntry, If, IfElse, NoStep, StepThen}
 use Rattle.typed_tree.specs.Fold.{all_pass, condition_fold, end_fold, function_fold, gathered, integer_fold, step_fold, steps_fold, steps_fold_where}
 
 -- an access passes where all that it gives passes

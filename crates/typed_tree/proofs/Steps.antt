@@ -15,5 +15,6 @@ steps_row-items (more_of-FunctionStatement step rest) = ap (StepThen (function_s
 pub function_statement_tree-If : (c : BoolExpression) (body : Vec FunctionStatement) → function_statement_tree (views.If c body) ≡ If (bool_expression_tree c) (function_statements_tree body.items)
 function_statement_tree-If c body = search (rules, the_lemmas, steps_row-items)
 
-pub function_statement_tree-IfElse : (c : BoolExpression) (body other : Vec FunctionStatement) → function_statement_tree (views.IfElse c body other) ≡ IfElse (bool_expression_tree c) (function_statements_tree body.items) (function_statements_tree other.items)
+pub function_statement_tree-IfElse : (c : BoolExpression) (body other : Vec FunctionStatement)
+    → function_statement_tree (views.IfElse c body other) ≡ IfElse (bool_expression_tree c) (function_statements_tree body.items) (function_statements_tree other.items)
 function_statement_tree-IfElse c body other = search (rules, the_lemmas, steps_row-items)

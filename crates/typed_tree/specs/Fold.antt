@@ -10,7 +10,8 @@ use Rattle.typed_tree.specs.IntExpressionTree.{IntExpressionTree, int_expression
 use Rattle.typed_tree.specs.IntExpressionTree as integer
 use Rattle.typed_tree.specs.BoolExpressionTree.{BoolExpressionTree, bool_expression_tree}
 use Rattle.typed_tree.specs.BoolExpressionTree as condition
-use Rattle.typed_tree.specs.FunctionStatementTree.{FunctionTree, FunctionStatementTree, FunctionStatementsTree, DeclareInteger, DeclareCondition, SetInteger, SetCondition, ReduceInteger, SetEntry, ReduceEntry, If, IfElse, NoStep, StepThen}
+use Rattle.typed_tree.specs.FunctionStatementTree.{FunctionTree, FunctionStatementTree, FunctionStatementsTree, DeclareInteger, DeclareCondition, SetInteger}
+use Rattle.typed_tree.specs.FunctionStatementTree.{SetCondition, ReduceInteger, SetEntry, ReduceEntry, If, IfElse, NoStep, StepThen}
 
 -- what a walk gives
 pub record Fold (R : Type 0) : Type 0 where

@@ -2,7 +2,8 @@
 use Rattle.std.specs.Prelude.{ℕ, List, [], ◌∷◌}
 use Rattle.apply_options.specs.declared.reduction.Reduction.{Reduction}
 use Rattle.typed_tree.specs.declared.expression.VarRef.{VarRef}
-use Rattle.typed_tree.specs.declared.function.FunctionStatement.{FunctionStatement, Row_of-FunctionStatement, end_of-FunctionStatement, more_of-FunctionStatement}
+use Rattle.typed_tree.specs.declared.function.FunctionStatement.{FunctionStatement, Row_of-FunctionStatement, end_of-FunctionStatement}
+use Rattle.typed_tree.specs.declared.function.FunctionStatement.{more_of-FunctionStatement}
 use Rattle.typed_tree.specs.declared.function.FunctionStatement.TheVariants as rust
 use Rattle.typed_tree.specs.declared.function.Function.{Function}
 use Rattle.typed_tree.specs.IntExpressionTree.{IntExpressionTree, int_expression_tree}

@@ -16,7 +16,8 @@ use Rattle.typed_tree.specs.declared.expression.Endpoint.{Endpoint}
 use Rattle.typed_tree.specs.declared.expression.Endpoint.TheVariants as endpoint
 use Rattle.typed_tree.specs.BlockTree.{BlockTree, Empty}
 use Rattle.typed_tree.specs.IntExpressionTree.{IntExpressionTree}
-use Rattle.typed_tree.specs.FunctionStatementTree.{FunctionTree, FunctionStatementTree, FunctionStatementsTree, DeclareInteger, DeclareCondition, SetInteger, SetCondition, ReduceInteger, SetEntry, ReduceEntry, If, IfElse, NoStep, StepThen}
+use Rattle.typed_tree.specs.FunctionStatementTree.{FunctionTree, FunctionStatementTree, FunctionStatementsTree, DeclareInteger, DeclareCondition, SetInteger, SetCondition, ReduceInteger, SetEntry}
+use Rattle.typed_tree.specs.FunctionStatementTree.{ReduceEntry, If, IfElse, NoStep, StepThen}
 use Rattle.expression_types.specs.declared.scope.Entity.{Entity}
 use Rattle.expression_types.specs.declared.scope.Entity.TheVariants as entity
 use Rattle.expression_types.specs.declared.scope.Inside.{Inside}
@@ -26,10 +27,12 @@ use Rattle.expression_types.specs.ScopeTree.{found, ScopeTree, declared_over, en
 use Rattle.expression_types.specs.ValueTree.{ValueTree}
 use Rattle.types.specs.Checker.{CheckerTree, integer_slot, condition_slot, declared_in, labelled, new_label, restarted, with_scope, integer_in}
 use Rattle.types.specs.Block.{statements_typed}
-use Rattle.types.specs.Declaration.{DeclaredTree, FunctionKindTree, MainKind, EdgeKind, VertexKind, FilterKind, NoKind, declaration_typed, declarations_typed, declare_constant_as, declare_function, declare_name, function_of, inside_of, kind, opened, parameter, parameters_declared, result_declared, result_entity, with_main, takes_weight}
+use Rattle.types.specs.Declaration.{DeclaredTree, FunctionKindTree, MainKind, EdgeKind, VertexKind, FilterKind, NoKind, declaration_typed, declarations_typed, declare_constant_as, declare_function}
+use Rattle.types.specs.Declaration.{declare_name, function_of, inside_of, kind, opened, parameter, parameters_declared, result_declared, result_entity, with_main, takes_weight}
 use Rattle.types.specs.EdgeWrites.{ReducesInOneWay, SetsNoEntry, StepReduces, StepSetsNoEntry, StepsReduce}
 use Rattle.types.specs.Initial.{InitializerTree, initializer_of}
-use Rattle.types.specs.Step.{assigned_step, declare_step_as, entry_step, may_reduce, may_set, one_reduction, own_vertex, reduce_entry_step, reduced_as, reduced_step, reduction_step, same_reduction, step_after, step_typed, steps_after, steps_typed, with_writes, written_at, written_with}
+use Rattle.types.specs.Step.{assigned_step, declare_step_as, entry_step, may_reduce, may_set, one_reduction, own_vertex, reduce_entry_step, reduced_as, reduced_step, reduction_step, same_reduction}
+use Rattle.types.specs.Step.{step_after, step_typed, steps_after, steps_typed, with_writes, written_at, written_with}
 use Rattle.types.specs.Program.{opening, program_of, set_count}
 
 -- what is written: each vector with its reduction

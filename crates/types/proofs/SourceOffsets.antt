@@ -7,7 +7,8 @@ use Rattle.syntax.specs.declared.declaration.DeclaredType.TheVariants as declare
 use Rattle.syntax.specs.Offsets.{IsOffsetIn, StandWhere, StandsWhere}
 use Rattle.syntax.specs.SourceTrees as source
 use Rattle.syntax.specs.SourceTrees.{CallTree, ChainTree, DeclarationTree, InitialTree, ParameterTree, SourceTree}
-use Rattle.syntax.specs.SourceSpelling.{assigned_before, block_before, chain_before, declaration_before, each_before, next_call_before, next_parameter_before, parameters_before, result_before, schedule_before, source_terminals}
+use Rattle.syntax.specs.SourceSpelling.{assigned_before, block_before, chain_before, declaration_before, each_before, next_call_before, next_parameter_before, parameters_before, result_before}
+use Rattle.syntax.specs.SourceSpelling.{schedule_before, source_terminals}
 use Rattle.syntax.proofs.Behind.{all_both, chain_after, declaration_after, each_after, next_call_after, parameters_after, result_after, typed_after}
 use Rattle.syntax.proofs.Offsets.{each_stands}
 use Rattle.typed_tree.specs.declared.expression.Endpoint.{Endpoint}
@@ -20,7 +21,9 @@ use Rattle.expression_types.specs.declared.scope.Entity.TheVariants as entity
 use Rattle.expression_types.proofs.FaultOffsets.{FaultsStand, both_stand, if_stand}
 use Rattle.types.specs.Block.{statements_typed}
 use Rattle.types.specs.Checker.{CheckerTree, declared_in, restarted, with_scope}
-use Rattle.types.specs.Declaration.{DeclaredTree, FunctionKindTree, MainKind, EdgeKind, VertexKind, FilterKind, NoKind, begins, declaration_typed, declarations_typed, declare_constant_as, declare_function, declare_name, function_declared, has_all, kind, kind_fits, literal_or_fault, loads, main_declared, next_name, only_edges, opened, parameter, parameters_declared, result_declared, result_entity, steps_declared, wanted, takes_weight}
+use Rattle.types.specs.Declaration.{DeclaredTree, FunctionKindTree, MainKind, EdgeKind, VertexKind, FilterKind, NoKind, begins, declaration_typed, declarations_typed, declare_constant_as}
+use Rattle.types.specs.Declaration.{declare_function, declare_name, function_declared, has_all, kind, kind_fits, literal_or_fault, loads, main_declared, next_name, only_edges, opened, parameter}
+use Rattle.types.specs.Declaration.{parameters_declared, result_declared, result_entity, steps_declared, wanted, takes_weight}
 use Rattle.types.specs.Initial.{InitializerTree, initializer_of, is_all, is_degrees, is_loaded, is_sound}
 use Rattle.types.specs.Literal.{literal_condition, literal_integer}
 use Rattle.types.specs.Program.{chain_calls, main_of, opening, program_of, schedule_call, schedule_calls, set_count}
@@ -99,7 +102,8 @@ parameters_stand w P c p (v ∷ others) names =
     let d = declared_in c v.name (parameter w p v.declared) in
     both_stand P d.faults _ (declared_in_stands P c v.name (parameter w p v.declared) names.0) (parameters_stand w P d.value endpoint.Destination others names.1)
 
-result_stands : (P : ℕ → Type 0) (c : CheckerTree) (kind : FunctionKindTree) (result : Option ParameterTree) (rest : List Terminal) → StandWhere P (result_before result rest) → FaultsStand P (result_declared c kind result)
+result_stands : (P : ℕ → Type 0) (c : CheckerTree) (kind : FunctionKindTree) (result : Option ParameterTree) (rest : List Terminal) → StandWhere P (result_before result rest)
+    → FaultsStand P (result_declared c kind result)
 result_stands P c kind None rest all = tt
 result_stands P c kind (Some result) rest all = declared_in_stands P c result.name (result_entity c kind) all.1.0
 
@@ -117,7 +121,8 @@ kind_fits_stands P at VertexKind here = tt
 kind_fits_stands P at FilterKind here = tt
 kind_fits_stands P at NoKind here = (here, tt)
 
-function_declared_stands : (P : ℕ → Type 0) (d : DeclaredTree) (kind : FunctionKindTree) (name : Identifier) (steps : FunctionStatementsTree) → P name.at → FaultsStand P (function_declared d kind name steps)
+function_declared_stands : (P : ℕ → Type 0) (d : DeclaredTree) (kind : FunctionKindTree) (name : Identifier) (steps : FunctionStatementsTree) → P name.at
+    → FaultsStand P (function_declared d kind name steps)
 function_declared_stands P d (MainKind fits) name steps there = declare_name_stands P d name entity.Error there
 function_declared_stands P d (EdgeKind weighted) name steps there = name_last_stands P d name (entity.EdgeFunction (length d.edge_functions) weighted) there
 function_declared_stands P d VertexKind name steps there = name_last_stands P d name (entity.VertexFunction (length d.vertex_functions)) there
@@ -141,7 +146,8 @@ main_stands P d fits at name parameters result body stands =
     (both_stand P b.faults _ (statements_stand P c.value Empty body stands.block.0 stands.block.1)
     (name_last_stands P (record d { checker = with_scope b.value.1 d.checker.scope }) name entity.Main stands.there))
 
-steps_declared_stands : (P : ℕ → Type 0) (d : DeclaredTree) (at : ℕ) (kind : FunctionKindTree) (name : Identifier) (parameters : List ParameterTree) (result : Option ParameterTree) (body : source.BlockTree)
+steps_declared_stands : (P : ℕ → Type 0) (d : DeclaredTree) (at : ℕ) (kind : FunctionKindTree) (name : Identifier) (parameters : List ParameterTree) (result : Option ParameterTree)
+    (body : source.BlockTree)
     → FunctionStands P at name parameters result body → FaultsStand P (steps_declared d at kind name parameters result body)
 steps_declared_stands P d at kind name parameters result body stands =
     let f = kind_fits at kind in
@@ -176,7 +182,8 @@ declaration_stands P d (source.Function at name parameters result body) rest all
       block = (_, result_after (StandsWhere P) result _ inside.1);
     })
 
-declarations_stand : (P : ℕ → Type 0) (d : DeclaredTree) (xs : List DeclarationTree) (rest : List Terminal) → StandWhere P (each_before declaration_before xs rest) → FaultsStand P (declarations_typed d xs)
+declarations_stand : (P : ℕ → Type 0) (d : DeclaredTree) (xs : List DeclarationTree) (rest : List Terminal) → StandWhere P (each_before declaration_before xs rest)
+    → FaultsStand P (declarations_typed d xs)
 declarations_stand P d [] rest all = tt
 declarations_stand P d (x ∷ others) rest all =
     let e = declaration_typed d x in

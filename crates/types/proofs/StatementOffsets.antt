@@ -23,9 +23,12 @@ use Rattle.expression_types.specs.ValueTree.{ValueTree, Integer, Condition, Vert
 use Rattle.expression_types.proofs.FaultOffsets.{FaultsStand, both_stand, declared_stands, if_stand, used_stands, value_stands, vector_stands}
 use Rattle.types.specs.Block.{action_typed, behind, closed, in_place, statements_typed}
 use Rattle.types.specs.Checker.{CheckerTree, condition_slot, counted, declared_in, integer_slot, labelled, new_label, set_slot, as_index, as_integer, condition_in, integer_in}
-use Rattle.types.specs.Initial.{ApplyEndTree, InitializerTree, initializer_condition, edge_function, end_of, initializer_of, initializer_integer, is_edges, names_error, is_error_end, is_wrong, initializer_members, vertex_function, lacks_weights}
-use Rattle.types.specs.Statement.{add_vertex, added, applied, apply, assign, assigned, declare_as, edges_applied, has_ends, print, printed, reduce, reduce_entry, reduced, set_applied, set_entry, vertices_applied}
-use Rattle.types.proofs.ValueOffsets.{as_index_stands, as_integer_stands, initializer_condition_stands, condition_in_stands, end_stands, initializer_stands, initializer_integer_stands, integer_in_stands, initializer_members_stands}
+use Rattle.types.specs.Initial.{ApplyEndTree, InitializerTree, initializer_condition, edge_function, end_of, initializer_of, initializer_integer, is_edges, names_error, is_error_end, is_wrong}
+use Rattle.types.specs.Initial.{initializer_members, vertex_function, lacks_weights}
+use Rattle.types.specs.Statement.{add_vertex, added, applied, apply, assign, assigned, declare_as, edges_applied, has_ends, print, printed, reduce, reduce_entry, reduced, set_applied, set_entry}
+use Rattle.types.specs.Statement.{vertices_applied}
+use Rattle.types.proofs.ValueOffsets.{as_index_stands, as_integer_stands, initializer_condition_stands, condition_in_stands, end_stands, initializer_stands, initializer_integer_stands}
+use Rattle.types.proofs.ValueOffsets.{integer_in_stands, initializer_members_stands}
 
 -- names and labels
 pub declared_in_stands : (P : ℕ → Type 0) (c : CheckerTree) (name : Identifier) (e : Entity) → P name.at → FaultsStand P (declared_in c name e)
@@ -49,7 +52,8 @@ declare_as_stands : (P : ℕ → Type 0) (c : CheckerTree) (at : ℕ) (name : Id
 declare_as_stands P c at name initializer declared.Int here there =
     let e = initializer_integer at initializer in both_stand P e.faults _ (initializer_integer_stands P at initializer here) (last_stands P c name (entity.IntegerVariable (integer_slot c)) there)
 declare_as_stands P c at name initializer declared.Bool here there =
-    let e = initializer_condition at initializer in both_stand P e.faults _ (initializer_condition_stands P at initializer here) (last_stands P c name (entity.ConditionVariable (condition_slot c)) there)
+    let e = initializer_condition at initializer in both_stand P e.faults _ (initializer_condition_stands P at initializer here)
+    (last_stands P c name (entity.ConditionVariable (condition_slot c)) there)
 declare_as_stands P c at name initializer declared.VertexSet here there =
     let s = initializer_members at initializer in both_stand P s.faults _ (initializer_members_stands P at initializer here) (last_stands P c name (entity.SetVariable (set_slot c)) there)
 declare_as_stands P c at name initializer declared.Vertex here there = (here, last_stands P c name entity.Error there)

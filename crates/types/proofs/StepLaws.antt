@@ -49,7 +49,8 @@ if_step c d a at test body items t b old between new same is tested inner =
     ∙ outcome_then old between (condition_in c.scope at test) t (λ t. steps_typed c NoStep (block_tree items) >>= λ b. sure (If t b.0, steps_after c b.1)) tested
     ∙ inner_then c d (block_tree items) b between new (λ b. sure (If t b.0, b.1)) inner
 
-pub if_else_step : (c d e : CheckerTree) (a : Action) (at : ℕ) (test : ExpressionTree) (body otherwise : Vec Statement) (items others : List Statement) (t : BoolExpressionTree) (b o : FunctionStatementsTree)
+pub if_else_step : (c d e : CheckerTree) (a : Action) (at : ℕ) (test : ExpressionTree) (body otherwise : Vec Statement) (items others : List Statement) (t : BoolExpressionTree)
+    (b o : FunctionStatementsTree)
     (old between then new : Option Fault) → items ≡ body.items → others ≡ otherwise.items → a ≡ views.IfElse at test body otherwise
     → outcome old (condition_in c.scope at test) ≡ (t, between) → outcome between (steps_inside c (block_tree items)) ≡ ((b, d), then)
     → outcome then (steps_inside d (block_tree others)) ≡ ((o, e), new) → outcome old (step_typed c (statement_kind_tree a)) ≡ ((IfElse t b o, e), new)

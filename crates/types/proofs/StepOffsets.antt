@@ -26,7 +26,8 @@ use Rattle.expression_types.specs.ValueTree.{ValueTree, Integer, Condition, Vert
 use Rattle.expression_types.proofs.FaultOffsets.{FaultsStand, both_stand, index_stands, used_stands, value_stands, vector_stands}
 use Rattle.types.specs.Checker.{CheckerTree, condition_slot, declared_in, integer_slot, labelled, as_integer, condition_in, integer_in}
 use Rattle.types.specs.Initial.{InitializerTree, initializer_condition, end_of, initializer_of, initializer_integer}
-use Rattle.types.specs.Step.{assign_step, assigned_step, at_own, declare_step_as, may_reduce, may_set, no_add, no_apply, one_reduction, own_vertex, reduce_entry_step, reduce_step, reduced_as, reduced_step, same_endpoint, same_reduction, set_entry_step, step_after, step_in_place, step_typed, steps_after, steps_typed, written_at, written_with}
+use Rattle.types.specs.Step.{assign_step, assigned_step, at_own, declare_step_as, may_reduce, may_set, no_add, no_apply, one_reduction, own_vertex, reduce_entry_step, reduce_step, reduced_as}
+use Rattle.types.specs.Step.{reduced_step, same_endpoint, same_reduction, set_entry_step, step_after, step_in_place, step_typed, steps_after, steps_typed, written_at, written_with}
 use Rattle.types.proofs.ValueOffsets.{as_integer_stands, initializer_condition_stands, condition_in_stands, end_stands, initializer_stands, initializer_integer_stands, integer_in_stands}
 use Rattle.types.proofs.StatementOffsets.{at_back, declared_in_stands, in_front, labelled_stands, last_stands}
 
@@ -35,7 +36,8 @@ declare_step_as_stands : (P : ℕ → Type 0) (c : CheckerTree) (at : ℕ) (name
 declare_step_as_stands P c at name initializer declared.Int here there =
     let e = initializer_integer at initializer in both_stand P e.faults _ (initializer_integer_stands P at initializer here) (last_stands P c name (entity.IntegerVariable (integer_slot c)) there)
 declare_step_as_stands P c at name initializer declared.Bool here there =
-    let e = initializer_condition at initializer in both_stand P e.faults _ (initializer_condition_stands P at initializer here) (last_stands P c name (entity.ConditionVariable (condition_slot c)) there)
+    let e = initializer_condition at initializer in both_stand P e.faults _ (initializer_condition_stands P at initializer here)
+    (last_stands P c name (entity.ConditionVariable (condition_slot c)) there)
 declare_step_as_stands P c at name initializer declared.VertexSet here there = (here, last_stands P c name entity.Error there)
 declare_step_as_stands P c at name initializer declared.Vertex here there = (here, last_stands P c name entity.Error there)
 declare_step_as_stands P c at name initializer declared.Vector here there = (here, last_stands P c name entity.Error there)
@@ -44,7 +46,8 @@ declare_step_as_stands P c at name initializer declared.WeightedEdgeSet here the
 
 assigned_step_stands : (P : ℕ → Type 0) (at : ℕ) (initializer : InitializerTree) (e : Entity) → P at → FaultsStand P (assigned_step at initializer e)
 assigned_step_stands P at initializer (entity.IntegerVariable slot) here = let e = initializer_integer at initializer in both_stand P e.faults [] (initializer_integer_stands P at initializer here) tt
-assigned_step_stands P at initializer (entity.ConditionVariable slot) here = let e = initializer_condition at initializer in both_stand P e.faults [] (initializer_condition_stands P at initializer here) tt
+assigned_step_stands P at initializer (entity.ConditionVariable slot) here = let e = initializer_condition at initializer in
+    both_stand P e.faults [] (initializer_condition_stands P at initializer here) tt
 assigned_step_stands P at initializer entity.Error here = tt
 assigned_step_stands P at initializer _ here = (here, tt)
 
@@ -91,7 +94,8 @@ may_reduce_stands P at inside.Filter vector by writes here = (here, tt)
 
 -- an index and a value
 index_and_value_stand : (P : ℕ → Type 0) (scope : ScopeTree) (at : ℕ) (index e : ExpressionTree) → P at → StandWhere P (expression_terminals index) → StandWhere P (expression_terminals e)
-    → AllByRecursion (λ f. P f.at) ((index_value scope at index).faults ++ ((written_at at (own_vertex scope.inside) (index_value scope at index).value).faults ++ ((integer_in scope at e).faults ++ [])))
+    → AllByRecursion (λ f. P f.at) ((index_value scope at index).faults ++ ((written_at at (own_vertex scope.inside) (index_value scope at index).value).faults
+    ++ ((integer_in scope at e).faults ++ [])))
 index_and_value_stand P scope at index e here first second =
     let v = index_value scope at index in
     let own = written_at at (own_vertex scope.inside) v.value in
@@ -100,7 +104,8 @@ index_and_value_stand P scope at index e here first second =
     (both_stand P own.faults _ (written_at_stands P at (own_vertex scope.inside) v.value here)
     (both_stand P x.faults [] (integer_in_stands P scope at e here second) tt))
 
-set_entry_step_stands : (P : ℕ → Type 0) (scope : ScopeTree) (name : Identifier) (index e : ExpressionTree) → P name.at → StandWhere P (expression_terminals index) → StandWhere P (expression_terminals e)
+set_entry_step_stands : (P : ℕ → Type 0) (scope : ScopeTree) (name : Identifier) (index e : ExpressionTree) → P name.at → StandWhere P (expression_terminals index)
+    → StandWhere P (expression_terminals e)
     → FaultsStand P (set_entry_step scope name.at name index e)
 set_entry_step_stands P scope name index e there first second =
     let may = may_set name.at scope.inside in

@@ -20,7 +20,9 @@ use Rattle.expression_types.specs.ScopeTree.{ScopeTree}
 use Rattle.expression_types.specs.ValueTree.{ValueTree, Integer, Condition, Vertex, Set, ErrorValue, condition_reads_entry, named_set, reads_entry}
 use Rattle.expression_types.proofs.FaultOffsets.{FaultsStand, both_stand, if_stand, used_stands, value_stands}
 use Rattle.types.specs.Checker.{CheckerTree, as_condition, as_index, as_integer, as_members, condition_in, integer_in, no_index, unread}
-use Rattle.types.specs.Initial.{ApplyEndTree, InitializerTree, Typed, Members, Loaded, Degrees, ErrorInitializer, initializer_condition, edge_function, end_of, ends_given, filter_function, filtered, filtered_by, initializer_of, initializer_integer, is_edges, names_error, is_error_end, is_wrong, loaded, initializer_members, modified, modified_by, new_set, of_edges, vector_of, writes_vector, lacks_weights}
+use Rattle.types.specs.Initial.{ApplyEndTree, InitializerTree, Typed, Members, Loaded, Degrees, ErrorInitializer, initializer_condition, edge_function, end_of, ends_given, filter_function, filtered}
+use Rattle.types.specs.Initial.{filtered_by, initializer_of, initializer_integer, is_edges, names_error, is_error_end, is_wrong, loaded, initializer_members, modified, modified_by, new_set, of_edges}
+use Rattle.types.specs.Initial.{vector_of, writes_vector, lacks_weights}
 
 -- values of the type that their place wants
 pub as_integer_stands : (P : ℕ → Type 0) (at : ℕ) (v : ValueTree) → P at → FaultsStand P (as_integer at v)
@@ -108,7 +110,8 @@ loaded_stands P at (pos (suc zero)) here = tt
 loaded_stands P at (pos (suc (suc n))) here = (here, tt)
 loaded_stands P at (negsuc n) here = (here, tt)
 
-pub initializer_stands : (P : ℕ → Type 0) (c : CheckerTree) (at : ℕ) (initial : InitialTree) (rest : List Terminal) → P at → StandWhere P (initial_before initial rest) → FaultsStand P (initializer_of c at initial)
+pub initializer_stands : (P : ℕ → Type 0) (c : CheckerTree) (at : ℕ) (initial : InitialTree) (rest : List Terminal) → P at → StandWhere P (initial_before initial rest)
+    → FaultsStand P (initializer_of c at initial)
 initializer_stands P c at (source.NewSet size) rest here all = new_set_stands P at size here
 initializer_stands P c at (source.Load argument) rest here all = loaded_stands P at argument here
 initializer_stands P c at (source.Vertices edges) rest here all =

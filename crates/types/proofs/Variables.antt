@@ -57,6 +57,7 @@ declared_as c d at name initializer type v old between new is visible =
     ap (outcome old) (declare_as-steps c at name initializer type) ∙ visible_after c d name (variable_as c at initializer type) v old between new is visible
 
 pub declared_step_as : (c d : CheckerTree) (at : ℕ) (name : Identifier) (initializer : InitializerTree) (type : DeclaredType) (v : Entity × FunctionStatementTree) (old between new : Option Fault)
-    → outcome old (step_variable_as c at initializer type) ≡ (v, between) → outcome between (declared_in c name v.0) ≡ (d, new) → outcome old (declare_step_as c at name initializer type) ≡ ((v.1, d), new)
+    → outcome old (step_variable_as c at initializer type) ≡ (v, between) → outcome between (declared_in c name v.0) ≡ (d, new)
+    → outcome old (declare_step_as c at name initializer type) ≡ ((v.1, d), new)
 declared_step_as c d at name initializer type v old between new is visible =
     ap (outcome old) (declare_step_as-steps c at name initializer type) ∙ visible_after c d name (step_variable_as c at initializer type) v old between new is visible

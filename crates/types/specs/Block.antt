@@ -23,7 +23,8 @@ abbrev pub closed : CheckerTree → CheckerTree → CheckerTree
 closed c d = with_scope d c.scope
 
 -- The name of a `for` is visible in its body alone, and its bounds are looked at before.
-abbrev pub for_typed : CheckerTree → ℕ → Identifier → (first limit : ExpressionTree) → (CheckerTree → WithFaults (BlockTree × CheckerTree)) → WithFaults (StatementKindTree × CheckerTree)
+abbrev pub for_typed : CheckerTree → ℕ → Identifier → (first limit : ExpressionTree) → (CheckerTree → WithFaults (BlockTree × CheckerTree))
+    → WithFaults (StatementKindTree × CheckerTree)
 for_typed c at name first limit body =
     integer_in c.scope at first >>= λ a. integer_in c.scope at limit >>= λ z.
     declared_in c name (entity.LoopVariable (integer_slot c)) >>= λ d. body d >>= λ b. sure (For (length c.names) a z b.0, closed c b.1)

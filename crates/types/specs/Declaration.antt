@@ -93,7 +93,8 @@ only_edges name index (Some old) = fault_at name.at rule.Redeclared (Some old)
 
 abbrev pub declare_edges : Bool → DeclaredTree → ℕ → Identifier → InitializerTree → WithFaults DeclaredTree
 declare_edges weights d at name initializer =
-    loads at initializer >>= λ g. only_edges name (next_name d) d.edges >>= λ edges. declare_name d name (entity.Edges weights) >>= λ e. sure (record e { edges = edges })
+    loads at initializer >>= λ g. only_edges name (next_name d) d.edges >>= λ edges. declare_name d name (entity.Edges weights) >>= λ e. sure
+    (record e { edges = edges })
 
 -- a constant; none is a Vertex
 abbrev pub declare_constant_as : DeclaredTree → ℕ → Identifier → InitialTree → DeclaredType → InitializerTree → WithFaults DeclaredTree
@@ -205,7 +206,8 @@ result_declared c kind (Some result) = declared_in c result.name (result_entity 
 -- what is known at the first statement of a function
 abbrev pub opened : CheckerTree → FunctionKindTree → List ParameterTree → Option ParameterTree → WithFaults CheckerTree
 opened c kind parameters result =
-    parameters_declared (takes_weight kind) (with_writes (with_scope c (entered (inside_of kind) c.scope)) []) endpoint.Source parameters >>= λ d. result_declared d kind result
+    parameters_declared (takes_weight kind) (with_writes (with_scope c
+    (entered (inside_of kind) c.scope)) []) endpoint.Source parameters >>= λ d. result_declared d kind result
 
 -- a function is one of the kinds
 abbrev pub kind_fits : ℕ → FunctionKindTree → WithFaults Bool
@@ -232,7 +234,8 @@ function_of d steps = record { name = next_name d; steps = steps }
 abbrev pub edge_function_declared : Bool → DeclaredTree → Identifier → FunctionTree → WithFaults DeclaredTree
 edge_function_declared weighted d name f =
     declare_name d name (entity.EdgeFunction (length d.edge_functions) weighted) >>= λ e.
-    sure (record e { edge_functions = e.edge_functions ++ f ∷ []; checker = record e.checker { written = e.checker.written ++ e.checker.writes ∷ []; writes = [] } })
+    sure (record e { edge_functions = e.edge_functions ++ f ∷ []; checker =
+    record e.checker { written = e.checker.written ++ e.checker.writes ∷ []; writes = [] } })
 
 abbrev pub function_declared : DeclaredTree → FunctionKindTree → Identifier → FunctionStatementsTree → WithFaults DeclaredTree
 function_declared d (MainKind fits) name steps = declare_name d name entity.Error
@@ -244,12 +247,14 @@ function_declared d FilterKind name steps =
     declare_name d name (entity.Filter (length d.filters)) >>= λ e. sure (record e { filters = e.filters ++ function_of d steps ∷ [] })
 function_declared d NoKind name steps = declare_name d name entity.Error
 
-abbrev pub steps_declared : DeclaredTree → ℕ → FunctionKindTree → Identifier → List ParameterTree → Option ParameterTree → source.BlockTree → WithFaults DeclaredTree
+abbrev pub steps_declared : DeclaredTree → ℕ → FunctionKindTree → Identifier → List ParameterTree → Option ParameterTree → source.BlockTree
+    → WithFaults DeclaredTree
 steps_declared d at kind name parameters result body =
     kind_fits at kind >>= λ f. opened d.checker kind parameters result >>= λ c. steps_typed c NoStep body >>= λ b.
     function_declared (record d { checker = with_scope b.1 d.checker.scope }) kind name b.0
 
-abbrev pub declare_function : DeclaredTree → ℕ → Identifier → List ParameterTree → Option ParameterTree → source.BlockTree → FunctionKindTree → WithFaults DeclaredTree
+abbrev pub declare_function : DeclaredTree → ℕ → Identifier → List ParameterTree → Option ParameterTree → source.BlockTree → FunctionKindTree
+    → WithFaults DeclaredTree
 declare_function d at name parameters result body (MainKind fits) = main_declared d fits name parameters result body
 declare_function d at name parameters result body (EdgeKind weighted) = steps_declared d at (EdgeKind weighted) name parameters result body
 declare_function d at name parameters result body VertexKind = steps_declared d at VertexKind name parameters result body

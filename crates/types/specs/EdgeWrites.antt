@@ -1,7 +1,8 @@
 -- Reductions of edge functions: what their statements write.
 use Rattle.std.specs.Prelude.{◌≡◌, ◌⊎◌, ℕ}
 use Rattle.apply_options.specs.declared.reduction.Reduction.{Reduction}
-use Rattle.typed_tree.specs.FunctionStatementTree.{FunctionStatementTree, FunctionStatementsTree, DeclareInteger, DeclareCondition, SetInteger, SetCondition, ReduceInteger, SetEntry, ReduceEntry, If, IfElse, NoStep, StepThen}
+use Rattle.typed_tree.specs.FunctionStatementTree.{FunctionStatementTree, FunctionStatementsTree, DeclareInteger, DeclareCondition, SetInteger, SetCondition}
+use Rattle.typed_tree.specs.FunctionStatementTree.{ReduceInteger, SetEntry, ReduceEntry, If, IfElse, NoStep, StepThen}
 
 abbrev mutual
   -- the statement, or one in it, reduces entries of the vector so

@@ -1,5 +1,6 @@
 -- Initializers: initial and assigned values; and the ends of applies.
-use Rattle.std.specs.Prelude.{ℕ, zero, suc, ℤ, pos, negsuc, Bool, true, false, not, ◌||◌, ◌&&◌, if◌then◌else◌, nat_eq, List, [], slice_index_or, is_some, Option, Some, None}
+use Rattle.std.specs.Prelude.{ℕ, zero, suc, ℤ, pos, negsuc, Bool, true, false, not, ◌||◌, ◌&&◌, if◌then◌else◌, nat_eq, List, [], slice_index_or, is_some}
+use Rattle.std.specs.Prelude.{Option, Some, None}
 use Rattle.std.specs.Map.{lookup}
 use Rattle.apply_options.specs.declared.reduction.Reduction.{Reduction}
 use Rattle.syntax.specs.Terminals.{Identifier}
@@ -290,7 +291,8 @@ abbrev pub modified : CheckerTree → ℕ → Entity → ApplyEndTree → ApplyE
 modified c at edges a b f v =
     if names_error edges || is_error_end a || is_error_end b || names_error f || names_error v then sure ErrorInitializer
     else (if is_edges edges then
-    (if is_wrong a || is_wrong b || lacks_weights edges f then fault_at at rule.WrongType ErrorInitializer else modified_by c at (ends_given a b) (edge_function f) (vector_of v))
+    (if is_wrong a || is_wrong b || lacks_weights edges f then fault_at at rule.WrongType ErrorInitializer else modified_by c at (ends_given a b)
+    (edge_function f) (vector_of v))
     else fault_at at rule.WrongType ErrorInitializer)
 
 abbrev pub new_set : ℕ → ℤ → WithFaults InitializerTree

@@ -7,7 +7,8 @@ use Rattle.syntax.specs.declared.declaration.DeclaredType.TheVariants as declare
 use Rattle.apply_options.specs.declared.reduction.Reduction.{Reduction}
 use Rattle.typed_tree.specs.declared.expression.VarRef.{VarRef}
 use Rattle.typed_tree.specs.IntExpressionTree.{IntExpressionTree, Parameter}
-use Rattle.typed_tree.specs.BlockTree.{StatementKindTree, DeclareInteger, DeclareCondition, SetInteger, SetCondition, ReduceInteger, SetEntry, ReduceEntry, DeclareSet, AssignSet, AddVertex, PrintInteger, PrintCondition, ApplyVertex, ApplyEdges}
+use Rattle.typed_tree.specs.BlockTree.{StatementKindTree, DeclareInteger, DeclareCondition, SetInteger, SetCondition, ReduceInteger, SetEntry, ReduceEntry}
+use Rattle.typed_tree.specs.BlockTree.{DeclareSet, AssignSet, AddVertex, PrintInteger, PrintCondition, ApplyVertex, ApplyEdges}
 use Rattle.expression_types.specs.declared.fault.TypeRule.TheVariants as rule
 use Rattle.expression_types.specs.declared.scope.Entity.{Entity}
 use Rattle.expression_types.specs.declared.scope.Entity.TheVariants as entity
@@ -16,7 +17,8 @@ use Rattle.expression_types.specs.Faults.{WithFaults, sure, fault_at, ◌>>=◌}
 use Rattle.expression_types.specs.ScopeTree.{ScopeTree}
 use Rattle.expression_types.specs.ValueTree.{ValueTree, Integer, Condition, Vertex, Set, ErrorValue, named_set}
 use Rattle.types.specs.Checker.{CheckerTree, integer_slot, condition_slot, set_slot, declared_in, some_integer, as_integer, as_index, integer_in}
-use Rattle.types.specs.Initial.{InitializerTree, ApplyEndTree, initializer_of, end_of, is_wrong, is_error_end, ends_given, names_error, is_edges, lacks_weights, edge_function, vertex_function, initializer_integer, initializer_condition, initializer_members}
+use Rattle.types.specs.Initial.{InitializerTree, ApplyEndTree, initializer_of, end_of, is_wrong, is_error_end, ends_given, names_error, is_edges, lacks_weights}
+use Rattle.types.specs.Initial.{edge_function, vertex_function, initializer_integer, initializer_condition, initializer_members}
 
 -- what stands in place of a faulty statement
 abbrev pub no_action : StatementKindTree
@@ -25,9 +27,11 @@ no_action = PrintInteger some_integer
 -- A declaration of a variable, and what is known after it. The name is not visible in its first value.
 abbrev pub declare_as : CheckerTree → ℕ → Identifier → InitializerTree → DeclaredType → WithFaults (StatementKindTree × CheckerTree)
 declare_as c at name initializer declared.Int =
-    initializer_integer at initializer >>= λ e. declared_in c name (entity.IntegerVariable (integer_slot c)) >>= λ d. sure (DeclareInteger (length c.names) e, d)
+    initializer_integer at initializer >>= λ e. declared_in c name (entity.IntegerVariable (integer_slot c)) >>= λ d. sure
+    (DeclareInteger (length c.names) e, d)
 declare_as c at name initializer declared.Bool =
-    initializer_condition at initializer >>= λ e. declared_in c name (entity.ConditionVariable (condition_slot c)) >>= λ d. sure (DeclareCondition (length c.names) e, d)
+    initializer_condition at initializer >>= λ e. declared_in c name (entity.ConditionVariable (condition_slot c)) >>= λ d. sure
+    (DeclareCondition (length c.names) e, d)
 declare_as c at name initializer declared.VertexSet =
     initializer_members at initializer >>= λ s. declared_in c name (entity.SetVariable (set_slot c)) >>= λ d. sure (DeclareSet (length c.names) s, d)
 declare_as c at name initializer declared.Vertex = fault_at at rule.WrongType no_action >>= λ a. declared_in c name entity.Error >>= λ d. sure (a, d)

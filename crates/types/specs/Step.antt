@@ -11,7 +11,8 @@ use Rattle.syntax.specs.SourceTrees as source
 use Rattle.typed_tree.specs.declared.expression.Endpoint.{Endpoint}
 use Rattle.typed_tree.specs.BoolExpressionTree.{Literal}
 use Rattle.typed_tree.specs.IntExpressionTree.{IntExpressionTree}
-use Rattle.typed_tree.specs.FunctionStatementTree.{FunctionStatementTree, FunctionStatementsTree, DeclareInteger, DeclareCondition, SetInteger, SetCondition, ReduceInteger, SetEntry, ReduceEntry, If, IfElse, NoStep, StepThen}
+use Rattle.typed_tree.specs.FunctionStatementTree.{FunctionStatementTree, FunctionStatementsTree, DeclareInteger, DeclareCondition, SetInteger, SetCondition}
+use Rattle.typed_tree.specs.FunctionStatementTree.{ReduceInteger, SetEntry, ReduceEntry, If, IfElse, NoStep, StepThen}
 use Rattle.typed_tree.specs.declared.expression.Endpoint.TheVariants as endpoint
 use Rattle.expression_types.specs.declared.scope.Entity.{Entity}
 use Rattle.expression_types.specs.declared.scope.Inside.{Inside}
@@ -32,14 +33,17 @@ no_step = If (Literal false) NoStep
 -- a declaration of a variable, and what is known after it
 abbrev pub declare_step_as : CheckerTree → ℕ → Identifier → InitializerTree → DeclaredType → WithFaults (FunctionStatementTree × CheckerTree)
 declare_step_as c at name initializer declared.Int =
-    initializer_integer at initializer >>= λ e. declared_in c name (entity.IntegerVariable (integer_slot c)) >>= λ d. sure (DeclareInteger (length c.names) e, d)
+    initializer_integer at initializer >>= λ e. declared_in c name (entity.IntegerVariable (integer_slot c)) >>= λ d. sure
+    (DeclareInteger (length c.names) e, d)
 declare_step_as c at name initializer declared.Bool =
-    initializer_condition at initializer >>= λ e. declared_in c name (entity.ConditionVariable (condition_slot c)) >>= λ d. sure (DeclareCondition (length c.names) e, d)
+    initializer_condition at initializer >>= λ e. declared_in c name (entity.ConditionVariable (condition_slot c)) >>= λ d. sure
+    (DeclareCondition (length c.names) e, d)
 declare_step_as c at name initializer declared.VertexSet = fault_at at rule.WrongType no_step >>= λ a. declared_in c name entity.Error >>= λ d. sure (a, d)
 declare_step_as c at name initializer declared.Vertex = fault_at at rule.WrongType no_step >>= λ a. declared_in c name entity.Error >>= λ d. sure (a, d)
 declare_step_as c at name initializer declared.Vector = fault_at at rule.WrongType no_step >>= λ a. declared_in c name entity.Error >>= λ d. sure (a, d)
 declare_step_as c at name initializer declared.EdgeSet = fault_at at rule.WrongType no_step >>= λ a. declared_in c name entity.Error >>= λ d. sure (a, d)
-declare_step_as c at name initializer declared.WeightedEdgeSet = fault_at at rule.WrongType no_step >>= λ a. declared_in c name entity.Error >>= λ d. sure (a, d)
+declare_step_as c at name initializer declared.WeightedEdgeSet =
+    fault_at at rule.WrongType no_step >>= λ a. declared_in c name entity.Error >>= λ d. sure (a, d)
 
 abbrev pub declare_step : CheckerTree → ℕ → Identifier → DeclaredType → InitialTree → WithFaults (FunctionStatementTree × CheckerTree)
 declare_step c at name type initial = initializer_of c at initial >>= λ initializer. declare_step_as c at name initializer type
@@ -171,7 +175,8 @@ reduction_step true true (Some vector) by e = ReduceEntry vector by e
 abbrev pub with_writes : CheckerTree → List (ℕ × Reduction) → CheckerTree
 with_writes c writes = record c { writes = writes }
 
-abbrev pub reduce_entry_step : CheckerTree → ℕ → Identifier → (index : ExpressionTree) → Reduction → (e : ExpressionTree) → WithFaults (FunctionStatementTree × CheckerTree)
+abbrev pub reduce_entry_step : CheckerTree → ℕ → Identifier → (index : ExpressionTree) → Reduction → (e : ExpressionTree)
+    → WithFaults (FunctionStatementTree × CheckerTree)
 reduce_entry_step c at name index by e =
     vector_index c.scope at name >>= λ vector. may_reduce at c.scope.inside vector by c.writes >>= λ may.
     index_value c.scope at index >>= λ v. written_at at (own_vertex c.scope.inside) v >>= λ own.
@@ -200,7 +205,8 @@ abbrev pub steps_after : CheckerTree → CheckerTree → CheckerTree
 steps_after c d = with_scope d c.scope
 
 -- The name of a `for` is visible in its body alone, and its bounds are looked at before.
-abbrev pub no_for : CheckerTree → ℕ → Identifier → (first limit : ExpressionTree) → (CheckerTree → WithFaults (FunctionStatementsTree × CheckerTree)) → WithFaults (FunctionStatementTree × CheckerTree)
+abbrev pub no_for : CheckerTree → ℕ → Identifier → (first limit : ExpressionTree) → (CheckerTree → WithFaults (FunctionStatementsTree × CheckerTree))
+    → WithFaults (FunctionStatementTree × CheckerTree)
 no_for c at name first limit body =
     fault_at at rule.WrongType no_step >>= λ s. integer_in c.scope at first >>= λ a. integer_in c.scope at limit >>= λ z.
     declared_in c name (entity.LoopVariable (integer_slot c)) >>= λ d. body d >>= λ b. sure (s, steps_after c b.1)

@@ -19,7 +19,8 @@ pub record IsGrouping (vectors : List (List ℤ)) (groups : List (List ℕ)) : T
   pub index : (g h i j : ℕ) → g < length groups → h < length (slice_index_or groups g []) → i < length groups → j < length (slice_index_or groups i [])
       → slice_index_or (slice_index_or groups g []) h 0 ≡ slice_index_or (slice_index_or groups i []) j 0 → h ≡ j
   pub even : (g h : ℕ) → g < length groups → h < length (slice_index_or groups g [])
-      → length (slice_index_or vectors (slice_index_or (slice_index_or groups g []) h 0) []) ≡ length (slice_index_or vectors (slice_index_or (slice_index_or groups g []) 0 0) [])
+      → length (slice_index_or vectors (slice_index_or (slice_index_or groups g []) h 0) []) ≡ length
+      (slice_index_or vectors (slice_index_or (slice_index_or groups g []) 0 0) [])
 
 -- an array with a row for each vertex, in which the entries of the named vectors stand side by side
 pub record HasRows (vectors : List (List ℤ)) (names : List ℕ) (array : List ℤ) : Type 0 where

@@ -31,7 +31,8 @@ any_more (t ∷ ts) x k is = elim (or_cases (t.version == k) (list_any (λ t. t.
 ]
 
 -- after a hold each flat is that of a version that is kept
-pub hold_keeps : (old new : Timeline) (which : Which) (number version : ℕ) (flats : VersionFlats) → Accepts old (Acquire which) (Ticket number version) new → AreOf old.state flats → AreOf new.state flats
+pub hold_keeps : (old new : Timeline) (which : Which) (number version : ℕ) (flats : VersionFlats) → Accepts old (Acquire which) (Ticket number version) new → AreOf old.state flats
+    → AreOf new.state flats
 hold_keeps old new which number version flats accepted are k g is =
     let s : State = old.state in
     let x : OpenTicket = record { number = number; version = version } in

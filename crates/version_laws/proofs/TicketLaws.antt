@@ -12,7 +12,8 @@ use Rattle.version_list.specs.declared.step.Reply.{Reply}
 use Rattle.version_list.specs.declared.step.Reply.TheVariants.{Version, Ticket, Released, Trimmed, Refused}
 use Rattle.version_list.specs.declared.step.Which.{Which}
 use Rattle.version_list.specs.declared.step.Done.{Done}
-use Rattle.version_list.specs.Machine.{State, opened, changed, reply_to, state_after, newest_number, newest_graph, version_graph, number_asked, lacks_room, lacks_steps, is_kept, is_open, ticket_version, ticket_graph}
+use Rattle.version_list.specs.Machine.{State, opened, changed, reply_to, state_after, newest_number, newest_graph, version_graph, number_asked, lacks_room, lacks_steps, is_kept, is_open}
+use Rattle.version_list.specs.Machine.{ticket_version, ticket_graph}
 use Rattle.version_list.specs.Timeline.{Timeline, IsLegal, advanced, advanced_through, beginning, replay, with_reply}
 use Rattle.version_list.specs.inside.Held.{AreTickets, holder_count}
 use Rattle.version_list.proofs.Holding.{is_open_is, is_held_is, ticket_version-push, ticket_version-others, ticket_holds}
@@ -100,7 +101,8 @@ versions_stay s (done ∷ history) k made =
     versions_stay (state_after s done.step) history k one.1 ∙ one.0
 
 -- an open ticket stays open on its version until its release
-step_keeps : (s : State) (step : Step) (number k : ℕ) → AreTickets s → step ≢ Release number → ticket_version s.open_tickets number ≡ Some k → ticket_version (state_after s step).open_tickets number ≡ Some k
+step_keeps : (s : State) (step : Step) (number k : ℕ) → AreTickets s → step ≢ Release number → ticket_version s.open_tickets number ≡ Some k
+    → ticket_version (state_after s step).open_tickets number ≡ Some k
 step_keeps s (Commit batch) number k tickets other is = elim (cases_Bool (misfits (newest_graph s).vertices batch)) [
   | inl outside ↦ rw (outside) is
   | inr inside ↦ elim (cases_Bool (lacks_room s 1)) [ inl full ↦ rw (inside, full) is | inr room ↦ rw (inside, room) is ]
@@ -124,7 +126,8 @@ step_keeps s (Release gone) number k tickets other is =
     ]
 step_keeps s Trim number k tickets other is = elim (cases_Bool (lacks_steps s 1)) [ inl full ↦ rw (full) is | inr room ↦ rw (room) is ]
 
-replay_keeps : (s : State) (history : List Done) (number k : ℕ) → AreTickets s → HasNoReleaseOf number (steps_in history) → ticket_version s.open_tickets number ≡ Some k → ticket_version (replay s history).open_tickets number ≡ Some k
+replay_keeps : (s : State) (history : List Done) (number k : ℕ) → AreTickets s → HasNoReleaseOf number (steps_in history) → ticket_version s.open_tickets number ≡ Some k
+    → ticket_version (replay s history).open_tickets number ≡ Some k
 replay_keeps s [] number k tickets none is = is
 replay_keeps s (done ∷ history) number k tickets none is =
     replay_keeps (state_after s done.step) history number k (step_tickets s done.step tickets) none.1 (step_keeps s done.step number k tickets none.0 is)
@@ -161,7 +164,8 @@ hold_opens s which number k tickets is =
       | inr lost ↦ let no : Refused 121 ≡ Ticket number k = rw (lost) at is in absurd cc
     ]
 
-pub tickets_keep : (n room number k : ℕ) (which : Which) (before between : List Done) → IsLegal (opened n room) (before ++ ticket_given which number k ∷ between) → HasNoReleaseOf number (steps_in between)
+pub tickets_keep : (n room number k : ℕ) (which : Which) (before between : List Done) → IsLegal (opened n room) (before ++ ticket_given which number k ∷ between)
+    → HasNoReleaseOf number (steps_in between)
     → Keeps (replay (opened n room) (before ++ ticket_given which number k ∷ between)) number k (version_graph (replay (opened n room) before) k)
 tickets_keep n room number k which before between legal none =
     let s : State = replay (opened n room) before in
@@ -265,7 +269,8 @@ steps_stay s (step ∷ steps) k made =
     let one = step_stays s step k made in
     steps_stay (state_after s step) steps k one.1 ∙ one.0
 
-steps_keep : (s : State) (steps : List Step) (number k : ℕ) → AreTickets s → HasNoReleaseOf number steps → ticket_version s.open_tickets number ≡ Some k → ticket_version (after_steps s steps).open_tickets number ≡ Some k
+steps_keep : (s : State) (steps : List Step) (number k : ℕ) → AreTickets s → HasNoReleaseOf number steps → ticket_version s.open_tickets number ≡ Some k
+    → ticket_version (after_steps s steps).open_tickets number ≡ Some k
 steps_keep s [] number k tickets none is = is
 steps_keep s (step ∷ steps) number k tickets none is = steps_keep (state_after s step) steps number k (step_tickets s step tickets) none.1 (step_keeps s step number k tickets none.0 is)
 
@@ -273,7 +278,8 @@ steps_gone : (s : State) (steps : List Step) (number : ℕ) → AreTickets s →
 steps_gone s [] number tickets gone = gone
 steps_gone s (step ∷ steps) number tickets gone = steps_gone (state_after s step) steps number (step_tickets s step tickets) (step_gone s step number tickets gone)
 
-pub tickets_keep_through : (n room number k : ℕ) (which : Which) (before between : List Step) → reply_to (state_through (opened n room) before) (Acquire which) ≡ Ticket number k → HasNoReleaseOf number between
+pub tickets_keep_through : (n room number k : ℕ) (which : Which) (before between : List Step) → reply_to (state_through (opened n room) before) (Acquire which) ≡ Ticket number k
+    → HasNoReleaseOf number between
     → Keeps (state_through (opened n room) (before ++ Acquire which ∷ between)) number k (version_graph (state_through (opened n room) before) k)
 tickets_keep_through n room number k which before between is none =
     let s : State = after_steps (opened n room) before in

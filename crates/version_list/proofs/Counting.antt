@@ -99,7 +99,8 @@ opened_counts n room history legal =
     omega (arith, all.0, all.2)
 
 -- a trim is answered the entries since the last one
-pub trim_is_answered : (n room count : ℕ) (history : List Done) → IsLegal (opened n room) history → reply_to (replay (opened n room) history) Trim ≡ Trimmed count → count ≡ entries_since_trim 0 history
+pub trim_is_answered : (n room count : ℕ) (history : List Done) → IsLegal (opened n room) history → reply_to (replay (opened n room) history) Trim ≡ Trimmed count
+    → count ≡ entries_since_trim 0 history
 trim_is_answered n room count history legal is =
     let s : State = replay (opened n room) history in
     let all = legal_counts (opened n room) history legal (omega arith) in

@@ -31,7 +31,8 @@ later t ts number none = elim (cases_Bool (t.number == number)) [
 ]
 
 -- one more ticket, whose number is new
-pub ticket_version-push : (ts : List OpenTicket) (x : OpenTicket) → ticket_version ts x.number ≡ None → (q : ℕ) → ticket_version (ts ++ x ∷ []) q ≡ (if x.number == q then Some x.version else ticket_version ts q)
+pub ticket_version-push : (ts : List OpenTicket) (x : OpenTicket) → ticket_version ts x.number ≡ None → (q : ℕ)
+    → ticket_version (ts ++ x ∷ []) q ≡ (if x.number == q then Some x.version else ticket_version ts q)
 ticket_version-push [] x none q = refl
 ticket_version-push (t ∷ ts) x none q =
     let parts = later t ts x.number none in
@@ -105,7 +106,8 @@ holder_count-push (t ∷ ts) x k =
     let rest = holder_count-push ts x k in
     omega (arith, rest)
 
-pub holder_count-others : (ts : List OpenTicket) (number version : ℕ) (k : ℕ) → AreDistinct ts → ticket_version ts number ≡ Some version → holder_count (others number ts) k + (if version == k then 1 else 0) ≡ holder_count ts k
+pub holder_count-others : (ts : List OpenTicket) (number version : ℕ) (k : ℕ) → AreDistinct ts → ticket_version ts number ≡ Some version
+    → holder_count (others number ts) k + (if version == k then 1 else 0) ≡ holder_count ts k
 holder_count-others [] number version k distinct is = absurd cc
 holder_count-others (t ∷ ts) number version k distinct is = elim (cases_Bool (t.number == number)) [
   | inl closed ↦

@@ -1,5 +1,6 @@
 -- What is kept of tickets and versions, as tickets are opened and closed and versions are made.
-use Rattle.std.proofs.Common.{◌≡◌, ℕ, ◌+◌, ◌-◌, ◌<◌, ◌≤◌, ◌==◌, nat_eq, true, false, not, if◌then◌else◌, Option, Some, None, is_some, List, [], ◌∷◌, ◌++◌, length, inl, inr, refl, sym, ap, ◌∙◌, subst, arith, length-append}
+use Rattle.std.proofs.Common.{◌≡◌, ℕ, ◌+◌, ◌-◌, ◌<◌, ◌≤◌, ◌==◌, nat_eq, true, false, not, if◌then◌else◌, Option, Some, None, is_some, List, [], ◌∷◌, ◌++◌, length, inl, inr, refl, sym, ap, ◌∙◌, subst}
+use Rattle.std.proofs.Common.{arith, length-append}
 use Rattle.std.proofs.lemmas.Bool.{false≢true, cases_Bool, lt-ltb, eqb-true, eqb-false, ne_eqb, not-true, cases_lt, cases_eq}
 use Rattle.std.proofs.lemmas.List.{take-append-le}
 use Rattle.std.specs.List.{list_any}
@@ -11,7 +12,8 @@ use Rattle.version_list.specs.declared.held.HeldVersion.{HeldVersion}
 use Rattle.version_list.specs.declared.held.HeldVersions.{HeldVersions}
 use Rattle.version_list.specs.Machine.{OpenTicket, State, ticket_version, newest_number, version_graph, ticket_graph, kept_graph, is_kept}
 use Rattle.version_list.specs.inside.Held.{holder_count, one_more, one_fewer, held_by, Holds, AreDistinct, AreTickets}
-use Rattle.version_list.proofs.Holding.{others, is_held_is, ticket_version-push, ticket_version-others, AreDistinct-push, AreDistinct-others, length-others, holder_count-push, holder_count-others, holder_count-le-length, ticket_holds}
+use Rattle.version_list.proofs.Holding.{others, is_held_is, ticket_version-push, ticket_version-others, AreDistinct-push, AreDistinct-others, length-others, holder_count-push, holder_count-others}
+use Rattle.version_list.proofs.Holding.{holder_count-le-length, ticket_holds}
 
 -- how many hold a version, one more and one fewer
 held_by-more : (n : ℕ) (g : Digraph) → Some (one_more g (held_by n g)) ≡ held_by (n + 1) g
@@ -31,7 +33,8 @@ held_by-fewer n g = elim (cases_Bool (n == 0)) [
 ]
 
 -- a map with the same entries
-pub holds_unchanged : (kept new : HeldVersions) (ts : List OpenTicket) (graph_of : ℕ → Digraph) → IsUnchanged kept.tickets new.tickets → IsUnchanged kept.versions new.versions → Holds kept ts graph_of → Holds new ts graph_of
+pub holds_unchanged : (kept new : HeldVersions) (ts : List OpenTicket) (graph_of : ℕ → Digraph) → IsUnchanged kept.tickets new.tickets → IsUnchanged kept.versions new.versions → Holds kept ts graph_of
+    → Holds new ts graph_of
 holds_unchanged kept new ts graph_of tickets versions holds = record {
   tickets = λ q. rw (tickets) (holds.tickets q);
   count = ap length tickets ∙ holds.count;
@@ -65,7 +68,8 @@ holds_opened kept new ts graph_of x none tickets count versions holds = record {
             let more : holder_count (ts ++ x ∷ []) k ≡ holder_count ts k + 1 = rw (here) at counted in
             let was : get nat_eq kept.versions x.version ≡ held_by (holder_count ts k) (graph_of k) = ap (get nat_eq kept.versions) is ∙ holds.versions k in
             let now : get nat_eq new.versions k ≡ Some (one_more (graph_of x.version) (get nat_eq kept.versions x.version)) = rw (here) at (versions k) in
-            now ∙ ap (λ (g : Digraph). Some (one_more g (get nat_eq kept.versions x.version))) (ap graph_of is) ∙ ap (λ (o : Option HeldVersion). Some (one_more (graph_of k) o)) was ∙ held_by-more (holder_count ts k) (graph_of k) ∙ ap (λ n. held_by n (graph_of k)) (sym more)
+            now ∙ ap (λ (g : Digraph). Some (one_more g (get nat_eq kept.versions x.version))) (ap graph_of is) ∙ ap (λ (o : Option HeldVersion). Some (one_more (graph_of k) o)) was
+            ∙ held_by-more (holder_count ts k) (graph_of k) ∙ ap (λ n. held_by n (graph_of k)) (sym more)
         | inr other ↦
             let same : holder_count (ts ++ x ∷ []) k ≡ holder_count ts k + 0 = rw (other) at counted in
             let as_before : holder_count (ts ++ x ∷ []) k ≡ holder_count ts k = omega (arith, same) in
@@ -88,7 +92,8 @@ holds_closed kept new ts graph_of number version distinct is_open tickets count 
         | inl here ↦
             let is : version ≡ k = eqb-true version k here in
             let fewer : holder_count (others number ts) k + 1 ≡ holder_count ts k = rw (here) at counted in
-            let was : get nat_eq kept.versions version ≡ held_by (holder_count (others number ts) k + 1) (graph_of k) = ap (get nat_eq kept.versions) is ∙ holds.versions k ∙ ap (λ n. held_by n (graph_of k)) (sym fewer) in
+            let was : get nat_eq kept.versions version ≡ held_by (holder_count (others number ts) k + 1) (graph_of k) = ap (get nat_eq kept.versions) is ∙ holds.versions k
+            ∙ ap (λ n. held_by n (graph_of k)) (sym fewer) in
             let now : get nat_eq new.versions k ≡ one_fewer (get nat_eq kept.versions version) = rw (here) at (versions k) in
             now ∙ ap one_fewer was ∙ held_by-fewer (holder_count (others number ts) k) (graph_of k)
         | inr other ↦
@@ -126,12 +131,14 @@ module _ (s : State) (tickets : AreTickets s) where
     made = λ k past. tickets.made k (omega (arith, past, length-append s.batches (batch ∷ [])));
   }
 
-  pub holds_committed : (kept : HeldVersions) (batch : List Entry) (used steps : ℕ) → Holds kept s.open_tickets (version_graph s) → Holds kept s.open_tickets (version_graph (record s { batches = s.batches ++ batch ∷ []; used = used; steps = steps }))
+  pub holds_committed : (kept : HeldVersions) (batch : List Entry) (used steps : ℕ) → Holds kept s.open_tickets (version_graph s)
+      → Holds kept s.open_tickets (version_graph (record s { batches = s.batches ++ batch ∷ []; used = used; steps = steps }))
   holds_committed kept batch used steps =
       holds_graphs kept s.open_tickets (version_graph s) (version_graph (record s { batches = s.batches ++ batch ∷ []; used = used; steps = steps }))
       (λ k held. ap (graph_through s.opening) (sym (take-append-le k s.batches (batch ∷ []) (held_is_made s tickets k held))))
 
-  pub tickets_opened : (version used steps : ℕ) → version ≤ newest_number s → AreTickets (record s { open_tickets = s.open_tickets ++ record { number = s.given + 1; version = version } ∷ []; given = s.given + 1; used = used; steps = steps })
+  pub tickets_opened : (version used steps : ℕ) → version ≤ newest_number s → AreTickets
+      (record s { open_tickets = s.open_tickets ++ record { number = s.given + 1; version = version } ∷ []; given = s.given + 1; used = used; steps = steps })
   tickets_opened version used steps made =
       let x : OpenTicket = record { number = s.given + 1; version = version } in
       let new : ticket_version s.open_tickets (s.given + 1) ≡ None = tickets.given (s.given + 1) (omega arith) in
@@ -145,7 +152,8 @@ module _ (s : State) (tickets : AreTickets s) where
             holder_count-push s.open_tickets x k ∙ rw (apart) (omega (arith, tickets.made k past));
       }
 
-  pub tickets_closed : (number version used steps : ℕ) → ticket_version s.open_tickets number ≡ Some version → AreTickets (record s { open_tickets = others number s.open_tickets; used = used; steps = steps })
+  pub tickets_closed : (number version used steps : ℕ) → ticket_version s.open_tickets number ≡ Some version
+      → AreTickets (record s { open_tickets = others number s.open_tickets; used = used; steps = steps })
   tickets_closed number version used steps is_open = record {
     distinct = AreDistinct-others s.open_tickets number tickets.distinct;
     given = λ n past. ticket_version-others s.open_tickets number n ∙ elim (cases_Bool (number == n)) [ inl is ↦ rw (is) refl | inr other ↦ rw (other) (tickets.given n past) ];
@@ -157,7 +165,8 @@ graph_held : (n : ℕ) (g : Digraph) → (n ≡ 0 → ⊥) → option_map (λ (h
 graph_held n g some = let is : n == 0 ≡ false = ne_eqb n 0 some in rw (is) refl
 
 module _ (s : State) (kept : HeldVersions) (holds : Holds kept s.open_tickets (version_graph s)) where
-  pub graph_of_ticket : (number version : ℕ) → get nat_eq kept.tickets number ≡ Some version → option_map (λ (held : HeldVersion). held.graph) (get nat_eq kept.versions version) ≡ ticket_graph s number
+  pub graph_of_ticket : (number version : ℕ) → get nat_eq kept.tickets number ≡ Some version
+      → option_map (λ (held : HeldVersion). held.graph) (get nat_eq kept.versions version) ≡ ticket_graph s number
   graph_of_ticket number version is =
       let open_ticket : ticket_version s.open_tickets number ≡ Some version = sym (holds.tickets number) ∙ is in
       ap (option_map (λ (held : HeldVersion). held.graph)) (holds.versions version)

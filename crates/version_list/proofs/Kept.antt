@@ -20,7 +20,8 @@ module _ (s : State) (tickets : AreTickets s) (number k : ℕ) (is : ticket_vers
   as_many : (other : ℕ) → other ≢ k → holder_count (others number s.open_tickets) other ≡ holder_count s.open_tickets other
   as_many other apart =
       let unlike : k == other ≡ false = ne_eqb k other (λ e. apart (sym e)) in
-      let counted : holder_count (others number s.open_tickets) other + 0 ≡ holder_count s.open_tickets other = rw (unlike) at (holder_count-others s.open_tickets number k other tickets.distinct is) in
+      let counted : holder_count (others number s.open_tickets) other + 0 ≡ holder_count s.open_tickets other =
+      rw (unlike) at (holder_count-others s.open_tickets number k other tickets.distinct is) in
       omega (arith, counted)
 
   pub held_is : (g : Digraph) → Some g ≡ ticket_graph s number → IsHeld s number k g

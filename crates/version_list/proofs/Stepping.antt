@@ -1,5 +1,6 @@
 -- What an accepted step does to a timeline, and to the fields that stand for its state.
-use Rattle.std.proofs.Common.{◌≡◌, ℕ, ◌+◌, ◌≤◌, ◌==◌, nat_eq, true, false, if◌then◌else◌, Option, Some, None, IfSome, is_some, List, [], ◌∷◌, ◌++◌, length, vec_capacity, inl, inr, refl, sym, ap, ◌∙◌, subst, arith, length-append}
+use Rattle.std.proofs.Common.{◌≡◌, ℕ, ◌+◌, ◌≤◌, ◌==◌, nat_eq, true, false, if◌then◌else◌, Option, Some, None, IfSome, is_some, List, [], ◌∷◌, ◌++◌, length, vec_capacity, inl, inr, refl, sym, ap, ◌∙◌}
+use Rattle.std.proofs.Common.{subst, arith, length-append}
 use Rattle.std.proofs.lemmas.Bool.{cases_Bool, ltb-false, or_parts}
 use Rattle.indexmap.specs.IndexMap.{get, index_map_len}
 use Rattle.std.proofs.Math.Seq.{take-length}
@@ -15,7 +16,8 @@ use Rattle.version_list.specs.declared.step.Done.{Done}
 use Rattle.version_list.specs.declared.prepared.Prepared.{Prepared}
 use Rattle.version_list.specs.declared.prepared.PreparedAcquire.{PreparedAcquire}
 use Rattle.version_list.specs.declared.versions.Versions.TheInside.{Inside}
-use Rattle.version_list.specs.Machine.{State, OpenTicket, reply_to, changed, state_after, newest_number, lacks_room, newest_graph, version_graph, number_asked, is_kept, kept_graph, is_open, ticket_version}
+use Rattle.version_list.specs.Machine.{State, OpenTicket, reply_to, changed, state_after, newest_number, lacks_room, newest_graph, version_graph, number_asked, is_kept, kept_graph, is_open}
+use Rattle.version_list.specs.Machine.{ticket_version}
 use Rattle.version_list.specs.Timeline.{Timeline, IsLegal, IsAccepted, replay, Accepts}
 use Rattle.version_list.specs.Prepared.{IsPrepared, IsPreparedAcquire}
 use Rattle.version_list.specs.inside.Held.{AreTickets, Holds, HasRoom, one_more}
@@ -71,7 +73,8 @@ module _ (s : State) (which : Which) (kept : is_kept s (number_asked s which) �
   pub acquire_reply : reply_to s (Acquire which) ≡ Ticket (s.given + 1) (number_asked s which)
   acquire_reply = rw (kept, has_room) refl
 
-  pub acquire_after : state_after s (Acquire which) ≡ record s { open_tickets = s.open_tickets ++ record { number = s.given + 1; version = number_asked s which } ∷ []; given = s.given + 1; used = s.used + 1; steps = s.steps + 1 }
+  pub acquire_after : state_after s (Acquire which) ≡ record s { open_tickets = s.open_tickets ++ record { number = s.given + 1; version = number_asked s which } ∷ []; given = s.given + 1; used =
+      s.used + 1; steps = s.steps + 1 }
   acquire_after = ap (changed s (Acquire which)) acquire_reply
 
 module _ (s : State) (number version : ℕ) (held : ticket_version s.open_tickets number ≡ Some version) where
@@ -90,7 +93,8 @@ module _ (s : State) (n : ℕ) (has_room : lacks_room s n ≡ false) where
   pub has_steps : s.steps + length s.open_tickets + n ≤ 18446744073709551615
   has_steps = ltb-false 18446744073709551615 (s.steps + length s.open_tickets + n) (or_parts _ _ has_room).1
 
-module _ (a b : Inside) (s : State) (shows : Shows a s) (done : Done) (same_room : b.room ≡ a.room) (history : b.history.items ≡ a.history.items ++ done ∷ []) (more_steps : b.steps ≡ a.steps + 1) (unreserved : b.reserved ≡ 0) where
+module _ (a b : Inside) (s : State) (shows : Shows a s) (done : Done) (same_room : b.room ≡ a.room) (history : b.history.items ≡ a.history.items ++ done ∷ []) (more_steps : b.steps ≡ a.steps + 1)
+    (unreserved : b.reserved ≡ 0) where
   count : length b.history.items ≡ length a.history.items + 1
   count = ap length history ∙ length-append a.history.items (done ∷ [])
 
@@ -167,7 +171,8 @@ module _ (a b : Inside) (kept : IsFaithful a) (newest : b.newest ≡ a.newest) (
   pub same_timeline : timeline b ≡ record (timeline a) { reserved = b.reserved }
   same_timeline = λ i. record { base = same_base i; history = history i; state = replay (same_base i) (history i); reserved = b.reserved }
 
-  pub kept_reserved : Holds b.held (timeline a).state.open_tickets (version_graph (timeline a).state) → length a.history.items + length (timeline a).state.open_tickets + b.reserved ≤ vec_capacity b.history
+  pub kept_reserved : Holds b.held (timeline a).state.open_tickets (version_graph (timeline a).state)
+      → length a.history.items + length (timeline a).state.open_tickets + b.reserved ≤ vec_capacity b.history
       → (2 ≤ b.reserved → HasRoom b.held) → IsFaithful b
   kept_reserved held reserved ticket_room =
       let shows = kept.state in
@@ -203,7 +208,8 @@ commit_room s batch number is = elim (cases_Bool (misfits (newest_graph s).verti
 
 -- the version that a commit makes
 pub next_version : (s : State) (batch : List Entry) (number : ℕ) → reply_to s (Commit batch) ≡ Version number
-    → (newest_number (state_after s (Commit batch)) ≡ newest_number s + 1) × (version_graph (state_after s (Commit batch)) (newest_number s + 1) ≡ graph_after (version_graph s (newest_number s)) batch)
+    → (newest_number (state_after s (Commit batch)) ≡ newest_number s + 1) × (version_graph (state_after s (Commit batch)) (newest_number s + 1) ≡ graph_after
+    (version_graph s (newest_number s)) batch)
 next_version s batch number is =
     let after : State = record s { batches = s.batches ++ batch ∷ []; used = s.used + 1; steps = s.steps + 1 } in
     let after_is : state_after s (Commit batch) ≡ after = ap (changed s (Commit batch)) is in
@@ -214,13 +220,15 @@ next_version s batch number is =
     )
 
 -- a hold changes no version
-pub held_versions : (s : State) (which : Which) (number version : ℕ) → reply_to s (Acquire which) ≡ Ticket number version → (newest_number (state_after s (Acquire which)) ≡ newest_number s) × (version_graph (state_after s (Acquire which)) ≡ version_graph s)
+pub held_versions : (s : State) (which : Which) (number version : ℕ) → reply_to s (Acquire which) ≡ Ticket number version → (newest_number (state_after s (Acquire which)) ≡ newest_number s)
+    × (version_graph (state_after s (Acquire which)) ≡ version_graph s)
 held_versions s which number version is =
     let after_is = ap (changed s (Acquire which)) is in
     (ap newest_number after_is, ap version_graph after_is)
 
 -- a release changes no version
-pub released_versions : (s : State) (ticket : ℕ) → reply_to s (Release ticket) ≡ Released → (newest_number (state_after s (Release ticket)) ≡ newest_number s) × (version_graph (state_after s (Release ticket)) ≡ version_graph s)
+pub released_versions : (s : State) (ticket : ℕ) → reply_to s (Release ticket) ≡ Released → (newest_number (state_after s (Release ticket)) ≡ newest_number s)
+    × (version_graph (state_after s (Release ticket)) ≡ version_graph s)
 released_versions s ticket is =
     let after_is = ap (changed s (Release ticket)) is in
     (ap newest_number after_is, ap version_graph after_is)
@@ -242,7 +250,8 @@ found_is_made s tickets k (Some g) is = elim (cases_Bool (is_kept s k)) [
 
 -- a commit that was prepared is finished
 module _ (a b : Inside) (kept : IsFaithful a) (batch : List Entry) (p : Prepared) (ready : IsPrepared (timeline a) batch p) (newest : b.newest ≡ p.graph) (number : b.number ≡ p.number)
-    (same_room : b.room ≡ a.room) (given : b.given ≡ a.given) (held : b.held ≡ a.held) (same_base : base b ≡ base a) (history : b.history.items ≡ a.history.items ++ p.done ∷ []) (more_steps : b.steps ≡ a.steps + 1)
+    (same_room : b.room ≡ a.room) (given : b.given ≡ a.given) (held : b.held ≡ a.held) (same_base : base b ≡ base a) (history : b.history.items ≡ a.history.items ++ p.done ∷ [])
+    (more_steps : b.steps ≡ a.steps + 1)
     (capacity : vec_capacity b.history ≡ vec_capacity a.history) (unreserved : b.reserved ≡ 0) where
   abbrev before : State
   before = (timeline a).state
@@ -262,7 +271,8 @@ module _ (a b : Inside) (kept : IsFaithful a) (batch : List Entry) (p : Prepared
   pub kept_commit : IsFaithful b
   kept_commit = kept_step a b kept (Commit batch) (Version (newest_number before + 1)) ready.is_answer tt same_base items unreserved
       (subst (Shows b) (sym (ap (changed before (Commit batch)) ready.is_answer))
-      (shows_committed a b before kept.state entry same_room items more_steps unreserved batch (commit_room before batch (newest_number before + 1) ready.is_answer) next_is (number ∙ ready.number ∙ ap (λ n. n + 1) (sym kept.state.number)) given held fits))
+      (shows_committed a b before kept.state entry same_room items more_steps unreserved batch (commit_room before batch (newest_number before + 1) ready.is_answer) next_is
+      (number ∙ ready.number ∙ ap (λ n. n + 1) (sym kept.state.number)) given held fits))
 
   pub accepts_commit : Accepts (timeline a) p.done.step p.done.reply (timeline b)
   accepts_commit = subst (λ (d : Done). Accepts (timeline a) d.step d.reply (timeline b)) (sym ready.done)
@@ -297,7 +307,8 @@ module _ (a b : Inside) (kept : IsFaithful a) (p : PreparedAcquire) (ready : IsP
   opened_holds : Holds b.held (held_state.open_tickets ++ opened_ticket ∷ []) (version_graph held_state)
   opened_holds =
       holds_opened a.held b.held held_state.open_tickets (version_graph held_state) opened_ticket new_number tickets (count (kept.state.held.tickets p.ticket.number ∙ new_number))
-      (λ q. versions q ∙ ap (λ (g : Digraph). if p.version == q then Some (one_more g (get nat_eq a.held.versions p.version)) else get nat_eq a.held.versions q) (ready.kept ∙ ready.graph)) kept.state.held
+      (λ q. versions q ∙ ap (λ (g : Digraph). if p.version == q then Some (one_more g (get nat_eq a.held.versions p.version)) else get nat_eq a.held.versions q)
+      (ready.kept ∙ ready.graph)) kept.state.held
 
   ticket_is : opened_ticket ≡ record { number = held_state.given + 1; version = number_asked held_state p.which }
   ticket_is = λ i. record { number = ready.ticket i; version = ready.version i }
@@ -308,7 +319,8 @@ module _ (a b : Inside) (kept : IsFaithful a) (p : PreparedAcquire) (ready : IsP
   pub kept_acquire : IsFaithful b
   kept_acquire = kept_step a b kept (Acquire p.which) (Ticket p.ticket.number p.version) hold_answer tt same_base history unreserved
       (subst (Shows b) (sym (acquire_after held_state p.which allowed.0 allowed.1))
-      (shows_acquired a b held_state kept.state hold_entry same_room history more_steps unreserved (number_asked held_state p.which) (kept_is_made held_state kept.state.tickets (number_asked held_state p.which) allowed.0) allowed.1 newest number
+      (shows_acquired a b held_state kept.state hold_entry same_room history more_steps unreserved (number_asked held_state p.which)
+      (kept_is_made held_state kept.state.tickets (number_asked held_state p.which) allowed.0) allowed.1 newest number
       (given ∙ ready.ticket ∙ ap (λ n. n + 1) (sym kept.state.given))
       (subst (λ (t : OpenTicket). Holds b.held (held_state.open_tickets ++ t ∷ []) (version_graph held_state)) ticket_is opened_holds) hold_fits))
 

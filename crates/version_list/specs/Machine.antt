@@ -18,7 +18,8 @@ pub record OpenTicket : Type 0 where
   pub number : ℕ
   pub version : ℕ
 
--- the graph of version 0, the batches since, the open tickets, how many tickets were given, how many history entries are used since the opening or the last trim, for how many there is room, and how many steps were accepted since the opening
+-- the graph of version 0, the batches since, the open tickets, how many tickets were given, how many history entries are used since the opening or the last
+-- trim, for how many there is room, and how many steps were accepted since the opening
 pub record State : Type 0 where
   pub opening : Digraph
   pub batches : List (List Entry)

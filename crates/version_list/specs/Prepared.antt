@@ -32,7 +32,8 @@ pub record IsPreparedAcquire (t : Timeline) (asked : Which) (p : PreparedAcquire
   pub kept : p.kept ≡ p.graph
   pub reserved : 2 ≤ t.reserved
 
--- a step that the machine accepts is prepared, and only memory for n entries more is reserved; or it is refused as the machine refuses it, or memory runs out, and nothing is changed
+-- a step that the machine accepts is prepared, and only memory for n entries more is reserved; or it is refused as the machine refuses it, or memory runs out,
+-- and nothing is changed
 abbrev pub Prepares : {A : Type 0} → Timeline → Step → ℕ → (Timeline → A → Type 0) → Result A VersionError → Timeline → Type 0
 Prepares old step n IsReady (Ok x) new = (new ≡ record old { reserved = n }) × IsReady new x
 Prepares old step n IsReady (Err NoMemory) new = IsAccepted (reply_to old.state step) × (new ≡ old)

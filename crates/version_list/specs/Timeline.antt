@@ -28,7 +28,8 @@ abbrev pub replay : State → List Done → State
 replay s [] = s
 replay s (done ∷ history) = replay (state_after s done.step) history
 
--- the base, in which the history begins, at the opening or after the last trim; the history since, the state now, and for how many entries beside those of releases memory is reserved
+-- the base, in which the history begins, at the opening or after the last trim; the history since, the state now, and for how many entries beside those of
+-- releases memory is reserved
 pub record Timeline : Type 0 where
   pub base : State
   pub history : List Done
@@ -53,7 +54,8 @@ pub record Refuses (old : Timeline) (step : Step) (error : VersionError) (new : 
   pub is_answer : reply_to old.state step ≡ Refused (number_of error)
   pub unchanged : new ≡ old
 
--- a call answers a step as the machine does, where reply is the reply of what it gives; only a step that the machine accepts may lack memory, and then nothing is changed
+-- a call answers a step as the machine does, where reply is the reply of what it gives; only a step that the machine accepts may lack memory, and then nothing
+-- is changed
 abbrev pub Answers : {A : Type 0} → Timeline → Step → (A → Reply) → Result A VersionError → Timeline → Type 0
 Answers old step reply (Ok x) new = Accepts old step (reply x) new
 Answers old step reply (Err NoMemory) new = IsAccepted (reply_to old.state step) × (new ≡ old)
@@ -67,7 +69,8 @@ Answers old step reply (Err HistoryFull) new = Refuses old step HistoryFull new
 abbrev pub with_reply : Timeline → Step → Reply → Timeline
 with_reply t step (Refused number) = t
 with_reply t step (Trimmed count) = beginning (state_after t.state step)
-with_reply t step reply = record { base = t.base; history = t.history ++ record { step = step; reply = reply } ∷ []; state = state_after t.state step; reserved = 0 }
+with_reply t step reply = record { base = t.base; history = t.history ++ record { step = step; reply = reply } ∷ []; state =
+    state_after t.state step; reserved = 0 }
 
 -- what the steps are answered, one after another
 abbrev pub replies_to : State → List Step → List Reply
@@ -83,7 +86,8 @@ abbrev pub advanced_through : Timeline → List Step → Timeline
 advanced_through t [] = t
 advanced_through t (step ∷ steps) = advanced_through (advanced t step) steps
 
--- each step is answered and taken in order, where replies is the list that the call gives; where memory runs out it may stop before a step, after those in front of it
+-- each step is answered and taken in order, where replies is the list that the call gives; where memory runs out it may stop before a step, after those in
+-- front of it
 abbrev pub Runs : {A : Type 0} → Timeline → List Step → (A → List Reply) → Result A VersionError → Timeline → Type 0
 Runs old steps replies (Ok x) new = (replies x ≡ replies_to old.state steps) × (new ≡ advanced_through old steps)
 Runs old steps replies (Err NoMemory) new = (k : ℕ) × (k < length steps) × (new ≡ advanced_through old (take k steps))

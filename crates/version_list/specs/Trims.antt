@@ -10,7 +10,8 @@ use Rattle.version_list.specs.declared.prepared.PreparedTrim.{PreparedTrim}
 use Rattle.version_list.specs.Machine.{reply_to, state_after}
 use Rattle.version_list.specs.Timeline.{Timeline, Refuses, beginning}
 
--- the trim is accepted and answered so many entries, which are those of the history; the new history has none and begins in the state after the trim, which has all versions and tickets of the state before
+-- the trim is accepted and answered so many entries, which are those of the history; the new history has none and begins in the state after the trim, which has
+-- all versions and tickets of the state before
 pub record IsTrimmed (old : Timeline) (dropped : ℕ) (new : Timeline) : Type 0 where
   pub is_answer : reply_to old.state Trim ≡ Trimmed dropped
   pub dropped_all : dropped ≡ length old.history

@@ -1,5 +1,6 @@
 -- Sets that updates of one vertex make of others, by additions and removals.
-use Rattle.std.proofs.Common.{◌≡◌, ℕ, ℤ, ◌+◌, ◌^◌, ◌<◌, ◌≤◌, Bool, true, false, inl, inr, Option, None, if◌then◌else◌, List, [], ◌∷◌, ◌++◌, length, get_or, drop, append_assoc, Result, Ok, Err, IfOk, refl, sym, ◌∙◌, ap, subst, arith}
+use Rattle.std.proofs.Common.{◌≡◌, ℕ, ℤ, ◌+◌, ◌^◌, ◌<◌, ◌≤◌, Bool, true, false, inl, inr, Option, None, if◌then◌else◌, List, [], ◌∷◌, ◌++◌, length, get_or, drop, append_assoc, Result, Ok, Err, IfOk}
+use Rattle.std.proofs.Common.{refl, sym, ◌∙◌, ap, subst, arith}
 use Rattle.std.specs.List.{Contains}
 use Rattle.std.specs.Map.{keys_of}
 use Rattle.std.specs.Option.{option_or}
@@ -60,7 +61,8 @@ updated_nothing [] = refl
 updated_nothing (u ∷ us) = ap (added u) (updated_nothing us)
 
 -- an update that names a neighbour decides, by both lists
-decided_parts : (low v : ℕ) (us : List (EdgeUpdate × ℤ)) (was : Option ℤ) → NeighboursAscend low us → decided v us was ≡ (if has v (removed_in us) then None else option_or (lookup v (added_in us)) was)
+decided_parts : (low v : ℕ) (us : List (EdgeUpdate × ℤ)) (was : Option ℤ) → NeighboursAscend low us
+    → decided v us was ≡ (if has v (removed_in us) then None else option_or (lookup v (added_in us)) was)
 decided_parts low v [] was s = refl
 decided_parts low v (u ∷ us) was s =
     let n : ℕ = neighbour_of u.0 in
@@ -78,7 +80,8 @@ decided_parts low v (u ∷ us) was s =
     ]
 
 -- additions and then removals do what the updates do
-pub updated_set : (xs : List (ℕ × ℤ)) (us : List (EdgeUpdate × ℤ)) → Ascends None (keys_of xs) → NeighboursAscend 0 us → without_keys (union_keeping_second xs (added_in us)) (removed_in us) ≡ updated xs us
+pub updated_set : (xs : List (ℕ × ℤ)) (us : List (EdgeUpdate × ℤ)) → Ascends None (keys_of xs) → NeighboursAscend 0 us
+    → without_keys (union_keeping_second xs (added_in us)) (removed_in us) ≡ updated xs us
 updated_set xs us s t =
     let ys : List (ℕ × ℤ) = added_in us in
     let all : List (ℕ × ℤ) = union_keeping_second xs ys in
@@ -92,18 +95,24 @@ pub parted_end : {B : Type 0} (n : ℕ) (f : List (EdgeUpdate × ℤ) → List B
 parted_end n f us xs none le is = sym (append-nil xs) ∙ ap (λ ys. xs ++ ys) (sym none ∙ ap f (sym (drop_all n us le))) ∙ is
 
 -- what two steps of set operations gave
-pub set_updated : (r : Result ChunkedSet AllocError) (grown rest : Result ChunkedSet SetError) (a g : ChunkedSet) (more : List (ℕ × ℤ)) (fewer : List ℕ) (us : List (EdgeUpdate × ℤ)) → Ascends None (keys_of a.entries) → NeighboursAscend 0 us → more ≡ added_in us → fewer ≡ removed_in us → Inserts a more grown → grown ≡ Ok g → Removes g fewer rest → IfOk r (λ t. rest ≡ Ok t) → IfOk r (λ t. t.entries ≡ updated a.entries us)
+pub set_updated : (r : Result ChunkedSet AllocError) (grown rest : Result ChunkedSet SetError) (a g : ChunkedSet) (more : List (ℕ × ℤ)) (fewer : List ℕ) (us : List (EdgeUpdate × ℤ))
+    → Ascends None (keys_of a.entries) → NeighboursAscend 0 us → more ≡ added_in us → fewer ≡ removed_in us → Inserts a more grown → grown ≡ Ok g → Removes g fewer rest → IfOk r (λ t. rest ≡ Ok t)
+    → IfOk r (λ t. t.entries ≡ updated a.entries us)
 set_updated (Ok t) grown rest a g more fewer us s u is_added is_removed inserts made removes is =
     let first : IsSetOf (union_keeping_second a.entries more) a.chunk_size g = (subst (Inserts a more) made inserts).1 in
     let second : IsSetOf (without_keys g.entries fewer) g.chunk_size t = (subst (Removes g fewer) is removes).1 in
-    second.entries ∙ ap (λ xs. without_keys xs fewer) first.entries ∙ ap (λ xs. without_keys (union_keeping_second a.entries xs) fewer) is_added ∙ ap (without_keys (union_keeping_second a.entries (added_in us))) is_removed ∙ updated_set a.entries us s u
+    second.entries ∙ ap (λ xs. without_keys xs fewer) first.entries ∙ ap (λ xs. without_keys (union_keeping_second a.entries xs) fewer) is_added
+    ∙ ap (without_keys (union_keeping_second a.entries (added_in us))) is_removed ∙ updated_set a.entries us s u
 set_updated (Err e) grown rest a g more fewer us s u is_added is_removed inserts made removes is = tt
 
-pub sets_updated : (r : Result ChunkedSet AllocError) (grown rest : Result ChunkedSet SetError) (a m g f : ChunkedSet) (us : List (EdgeUpdate × ℤ)) → Ascends None (keys_of a.entries) → NeighboursAscend 0 us → m.entries ≡ added_in us → keys_of f.entries ≡ removed_in us → Unites a m grown → grown ≡ Ok g → Subtracts g f rest → IfOk r (λ t. rest ≡ Ok t) → IfOk r (λ t. t.entries ≡ updated a.entries us)
+pub sets_updated : (r : Result ChunkedSet AllocError) (grown rest : Result ChunkedSet SetError) (a m g f : ChunkedSet) (us : List (EdgeUpdate × ℤ)) → Ascends None (keys_of a.entries)
+    → NeighboursAscend 0 us → m.entries ≡ added_in us → keys_of f.entries ≡ removed_in us → Unites a m grown → grown ≡ Ok g → Subtracts g f rest → IfOk r (λ t. rest ≡ Ok t)
+    → IfOk r (λ t. t.entries ≡ updated a.entries us)
 sets_updated (Ok t) grown rest a m g f us s u more fewer unites made subtracts is =
     let first : IsSetOf (union_keeping_second a.entries m.entries) a.chunk_size g = (subst (Unites a m) made unites).1 in
     let second : IsSetOf (without_keys g.entries (keys_of f.entries)) g.chunk_size t = (subst (Subtracts g f) is subtracts).1 in
-    second.entries ∙ ap (λ xs. without_keys xs (keys_of f.entries)) first.entries ∙ ap (λ xs. without_keys (union_keeping_second a.entries xs) (keys_of f.entries)) more ∙ ap (without_keys (union_keeping_second a.entries (added_in us))) fewer ∙ updated_set a.entries us s u
+    second.entries ∙ ap (λ xs. without_keys xs (keys_of f.entries)) first.entries ∙ ap (λ xs. without_keys (union_keeping_second a.entries xs) (keys_of f.entries)) more
+    ∙ ap (without_keys (union_keeping_second a.entries (added_in us))) fewer ∙ updated_set a.entries us s u
 sets_updated (Err e) grown rest a m g f us s u more fewer unites made subtracts is = tt
 
 -- one update more in a walk over them

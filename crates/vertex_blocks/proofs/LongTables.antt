@@ -1,5 +1,6 @@
 -- Vertices that have lists of their own, by their indices.
-use Rattle.std.proofs.Common.{◌≡◌, ℕ, zero, suc, ◌+◌, ◌*◌, ◌%◌, ◌^◌, ◌<◌, bit_or, List, [], ◌∷◌, ◌++◌, ◌-◌, length, get_or, take, drop, slice_range, sym, ◌∙◌, ap, subst, arith, append_assoc, take-append-drop}
+use Rattle.std.proofs.Common.{◌≡◌, ℕ, zero, suc, ◌+◌, ◌*◌, ◌%◌, ◌^◌, ◌<◌, bit_or, List, [], ◌∷◌, ◌++◌, ◌-◌, length, get_or, take, drop, slice_range, sym, ◌∙◌, ap, subst, arith, append_assoc}
+use Rattle.std.proofs.Common.{take-append-drop}
 use Rattle.std.proofs.lemmas.List.{map-append, length-map, take-map, drop-map, take_more, drop_more}
 use Rattle.std.specs.Map.{keys_of}
 use Rattle.ascending_lists.specs.Ascending.{AscendsFrom}
@@ -25,7 +26,8 @@ pub long_block : (bits : ℕ) (ss : List LongEntry) → AreLongLists bits ss →
 long_block bits ss ok = record { map = ok.index.map; lists = ok.lists }
 
 -- one more list
-pub long_pushed : (bits v : ℕ) (ss : List LongEntry) (s : LongEntry) → AreLongLists bits ss → s.vertex ≡ v → Rises 0 v (long_entries ss) → v < 64 → 0 < length (entries_in s.list) → AscendsFrom 0 (keys_of (entries_in s.list)) → AreLongLists (bit_or bits (1 * 2 ^ v % 2 ^ 64)) (ss ++ s ∷ [])
+pub long_pushed : (bits v : ℕ) (ss : List LongEntry) (s : LongEntry) → AreLongLists bits ss → s.vertex ≡ v → Rises 0 v (long_entries ss) → v < 64 → 0 < length (entries_in s.list)
+    → AscendsFrom 0 (keys_of (entries_in s.list)) → AreLongLists (bit_or bits (1 * 2 ^ v % 2 ^ 64)) (ss ++ s ∷ [])
 long_pushed bits v ss s ok is above lt some up =
     let whole : long_entries (ss ++ s ∷ []) ≡ long_entries ss ++ (v, (entries_in s.list)) ∷ [] = map-append long_entry ss (s ∷ []) ∙ ap (λ w. long_entries ss ++ (w, (entries_in s.list)) ∷ []) is in
     record {
@@ -64,12 +66,14 @@ pub long_next : (run : List LongEntry) (i : ℕ) (s : LongEntry) → i < length 
 long_next run i s lt is = ap long_entries (take_more run i s lt) ∙ map-append long_entry (take i run) (get_or run i s ∷ []) ∙ ap (λ x. long_entries (take i run) ++ long_entry x ∷ []) (sym is)
 
 -- a list stands above those before it
-pub long_above : (old : Block) (run : List LongEntry) (i : ℕ) (s : LongEntry) → i < length run → s ≡ get_or run i s → Rises 0 64 (old ++ long_entries run) → Rises 0 s.vertex (old ++ long_entries (take i run)) × (s.vertex < 64)
+pub long_above : (old : Block) (run : List LongEntry) (i : ℕ) (s : LongEntry) → i < length run → s ≡ get_or run i s → Rises 0 64 (old ++ long_entries run)
+    → Rises 0 s.vertex (old ++ long_entries (take i run)) × (s.vertex < 64)
 long_above old run i s lt is map =
     let rest : Block = long_entries (drop (i + 1) run) in
     let parts : run ≡ take i run ++ s ∷ drop (i + 1) run = sym (take-append-drop i run) ∙ ap (λ ds. take i run ++ ds) (drop_more run i s lt) ∙ ap (λ x. take i run ++ x ∷ drop (i + 1) run) (sym is) in
     let whole : old ++ long_entries run ≡ (old ++ long_entries (take i run)) ++ (s.vertex, (entries_in s.list)) ∷ rest =
-    ap (λ rs. old ++ long_entries rs) parts ∙ ap (λ ls. old ++ ls) (map-append long_entry (take i run) (s ∷ drop (i + 1) run)) ∙ sym (append_assoc old (long_entries (take i run)) ((s.vertex, (entries_in s.list)) ∷ rest)) in
+    ap (λ rs. old ++ long_entries rs) parts ∙ ap (λ ls. old ++ ls) (map-append long_entry (take i run) (s ∷ drop (i + 1) run))
+    ∙ sym (append_assoc old (long_entries (take i run)) ((s.vertex, (entries_in s.list)) ∷ rest)) in
     let up : Rises 0 64 ((old ++ long_entries (take i run)) ++ (s.vertex, (entries_in s.list)) ∷ rest) = subst (Rises 0 64) whole map in
     let behind : Rises 0 64 ((s.vertex, (entries_in s.list)) ∷ rest) = rises_back 0 64 (old ++ long_entries (take i run)) ((s.vertex, (entries_in s.list)) ∷ rest) up in
     (rises_left 0 64 (old ++ long_entries (take i run)) s.vertex (entries_in s.list) rest up, omega (arith, rises_room (s.vertex + 1) 64 rest behind.1))

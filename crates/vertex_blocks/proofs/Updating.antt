@@ -14,11 +14,13 @@ use Rattle.vertex_blocks.proofs.Carrying.{built_lists}
 
 module _ (updates : List (EdgeUpdate × ℤ)) (old : Option Block) where
   -- vertices between those that updates are of keep their lists
-  pub kept_to : (low v : ℕ) (rest : List (EdgeUpdate × ℤ)) → EdgesAscend (v * 2 ^ 24) rest → ((u : ℕ) → low ≤ u → updates_of u updates ≡ updates_of u rest) → (u : ℕ) → low ≤ u → u < v → list_after updates old u ≡ neighbours_of u (vertices_at old)
+  pub kept_to : (low v : ℕ) (rest : List (EdgeUpdate × ℤ)) → EdgesAscend (v * 2 ^ 24) rest → ((u : ℕ) → low ≤ u → updates_of u updates ≡ updates_of u rest) → (u : ℕ) → low ≤ u → u < v
+      → list_after updates old u ≡ neighbours_of u (vertices_at old)
   kept_to low v rest coming passed u ge lt = ap (updated (neighbours_of u (vertices_at old))) (passed u ge ∙ none_before u (v * 2 ^ 24) rest coming (omega (arith, lt)))
 
   -- the next one gets the list that its updates make
-  pub updated_at : (low v : ℕ) (rest run : List (EdgeUpdate × ℤ)) → low ≤ v → ((u : ℕ) → low ≤ u → updates_of u updates ≡ updates_of u rest) → run ≡ updates_of v rest → updated (neighbours_of v (vertices_at old)) run ≡ list_after updates old v
+  pub updated_at : (low v : ℕ) (rest run : List (EdgeUpdate × ℤ)) → low ≤ v → ((u : ℕ) → low ≤ u → updates_of u updates ≡ updates_of u rest) → run ≡ updates_of v rest
+      → updated (neighbours_of v (vertices_at old)) run ≡ list_after updates old v
   updated_at low v rest run le passed is = ap (updated (neighbours_of v (vertices_at old))) (is ∙ sym (passed v le))
 
   -- and where all are done, the block is there
@@ -30,7 +32,8 @@ module _ (updates : List (EdgeUpdate × ℤ)) (old : Option Block) where
   }
 
 -- an update of a smaller vertex is passed
-pub skip_one : (v n : ℕ) (us : List (EdgeUpdate × ℤ)) (d : EdgeUpdate × ℤ) → n < length us → vertex_in_page (get_or us n d).0 < v → EdgesAscend 0 (drop n us) → EdgesAscend 0 (drop (n + 1) us) × (updates_of v (drop (n + 1) us) ≡ updates_of v (drop n us))
+pub skip_one : (v n : ℕ) (us : List (EdgeUpdate × ℤ)) (d : EdgeUpdate × ℤ) → n < length us → vertex_in_page (get_or us n d).0 < v → EdgesAscend 0 (drop n us) → EdgesAscend 0 (drop (n + 1) us)
+    × (updates_of v (drop (n + 1) us) ≡ updates_of v (drop n us))
 skip_one v n us d lt small s =
     let u : EdgeUpdate × ℤ = get_or us n d in
     let cells : drop n us ≡ u ∷ drop (n + 1) us = drop_more us n d lt in

@@ -1,5 +1,6 @@
 -- Words in which one bit was set, and words that were set to zero.
-use Rattle.std.proofs.Common.{◌≡◌, ◌≢◌, ℕ, ◌*◌, ◌+◌, ◌/◌, ◌%◌, ◌<◌, ◌≤◌, ◌⊎◌, inl, inr, ◌↔◌, ◌==◌, ◌||◌, false, List, length, set, subst, take, drop, take_all, ap₂, ◌++◌, ◌-◌, ◌^◌, bit_and, get_or, get_or-set_other, nat_lt, sym, ◌∙◌, ap, arith, Contains}
+use Rattle.std.proofs.Common.{◌≡◌, ◌≢◌, ℕ, ◌*◌, ◌+◌, ◌/◌, ◌%◌, ◌<◌, ◌≤◌, ◌⊎◌, inl, inr, ◌↔◌, ◌==◌, ◌||◌, false, List, length, set, subst, take, drop, take_all, ap₂, ◌++◌, ◌-◌, ◌^◌, bit_and, get_or}
+use Rattle.std.proofs.Common.{get_or-set_other, nat_lt, sym, ◌∙◌, ap, arith, Contains}
 use Rattle.std.specs.Int.{bit_at}
 use Rattle.std.proofs.lemmas.Bool.{cases_eq, cases_lt, eq-eqb, le-ltb, lt-ltb, ne_eqb}
 use Rattle.std.proofs.lemmas.Nat.Bits.{bit_at_ones}

@@ -1,5 +1,6 @@
 -- The vertices of the set bits of words.
-use Rattle.std.proofs.Common.{◌≡◌, ◌≢◌, ℕ, zero, suc, ◌+◌, ◌-◌, ◌*◌, ◌/◌, ◌%◌, ◌^◌, ◌<◌, ◌≤◌, inl, inr, ◌↔◌, Bool, true, false, ◌==◌, bit_and, bit_or, w64, get_or-set_same, get_or-set_other, List, [], ◌∷◌, ◌++◌, length, get_or, set, replicate, refl, sym, ◌∙◌, ap, ap₂, subst, arith, cond, min, append_assoc, length-append, Contains}
+use Rattle.std.proofs.Common.{◌≡◌, ◌≢◌, ℕ, zero, suc, ◌+◌, ◌-◌, ◌*◌, ◌/◌, ◌%◌, ◌^◌, ◌<◌, ◌≤◌, inl, inr, ◌↔◌, Bool, true, false, ◌==◌, bit_and, bit_or, w64, get_or-set_same, get_or-set_other, List, []}
+use Rattle.std.proofs.Common.{◌∷◌, ◌++◌, length, get_or, set, replicate, refl, sym, ◌∙◌, ap, ap₂, subst, arith, cond, min, append_assoc, length-append, Contains}
 use Rattle.std.specs.Int.{bit_at}
 use Rattle.std.proofs.lemmas.Bool.{cases_lt, cases_eq, eqb-true, eq-eqb}
 use Rattle.std.proofs.lemmas.List.{append-nil, get_or_push, get_or_append_left, get_or_past, get_or-replicate, length-replicate}
@@ -164,7 +165,8 @@ module _ (words : List ℕ) (v : ℕ) (within : v / 64 < length words) where
       zero_by_one (suc b) p some none = absurd (omega arith)
 
   pub mask_on : bit_and old_word (1 * 2 ^ (v % 64) % 2 ^ 64) ≢ 0 → HasBit words v
-  mask_on some = one_by_two (bit_at old_word (v % 64)) (bit_at-lt old_word (v % 64)) (λ e. some (ap (bit_and old_word) (one_shl (v % 64) 64 low) ∙ and_pow old_word (v % 64) ∙ ap (λ b. b * 2 ^ (v % 64)) e ∙ omega arith))
+  mask_on some = one_by_two (bit_at old_word (v % 64)) (bit_at-lt old_word (v % 64))
+      (λ e. some (ap (bit_and old_word) (one_shl (v % 64) 64 low) ∙ and_pow old_word (v % 64) ∙ ap (λ b. b * 2 ^ (v % 64)) e ∙ omega arith))
     where
       one_by_two : (b : ℕ) → b < 2 → (b ≡ 0 → ⊥) → b ≡ 1
       one_by_two b lt apart = omega arith

@@ -26,8 +26,10 @@ changes_in_parts x (f ∷ fs) = changes_of x f.out.vectors.items ++ changes_in_p
 
 -- the changes of an apply to the edges of all pieces, at the vertices of a range
 abbrev pub IsMerged : RangeMerge → (range : ℕ) → Changes → Type 0
-IsMerged w k c = (m : StateValue) (steps : List FunctionStatementsTree) (edges_of : ℕ → List Edge) → w.apply.vectors.now.vectors ≡ m.vectors → HasSizes w.apply.sizes.now m
+IsMerged w k c = (m : StateValue) (steps : List FunctionStatementsTree) (edges_of : ℕ → List Edge) → w.apply.vectors.now.vectors ≡ m.vectors
+    → HasSizes w.apply.sizes.now m
     → AreKernels w.apply.first.now w.apply.second steps → EachAscending w.found.now → EachGathered w.apply.flat.now.vertices m steps edges_of w.found.now
     → (x : ℕ) (r : Reduction) → IsGivenBy r x steps m.sets m.vectors → w.apply.flat.now.vertices ≤ length (slice_index_or m.vectors x [])
     → changes_of x c.vectors.items
-    ≡ changed_from (entry m.vectors x) (entry (after_edges steps m.sets m.vectors (flat_map edges_of (pieces_of w.found.now)) m.vectors) x) (end_of w.ranges (k - 1)) (end_of w.ranges k - end_of w.ranges (k - 1))
+    ≡ changed_from (entry m.vectors x) (entry (after_edges steps m.sets m.vectors (flat_map edges_of (pieces_of w.found.now)) m.vectors) x)
+    (end_of w.ranges (k - 1)) (end_of w.ranges k - end_of w.ranges (k - 1))

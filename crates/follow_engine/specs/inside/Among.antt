@@ -21,7 +21,8 @@ abbrev pub ArePulledAmong : Apply → (destinations : List ℕ) → List VectorC
 ArePulledAmong a vs cs = (m : StateValue) (steps : List FunctionStatementsTree) (from : ℕ → Bool) → a.vectors.now.vectors ≡ m.vectors → HasSizes a.sizes.now m
     → AreKernels a.first.now a.second steps → IsEndTest a.from m from
     → (x : ℕ) (r : Reduction) → IsGivenBy r x steps m.sets m.vectors → a.flat.now.vertices ≤ length (slice_index_or m.vectors x [])
-    → changes_of x cs ≡ changed a.flat.now.vertices (entry m.vectors x) (entry (after_edges steps m.sets m.vectors (edges_between from (λ v. is_member v vs) a.flat.now.edges) m.vectors) x)
+    → changes_of x cs ≡ changed a.flat.now.vertices (entry m.vectors x)
+    (entry (after_edges steps m.sets m.vectors (edges_between from (λ v. is_member v vs) a.flat.now.edges) m.vectors) x)
 
 -- the vector is not there, or it is there with what was found and recorded of it
 abbrev pub HasSpliced : (test : ℕ → Bool) → (found recorded : Changes) → (vector : ℕ) → List VectorChanges → Type 0

@@ -1,5 +1,6 @@
 -- Kinds of statements.
-use Rattle.typed_tree.specs.BlockTree.{StatementKindTree, If, IfElse, While, For, DeclareSet, AssignSet, ApplyVertex, ApplyEdges, SetEntry, ReduceEntry, AddVertex, PrintInteger}
+use Rattle.typed_tree.specs.BlockTree.{StatementKindTree, If, IfElse, While, For, DeclareSet, AssignSet, ApplyVertex, ApplyEdges, SetEntry, ReduceEntry}
+use Rattle.typed_tree.specs.BlockTree.{AddVertex, PrintInteger}
 use Rattle.typed_tree.specs.declared.statement.SetValue.{SetValue}
 use Rattle.typed_tree.specs.declared.statement.SetValue.TheVariants as set
 

@@ -63,7 +63,8 @@ IsExtended es bytes more (Err e) es' bytes' = (es' ≡ es) × (bytes' ≡ bytes)
 -- entries whose lists are one after the other from another position on
 abbrev pub placed_at : ℕ → List ListEntry → List ListEntry
 placed_at position [] = []
-placed_at position (e ∷ es) = record { start = position; last = e.last; width = e.width; weights = e.weights; vertex = e.vertex } ∷ placed_at (position + size_of e) es
+placed_at position (e ∷ es) = record { start = position; last = e.last; width = e.width; weights = e.weights; vertex = e.vertex } ∷ placed_at
+    (position + size_of e) es
 
 -- the lists of entries are one after the other from some position on
 abbrev pub AreFrom : List ℕ → List ListEntry → Type 0

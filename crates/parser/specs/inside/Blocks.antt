@@ -47,7 +47,8 @@ abbrev pub to_end_by : Reader BlockTree → Reader BlockTree
 to_end_by block ws = block ws >>= closed (OfKeyword keyword.End ∷ [])
 
 -- what stands after the body of an `if`
-abbrev pub otherwise_by : Reader BlockTree → ℕ → ExpressionTree → BlockTree × List Terminal → Option (List Terminal) → Option (StatementKindTree × List Terminal)
+abbrev pub otherwise_by : Reader BlockTree → ℕ → ExpressionTree → BlockTree × List Terminal → Option (List Terminal)
+    → Option (StatementKindTree × List Terminal)
 otherwise_by block at test body None = closed (OfKeyword keyword.End ∷ []) (If at test body.0, body.1)
 otherwise_by block at test body (Some after) = to_end_by block after >>= λ b. Some (IfElse at test body.0 b.0, b.1)
 

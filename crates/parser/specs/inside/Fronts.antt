@@ -11,7 +11,8 @@ use Rattle.syntax.specs.declared.declaration.DeclaredType.TheVariants as type
 use Rattle.apply_options.specs.declared.setting.Setting.{Setting}
 use Rattle.apply_options.specs.declared.setting.Setting.TheVariants as setting
 use Rattle.syntax.specs.SourceTrees.{StatementKindTree, InitialTree, Apply, NewSet, Load, Vertices, OutDegrees, Filter, ApplyModified}
-use Rattle.syntax.specs.SourceReading.{in_braces, in_parentheses, after_terminal, after_terminals, closed, name_at, number_at, argument_at, method_at, ends_at, edge_ends, edgeset_at}
+use Rattle.syntax.specs.SourceReading.{in_braces, in_parentheses, after_terminal, after_terminals, closed, name_at, number_at, argument_at, method_at, ends_at}
+use Rattle.syntax.specs.SourceReading.{edge_ends, edgeset_at}
 
 -- the type that begins with a keyword
 abbrev pub begun_type : Keyword → Option DeclaredType

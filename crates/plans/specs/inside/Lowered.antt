@@ -8,6 +8,7 @@ use Rattle.plans.specs.declared.instruction.Instruction.{Instruction}
 use Rattle.plans.specs.Plan.{ArePartsOf}
 
 -- so they are for this program under some schedule
-pub record AreLowered (is : List Instruction) (f : FunctionKernels) (vs : List Vector) (ss : List ℕ) (ns gs : List (List ℕ)) (program : ProgramTree) : Type 0 where
+pub record AreLowered (is : List Instruction) (f : FunctionKernels) (vs : List Vector) (ss : List ℕ) (ns gs : List (List ℕ))
+    (program : ProgramTree) : Type 0 where
   pub schedule : ScheduleTree
   pub planned : ArePartsOf is f vs ss ns gs program schedule

@@ -17,7 +17,8 @@ use Rattle.pull_engine.specs.Ranges.{AreChangesFrom}
 
 -- the vertices of the range whose entry changes, where that is reduced with the numbers of those sources that pass
 abbrev pub IsRangePulled : PullRange → (vector : ℕ) → Reduction → (number : ℕ → ℤ → ℤ) → List EntryChange → Type 0
-IsRangePulled p x r number cs = (m : StateValue) (test : ℕ → Bool) → p.context.vectors.now.vectors ≡ m.vectors → HasSizes p.context.sizes.now m → IsEndTest p.to m test
+IsRangePulled p x r number cs = (m : StateValue) (test : ℕ → Bool) → p.context.vectors.now.vectors ≡ m.vectors → HasSizes p.context.sizes.now m
+    → IsEndTest p.to m test
     → cs ≡ changed_from (entry m.vectors x) (pulled_to r number (entry m.vectors x) (passes_words p.from) test p.flat.now.edges) p.low (p.high - p.low)
 
 -- the changes of a vector are those of an apply, at the vertices of the range

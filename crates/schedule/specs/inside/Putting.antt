@@ -52,4 +52,5 @@ bytes_of_two arguments = (arguments.0.now, arguments.1.now)
 -- the label stands before this where it stood before nothing
 abbrev pub PutsSite : List (ℕ × Site) → ℕ → Site → List (ℕ × Site) → Type 0
 PutsSite old label site new =
-    (other : ℕ) (rest : Option Site) → first_of (lookup (nat_eq other) new) rest ≡ first_of (lookup (nat_eq other) old) (if nat_eq other label then Some site else rest)
+    (other : ℕ) (rest : Option Site) → first_of (lookup (nat_eq other) new) rest ≡ first_of (lookup (nat_eq other) old)
+    (if nat_eq other label then Some site else rest)

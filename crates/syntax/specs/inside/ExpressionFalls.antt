@@ -4,7 +4,8 @@ use Rattle.std.proofs.Common.{arith, ◌≡◌, refl}
 use denote.Param.Weighed.{most}
 use Rattle.std.specs.Global.{Box}
 use Rattle.syntax.specs.declared.expression.Primary.{Primary}
-use Rattle.syntax.specs.declared.expression.Expression.TheDeep.{deep-Primary, deep-Unary, deep-Term, deep-Sum, deep-Comparison, deep-Conjunction, deep-Expression}
+use Rattle.syntax.specs.declared.expression.Expression.TheDeep.{deep-Primary, deep-Unary, deep-Term, deep-Sum, deep-Comparison, deep-Conjunction}
+use Rattle.syntax.specs.declared.expression.Expression.TheDeep.{deep-Expression}
 use Rattle.syntax.specs.ExpressionDepth.{primary_depth, unary_depth, term_depth, sum_depth, comparison_depth, conjunction_depth, expression_depth}
 use Rattle.syntax.specs.ExpressionViews.{primary_of, behind, unary_of, term_from, sum_from, conjunction_from, expression_from}
 use Rattle.syntax.specs.inside.ExpressionViews.{term_of, sum_of, comparison_from, comparison_of, conjunction_of}
@@ -129,5 +130,6 @@ pub expression_falls : (e : Inside) → deep-Expression e ≤ expression_depth (
 expression_falls e =
     let h = conjunctions_fall deep-Conjunction conjunction_falls (conjunction_of e.first) e.more.items in
     let g : deep-Conjunction e.first ≤ conjunction_depth (conjunction_of e.first) = conjunction_falls e.first in
-    let k : (shapes.weighed-Expression-more).weight Conjunction deep-Conjunction e.more ≤ expression_depth (expression_from (conjunction_of e.first) (map conjunction_of e.more.items)) = h.1 in
+    let k : (shapes.weighed-Expression-more).weight Conjunction deep-Conjunction e.more ≤ expression_depth
+    (expression_from (conjunction_of e.first) (map conjunction_of e.more.items)) = h.1 in
     omega (arith, h.0)

@@ -8,7 +8,8 @@ use Rattle.types.specs.Checker.{CheckerTree, labelled}
 use Rattle.types.specs.Step.{steps_after, steps_typed}
 
 -- one statement
-abbrev pub labelled_step : CheckerTree → Option Identifier → (CheckerTree → WithFaults (FunctionStatementTree × CheckerTree)) → WithFaults (FunctionStatementTree × CheckerTree)
+abbrev pub labelled_step : CheckerTree → Option Identifier → (CheckerTree → WithFaults (FunctionStatementTree × CheckerTree))
+    → WithFaults (FunctionStatementTree × CheckerTree)
 labelled_step c label step = labelled c label >>= λ l. step l.1
 
 -- a block of its own

@@ -16,9 +16,12 @@ use Rattle.types.specs.Step.{no_step}
 
 -- in main
 abbrev pub variable_as : CheckerTree → ℕ → InitializerTree → DeclaredType → WithFaults (Entity × StatementKindTree)
-variable_as c at initializer declared.Int = initializer_integer at initializer >>= λ e. sure (entity.IntegerVariable (integer_slot c), DeclareInteger (length c.names) e)
-variable_as c at initializer declared.Bool = initializer_condition at initializer >>= λ e. sure (entity.ConditionVariable (condition_slot c), DeclareCondition (length c.names) e)
-variable_as c at initializer declared.VertexSet = initializer_members at initializer >>= λ s. sure (entity.SetVariable (set_slot c), DeclareSet (length c.names) s)
+variable_as c at initializer declared.Int = initializer_integer at initializer >>= λ e. sure
+    (entity.IntegerVariable (integer_slot c), DeclareInteger (length c.names) e)
+variable_as c at initializer declared.Bool = initializer_condition at initializer >>= λ e. sure
+    (entity.ConditionVariable (condition_slot c), DeclareCondition (length c.names) e)
+variable_as c at initializer declared.VertexSet = initializer_members at initializer >>= λ s. sure
+    (entity.SetVariable (set_slot c), DeclareSet (length c.names) s)
 variable_as c at initializer declared.Vertex = fault_at at rule.WrongType (entity.Error, no_action)
 variable_as c at initializer declared.Vector = fault_at at rule.WrongType (entity.Error, no_action)
 variable_as c at initializer declared.EdgeSet = fault_at at rule.WrongType (entity.Error, no_action)
@@ -26,8 +29,10 @@ variable_as c at initializer declared.WeightedEdgeSet = fault_at at rule.WrongTy
 
 -- in a function
 abbrev pub step_variable_as : CheckerTree → ℕ → InitializerTree → DeclaredType → WithFaults (Entity × FunctionStatementTree)
-step_variable_as c at initializer declared.Int = initializer_integer at initializer >>= λ e. sure (entity.IntegerVariable (integer_slot c), step.DeclareInteger (length c.names) e)
-step_variable_as c at initializer declared.Bool = initializer_condition at initializer >>= λ e. sure (entity.ConditionVariable (condition_slot c), step.DeclareCondition (length c.names) e)
+step_variable_as c at initializer declared.Int = initializer_integer at initializer >>= λ e. sure
+    (entity.IntegerVariable (integer_slot c), step.DeclareInteger (length c.names) e)
+step_variable_as c at initializer declared.Bool = initializer_condition at initializer >>= λ e. sure
+    (entity.ConditionVariable (condition_slot c), step.DeclareCondition (length c.names) e)
 step_variable_as c at initializer declared.VertexSet = fault_at at rule.WrongType (entity.Error, no_step)
 step_variable_as c at initializer declared.Vertex = fault_at at rule.WrongType (entity.Error, no_step)
 step_variable_as c at initializer declared.Vector = fault_at at rule.WrongType (entity.Error, no_step)

@@ -13,7 +13,8 @@ base a = a.base.state
 abbrev pub timeline : Inside → Timeline
 timeline a = record { base = base a; history = a.history.items; state = replay (base a) a.history.items; reserved = a.reserved }
 
--- the fields are those of the state, and memory is kept for the release of each open ticket, and for what is reserved beside: with two entries room for a ticket
+-- the fields are those of the state, and memory is kept for the release of each open ticket, and for what is reserved beside: with two entries room for a
+-- ticket
 pub record Shows (a : Inside) (s : State) : Type 0 where
   pub number : a.number ≡ newest_number s
   pub newest : a.newest ≡ newest_graph s

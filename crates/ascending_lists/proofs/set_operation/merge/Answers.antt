@@ -21,7 +21,8 @@ returns c =
     elim c.if-takes_second.branch [
       | then-takes_second+in_ok-extend_from_slice-2 w ↦
           let takes : takes_second op ≡ true = sym c.takes_second.ensures ∙ w.if-takes_second.true in
-          rw w.list-is (w.in_ok-extend_from_slice-2.ensures.items ∙ ap (λ v. c.extend_from_slice.new.self.items ++ v) (take_rest ys m.result.second) ∙ ap (λ v. v ++ drop m.result.second ys) more ∙ (rw takes at whole))
+          rw w.list-is (w.in_ok-extend_from_slice-2.ensures.items ∙ ap (λ v. c.extend_from_slice.new.self.items ++ v) (take_rest ys m.result.second) ∙ ap (λ v. v ++ drop m.result.second ys) more
+          ∙ (rw takes at whole))
       | else-takes_second w ↦
           let takes : takes_second op ≡ false = sym c.takes_second.ensures ∙ w.if-takes_second.false in
           let all = rw takes at whole in

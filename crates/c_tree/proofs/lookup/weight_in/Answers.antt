@@ -36,7 +36,8 @@ returns-then-other-key c =
     let l = c.loop-other in
     let cells : l.other-iterator ≡ (c.in-Some.other, c.in-Some.weight) ∷ c.next.new.self = search rules in
     let round : to_z w64 (of_z w64 c.in-Some.weight) ≡ c.in-Some.weight = search rules in
-    c.then_some.ensures ∙ ap (then_some (nat_eq c.in-Some.other c.args.key)) round ∙ met l.other-iterator c.next.new.self c.args.key c.in-Some.other c.in-Some.weight cells l.invariant.map c.if-other-key.true ∙ l.invariant.same
+    c.then_some.ensures ∙ ap (then_some (nat_eq c.in-Some.other c.args.key)) round
+    ∙ met l.other-iterator c.next.new.self c.args.key c.in-Some.other c.in-Some.weight cells l.invariant.map c.if-other-key.true ∙ l.invariant.same
 
 pub loop-other-preserved : goal.loop-other-preserved
 loop-other-preserved c =

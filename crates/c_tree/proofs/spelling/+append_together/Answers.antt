@@ -15,7 +15,8 @@ append_together-requires t c =
     let whole = c.args.chunks.now in
     let k = c.in-Some in
     let smaller = (sides_smaller p whole k.below.now k.head k.at_head.now k.above.now k.ensures c.requires.ascending c.requires.over).0 in
-    (omega (arith, smaller), (left_ascends p whole k.below.now k.head k.at_head.now k.above.now k.ensures c.requires.ascending c.requires.over, left_over p whole k.below.now k.head k.at_head.now k.above.now k.ensures c.requires.ascending c.requires.over))
+    (omega (arith, smaller), (left_ascends p whole k.below.now k.head k.at_head.now k.above.now k.ensures c.requires.ascending c.requires.over,
+    left_over p whole k.below.now k.head k.at_head.now k.above.now k.ensures c.requires.ascending c.requires.over))
 
 pub overflow_sub-distance : goal.overflow_sub-distance
 overflow_sub-distance t c =
@@ -43,8 +44,11 @@ returns t c =
     let number = c.in_ok-append_entry.ensures in
     let round : to_z w64 (of_z w64 c.weight.result) ≡ c.weight.result = search rules in
     let fits : weight_number k.at_head.now.weight < 2 ^ 64 = rw (← c.weight.ensures) (search rules) in
-    let entry : SpellsNumbers (entry_numbers (k.head - least_after (least c.in_ok-last.last.now.base) (keys_of c.in_ok-last.last.now.entries)) k.at_head.now.weight) number.more = rw (round, c.weight.ensures, c.least_after.ensures, c.from.ensures) at number.bytes in
+    let entry : SpellsNumbers (entry_numbers (k.head - least_after (least c.in_ok-last.last.now.base) (keys_of c.in_ok-last.last.now.entries)) k.at_head.now.weight) number.more =
+    rw (round, c.weight.ensures, c.least_after.ensures, c.from.ensures) at number.bytes in
     appended_after (λ last more. SpellsUpTo c.tail.result.now.base (together c.tail.result.now k.above.now.entries) last.now more)
     (λ last more. SpellsUpTo p.base (together p whole.entries) last.now more)
-    c.args.bytes.now.items c.append_together.new.bytes.items c.append_entry.new.bytes.items left.more number.more left.behind number.behind c.append_together-2.result c.append_together-2.new.bytes.items c.append_together-2.ensures
-    (λ last more right. spelled_whole p whole k.below.now k.head k.at_head.now k.above.now k.ensures c.requires.ascending c.requires.over c.in_ok-last.last.now left.more number.more left.bytes fits entry more last.now (rw c.tail.ensures at right))
+    c.args.bytes.now.items c.append_together.new.bytes.items c.append_entry.new.bytes.items left.more number.more left.behind number.behind c.append_together-2.result
+    c.append_together-2.new.bytes.items c.append_together-2.ensures
+    (λ last more right. spelled_whole p whole k.below.now k.head k.at_head.now k.above.now k.ensures c.requires.ascending c.requires.over c.in_ok-last.last.now left.more number.more left.bytes fits
+    entry more last.now (rw c.tail.ensures at right))

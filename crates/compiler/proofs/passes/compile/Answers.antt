@@ -10,7 +10,8 @@ use Rattle.compiler.proofs.passes.compile.Goals as goal
 pub returns-in_err-schedule : goal.returns-in_err-schedule
 returns-in_err-schedule c =
     let p = err_from_is_err_and c.from_residual-in_err-schedule.result c.from_residual-in_err-schedule.ensures.1 in
-    let typed = is_typed c.args.text.now (source_tree c.in_ok-source.source) c.in_ok-source.source.length (program_tree c.in_ok-program.program) c.in_ok-source.ensures.length c.in_ok-source.ensures.answers c.in_ok-program.ensures in
+    let typed = is_typed c.args.text.now (source_tree c.in_ok-source.source) c.in_ok-source.source.length
+    (program_tree c.in_ok-program.program) c.in_ok-source.ensures.length c.in_ok-source.ensures.answers c.in_ok-program.ensures in
     rw (p.1, p.2) (refused c.args.text.now (program_tree c.in_ok-program.program) c.in_err-schedule.field-0.0 typed c.in_err-schedule.ensures)
 
 pub returns : goal.returns

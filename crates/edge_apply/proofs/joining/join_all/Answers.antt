@@ -24,4 +24,5 @@ returns c m steps edges_of each has =
     let fs = c.args.found.now in
     let i = c.found.one-index in
     let all : length fs ≤ i = c.found-test.false in
-    folded_along c.args.context m steps _ (flat_map edges_of (pieces_of fs)) c.found.scratch (ap (λ gs. flat_map edges_of (pieces_of gs)) (take_all i fs all)) (c.found.invariant m steps edges_of each has)
+    folded_along c.args.context m steps _ (flat_map edges_of (pieces_of fs)) c.found.scratch (ap (λ gs. flat_map edges_of (pieces_of gs)) (take_all i fs all))
+    (c.found.invariant m steps edges_of each has)

@@ -25,7 +25,8 @@ positions-preserved c =
     let even : length ws ≡ length ks = omega arith in
     let long : i < length (entries_of ks ws) = let l = entries-length ks ws in omega (arith, l, inside) in
     let n = k + c.from-kept.result in
-    let moved = one_more test (entries_of a.block.now a.weights.now) (entries_of ks ws) k i (x, w) n c.is_set.result c.positions.invariant.entries long (sym c.is_set.ensures) (entries-at i ks ws 0 (pos 0) (x, w) even inside)
+    let moved = one_more test (entries_of a.block.now a.weights.now) (entries_of ks ws) k i (x, w) n c.is_set.result c.positions.invariant.entries long (sym c.is_set.ensures)
+    (entries-at i ks ws 0 (pos 0) (x, w) even inside)
     (λ e. let one : c.from-kept.result ≡ 1 = rw e at c.from-kept.ensures in omega (arith, one))
     (λ e. let none : c.from-kept.result ≡ 0 = rw e at c.from-kept.ensures in omega (arith, none)) in
     record {

@@ -14,7 +14,8 @@ returns-then-context-entries c =
     let e = entry c.args.context.vectors.now.vectors slot.vector in
     c.in_ok-changes.ensures
     ∙ changed_agree lane e (λ v. get_or c.deref.result.now v (pos 0)) (λ v. held slot.entries v (e v)) c.lane-old.ensures 0 c.args.context.vertices
-    (λ v l. ap (λ (ys : List ℤ). get_or ys v (pos 0)) c.deref.ensures.value ∙ sym (ap (λ (b : Bool). if b then get_or slot.entries.values.items v (pos 0) else e v) (slot.entries.whole v (omega (arith, l)))))
+    (λ v l. ap (λ (ys : List ℤ). get_or ys v (pos 0)) c.deref.ensures.value ∙ sym
+    (ap (λ (b : Bool). if b then get_or slot.entries.values.items v (pos 0) else e v) (slot.entries.whole v (omega (arith, l)))))
 
 pub returns : goal.returns
 returns c =

@@ -13,7 +13,8 @@ use Rattle.edge_fold.proofs.apply_changes.found_in_slots.Goals as goal
 pub slots-init : goal.slots-init
 slots-init c = record {
   apart = subst (λ (cs : List VectorChanges). AreApart cs) (sym c.new-vectors.ensures.items) tt;
-  found = λ m test vectors sizes is x. ap (λ (cs : List VectorChanges). changes_or x cs (found_in c.args.context.vertices (entry m.vectors) test (active c.args.slots.now) x)) c.new-vectors.ensures.items;
+  found = λ m test vectors sizes is x. ap (λ (cs : List VectorChanges). changes_or x cs
+      (found_in c.args.context.vertices (entry m.vectors) test (active c.args.slots.now) x)) c.new-vectors.ensures.items;
 }
 
 pub slots-preserved : goal.slots-preserved

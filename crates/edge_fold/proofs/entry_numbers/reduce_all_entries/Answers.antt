@@ -16,5 +16,6 @@ returns c =
     let weighed : a.weights.now ≡ weight ∷ later = search rules in
     let begun : to_z w64 (of_z w64 c.of-begun.result) ≡ entry_with a.numbers first weight = search rules in
     let fits : FitsSigned w64 c.reduce_columns-number.result = search rules in
-    is_reduced_over a.reduction (entry_with a.numbers) first weight a.sources.now rest a.weights.now later (to_z w64 (of_z w64 c.reduce_columns-number.result)) (to_z w64 (of_z w64 c.of-begun.result)) whole weighed begun
+    is_reduced_over a.reduction (entry_with a.numbers) first weight a.sources.now rest a.weights.now later (to_z w64 (of_z w64 c.reduce_columns-number.result))
+    (to_z w64 (of_z w64 c.of-begun.result)) whole weighed begun
     (to_z-of_z w64 c.reduce_columns-number.result fits ∙ c.reduce_columns-number.ensures)

@@ -37,5 +37,6 @@ returns-clause-given c m test vectors sizes is r v h l =
     let rising = IsNonDecreasingBy-filter (λ (x : ℕ). x) test vertices marked.ascending in
     c.in_ok-numbers-in-Some.ensures.given (subst (λ (ks : List ℕ). IsNonDecreasing ks) (sym same) rising) r h (λ u. if test u then onto r e u h else h)
     (λ u has. ap (λ (b : Bool). if b then onto r e u h else h) (kept_passes test vertices u (subst (λ (ks : List ℕ). Contains ks u) same has)))
-    (λ u k absent. not_kept test vertices u (test u) (onto r e u h) h refl (λ has. absent (subst (λ (ks : List ℕ). Contains ks u) (sym same) has)) (λ has. marked.covers (combined start.Unit r) u h has))
+    (λ u k absent. not_kept test vertices u (test u) (onto r e u h) h refl (λ has. absent (subst (λ (ks : List ℕ). Contains ks u) (sym same) has))
+    (λ has. marked.covers (combined start.Unit r) u h has))
     v l

@@ -20,8 +20,10 @@ returns-in-Compare c =
     let fits : FitsSigned w64 n = search rules in
     on_ok_weaker c.keep_compared.result
     (λ kept m test vectors sizes is.
-    let shape = λ (v : ℕ). subst (λ (s : FilterShape). HasFilterShape s m v (result_of is.steps m.sets m.vectors v)) c.in-Compare.is (c.shape.ensures is.steps m c.args.context.sizes.now v is.of sizes) in
+    let shape = λ (v : ℕ). subst (λ (s : FilterShape). HasFilterShape s m v (result_of is.steps m.sets m.vectors v)) c.in-Compare.is
+    (c.shape.ensures is.steps m c.args.context.sizes.now v is.of sizes) in
     kept ∙ ap (λ (ks : List ℕ). c.args.kept.now.items ++ ks)
     (filter_agree (λ v. compared o (lane_entry c.lane-lane.result v) (to_z w64 (of_z w64 n))) test
-    (λ v. ap (λ (e : ℤ). compared o (lane_entry c.lane-lane.result v) e) (to_z-of_z w64 n fits) ∙ ap (λ (e : ℤ). compared o e n) (c.lane-lane.ensures v ∙ ap (λ (ls : List (List ℤ)). entry ls x v) vectors) ∙ sym (shape v) ∙ sym (is.result v)) vs))
+    (λ v. ap (λ (e : ℤ). compared o (lane_entry c.lane-lane.result v) e) (to_z-of_z w64 n fits)
+    ∙ ap (λ (e : ℤ). compared o e n) (c.lane-lane.ensures v ∙ ap (λ (ls : List (List ℤ)). entry ls x v) vectors) ∙ sym (shape v) ∙ sym (is.result v)) vs))
     c.keep_compared.ensures

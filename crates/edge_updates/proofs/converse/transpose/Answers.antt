@@ -6,25 +6,29 @@ use Rattle.edge_updates.proofs.converse.transpose.Goals as goal
 pub loop-update-preserved : goal.loop-update-preserved
 loop-update-preserved c =
     let t = c.transposed.ensures in
-    transposed_more _ c.loop-update.update-items c.loop-update.update-index _ c.transposed.result (omega arith) c.loop-update.invariant (record { vertex = t.vertex; neighbour = t.neighbour; is_added = t.is_added })
+    transposed_more _ c.loop-update.update-items c.loop-update.update-index _ c.transposed.result (omega arith) c.loop-update.invariant
+    (record { vertex = t.vertex; neighbour = t.neighbour; is_added = t.is_added })
 
 pub returns-clause-same : goal.returns-clause-same
 returns-clause-same c u v =
     let old = c.args.updates.now.items in
     let len : length c.loop-update.update-items ≡ c.args.updates.now.len = c.loop-update.auto.update-items ∙ c.deref_mut-update-items.ensures.len in
-    let all = transposed_all old c.loop-update.update-items (drop (length c.loop-update.update-items) old) c.loop-update.update-index c.args.updates.now.len c.loop-update.invariant (omega arith) len in
+    let all = transposed_all old c.loop-update.update-items (drop (length c.loop-update.update-items) old) c.loop-update.update-index c.args.updates.now.len c.loop-update.invariant
+    (omega arith) len in
     decided_transposed old _ u v all
 
 pub returns-clause-once : goal.returns-clause-once
 returns-clause-once c once =
     let old = c.args.updates.now.items in
     let len : length c.loop-update.update-items ≡ c.args.updates.now.len = c.loop-update.auto.update-items ∙ c.deref_mut-update-items.ensures.len in
-    let all = transposed_all old c.loop-update.update-items (drop (length c.loop-update.update-items) old) c.loop-update.update-index c.args.updates.now.len c.loop-update.invariant (omega arith) len in
+    let all = transposed_all old c.loop-update.update-items (drop (length c.loop-update.update-items) old) c.loop-update.update-index c.args.updates.now.len c.loop-update.invariant
+    (omega arith) len in
     once_transposed old _ all once
 
 pub returns-clause-rising : goal.returns-clause-rising
 returns-clause-rising c ascends =
     let old = c.args.updates.now.items in
     let len : length c.loop-update.update-items ≡ c.args.updates.now.len = c.loop-update.auto.update-items ∙ c.deref_mut-update-items.ensures.len in
-    let all = transposed_all old c.loop-update.update-items (drop (length c.loop-update.update-items) old) c.loop-update.update-index c.args.updates.now.len c.loop-update.invariant (omega arith) len in
+    let all = transposed_all old c.loop-update.update-items (drop (length c.loop-update.update-items) old) c.loop-update.update-index c.args.updates.now.len c.loop-update.invariant
+    (omega arith) len in
     transposed_sorted old _ ascends all

@@ -8,7 +8,8 @@ pub returns-clause-ascending : goal.returns-clause-ascending
 returns-clause-ascending c =
     let short : length c.move_lasts-kept.new.updates ≡ c.args.updates.now.len = c.move_lasts-kept.ensures.len ∙ c.as_mut_slice.ensures.len in
     let back = written c.args.updates.now.len c.move_lasts-kept.new.updates (drop (length c.move_lasts-kept.new.updates) c.args.updates.now.items) short in
-    let is : c.truncate.new.self.items ≡ last_updates c.args.updates.now.items = c.truncate.ensures.items ∙ ap (take c.move_lasts-kept.result) back ∙ c.move_lasts-kept.ensures.lasts ∙ ap last_updates c.as_mut_slice.ensures.value in
+    let is : c.truncate.new.self.items ≡ last_updates c.args.updates.now.items = c.truncate.ensures.items ∙ ap (take c.move_lasts-kept.result) back ∙ c.move_lasts-kept.ensures.lasts
+    ∙ ap last_updates c.as_mut_slice.ensures.value in
     rw is (lasts_ascend c.args.updates.now.items c.requires)
 
 pub returns-clause-once : goal.returns-clause-once
@@ -18,5 +19,6 @@ pub returns-clause-same : goal.returns-clause-same
 returns-clause-same c e =
     let short : length c.move_lasts-kept.new.updates ≡ c.args.updates.now.len = c.move_lasts-kept.ensures.len ∙ c.as_mut_slice.ensures.len in
     let back = written c.args.updates.now.len c.move_lasts-kept.new.updates (drop (length c.move_lasts-kept.new.updates) c.args.updates.now.items) short in
-    let is : c.truncate.new.self.items ≡ last_updates c.args.updates.now.items = c.truncate.ensures.items ∙ ap (take c.move_lasts-kept.result) back ∙ c.move_lasts-kept.ensures.lasts ∙ ap last_updates c.as_mut_slice.ensures.value in
+    let is : c.truncate.new.self.items ≡ last_updates c.args.updates.now.items = c.truncate.ensures.items ∙ ap (take c.move_lasts-kept.result) back ∙ c.move_lasts-kept.ensures.lasts
+    ∙ ap last_updates c.as_mut_slice.ensures.value in
     rw is (decided_lasts c.args.updates.now.items e)

@@ -13,7 +13,8 @@ use Rattle.expression_types.specs.Operators.{added, multiplied, given, related_v
 use Rattle.expression_types.specs.inside.Signs.{signs_value}
 use Rattle.expression_types.specs.ScopeTree.{ScopeTree}
 use Rattle.expression_types.specs.ValueTree.{ValueTree, value_tree}
-use Rattle.expression_types.proofs.Levels.{sum_step, sum_begins, sum_alone, term_step, term_begins, term_alone, conjunction_step, conjunction_begins, conjunction_alone, expression_step, expression_begins, expression_alone}
+use Rattle.expression_types.proofs.Levels.{sum_step, sum_begins, sum_alone, term_step, term_begins, term_alone, conjunction_step, conjunction_begins, conjunction_alone, expression_step}
+use Rattle.expression_types.proofs.Levels.{expression_begins, expression_alone}
 use Rattle.expression_types.proofs.SignLaws.{unary_value-behind}
 use Rattle.expression_types.proofs.Steps.{row, row_on, row_ends, outcome_then, reports_then}
 use Rattle.expression_types.proofs.expression.+types.Goals as goal
@@ -75,7 +76,8 @@ conjunction-operands-preserved t c =
     let new = c.comparison-in-operands.new.first_fault in
     let inside : c.operands.operand-index < length items = rw (← c.deref-operand-items.ensures.value) c.operands-test.true in
     let is : m ≡ get_or items c.operands.operand-index m = rw (← c.deref-operand-items.ensures.value) c.operand-item.is in
-    c.operands.invariant ∙ row_on (conjunction_step c.args.scope.now c.args.at) left (conditions_of connective.And c.in_ok-operands.operands) items c.operands.operand-index m c.operands.first_fault new
+    c.operands.invariant ∙ row_on (conjunction_step c.args.scope.now c.args.at) left
+    (conditions_of connective.And c.in_ok-operands.operands) items c.operands.operand-index m c.operands.first_fault new
     (grouped_conditions c.args.at) inside is
     (outcome_then c.operands.first_fault new (comparison_value c.args.scope.now c.args.at (comparison_of m)) (value_tree c.in_ok-value.value)
     (λ v. sure (beside_condition connective.And left (first_condition v))) c.in_ok-value.ensures
@@ -88,7 +90,8 @@ type_expression-operands-init t c =
     ∙ expression_begins c.args.scope.now c.args.at (conjunction_of c.expression.inside.first) items c.args.first_fault.now c.conjunction.new.first_fault (value_tree c.in_ok-first.first)
     (ap (λ n. n == 0) (sym c.expression.inside.more.ok.0) ∙ sym c.is_empty.ensures ∙ c.if-is_empty.false) c.in_ok-first.ensures
     ∙ ap (λ s. outcome c.conjunction.new.first_fault (row (expression_step c.args.scope.now c.args.at) s items >>= grouped_conditions c.args.at)) (sym (c.first-operands.ensures connective.Or))
-    ∙ ap (λ items. outcome c.conjunction.new.first_fault (row (expression_step c.args.scope.now c.args.at) (conditions_of connective.Or c.first-operands.result) items >>= grouped_conditions c.args.at)) (sym c.deref-operand-items.ensures.value)
+    ∙ ap (λ items. outcome c.conjunction.new.first_fault (row (expression_step c.args.scope.now c.args.at)
+    (conditions_of connective.Or c.first-operands.result) items >>= grouped_conditions c.args.at)) (sym c.deref-operand-items.ensures.value)
 
 pub type_expression-operands-preserved : goal.type_expression-operands-preserved
 type_expression-operands-preserved t c =
@@ -153,7 +156,8 @@ primary-returns-in_ok-index-in-Entry t c =
     (reports_then value_tree c.entity-entity.new.first_fault c.type_expression.new.first_fault c.entry-in-Entry.new.first_fault (value_of scope at index) v
     (λ v. entry_of scope.inside at entity v) c.entry-in-Entry.result
     (subst (λ e. outcome c.entity-entity.new.first_fault (value_of scope at e) ≡ (v, c.type_expression.new.first_fault)) c.deref-in-Entry.ensures c.in_ok-index-in-Entry.ensures)
-    (subst (λ inside. ReportsFaults value_tree c.type_expression.new.first_fault c.entry-in-Entry.new.first_fault c.entry-in-Entry.result (entry_of inside at entity v)) c.inside-in-Entry.ensures c.entry-in-Entry.ensures))))
+    (subst (λ inside. ReportsFaults value_tree c.type_expression.new.first_fault c.entry-in-Entry.new.first_fault c.entry-in-Entry.result
+    (entry_of inside at entity v)) c.inside-in-Entry.ensures c.entry-in-Entry.ensures))))
 
 pub unary-returns : goal.unary-returns
 unary-returns t c =
@@ -163,7 +167,8 @@ unary-returns t c =
     let p = primary_of c.args.unary.now.primary in
     let v = value_tree c.in_ok-value.value in
     subst (λ m. ReportsFaults value_tree c.args.first_fault.now c.after_signs.new.first_fault c.after_signs.result m) (sym (unary_value-behind scope at signs p))
-    (reports_then value_tree c.args.first_fault.now c.primary.new.first_fault c.after_signs.new.first_fault (primary_value scope at p) v (signs_value at signs) c.after_signs.result c.in_ok-value.ensures
+    (reports_then value_tree c.args.first_fault.now c.primary.new.first_fault c.after_signs.new.first_fault (primary_value scope at p) v
+    (signs_value at signs) c.after_signs.result c.in_ok-value.ensures
     (subst (λ signs. ReportsFaults value_tree c.primary.new.first_fault c.after_signs.new.first_fault c.after_signs.result (signs_value at signs v)) c.deref.ensures.value c.after_signs.ensures))
 
 pub sum-returns-then-is_empty : goal.sum-returns-then-is_empty
@@ -192,20 +197,23 @@ term-returns t c =
 
 pub conjunction-returns-then-is_empty : goal.conjunction-returns-then-is_empty
 conjunction-returns-then-is_empty t c =
-    conjunction_alone c.args.scope.now c.args.at (comparison_of c.args.conjunction.now.first) c.args.conjunction.now.more.items c.args.first_fault.now c.comparison.new.first_fault (value_tree c.in_ok-first.first)
+    conjunction_alone c.args.scope.now c.args.at (comparison_of c.args.conjunction.now.first) c.args.conjunction.now.more.items c.args.first_fault.now c.comparison.new.first_fault
+    (value_tree c.in_ok-first.first)
     (ap (λ n. n == 0) (sym c.args.conjunction.now.more.ok.0) ∙ sym c.is_empty.ensures ∙ c.if-is_empty.true) c.in_ok-first.ensures
 
 pub conjunction-returns : goal.conjunction-returns
 conjunction-returns t c =
     let items = c.args.conjunction.now.more.items in
     let ended : length items ≤ c.operands.operand-index = rw (← c.deref-operand-items.ensures.value) c.operands-test.false in
-    row_ends value_tree c.args.first_fault.now c.operands.first_fault c.group.new.first_fault (conjunction_value c.args.scope.now c.args.at (conjunction_of c.args.conjunction.now)) (conjunction_step c.args.scope.now c.args.at)
+    row_ends value_tree c.args.first_fault.now c.operands.first_fault c.group.new.first_fault (conjunction_value c.args.scope.now c.args.at (conjunction_of c.args.conjunction.now))
+    (conjunction_step c.args.scope.now c.args.at)
     (conditions_of connective.And c.operands.operands) items c.operands.operand-index (grouped_conditions c.args.at) c.group.result ended c.operands.invariant c.group.ensures
 
 pub type_expression-returns-then-is_empty : goal.type_expression-returns-then-is_empty
 type_expression-returns-then-is_empty t c =
     sym (ap (λ e. outcome c.args.first_fault.now (value_of c.args.scope.now c.args.at e)) c.expression.view_is)
-    ∙ expression_alone c.args.scope.now c.args.at (conjunction_of c.expression.inside.first) c.expression.inside.more.items c.args.first_fault.now c.conjunction.new.first_fault (value_tree c.in_ok-first.first)
+    ∙ expression_alone c.args.scope.now c.args.at (conjunction_of c.expression.inside.first) c.expression.inside.more.items c.args.first_fault.now c.conjunction.new.first_fault
+    (value_tree c.in_ok-first.first)
     (ap (λ n. n == 0) (sym c.expression.inside.more.ok.0) ∙ sym c.is_empty.ensures ∙ c.if-is_empty.true) c.in_ok-first.ensures
 
 pub type_expression-returns : goal.type_expression-returns

@@ -15,5 +15,6 @@ returns-clause-changes c =
     (λ cs is m steps from vectors sizes kernels is_from x r by long.
     is m steps from (λ v. is_member v members) vectors sizes kernels is_from (λ v. refl) x r by long
     ∙ ap (λ (es : List Edge). changed g.vertices (entry m.vectors x) (entry (after_edges steps m.sets m.vectors es m.vectors) x))
-    (to_agree g from (λ v. is_member v members) (λ v. is_member v c.args.destinations.now) c.vertices.ensures.graph (λ v l. c.in_ok-set.ensures v (let count = c.vertices.ensures.count in omega (arith, l, count)))))
+    (to_agree g from (λ v. is_member v members) (λ v. is_member v c.args.destinations.now) c.vertices.ensures.graph
+    (λ v l. c.in_ok-set.ensures v (let count = c.vertices.ensures.count in omega (arith, l, count)))))
     c.pull.ensures.changes

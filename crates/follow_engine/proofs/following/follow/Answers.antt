@@ -20,7 +20,8 @@ returns-then-not-fits_budget-clause-spent c none =
       pull_work apply c.args.followed.now.former.apply c.args.followed.now.differences (is_marked c.mark_reached.new.marks) c.in_ok-reached.reached.items chosen c.in_ok-reached.ensures.ascending
           c.in_ok-reached.ensures.marked (c.mark_reached.ensures.reached on)
           (subst (λ (vs : List ℕ). AreChosen apply vs chosen) c.deref.ensures.value c.in_ok-among.ensures),
-      leb-false work c.args.followed.now.budget (subst (λ (vs : List ℕ). nat_le (edges_to apply.flat.now.edges vs) c.args.followed.now.budget ≡ false) c.deref-2.ensures.value (sym c.fits_budget.ensures ∙ off)),
+      leb-false work c.args.followed.now.budget (subst (λ (vs : List ℕ). nat_le (edges_to apply.flat.now.edges vs) c.args.followed.now.budget ≡ false) c.deref-2.ensures.value
+      (sym c.fits_budget.ensures ∙ off)),
     )
 
 pub returns-clause-marked : goal.returns-clause-marked
@@ -41,7 +42,8 @@ returns-clause-within c =
         pull_work apply c.args.followed.now.former.apply c.args.followed.now.differences (is_marked c.mark_reached.new.marks) c.in_ok-reached.reached.items chosen c.in_ok-reached.ensures.ascending
             c.in_ok-reached.ensures.marked (c.mark_reached.ensures.reached on)
             (subst (λ (vs : List ℕ). AreChosen apply vs chosen) c.deref.ensures.value c.in_ok-among.ensures),
-        leb-true work c.args.followed.now.budget (subst (λ (vs : List ℕ). nat_le (edges_to apply.flat.now.edges vs) c.args.followed.now.budget ≡ true) c.deref-2.ensures.value (sym c.fits_budget.ensures ∙ fits)),
+        leb-true work c.args.followed.now.budget (subst (λ (vs : List ℕ). nat_le (edges_to apply.flat.now.edges vs) c.args.followed.now.budget ≡ true) c.deref-2.ensures.value
+        (sym c.fits_budget.ensures ∙ fits)),
       ),
     )
 

@@ -22,7 +22,8 @@ invariant_of-result c =
     let p = program_tree c.args.program.now in
     let s = c.args.schedule.now in
     let code : AreInstructions c.in_ok-instructions.instructions.items (plan_of p s) = written_instructions p _ _ c.in_ok-instructions.ensures in
-    let parts : ArePartsOf c.in_ok-instructions.instructions.items c.in_ok-functions.functions c.in_ok-vectors.vectors.items c.in_ok-sets.sets.items c.in_ok-names.names.items c.in_ok-groups.groups.items p s =
+    let parts : ArePartsOf c.in_ok-instructions.instructions.items c.in_ok-functions.functions c.in_ok-vectors.vectors.items c.in_ok-sets.sets.items c.in_ok-names.names.items
+    c.in_ok-groups.groups.items p s =
     search rules in
     record { lowered = merely (known _ _ _ _ _ _ p (program_tree c.of-2.result.value) s (ap program_tree c.of-2.ensures) parts) }
 

@@ -16,7 +16,8 @@ slice_bounds-part-start c = omega (arith, end_from c.args.start c.args.run.now, 
 
 pub append-requires-clause-fits : goal.append-requires-clause-fits
 append-requires-clause-fits c =
-    omega (arith, end_small 0 c.args.bytes.now.items c.args.entries.now.items c.requires.listed, end_room c.args.start c.args.from.now c.args.run.now c.requires.run (c.len-end.result - 3), c.len-end.ensures, c.requires.ends, c.requires.room)
+    omega (arith, end_small 0 c.args.bytes.now.items c.args.entries.now.items c.requires.listed, end_room c.args.start c.args.from.now c.args.run.now c.requires.run (c.len-end.result - 3),
+    c.len-end.ensures, c.requires.ends, c.requires.room)
 
 pub returns : goal.returns
 returns c =
@@ -24,8 +25,10 @@ returns c =
     let old = c.args.bytes.now.items in
     let run = c.args.run.now in
     let end : c.len-end.result - 3 ≡ end_of 0 es = omega (arith, c.len-end.ensures, c.requires.ends) in
-    let entries : c.append.new.entries.items ≡ es ++ placed_at (end_of 0 es) run = c.append.ensures.items ∙ ap (λ ys. ys ++ placed_at (c.len-end.result - 3) run) c.reserve.ensures.items ∙ ap (λ k. es ++ placed_at k run) end in
+    let entries : c.append.new.entries.items ≡ es ++ placed_at (end_of 0 es) run = c.append.ensures.items ∙ ap (λ ys. ys ++ placed_at (c.len-end.result - 3) run) c.reserve.ensures.items
+    ∙ ap (λ k. es ++ placed_at k run) end in
     let bytes : c.extend_from_slice.new.self.items ≡ take (end_of 0 es) old ++ take (c.args.stop + 3 - c.args.start) (drop c.args.start c.args.from.now) =
     c.in_ok-extend_from_slice.ensures.items
-    ∙ ap (λ ys. ys ++ take (c.args.stop + 3 - c.args.start) (drop c.args.start c.args.from.now)) (c.truncate.ensures.items ∙ ap (take (c.len-end.result - 3)) c.reserve-2.ensures.items ∙ ap (λ k. take k old) end) in
+    ∙ ap (λ ys. ys ++ take (c.args.stop + 3 - c.args.start) (drop c.args.start c.args.from.now))
+    (c.truncate.ensures.items ∙ ap (take (c.len-end.result - 3)) c.reserve-2.ensures.items ∙ ap (λ k. take k old) end) in
     rw entries (copied es run old c.args.from.now c.extend_from_slice.new.self.items c.args.start c.args.stop c.requires.listed c.requires.ends c.requires.run c.requires.stop c.requires.within bytes)

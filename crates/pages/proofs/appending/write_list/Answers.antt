@@ -21,7 +21,8 @@ returns-clause-keys c =
     let mid = c.write.new.bytes in
     let one : e.last + 1 - 1 ≡ e.last = omega arith in
     let room : 4 + e.width * (e.last + 1 - 1) ≤ c.keys_size.result = omega (arith, c.keys_size.ensures.size, ap (λ k. e.width * k) one) in
-    let part : take c.keys_size.result (drop e.start new) ≡ take c.keys_size.result (drop e.start mid) = middle_stays e.start c.keys_size.result (e.start + c.keys_size.result) new mid refl c.write_weights.ensures.front in
+    let part : take c.keys_size.result (drop e.start new) ≡ take c.keys_size.result (drop e.start mid) =
+    middle_stays e.start c.keys_size.result (e.start + c.keys_size.result) new mid refl c.write_weights.ensures.front in
     same_front e.width (e.last + 1) c.keys_size.result (drop e.start new) (drop e.start mid) (omega arith) room part
     ∙ ap (λ n. elements_in e.width n (drop e.start mid)) (sym c.requires.count)
     ∙ ap (λ w. elements_in w (length c.args.keys.now) (drop e.start mid)) (sym c.from.ensures)

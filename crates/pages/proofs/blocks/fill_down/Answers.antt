@@ -12,7 +12,8 @@ overflow_add-position c =
     let xs : List ℕ = list_of a.packed.first a.packed.width a.packed.len a.packed.offsets.now in
     let l = c.loop-position in
     let count : length xs ≡ a.packed.len = list_length a.packed.first a.packed.width a.packed.len a.packed.offsets.now in
-    omega (arith, (read_at a.packed.first a.packed.width a.packed.mask a.packed.len a.packed.offsets.now xs c.requires.view refl (l.index - 1) c.offset.result (omega (arith, count)) c.offset.ensures).1)
+    omega (arith, (read_at a.packed.first a.packed.width a.packed.mask a.packed.len a.packed.offsets.now xs c.requires.view refl (l.index - 1) c.offset.result
+    (omega (arith, count)) c.offset.ensures).1)
 
 pub offset-requires-clause-room : goal.offset-requires-clause-room
 offset-requires-clause-room c =
@@ -30,8 +31,10 @@ loop-position-preserved c =
     let count : length xs ≡ a.packed.len = list_length a.packed.first a.packed.width a.packed.len a.packed.offsets.now in
     let here : l.index - 1 + 1 ≡ l.index = omega arith in
     let long : length (reverse (take a.end xs)) ≡ a.end = length-reverse (take a.end xs) ∙ length-take-le a.end xs (omega (arith, count)) in
-    let read : a.packed.first + c.offset.result ≡ get_or xs (l.index - 1 + 1) 0 = (read_at a.packed.first a.packed.width a.packed.mask a.packed.len a.packed.offsets.now xs c.requires.view refl (l.index - 1) c.offset.result (omega (arith, count)) c.offset.ensures).0 in
+    let read : a.packed.first + c.offset.result ≡ get_or xs (l.index - 1 + 1) 0 =
+    (read_at a.packed.first a.packed.width a.packed.mask a.packed.len a.packed.offsets.now xs c.requires.view refl (l.index - 1) c.offset.result (omega (arith, count)) c.offset.ensures).0 in
     record {
       index = omega arith;
-      front = written (reverse (take a.end xs)) l.block l.position-index (a.packed.first + c.offset.result) (omega (arith, long)) (omega arith) (read ∙ ap (λ k. get_or xs k 0) here ∙ down_at xs a.end l.position-index l.index (omega (arith, count)) l.invariant.index) l.invariant.front;
+      front = written (reverse (take a.end xs)) l.block l.position-index (a.packed.first + c.offset.result) (omega (arith, long)) (omega arith)
+      (read ∙ ap (λ k. get_or xs k 0) here ∙ down_at xs a.end l.position-index l.index (omega (arith, count)) l.invariant.index) l.invariant.front;
     }

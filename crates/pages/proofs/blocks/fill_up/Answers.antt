@@ -27,8 +27,10 @@ loop-position-preserved c =
     let xs : List ℕ = list_of a.packed.first a.packed.width a.packed.len a.packed.offsets.now in
     let l = c.loop-position in
     let count : length xs ≡ a.packed.len = list_length a.packed.first a.packed.width a.packed.len a.packed.offsets.now in
-    let read : a.packed.first + c.offset.result ≡ get_or xs (l.index + 1) 0 = (read_at a.packed.first a.packed.width a.packed.mask a.packed.len a.packed.offsets.now xs c.requires.view refl l.index c.offset.result (omega (arith, count)) c.offset.ensures).0 in
+    let read : a.packed.first + c.offset.result ≡ get_or xs (l.index + 1) 0 =
+    (read_at a.packed.first a.packed.width a.packed.mask a.packed.len a.packed.offsets.now xs c.requires.view refl l.index c.offset.result (omega (arith, count)) c.offset.ensures).0 in
     record {
       index = omega arith;
-      front = written (drop a.from xs) l.block l.position-index (a.packed.first + c.offset.result) (omega (arith, count, length-drop a.from xs)) (omega arith) (read ∙ up_at xs a.from l.position-index l.index l.invariant.index) l.invariant.front;
+      front = written (drop a.from xs) l.block l.position-index (a.packed.first + c.offset.result) (omega (arith, count, length-drop a.from xs)) (omega arith)
+      (read ∙ up_at xs a.from l.position-index l.index l.invariant.index) l.invariant.front;
     }

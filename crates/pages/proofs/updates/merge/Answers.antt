@@ -17,8 +17,10 @@ loop-index-preserved c =
     let cs = c.args.updates.now in
     let fits : SFits w64 c.weight.result = search rules in
     let lt : l.index < length cs = omega (arith, c.loop-index-test.true, c.len-index-end.ensures) in
-    let pair : (c.update.result, to_z w64 (of_z w64 c.weight.result)) ≡ get_or cs l.index no_update = rw (c.update.ensures no_update, to_z-of_z w64 c.weight.result fits, c.weight.ensures no_update) refl in
-    let cell : (c.update.result, to_z w64 (of_z w64 c.weight.result)) ∷ drop (l.index + 1) cs ≡ drop l.index cs = ap (λ (p : EdgeUpdate × ℤ). p ∷ drop (l.index + 1) cs) pair ∙ sym (drop_more cs l.index no_update lt) in
+    let pair : (c.update.result, to_z w64 (of_z w64 c.weight.result)) ≡ get_or cs l.index no_update =
+    rw (c.update.ensures no_update, to_z-of_z w64 c.weight.result fits, c.weight.ensures no_update) refl in
+    let cell : (c.update.result, to_z w64 (of_z w64 c.weight.result)) ∷ drop (l.index + 1) cs ≡ drop l.index cs = ap (λ (p : EdgeUpdate × ℤ). p ∷ drop (l.index + 1) cs) pair
+    ∙ sym (drop_more cs l.index no_update lt) in
     record {
       within = c.in_ok-at.ensures.within;
       whole = c.in_ok-at.ensures.list (drop (l.index + 1) cs) ∙ ap (λ ds. l.after ++ updated (drop l.at c.args.list.now) ds) cell ∙ l.invariant.whole;

@@ -11,11 +11,13 @@ loop-count-preserved c =
 
 pub returns-else-vertex-clause-run : goal.returns-else-vertex-clause-run
 returns-else-vertex-clause-run c =
-    (run_ends c.args.vertex c.loop-count.count c.args.updates.now no_update c.loop-count.invariant (λ lt at. c.if-vertex.false (ap (λ w. w % 64) c.vertex.ensures.value ∙ ap vertex_in_page (c.update.ensures no_update) ∙ at))).0
+    (run_ends c.args.vertex c.loop-count.count c.args.updates.now no_update c.loop-count.invariant
+    (λ lt at. c.if-vertex.false (ap (λ w. w % 64) c.vertex.ensures.value ∙ ap vertex_in_page (c.update.ensures no_update) ∙ at))).0
 
 pub returns-else-vertex-clause-rest : goal.returns-else-vertex-clause-rest
 returns-else-vertex-clause-rest c =
-    (run_ends c.args.vertex c.loop-count.count c.args.updates.now no_update c.loop-count.invariant (λ lt at. c.if-vertex.false (ap (λ w. w % 64) c.vertex.ensures.value ∙ ap vertex_in_page (c.update.ensures no_update) ∙ at))).1
+    (run_ends c.args.vertex c.loop-count.count c.args.updates.now no_update c.loop-count.invariant
+    (λ lt at. c.if-vertex.false (ap (λ w. w % 64) c.vertex.ensures.value ∙ ap vertex_in_page (c.update.ensures no_update) ∙ at))).1
 
 pub returns-else-vertex-clause-ascending : goal.returns-else-vertex-clause-ascending
 returns-else-vertex-clause-ascending c =

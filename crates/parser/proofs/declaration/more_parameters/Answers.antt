@@ -19,14 +19,16 @@ parameters-init c = follow_start parameter_tree c.new-parameters.result.items _ 
 pub parameters-preserved : goal.parameters-preserved
 parameters-preserved c =
     follow_step parameter_tree c.parameters.parameters.items _ c.in_ok-parameter.parameter (terminals c.in_ok-parameter.behind) c.in_ok-push-2.ensures.items c.parameters.invariant
-    (after_found typed_at (terminals c.in-Some.after) (terminals c.in_ok-parameter.behind) (parameter_tree c.in_ok-parameter.parameter) (after_terminal (OfSymbol symbol.Comma) (terminals c.parameters.left)) c.in-Some.ensures.behind c.in_ok-parameter.ensures.reads)
+    (after_found typed_at (terminals c.in-Some.after) (terminals c.in_ok-parameter.behind) (parameter_tree c.in_ok-parameter.parameter)
+    (after_terminal (OfSymbol symbol.Comma) (terminals c.parameters.left)) c.in-Some.ensures.behind c.in_ok-parameter.ensures.reads)
     (below _ _ _ c.in_ok-parameter.ensures.shorter c.in-Some.ensures.shorter)
 
 pub returns-in_err-parameter-clause-reads : goal.returns-in_err-parameter-clause-reads
 returns-in_err-parameter-clause-reads c =
     let p = err_from_is_err_and c.from_residual-in_err-parameter.result c.from_residual-in_err-parameter.ensures.1 in
     rw (p.1, p.2) (passed_on parameter_tree (each parameter_tree) c.in_err-parameter.field-0.0 _ _ c.in_err-parameter.ensures.reads
-    (λ none. follow_fails c.parameters.invariant (after_fails typed_at (terminals c.in-Some.after) (after_terminal (OfSymbol symbol.Comma) (terminals c.parameters.left)) c.in-Some.ensures.behind none)))
+    (λ none. follow_fails c.parameters.invariant (after_fails typed_at (terminals c.in-Some.after)
+    (after_terminal (OfSymbol symbol.Comma) (terminals c.parameters.left)) c.in-Some.ensures.behind none)))
 
 pub returns-clause-reads : goal.returns-clause-reads
 returns-clause-reads c = follow_end c.parameters.invariant (ap (after_by typed_at) c.in_default.ensures.behind)

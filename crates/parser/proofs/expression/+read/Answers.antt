@@ -15,7 +15,8 @@ use Rattle.syntax.specs.ExpressionReading.{operand_by, after_by, multiplication,
 use Rattle.syntax.specs.inside.ExpressionReading.{expression_in}
 use Rattle.parser.proofs.Faults.{passed_on, refused}
 use Rattle.parser.proofs.Fronts.{none_or, none_and}
-use Rattle.syntax.proofs.Loops.{chain_start, chain_step, chain_end, chain_fails, operand_found, operand_fails, after_found, after_fails, signs_start, signs_step, signs_end, with_signs, behind_terminal, below}
+use Rattle.syntax.proofs.Loops.{chain_start, chain_step, chain_end, chain_fails, operand_found, operand_fails, after_found, after_fails, signs_start, signs_step, signs_end, with_signs}
+use Rattle.syntax.proofs.Loops.{behind_terminal, below}
 use Rattle.parser.proofs.Primaries.{in_deeper, primary_name, primary_symbol, primary_literal, named_unindexed}
 use Rattle.parser.proofs.expression.+read.Goals as goal
 
@@ -26,12 +27,14 @@ pub sum-returns-in_err-summand-clause-reads : goal.sum-returns-in_err-summand-cl
 sum-returns-in_err-summand-clause-reads t c =
     let p = err_from_is_err_and c.from_residual-in_err-summand.result c.from_residual-in_err-summand.ensures.1 in
     rw (p.1, p.2) (passed_on term_of sum_of c.in_err-summand.field-0.0 _ _ c.in_err-summand.ensures.reads
-    (λ none. chain_fails sum_from c.more.invariant (operand_fails (term_at c.args.depth) c.in-Some.operator (terminals c.in-Some.after) (addition (terminals c.more.left)) c.in-Some.ensures.found none)))
+    (λ none. chain_fails sum_from c.more.invariant (operand_fails (term_at c.args.depth) c.in-Some.operator (terminals c.in-Some.after)
+    (addition (terminals c.more.left)) c.in-Some.ensures.found none)))
 
 pub sum-more-preserved : goal.sum-more-preserved
 sum-more-preserved t c =
     chain_step (λ m. (m.0, term_of m.1)) c.more.more.items _ (c.in-Some.operator, c.in_ok-summand.summand) (terminals c.in_ok-summand.behind) c.in_ok-push.ensures.items c.more.invariant
-    (operand_found (term_at c.args.depth) c.in-Some.operator (terminals c.in-Some.after) (terminals c.in_ok-summand.behind) (term_of c.in_ok-summand.summand) (addition (terminals c.more.left)) c.in-Some.ensures.found c.in_ok-summand.ensures.reads)
+    (operand_found (term_at c.args.depth) c.in-Some.operator (terminals c.in-Some.after) (terminals c.in_ok-summand.behind) (term_of c.in_ok-summand.summand)
+    (addition (terminals c.more.left)) c.in-Some.ensures.found c.in_ok-summand.ensures.reads)
     (below _ _ _ c.in_ok-summand.ensures.shorter c.in-Some.ensures.shorter)
 
 pub sum-returns-clause-reads : goal.sum-returns-clause-reads
@@ -44,12 +47,14 @@ pub term-returns-in_err-operand-clause-reads : goal.term-returns-in_err-operand-
 term-returns-in_err-operand-clause-reads t c =
     let p = err_from_is_err_and c.from_residual-in_err-operand.result c.from_residual-in_err-operand.ensures.1 in
     rw (p.1, p.2) (passed_on unary_of term_of c.in_err-operand.field-0.0 _ _ c.in_err-operand.ensures.reads
-    (λ none. chain_fails term_from c.more.invariant (operand_fails (unary_at c.args.depth) c.in-Some.operator (terminals c.in-Some.after) (multiplication (terminals c.more.left)) c.in-Some.ensures.found none)))
+    (λ none. chain_fails term_from c.more.invariant (operand_fails (unary_at c.args.depth) c.in-Some.operator (terminals c.in-Some.after)
+    (multiplication (terminals c.more.left)) c.in-Some.ensures.found none)))
 
 pub term-more-preserved : goal.term-more-preserved
 term-more-preserved t c =
     chain_step (λ m. (m.0, unary_of m.1)) c.more.more.items _ (c.in-Some.operator, c.in_ok-operand.operand) (terminals c.in_ok-operand.behind) c.in_ok-push.ensures.items c.more.invariant
-    (operand_found (unary_at c.args.depth) c.in-Some.operator (terminals c.in-Some.after) (terminals c.in_ok-operand.behind) (unary_of c.in_ok-operand.operand) (multiplication (terminals c.more.left)) c.in-Some.ensures.found c.in_ok-operand.ensures.reads)
+    (operand_found (unary_at c.args.depth) c.in-Some.operator (terminals c.in-Some.after) (terminals c.in_ok-operand.behind) (unary_of c.in_ok-operand.operand)
+    (multiplication (terminals c.more.left)) c.in-Some.ensures.found c.in_ok-operand.ensures.reads)
     (below _ _ _ c.in_ok-operand.ensures.shorter c.in-Some.ensures.shorter)
 
 pub term-returns-clause-reads : goal.term-returns-clause-reads
@@ -59,12 +64,14 @@ pub expression-returns-in_err-operand-clause-reads : goal.expression-returns-in_
 expression-returns-in_err-operand-clause-reads t c =
     let p = err_from_is_err_and c.from_residual-in_err-operand.result c.from_residual-in_err-operand.ensures.1 in
     rw (p.1, p.2) (passed_on conjunction_of (λ e. e) c.in_err-operand.field-0.0 _ _ c.in_err-operand.ensures.reads
-    (λ none. chain_fails expression_from c.more.invariant (after_fails (conjunction_at c.args.depth) (terminals c.in-Some.after) (after_or (terminals c.more.left)) (ap after_or c.in-Some.ensures.is) none)))
+    (λ none. chain_fails expression_from c.more.invariant (after_fails (conjunction_at c.args.depth) (terminals c.in-Some.after) (after_or (terminals c.more.left))
+    (ap after_or c.in-Some.ensures.is) none)))
 
 pub expression-more-preserved : goal.expression-more-preserved
 expression-more-preserved t c =
     chain_step conjunction_of c.more.more.items _ c.in_ok-operand.operand (terminals c.in_ok-operand.behind) c.in_ok-push.ensures.items c.more.invariant
-    (after_found (conjunction_at c.args.depth) (terminals c.in-Some.after) (terminals c.in_ok-operand.behind) (conjunction_of c.in_ok-operand.operand) (after_or (terminals c.more.left)) (ap after_or c.in-Some.ensures.is) c.in_ok-operand.ensures.reads)
+    (after_found (conjunction_at c.args.depth) (terminals c.in-Some.after) (terminals c.in_ok-operand.behind) (conjunction_of c.in_ok-operand.operand) (after_or (terminals c.more.left))
+    (ap after_or c.in-Some.ensures.is) c.in_ok-operand.ensures.reads)
     (below _ _ _ c.in_ok-operand.ensures.shorter (behind_terminal _ _ _ c.in-Some.ensures.is))
 
 pub expression-returns-clause-reads : goal.expression-returns-clause-reads
@@ -77,12 +84,14 @@ pub conjunction-returns-in_err-operand-clause-reads : goal.conjunction-returns-i
 conjunction-returns-in_err-operand-clause-reads t c =
     let p = err_from_is_err_and c.from_residual-in_err-operand.result c.from_residual-in_err-operand.ensures.1 in
     rw (p.1, p.2) (passed_on comparison_of conjunction_of c.in_err-operand.field-0.0 _ _ c.in_err-operand.ensures.reads
-    (λ none. chain_fails conjunction_from c.more.invariant (after_fails (comparison_at c.args.depth) (terminals c.in-Some.after) (after_and (terminals c.more.left)) (ap after_and c.in-Some.ensures.is) none)))
+    (λ none. chain_fails conjunction_from c.more.invariant (after_fails (comparison_at c.args.depth) (terminals c.in-Some.after) (after_and (terminals c.more.left))
+    (ap after_and c.in-Some.ensures.is) none)))
 
 pub conjunction-more-preserved : goal.conjunction-more-preserved
 conjunction-more-preserved t c =
     chain_step comparison_of c.more.more.items _ c.in_ok-operand.operand (terminals c.in_ok-operand.behind) c.in_ok-push.ensures.items c.more.invariant
-    (after_found (comparison_at c.args.depth) (terminals c.in-Some.after) (terminals c.in_ok-operand.behind) (comparison_of c.in_ok-operand.operand) (after_and (terminals c.more.left)) (ap after_and c.in-Some.ensures.is) c.in_ok-operand.ensures.reads)
+    (after_found (comparison_at c.args.depth) (terminals c.in-Some.after) (terminals c.in_ok-operand.behind) (comparison_of c.in_ok-operand.operand) (after_and (terminals c.more.left))
+    (ap after_and c.in-Some.ensures.is) c.in_ok-operand.ensures.reads)
     (below _ _ _ c.in_ok-operand.ensures.shorter (behind_terminal _ _ _ c.in-Some.ensures.is))
 
 pub conjunction-returns-clause-reads : goal.conjunction-returns-clause-reads

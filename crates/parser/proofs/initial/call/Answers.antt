@@ -24,7 +24,8 @@ pub returns-in-Some-clause-reads : goal.returns-in-Some-clause-reads
 returns-in-Some-clause-reads c =
     subst (Gives initial_tree c.without_arguments.result)
     (sym (call_by_method c.args.name (terminals c.args.cursor) keyword.GetVertices (terminals c.in-Some.after) c.in-Some.ensures.behind
-    ∙ closed-found (OfSymbol symbol.Dot ∷ OfKeyword keyword.GetVertices ∷ []) (in_parentheses []) (Vertices c.args.name) (terminals c.args.cursor) (terminals c.in-Some.after) c.in-Some.ensures.behind))
+    ∙ closed-found (OfSymbol symbol.Dot ∷ OfKeyword keyword.GetVertices ∷ []) (in_parentheses []) (Vertices c.args.name) (terminals c.args.cursor)
+    (terminals c.in-Some.after) c.in-Some.ensures.behind))
     c.without_arguments.ensures.reads
 
 pub returns-in-Some-after_method-clause-reads : goal.returns-in-Some-after_method-clause-reads

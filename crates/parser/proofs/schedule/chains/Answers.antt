@@ -19,7 +19,8 @@ chains-init c = list_start chain_tree c.new-chains.result.items (terminals c.arg
 pub chains-preserved : goal.chains-preserved
 chains-preserved c =
     list_step chain_tree c.chains.chains.items _ c.in_ok-chain.chain (terminals c.in_ok-chain.behind) c.in_ok-push.ensures.items c.chains.invariant
-    (after_found chain_at (terminals c.in-Some.after) (terminals c.in_ok-chain.behind) (chain_tree c.in_ok-chain.chain) (after_terminal (OfKeyword keyword.Program) (terminals c.chains.left)) c.in-Some.ensures.behind c.in_ok-chain.ensures.reads)
+    (after_found chain_at (terminals c.in-Some.after) (terminals c.in_ok-chain.behind) (chain_tree c.in_ok-chain.chain)
+    (after_terminal (OfKeyword keyword.Program) (terminals c.chains.left)) c.in-Some.ensures.behind c.in_ok-chain.ensures.reads)
     (below _ _ _ c.in_ok-chain.ensures.shorter c.in-Some.ensures.shorter)
 
 pub returns-in_err-chain : goal.returns-in_err-chain

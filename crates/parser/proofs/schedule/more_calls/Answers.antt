@@ -19,7 +19,8 @@ calls-init c = list_start call_tree c.new-calls.result.items (terminals c.args.c
 pub calls-preserved : goal.calls-preserved
 calls-preserved c =
     list_step call_tree c.calls.calls.items _ c.in_ok-call.call (terminals c.in_ok-call.behind) c.in_ok-push.ensures.items c.calls.invariant
-    (after_found call_at (terminals c.in-Some.after) (terminals c.in_ok-call.behind) (call_tree c.in_ok-call.call) (after_terminal (OfSymbol symbol.Arrow) (terminals c.calls.left)) c.in-Some.ensures.behind c.in_ok-call.ensures.reads)
+    (after_found call_at (terminals c.in-Some.after) (terminals c.in_ok-call.behind) (call_tree c.in_ok-call.call)
+    (after_terminal (OfSymbol symbol.Arrow) (terminals c.calls.left)) c.in-Some.ensures.behind c.in_ok-call.ensures.reads)
     (below _ _ _ c.in_ok-call.ensures.shorter c.in-Some.ensures.shorter)
 
 pub returns-in_err-call-clause-reads : goal.returns-in_err-call-clause-reads

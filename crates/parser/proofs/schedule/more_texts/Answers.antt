@@ -19,7 +19,8 @@ texts-init c = list_start text_of c.new-texts.result.items (terminals c.args.cur
 pub texts-preserved : goal.texts-preserved
 texts-preserved c =
     list_step text_of c.texts.texts.items _ c.in_ok-text.text (terminals c.in_ok-text.behind) c.in_ok-push.ensures.items c.texts.invariant
-    (after_found text_at (terminals c.in-Some.after) (terminals c.in_ok-text.behind) (text_of c.in_ok-text.text) (after_terminal (OfSymbol symbol.Comma) (terminals c.texts.left)) c.in-Some.ensures.behind c.in_ok-text.ensures.reads)
+    (after_found text_at (terminals c.in-Some.after) (terminals c.in_ok-text.behind) (text_of c.in_ok-text.text)
+    (after_terminal (OfSymbol symbol.Comma) (terminals c.texts.left)) c.in-Some.ensures.behind c.in_ok-text.ensures.reads)
     (below_strictly _ _ _ c.in_ok-text.ensures.shorter c.in-Some.ensures.shorter)
 
 pub returns-in_err-text-clause-reads : goal.returns-in_err-text-clause-reads

@@ -20,7 +20,8 @@ pub run_statement-returns-in-Some-true-clause-meaning :
 run_statement-returns-in-Some-true-clause-meaning t c =
     let tree = ap statement_kind_tree c.in-If.is ∙ statement_kind_tree-If c.in-If.c c.in-If.body in
     let holds = sym c.decide.ensures ∙ c.in-Some-true.is ∙ ap (λ (b : Bool). Some b) c.in-Some-true.field-0-test in
-    let step = after-If_true (program_tree c.args.input.program.now) (graph_of c.args.input.graph.now) c.args.statement.now.number (bool_expression_tree c.in-If.c) (block_tree c.in-If.body.items) (state_of c.args.state.now) holds in
+    let step = after-If_true (program_tree c.args.input.program.now) (graph_of c.args.input.graph.now) c.args.statement.now.number (bool_expression_tree c.in-If.c) (block_tree c.in-If.body.items)
+    (state_of c.args.state.now) holds in
     rw (tree, step, ← c.deref.ensures.value) c.run_inside.ensures.meaning
 
 pub run_statement-returns-in-Some-true-decide-clause-meaning :
@@ -28,7 +29,8 @@ pub run_statement-returns-in-Some-true-decide-clause-meaning :
 run_statement-returns-in-Some-true-decide-clause-meaning t c =
     let tree = ap statement_kind_tree c.in-IfElse.is ∙ statement_kind_tree-IfElse c.in-IfElse.c c.in-IfElse.body c.in-IfElse.other in
     let holds = sym c.decide-in-IfElse.ensures ∙ c.in-Some-true-decide.is ∙ ap (λ (b : Bool). Some b) c.in-Some-true-decide.field-0-test in
-    let step = after-IfElse (program_tree c.args.input.program.now) (graph_of c.args.input.graph.now) c.args.statement.now.number (bool_expression_tree c.in-IfElse.c) (block_tree c.in-IfElse.body.items) (block_tree c.in-IfElse.other.items) (state_of c.args.state.now) true holds in
+    let step = after-IfElse (program_tree c.args.input.program.now) (graph_of c.args.input.graph.now) c.args.statement.now.number (bool_expression_tree c.in-IfElse.c)
+    (block_tree c.in-IfElse.body.items) (block_tree c.in-IfElse.other.items) (state_of c.args.state.now) true holds in
     rw (tree, step, ← c.deref-in-Some-true-decide.ensures.value) c.run_inside-in-Some-true-decide.ensures.meaning
 
 pub run_statement-returns-in-Some-false-decide-clause-meaning :
@@ -36,7 +38,8 @@ pub run_statement-returns-in-Some-false-decide-clause-meaning :
 run_statement-returns-in-Some-false-decide-clause-meaning t c =
     let tree = ap statement_kind_tree c.in-IfElse.is ∙ statement_kind_tree-IfElse c.in-IfElse.c c.in-IfElse.body c.in-IfElse.other in
     let fails = sym c.decide-in-IfElse.ensures ∙ c.in-Some-false-decide.is ∙ ap (λ (b : Bool). Some b) c.in-Some-false-decide.field-0-test in
-    let step = after-IfElse (program_tree c.args.input.program.now) (graph_of c.args.input.graph.now) c.args.statement.now.number (bool_expression_tree c.in-IfElse.c) (block_tree c.in-IfElse.body.items) (block_tree c.in-IfElse.other.items) (state_of c.args.state.now) false fails in
+    let step = after-IfElse (program_tree c.args.input.program.now) (graph_of c.args.input.graph.now) c.args.statement.now.number (bool_expression_tree c.in-IfElse.c)
+    (block_tree c.in-IfElse.body.items) (block_tree c.in-IfElse.other.items) (state_of c.args.state.now) false fails in
     rw (tree, step, ← c.deref-in-Some-false-decide.ensures.value) c.run_inside-in-Some-false-decide.ensures.meaning
 
 pub run_statement-returns-in-While-clause-meaning :
@@ -50,7 +53,8 @@ pub run_statement-returns-in-Some-clause-meaning :
 run_statement-returns-in-Some-clause-meaning t c =
     let tree = ap statement_kind_tree c.in-For.is ∙ statement_kind_tree-For c.in-For.field-0 c.in-For.first c.in-For.end c.in-For.body in
     let counter = sym c.counter_of.ensures ∙ c.in-Some.is in
-    let step = after-For (program_tree c.args.input.program.now) (graph_of c.args.input.graph.now) c.args.statement.now.number c.in-For.field-0 (int_expression_tree c.in-For.first) (int_expression_tree c.in-For.end) (block_tree c.in-For.body.items) (state_of c.args.state.now) c.in-Some.counter counter in
+    let step = after-For (program_tree c.args.input.program.now) (graph_of c.args.input.graph.now) c.args.statement.now.number c.in-For.field-0 (int_expression_tree c.in-For.first)
+    (int_expression_tree c.in-For.end) (block_tree c.in-For.body.items) (state_of c.args.state.now) c.in-Some.counter counter in
     rw (tree, step, ← c.deref-in-Some.ensures.value) c.run_for.ensures.meaning
 
 pub run_for-returns-then-is_some-clause-meaning : goal.run_for-returns-then-is_some-clause-meaning
@@ -73,7 +77,8 @@ pub run_all-returns-then-is_some-clause-meaning : goal.run_all-returns-then-is_s
 run_all-returns-then-is_some-clause-meaning t c =
     let within : c.statements.statement-index < length c.args.block.now = omega (arith, c.statements-test.true, c.statements.auto.statement-index-end) in
     ends_in (program_tree c.args.input.program.now) (graph_of c.args.input.graph.now) c.args.block.now c.statements.statement-index c.statement-item.result c.statement-item.result
-    (state_of c.statements.state) (state_of c.run_statement.new.state) c.in_ok-end.end _ within c.statement-item.is c.in_ok-end.ensures.meaning (sym c.is_some.ensures ∙ c.if-is_some.true) c.statements.invariant.0
+    (state_of c.statements.state) (state_of c.run_statement.new.state) c.in_ok-end.end _ within c.statement-item.is c.in_ok-end.ensures.meaning
+    (sym c.is_some.ensures ∙ c.if-is_some.true) c.statements.invariant.0
 
 pub run_all-returns-clause-meaning : goal.run_all-returns-clause-meaning
 run_all-returns-clause-meaning t c =
@@ -84,7 +89,8 @@ pub run_for-turns-preserved : goal.run_for-turns-preserved
 run_for-turns-preserved t c =
     let body = for_body (after_all (program_tree c.args.input.program.now) (graph_of c.args.input.graph.now) (block_tree c.args.body.now)) in
     let below = ap (λ (b : Bool). Some b) (sym c.is_below.ensures ∙ c.if-not-is_below.false) in
-    let again = again_goes LoopCounter for_test body next_of c.args.number c.args.counter (state_of c.args.state.now) c.turns.counter (state_of c.turns.state) (state_of c.run_for_turn.new.state) c.in_ok-end.end
+    let again = again_goes LoopCounter for_test body next_of c.args.number c.args.counter (state_of c.args.state.now) c.turns.counter (state_of c.turns.state)
+    (state_of c.run_for_turn.new.state) c.in_ok-end.end
     c.turns.invariant.0 below c.in_ok-end.ensures.meaning (sym c.is_some.ensures ∙ c.if-is_some.false) c.in_ok-end.ensures.fewer in (
       subst (λ (b : LoopCounter). Again LoopCounter for_test body next_of c.args.number c.args.counter (state_of c.args.state.now) b (state_of c.run_for_turn.new.state)) (sym c.go_on.ensures) again,
       omega (arith, c.turns.invariant.1, c.in_ok-end.ensures.turns),

@@ -27,7 +27,8 @@ decreases-run_for-turns l = l.state.turns
 
 abbrev pub invariant-run_while-turns : goal.invariant-run_while-turns
 invariant-run_while-turns l =
-    Again ℕ (while_test l.input.graph.now.vertices (bool_expression_tree l.test)) (while_body (after_all (program_tree l.input.program.now) (graph_of l.input.graph.now) (block_tree l.body))) (λ (n : ℕ). n) l.number
+    Again ℕ (while_test l.input.graph.now.vertices (bool_expression_tree l.test)) (while_body (after_all (program_tree l.input.program.now) (graph_of l.input.graph.now) (block_tree l.body)))
+    (λ (n : ℕ). n) l.number
     0 (state_of l.fn.state) 0 (state_of l.state)
     × (l.state.turns ≤ l.fn.state.turns)
 

@@ -60,6 +60,7 @@ put_connected-conditions-preserved t c =
     let o = c.condition-item.result in
     let cut : drop i conditions ≡ o ∷ drop (i + 1) conditions =
     drop-cons conditions i o c.conditions-test.true ∙ ap (λ y. y ∷ drop (suc i) conditions) (sym c.condition-item.is) ∙ ap (λ n. o ∷ drop n conditions) (sym (add-one i)) in
-    still_left c.conditions.out.items c.put_condition.new.out.items c.put_word.new.out.items _ (condition_words p (bool_expression_tree o)) (connective_word connective ∷ []) (connected_words p connective (drop (i + 1) conditions))
+    still_left c.conditions.out.items c.put_condition.new.out.items c.put_word.new.out.items _ (condition_words p (bool_expression_tree o)) (connective_word connective ∷ [])
+    (connected_words p connective (drop (i + 1) conditions))
     c.in_ok-put_condition.ensures (c.in_ok-put_word.ensures ∙ ap (λ w. c.put_condition.new.out.items ++ spaced (w ∷ [])) c.connective_text.ensures)
     (ap (λ os. c.conditions.out.items ++ spaced (connected_words p connective os)) (sym cut) ∙ c.conditions.invariant)

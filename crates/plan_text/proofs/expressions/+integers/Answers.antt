@@ -54,6 +54,7 @@ put_operands-operands-preserved t c =
     let o = c.operand-item.result in
     let cut : drop i operands ≡ o ∷ drop (i + 1) operands =
     drop-cons operands i o c.operands-test.true ∙ ap (λ y. y ∷ drop (suc i) operands) (sym c.operand-item.is) ∙ ap (λ n. o ∷ drop n operands) (sym (add-one i)) in
-    still_left c.operands.out.items c.put_integer.new.out.items c.put_word.new.out.items _ (integer_words p (int_expression_tree o.integer)) (operator_word o.operator ∷ []) (operand_words p (drop (i + 1) operands))
+    still_left c.operands.out.items c.put_integer.new.out.items c.put_word.new.out.items _ (integer_words p (int_expression_tree o.integer)) (operator_word o.operator ∷ [])
+    (operand_words p (drop (i + 1) operands))
     c.in_ok-put_integer.ensures (c.in_ok-put_word.ensures ∙ ap (λ w. c.put_integer.new.out.items ++ spaced (w ∷ [])) c.operator_text.ensures)
     (ap (λ os. c.operands.out.items ++ spaced (operand_words p os)) (sym cut) ∙ c.operands.invariant)

@@ -7,5 +7,6 @@ use Rattle.plan_text.proofs.line.end_line.Goals as goal
 pub returns : goal.returns
 returns c before ws some was =
     c.in_ok-push.ensures.items
-    ∙ ap (λ t. t ++ 10 ∷ []) (popped (before ++ joined ws) 32 (vec_len c.args.out.now) c.args.out.now.items c.pop.new.self.items c.args.out.now.ok.0 (before_space before ws c.args.out.now.items some was) c.pop.ensures.rest)
+    ∙ ap (λ t. t ++ 10 ∷ []) (popped (before ++ joined ws) 32 (vec_len c.args.out.now) c.args.out.now.items c.pop.new.self.items c.args.out.now.ok.0
+    (before_space before ws c.args.out.now.items some was) c.pop.ensures.rest)
     ∙ append_assoc before (joined ws) (10 ∷ [])

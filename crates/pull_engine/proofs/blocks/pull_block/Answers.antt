@@ -15,14 +15,16 @@ pub returns-in_default : goal.returns-in_default
 returns-in_default g c =
     let a = c.args in
     sym (ap (λ cs. a.changes.now.items ++ cs)
-    (no_block (g.F.SourceFold.reduction a.fold.now) (g.F.SourceFold.number a.fold.now) (lane_entry a.pull.old) (passes_words a.pull.from) (in_word (64 * a.block) a.word) a.pull.flat.now.edges a.block c.in_default.ensures)
+    (no_block (g.F.SourceFold.reduction a.fold.now) (g.F.SourceFold.number a.fold.now) (lane_entry a.pull.old) (passes_words a.pull.from)
+    (in_word (64 * a.block) a.word) a.pull.flat.now.edges a.block c.in_default.ensures)
     ∙ append-nil a.changes.now.items)
 
 pub vertices-init : goal.vertices-init
 vertices-init g c =
     let a = c.args in
     ap (λ cs. a.changes.now.items ++ cs)
-    (block_begun (g.F.SourceFold.reduction a.fold.now) (g.F.SourceFold.number a.fold.now) (lane_entry a.pull.old) (passes_words a.pull.from) a.pull.flat.now.edges a.block a.word c.present.result c.of-lists.result.block.now
+    (block_begun (g.F.SourceFold.reduction a.fold.now) (g.F.SourceFold.number a.fold.now) (lane_entry a.pull.old)
+    (passes_words a.pull.from) a.pull.flat.now.edges a.block a.word c.present.result c.of-lists.result.block.now
     (λ v at. ap (neighbours_of (v % 64)) c.of-lists.ensures ∙ c.in-Some.ensures v at) c.present.ensures)
 
 pub vertices-preserved : goal.vertices-preserved

@@ -30,7 +30,8 @@ returns-in_default-clause-changes c =
     IfOk-weaker c.pull_folded.result _ _
     (λ cs changes m steps test to vectors sizes kernels is_from is_to.
     let reads = c.context-context.ensures.reads m steps (record { vectors = vectors; sizes = sizes; kernels = kernels }) in
-    let passing : (v : ℕ) → v < g.vertices → test v ≡ from v = λ v l. sym (c.words-from.ensures v ∙ c.in_ok-sources.ensures.passing m test reads.vectors reads.sizes is_from v (omega (arith, count, l))) in
+    let passing : (v : ℕ) → v < g.vertices → test v ≡ from v = λ v l. sym (c.words-from.ensures v
+    ∙ c.in_ok-sources.ensures.passing m test reads.vectors reads.sizes is_from v (omega (arith, count, l))) in
     changes_along g.vertices _ _ m steps cs.vectors.items (between_agree g test from to c.context-context.ensures.graph passing) (changes m steps to reads count start is_to))
     c.pull_folded.ensures.changes
 
@@ -47,13 +48,15 @@ returns-clause-changes c =
     IfOk-weaker c.changes_in.result _ _
     (λ cs each m steps test to same sizes kernels is_from is_to.
     let reads = c.context-context.ensures.reads m steps (record { vectors = same; sizes = sizes; kernels = kernels }) in
-    let passing : (v : ℕ) → v < g.vertices → test v ≡ from v = λ v l. sym (c.words-from.ensures v ∙ c.in_ok-sources.ensures.passing m test reads.vectors reads.sizes is_from v (omega (arith, count, l))) in
+    let passing : (v : ℕ) → v < g.vertices → test v ≡ from v = λ v l. sym (c.words-from.ensures v
+    ∙ c.in_ok-sources.ensures.passing m test reads.vectors reads.sizes is_from v (omega (arith, count, l))) in
     let edges = edges_between from to g.edges in
     let range : PullRange = record { flat = a.flat; context = c.context-context.result; from = c.words-from.result; to = a.to; low = 0; high = c.vertices.result; masked = c.deref.result } in
     let changed = subst (λ (o : Option ℕ). IfSome o (λ v. IsRangeChanged range v found.items)) c.in-Some.ensures.some c.in_ok-changes.ensures in
     let all : c.vertices.result - 0 ≡ g.vertices = omega (arith, vertices) in
     changes_along g.vertices _ _ m steps cs.vectors.items (between_agree g test from to c.context-context.ensures.graph passing)
     (whole_changes y g.vertices edges m steps found.items cs.vectors.items each
-    (λ e. shape_gives_only c.apply_shape-shape.result y m e (all_given m steps e) c.in-Some.ensures.some (c.apply_shape-shape.ensures m c.context-context.result.sizes.now steps reads.sizes reads.kernels e))
+    (λ e. shape_gives_only c.apply_shape-shape.result y m e (all_given m steps e) c.in-Some.ensures.some
+    (c.apply_shape-shape.ensures m c.context-context.result.sizes.now steps reads.sizes reads.kernels e))
     (subst (λ (n : ℕ). AreChangesFrom y 0 n edges m steps found.items) all (changed m steps to reads is_to))))
     c.changes_in.ensures.changes

@@ -30,7 +30,8 @@ returns-clause-changes c m steps test are count starts is x r by long =
     let long_row : p.high - p.low ≡ g.vertices = omega (arith, low, high) in
     let folded = folded_along p.context m steps _ (columns from g.edges (filter test all)) c.fold_range.new.scratch
     (ap (λ (us : List ℕ). columns from g.edges (filter test us)) (ap₂ range_with_len low long_row)) (c.in_ok-fold_range.ensures m steps test are is) in
-    let has = folded_columns p.context m steps from test (filter test all) g.edges c.fold_range.new.scratch (rises_filtered test 0 all (rises_range 0 g.vertices)) (filtered_destinations g test c.requires.graph) folded in
+    let has = folded_columns p.context m steps from test (filter test all) g.edges c.fold_range.new.scratch (rises_filtered test 0 all (rises_range 0 g.vertices))
+    (filtered_destinations g test c.requires.graph) folded in
     c.in_ok-changes.ensures.changes m steps edges (λ v. true) are (λ v. refl) has starts x r by (omega (arith, count, long))
     ∙ ap (λ (n : ℕ). changed n old (new (filter (λ e. true) edges))) count
     ∙ ap (λ (es : List Edge). changed g.vertices old (new es)) (all_pass edges)

@@ -14,12 +14,14 @@ pub returns-in-Packed : goal.returns-in-Packed
 returns-in-Packed c =
     let a = c.args in
     let same = c.ascending.ensures ∙ ap listed (sym c.in-Packed.is) in
-    subst (λ (us : List (ℕ × ℤ)). OnOk c.fold_walk.result ((m : StateValue) → (steps : List FunctionStatementsTree) → (edges : List Edge) → IsContextOf a.input.context m steps → HasFolded a.input.context m steps edges a.scratch.now
+    subst (λ (us : List (ℕ × ℤ)). OnOk c.fold_walk.result ((m : StateValue) → (steps : List FunctionStatementsTree) → (edges : List Edge) → IsContextOf a.input.context m steps
+    → HasFolded a.input.context m steps edges a.scratch.now
     → HasFolded a.input.context m steps (edges ++ column a.destination (passing (passes_words a.input.from) us)) c.fold_walk.new.scratch)) same c.fold_walk.ensures
 
 pub returns-in-Chunked : goal.returns-in-Chunked
 returns-in-Chunked c =
     let a = c.args in
     let same = c.new.ensures ∙ ap listed (sym c.in-Chunked.is) in
-    subst (λ (us : List (ℕ × ℤ)). OnOk c.fold_walk-in-Chunked.result ((m : StateValue) → (steps : List FunctionStatementsTree) → (edges : List Edge) → IsContextOf a.input.context m steps → HasFolded a.input.context m steps edges a.scratch.now
+    subst (λ (us : List (ℕ × ℤ)). OnOk c.fold_walk-in-Chunked.result ((m : StateValue) → (steps : List FunctionStatementsTree) → (edges : List Edge) → IsContextOf a.input.context m steps
+    → HasFolded a.input.context m steps edges a.scratch.now
     → HasFolded a.input.context m steps (edges ++ column a.destination (passing (passes_words a.input.from) us)) c.fold_walk-in-Chunked.new.scratch)) same c.fold_walk-in-Chunked.ensures

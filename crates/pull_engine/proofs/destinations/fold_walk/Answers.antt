@@ -29,7 +29,8 @@ pub returns : goal.returns
 returns g c =
     let a = c.args in
     let none = none_left (g.W.NeighbourWalk.coming c.rounds.walk) (omega (arith, c.rounds-test.false, c.len.ensures)) in
-    walk_done a.input.context (column_from (passes_words a.input.from) a.destination) (g.W.NeighbourWalk.coming a.walk) (g.W.NeighbourWalk.coming c.rounds.walk) a.scratch.now c.rounds.scratch none c.rounds.invariant.walked
+    walk_done a.input.context (column_from (passes_words a.input.from) a.destination) (g.W.NeighbourWalk.coming a.walk)
+    (g.W.NeighbourWalk.coming c.rounds.walk) a.scratch.now c.rounds.scratch none c.rounds.invariant.walked
 
 pub rounds-init : goal.rounds-init
 rounds-init g c =

@@ -14,12 +14,16 @@ pub returns-in-Packed : goal.returns-in-Packed
 returns-in-Packed c =
     let a = c.args in
     let same = c.ascending-walk.ensures ∙ ap listed (sym c.in-Packed.is) in
-    subst (λ (us : List (ℕ × ℤ)). OnOk c.fold_weighted_walk.result ((m : StateValue) → (steps : List FunctionStatementsTree) → (edges : List Edge) → IsContextOf a.input.columns.context m steps → HasFolded a.input.columns.context m steps edges a.scratch.now
-    → HasFolded a.input.columns.context m steps (edges ++ column a.input.destination (passing (passes_words a.input.columns.from) us)) c.fold_weighted_walk.new.scratch)) same c.fold_weighted_walk.ensures
+    subst (λ (us : List (ℕ × ℤ)). OnOk c.fold_weighted_walk.result ((m : StateValue) → (steps : List FunctionStatementsTree) → (edges : List Edge) → IsContextOf a.input.columns.context m steps
+    → HasFolded a.input.columns.context m steps edges a.scratch.now
+    → HasFolded a.input.columns.context m steps (edges ++ column a.input.destination
+    (passing (passes_words a.input.columns.from) us)) c.fold_weighted_walk.new.scratch)) same c.fold_weighted_walk.ensures
 
 pub returns-in-Chunked : goal.returns-in-Chunked
 returns-in-Chunked c =
     let a = c.args in
     let same = c.new-walk.ensures ∙ ap listed (sym c.in-Chunked.is) in
-    subst (λ (us : List (ℕ × ℤ)). OnOk c.fold_weighted_walk-in-Chunked.result ((m : StateValue) → (steps : List FunctionStatementsTree) → (edges : List Edge) → IsContextOf a.input.columns.context m steps → HasFolded a.input.columns.context m steps edges a.scratch.now
-    → HasFolded a.input.columns.context m steps (edges ++ column a.input.destination (passing (passes_words a.input.columns.from) us)) c.fold_weighted_walk-in-Chunked.new.scratch)) same c.fold_weighted_walk-in-Chunked.ensures
+    subst (λ (us : List (ℕ × ℤ)). OnOk c.fold_weighted_walk-in-Chunked.result ((m : StateValue) → (steps : List FunctionStatementsTree) → (edges : List Edge)
+    → IsContextOf a.input.columns.context m steps → HasFolded a.input.columns.context m steps edges a.scratch.now
+    → HasFolded a.input.columns.context m steps (edges ++ column a.input.destination
+    (passing (passes_words a.input.columns.from) us)) c.fold_weighted_walk-in-Chunked.new.scratch)) same c.fold_weighted_walk-in-Chunked.ensures

@@ -25,7 +25,8 @@ rounds-preserved g c =
       weights = search rules;
       walked = walk_more a.input.columns.context (column_from from d) (g.W.NeighbourWalk.coming a.walk) left part rest a.scratch.now c.rounds.scratch then
           (column_in_row from d) (parts_of n left part rest refl filled.ensures.rest)
-          (λ m steps es are has. folded_along a.input.columns.context m steps (es ++ column d lent) (es ++ column_from from d part) then (ap (λ ks. es ++ column d ks) same) (c.in_ok-fold_into_weighted.ensures m steps es are has))
+          (λ m steps es are has. folded_along a.input.columns.context m steps (es ++ column d lent) (es ++ column_from from d part) then (ap (λ ks. es ++ column d ks) same)
+          (c.in_ok-fold_into_weighted.ensures m steps es are has))
           c.rounds.invariant.walked;
     }
 
@@ -33,7 +34,8 @@ pub returns : goal.returns
 returns g c =
     let a = c.args in
     let none = none_left (g.W.NeighbourWalk.coming c.rounds.walk) (omega (arith, c.rounds-test.false, c.len.ensures)) in
-    walk_done a.input.columns.context (column_from (passes_words a.input.columns.from) a.input.destination) (g.W.NeighbourWalk.coming a.walk) (g.W.NeighbourWalk.coming c.rounds.walk) a.scratch.now c.rounds.scratch none c.rounds.invariant.walked
+    walk_done a.input.columns.context (column_from (passes_words a.input.columns.from) a.input.destination) (g.W.NeighbourWalk.coming a.walk)
+    (g.W.NeighbourWalk.coming c.rounds.walk) a.scratch.now c.rounds.scratch none c.rounds.invariant.walked
 
 pub rounds-init : goal.rounds-init
 rounds-init g c =
@@ -43,5 +45,6 @@ rounds-init g c =
     record {
       room = search rules;
       weights = search rules;
-      walked = subst (λ (left : List (ℕ × ℤ)). HasWalked a.input.columns.context column_of all left a.scratch.now a.scratch.now) refl (walk_begun a.input.columns.context column_of all a.scratch.now refl);
+      walked = subst (λ (left : List (ℕ × ℤ)). HasWalked a.input.columns.context column_of all left a.scratch.now a.scratch.now) refl
+      (walk_begun a.input.columns.context column_of all a.scratch.now refl);
     }

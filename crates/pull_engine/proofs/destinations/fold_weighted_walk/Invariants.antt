@@ -10,7 +10,8 @@ abbrev pub invariant-rounds : goal.invariant-rounds
 invariant-rounds g l = record {
   room : length l.block ≡ PAIRS;
   weights : length l.weights ≡ PAIRS;
-  walked : HasWalked l.input.columns.context (column_from (passes_words l.input.columns.from) l.input.destination) (g.W.NeighbourWalk.coming l.fn.walk) (g.W.NeighbourWalk.coming l.walk) l.fn.scratch l.scratch;
+  walked : HasWalked l.input.columns.context (column_from (passes_words l.input.columns.from) l.input.destination) (g.W.NeighbourWalk.coming l.fn.walk)
+      (g.W.NeighbourWalk.coming l.walk) l.fn.scratch l.scratch;
 }
 
 abbrev pub decreases-rounds : goal.decreases-rounds

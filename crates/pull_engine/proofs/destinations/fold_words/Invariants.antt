@@ -10,5 +10,6 @@ use Rattle.pull_engine.proofs.destinations.fold_words.Given as goal
 -- the edges into the vertices of the blocks so far are folded
 abbrev pub invariant-rounds : goal.invariant-rounds
 invariant-rounds l =
-    FoldsMore l.input.context (columns (passes_words l.input.from) l.input.flat.now.edges (filter (within l.range.low l.range.high (lets l.to)) (range_with_len (64 * l.first) (64 * (l.block - l.first)))))
+    FoldsMore l.input.context (columns (passes_words l.input.from) l.input.flat.now.edges
+    (filter (within l.range.low l.range.high (lets l.to)) (range_with_len (64 * l.first) (64 * (l.block - l.first)))))
     l.fn.scratch l.scratch

@@ -33,6 +33,8 @@ rounds-preserved c =
     record {
       room = search rules;
       found = ap (λ (us : List ℕ). last_or c.rounds.last (filter p us)) (keys_behind c.fill-count.result c.rounds.sources c.fill-count.new.self c.fill-count.ensures.rest)
-          ∙ none_of_round p c.rounds.last (keys_of c.rounds.sources) c.fill-count.new.block c.keep_members-kept.new.block c.fill-count.result c.keep_members-kept.result c.fill-count.ensures.filled c.keep_members-kept.ensures.kept none
+          ∙ none_of_round p c.rounds.last
+          (keys_of c.rounds.sources) c.fill-count.new.block c.keep_members-kept.new.block c.fill-count.result c.keep_members-kept.result c.fill-count.ensures.filled c.keep_members-kept.ensures.kept
+          none
           ∙ c.rounds.invariant.found;
     }

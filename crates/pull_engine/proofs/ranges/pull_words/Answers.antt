@@ -14,7 +14,8 @@ rounds-init g c =
     let a = c.args in
     let old = lane_entry c.lane.result in
     c.new-changes.ensures.items
-    ∙ blocks_begun old (pulled_to (g.F.SourceFold.reduction a.fold.now) (g.F.SourceFold.number a.fold.now) old (passes_words a.range.from) (within a.range.low a.range.high (lets a.to.now)) a.range.flat.now.edges)
+    ∙ blocks_begun old (pulled_to (g.F.SourceFold.reduction a.fold.now) (g.F.SourceFold.number a.fold.now) old (passes_words a.range.from)
+    (within a.range.low a.range.high (lets a.to.now)) a.range.flat.now.edges)
     (64 * (a.range.low / 64)) (a.range.low / 64)
 
 pub rounds-preserved : goal.rounds-preserved

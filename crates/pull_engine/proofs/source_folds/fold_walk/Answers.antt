@@ -22,7 +22,8 @@ rounds-preserved g c =
       room = search rules;
       folded = over_passing r number (to_z w64 (of_z w64 came)) p rest
           ∙ ap (λ (us : List ℕ). reduced_with r number (to_z w64 (of_z w64 came)) (filter p us)) (keys_behind c.fill-count.result all rest c.fill-count.ensures.rest)
-          ∙ all_of_round p r number _ (to_z w64 (of_z w64 came)) (keys_of all) c.fill-count.new.block c.keep_members-kept.new.block c.fill-count.result c.keep_members-kept.result c.fill-count.ensures.filled c.keep_members-kept.ensures.kept
+          ∙ all_of_round p r number _ (to_z w64 (of_z w64 came))
+          (keys_of all) c.fill-count.new.block c.keep_members-kept.new.block c.fill-count.result c.keep_members-kept.result c.fill-count.ensures.filled c.keep_members-kept.ensures.kept
           (to_z-of_z w64 came fits ∙ c.reduce_sources-number.ensures)
           ∙ sym (over_passing r number _ p all)
           ∙ c.rounds.invariant.folded;

@@ -11,7 +11,8 @@ members-init c =
 
 pub members-preserved : goal.members-preserved
 members-preserved c =
-    one_more_found c.members.found.items c.push.new.self.items c.args.set.now.members c.members.member-iterator c.next.new.self c.in-Some.member c.in_ok-push.ensures.items c.in-Some.ensures.steps c.members.invariant
+    one_more_found c.members.found.items c.push.new.self.items c.args.set.now.members c.members.member-iterator c.next.new.self c.in-Some.member c.in_ok-push.ensures.items c.in-Some.ensures.steps
+    c.members.invariant
 
 pub returns-clause-ascending : goal.returns-clause-ascending
 returns-clause-ascending c =

@@ -19,7 +19,9 @@ returns-in_ok-keep_passing-in-Filter-clause-sources c m test vectors sizes is =
     let g = c.args.apply.now.flat.now in
     let found = c.in_ok-all-in-Filter.ensures in
     let context = c.context-context.ensures.context in
-    let kept = c.in_ok-keep_passing-in-Filter.ensures.kept m test (ap (λ (f : ApplyContext). f.vectors.now.vectors) context ∙ vectors) (subst (λ (f : ApplyContext). HasSizes f.sizes.now m) (sym context) sizes) is ∙ ap (λ (ks : List ℕ). ks ++ filter test c.deref.result.now) c.new-kept.ensures.items ∙ ap (filter test) (c.deref.ensures.value ∙ found.list) in
+    let kept = c.in_ok-keep_passing-in-Filter.ensures.kept m test (ap (λ (f : ApplyContext). f.vectors.now.vectors) context ∙ vectors)
+    (subst (λ (f : ApplyContext). HasSizes f.sizes.now m) (sym context) sizes) is ∙ ap (λ (ks : List ℕ). ks ++ filter test c.deref.result.now) c.new-kept.ensures.items
+    ∙ ap (filter test) (c.deref.ensures.value ∙ found.list) in
     record {
       ascending = subst (λ (us : List ℕ). AscendsFrom 0 us) (sym kept) (filter_ascends test (range_with_len 0 g.vertices) (ascends 0 (range_with_len 0 g.vertices) (rises_range 0 g.vertices)));
       passing = λ u some. ap (is_member u) kept ∙ filtered_sources g test found.graph u some;
@@ -29,7 +31,9 @@ pub returns-in_ok-keep_passing-in-Filter-clause-list : goal.returns-in_ok-keep_p
 returns-in_ok-keep_passing-in-Filter-clause-list c m test vectors sizes is within =
     let found = c.in_ok-all-in-Filter.ensures in
     let context = c.context-context.ensures.context in
-    c.in_ok-keep_passing-in-Filter.ensures.kept m test (ap (λ (f : ApplyContext). f.vectors.now.vectors) context ∙ vectors) (subst (λ (f : ApplyContext). HasSizes f.sizes.now m) (sym context) sizes) is ∙ ap (λ (ks : List ℕ). ks ++ filter test c.deref.result.now) c.new-kept.ensures.items ∙ ap (filter test) (c.deref.ensures.value ∙ found.list)
+    c.in_ok-keep_passing-in-Filter.ensures.kept m test (ap (λ (f : ApplyContext). f.vectors.now.vectors) context ∙ vectors)
+    (subst (λ (f : ApplyContext). HasSizes f.sizes.now m) (sym context) sizes) is ∙ ap (λ (ks : List ℕ). ks ++ filter test c.deref.result.now) c.new-kept.ensures.items
+    ∙ ap (filter test) (c.deref.ensures.value ∙ found.list)
 
 pub returns-in_ok-members-in-Members-clause-list : goal.returns-in_ok-members-in-Members-clause-list
 returns-in_ok-members-in-Members-clause-list c m test vectors sizes is within =

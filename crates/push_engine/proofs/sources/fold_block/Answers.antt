@@ -23,7 +23,8 @@ returns-in_default c m steps edges are has =
     let k = a.number in
     folded_along a.input.context m steps edges (edges ++ rows_to (passes_words a.input.to) es (filter test (range_with_len (64 * k) 64))) a.scratch.now
     (sym (append-nil edges)
-    ∙ ap (λ (ks : List Edge). edges ++ filter (λ e. passes_words a.input.to e.1) ks) (no_rows_from test es (64 * k) 64 (λ v l b. let place : v / 64 ≡ k = omega (arith, l, b) in sym (c.in_default.ensures v place))))
+    ∙ ap (λ (ks : List Edge). edges ++ filter (λ e. passes_words a.input.to e.1) ks)
+    (no_rows_from test es (64 * k) 64 (λ v l b. let place : v / 64 ≡ k = omega (arith, l, b) in sym (c.in_default.ensures v place))))
     has
 
 pub vertices-init : goal.vertices-init
@@ -33,7 +34,8 @@ vertices-init c =
     let es = a.input.flat.now.edges in
     let all = bit_members 64 (64 * a.number) (bit_and c.word_at.result c.present_in.result) in (
       all,
-      ap (filter (λ (e : Edge). to e.1)) (block_begun (passes_words a.words) es a.number c.word_at.result c.present_in.result c.in-Some.found.now c.word_at.ensures c.in-Some.ensures c.present_in.ensures),
+      ap (filter (λ (e : Edge). to e.1))
+      (block_begun (passes_words a.words) es a.number c.word_at.result c.present_in.result c.in-Some.found.now c.word_at.ensures c.in-Some.ensures c.present_in.ensures),
       walk_begun a.input.context (rows_to to es) all a.scratch.now refl,
     )
 

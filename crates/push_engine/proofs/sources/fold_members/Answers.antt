@@ -20,7 +20,8 @@ sources-preserved c =
     let then = c.fold_row.new.scratch in
     walk_more a.input.context (rows_to to edges) a.set.now.members c.sources.source-iterator (u ∷ []) c.next.new.self a.scratch.now c.sources.scratch then
     (rows_to-append to edges) (sym c.in-Some.ensures.steps) (one_source a.input.context to edges u c.sources.scratch then
-    (row_of_block a.input.context to edges u (vertices_at (option_copied c.out_block-found.result)) c.sources.scratch then (c.out_block-found.ensures u refl) c.in_ok-fold_row.ensures)) c.sources.invariant
+    (row_of_block a.input.context to edges u (vertices_at (option_copied c.out_block-found.result)) c.sources.scratch then
+    (c.out_block-found.ensures u refl) c.in_ok-fold_row.ensures)) c.sources.invariant
 
 pub returns : goal.returns
 returns c m steps from are is =
@@ -33,4 +34,5 @@ pub sources-init : goal.sources-init
 sources-init c =
     let a = c.args in
     let rows_of = rows_to (passes_words a.input.to) a.input.flat.now.edges in
-    subst (λ (left : List ℕ). HasWalked a.input.context rows_of a.set.now.members left a.scratch.now a.scratch.now) (sym (c.into_iter-source-iterator.ensures.into_iter_gives ∙ c.iter-source-items.ensures.members)) (walk_begun a.input.context rows_of a.set.now.members a.scratch.now refl)
+    subst (λ (left : List ℕ). HasWalked a.input.context rows_of a.set.now.members left a.scratch.now a.scratch.now)
+    (sym (c.into_iter-source-iterator.ensures.into_iter_gives ∙ c.iter-source-items.ensures.members)) (walk_begun a.input.context rows_of a.set.now.members a.scratch.now refl)

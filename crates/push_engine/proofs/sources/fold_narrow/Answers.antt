@@ -16,6 +16,7 @@ returns-then-done c = c.in_ok-done.ensures.folded c.if-done.true
 pub returns : goal.returns
 returns c =
     let a = c.args in
-    subst (λ (s : Scratch). OnOk c.fold_parts.result ((m : StateValue) → (steps : List FunctionStatementsTree) → (edges : List Edge) → IsContextOf a.input.context m steps → HasFolded a.input.context m steps edges s
+    subst (λ (s : Scratch). OnOk c.fold_parts.result ((m : StateValue) → (steps : List FunctionStatementsTree) → (edges : List Edge) → IsContextOf a.input.context m steps
+    → HasFolded a.input.context m steps edges s
     → HasFolded a.input.context m steps (edges ++ row a.source (filter (λ e. passes_words a.input.to e.0) a.list.now)) c.fold_parts.new.scratch))
     (c.in_ok-done.ensures.unchanged c.if-done.false) c.fold_parts.ensures

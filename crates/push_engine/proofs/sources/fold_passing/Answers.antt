@@ -32,10 +32,13 @@ parts-preserved c =
     let kept = c.keep_passing.new.kept.items in (
       w.0,
       w.1,
-      pass_more a.from a.input.context (rows_to to edges) (firsts w.0) (firsts c.parts.sources) c.take_part.new.part.items (firsts c.take_part.new.vertices) kept a.scratch.now c.parts.scratch c.fold_rows.new.scratch (rows_to-append to edges)
+      pass_more a.from a.input.context (rows_to to edges) (firsts w.0) (firsts c.parts.sources) c.take_part.new.part.items
+      (firsts c.take_part.new.vertices) kept a.scratch.now c.parts.scratch c.fold_rows.new.scratch (rows_to-append to edges)
           c.in_ok-take_part.ensures.taken
-          (λ m steps test are is. c.in_ok-keep_passing.ensures.kept m test are.vectors are.sizes is ∙ ap (λ (ks : List ℕ). ks ++ filter test c.deref.result.now) c.clear.ensures.items ∙ ap (filter test) c.deref.ensures.value)
-          (λ m steps es are has. folded_along c.args.input.context m steps (es ++ rows_to to edges c.deref-in-parts.result.now) (es ++ rows_to to edges kept) c.fold_rows.new.scratch (ap (λ (ks : List ℕ). es ++ rows_to to edges ks) c.deref-in-parts.ensures.value)
+          (λ m steps test are is. c.in_ok-keep_passing.ensures.kept m test are.vectors are.sizes is ∙ ap (λ (ks : List ℕ). ks ++ filter test c.deref.result.now) c.clear.ensures.items
+          ∙ ap (filter test) c.deref.ensures.value)
+          (λ m steps es are has. folded_along c.args.input.context m steps (es ++ rows_to to edges c.deref-in-parts.result.now) (es ++ rows_to to edges kept) c.fold_rows.new.scratch
+          (ap (λ (ks : List ℕ). es ++ rows_to to edges ks) c.deref-in-parts.ensures.value)
           (c.in_ok-fold_rows.ensures m steps es are (c.in_ok-keep_passing.ensures.folded a.input.context m steps es has)))
           w.2,
     )

@@ -31,7 +31,8 @@ returns-then-own-vertex-eq0 c =
     let low : v < 64 = omega arith in
     let clear : bit_at c.packed-own.result.1 v ≡ 0 = search rules in
     let same = c.list-list.ensures ∙ c.packed-own.ensures v low clear ∙ ap (λ (o : Option (Bor (List (ℕ × List (ℕ × ℤ))))). neighbours_of v (vertices_at (option_copied o))) (sym c.in-Some.is) in
-    subst (λ (es : List (ℕ × ℤ)). OnOk c.fold_list.result ((m : StateValue) → (steps : List FunctionStatementsTree) → (edges : List Edge) → IsContextOf a.input.context m steps → HasFolded a.input.context m steps edges a.scratch.now
+    subst (λ (es : List (ℕ × ℤ)). OnOk c.fold_list.result ((m : StateValue) → (steps : List FunctionStatementsTree) → (edges : List Edge) → IsContextOf a.input.context m steps
+    → HasFolded a.input.context m steps edges a.scratch.now
     → HasFolded a.input.context m steps (edges ++ row a.source (filter (λ e. passes_words a.input.to e.0) es)) c.fold_list.new.scratch)) same c.fold_list.ensures
 
 pub returns : goal.returns
@@ -39,5 +40,6 @@ returns c =
     let a = c.args in
     let v = a.source % 64 in
     let same = c.neighbours.ensures ∙ ap (λ (o : Option (Bor (List (ℕ × List (ℕ × ℤ))))). neighbours_of v (vertices_at (option_copied o))) (sym c.in-Some.is) in
-    subst (λ (es : List (ℕ × ℤ)). OnOk c.fold_set.result ((m : StateValue) → (steps : List FunctionStatementsTree) → (edges : List Edge) → IsContextOf a.input.context m steps → HasFolded a.input.context m steps edges a.scratch.now
+    subst (λ (es : List (ℕ × ℤ)). OnOk c.fold_set.result ((m : StateValue) → (steps : List FunctionStatementsTree) → (edges : List Edge) → IsContextOf a.input.context m steps
+    → HasFolded a.input.context m steps edges a.scratch.now
     → HasFolded a.input.context m steps (edges ++ row a.source (filter (λ e. passes_words a.input.to e.0) es)) c.fold_set.new.scratch)) same c.fold_set.ensures

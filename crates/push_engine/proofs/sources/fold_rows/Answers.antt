@@ -18,7 +18,8 @@ sources-preserved c =
     let edges = c.args.input.flat.now.edges in
     let inside : i < length us = c.sources-test.true in
     λ m steps es are has. folded_along c.args.input.context m steps _ (es ++ rows_to to edges (take (i + 1) us)) c.fold_row.new.scratch (rows_next to edges es us i inside)
-    (row_of_block c.args.input.context to edges (get_or us i 0) (vertices_at (option_copied c.out_block-found.result)) c.sources.scratch c.fold_row.new.scratch (c.out_block-found.ensures (get_or us i 0) refl) c.in_ok-fold_row.ensures m steps (es ++ rows_to to edges (take i us)) are (c.sources.invariant m steps es are has))
+    (row_of_block c.args.input.context to edges (get_or us i 0) (vertices_at (option_copied c.out_block-found.result)) c.sources.scratch c.fold_row.new.scratch
+    (c.out_block-found.ensures (get_or us i 0) refl) c.in_ok-fold_row.ensures m steps (es ++ rows_to to edges (take i us)) are (c.sources.invariant m steps es are has))
 
 pub returns : goal.returns
 returns c m steps es are has =
@@ -27,4 +28,5 @@ returns c m steps es are has =
     let to = passes_words c.args.input.to in
     let edges = c.args.input.flat.now.edges in
     let all : length us ≤ i = c.sources-test.false in
-    folded_along c.args.input.context m steps (es ++ rows_to to edges (take i us)) (es ++ rows_to to edges us) c.sources.scratch (ap (λ ks. es ++ rows_to to edges ks) (take_all i us all)) (c.sources.invariant m steps es are has)
+    folded_along c.args.input.context m steps (es ++ rows_to to edges (take i us)) (es ++ rows_to to edges us) c.sources.scratch (ap (λ ks. es ++ rows_to to edges ks) (take_all i us all))
+    (c.sources.invariant m steps es are has)

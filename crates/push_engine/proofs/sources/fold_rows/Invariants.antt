@@ -10,4 +10,5 @@ use Rattle.push_engine.proofs.sources.fold_rows.Given as goal
 -- the rows of the sources that have come are folded
 abbrev pub invariant-sources : goal.invariant-sources
 invariant-sources l = (m : StateValue) (steps : List FunctionStatementsTree) (edges : List Edge) → IsContextOf l.input.context m steps
-    → HasFolded l.input.context m steps edges l.fn.scratch → HasFolded l.input.context m steps (edges ++ rows_to (passes_words l.input.to) l.input.flat.now.edges (take l.source-index l.sources)) l.scratch
+    → HasFolded l.input.context m steps edges l.fn.scratch → HasFolded l.input.context m steps
+    (edges ++ rows_to (passes_words l.input.to) l.input.flat.now.edges (take l.source-index l.sources)) l.scratch

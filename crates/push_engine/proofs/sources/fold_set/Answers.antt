@@ -14,12 +14,14 @@ pub returns-in-Packed : goal.returns-in-Packed
 returns-in-Packed c =
     let a = c.args in
     let same = ap listed (sym c.in-Packed.is) ∙ c.into_form.ensures in
-    subst (λ (es : List (ℕ × ℤ)). OnOk c.fold_list.result ((m : StateValue) → (steps : List FunctionStatementsTree) → (edges : List Edge) → IsContextOf a.input.context m steps → HasFolded a.input.context m steps edges a.scratch.now
+    subst (λ (es : List (ℕ × ℤ)). OnOk c.fold_list.result ((m : StateValue) → (steps : List FunctionStatementsTree) → (edges : List Edge) → IsContextOf a.input.context m steps
+    → HasFolded a.input.context m steps edges a.scratch.now
     → HasFolded a.input.context m steps (edges ++ row a.source (filter (λ e. passes_words a.input.to e.0) es)) c.fold_list.new.scratch)) same c.fold_list.ensures
 
 pub returns-in-Chunked : goal.returns-in-Chunked
 returns-in-Chunked c =
     let a = c.args in
     let same = c.new.ensures ∙ ap listed (sym c.in-Chunked.is) ∙ c.into_form.ensures in
-    subst (λ (es : List (ℕ × ℤ)). OnOk c.fold_walk.result ((m : StateValue) → (steps : List FunctionStatementsTree) → (edges : List Edge) → IsContextOf a.input.context m steps → HasFolded a.input.context m steps edges a.scratch.now
+    subst (λ (es : List (ℕ × ℤ)). OnOk c.fold_walk.result ((m : StateValue) → (steps : List FunctionStatementsTree) → (edges : List Edge) → IsContextOf a.input.context m steps
+    → HasFolded a.input.context m steps edges a.scratch.now
     → HasFolded a.input.context m steps (edges ++ row a.source (filter (λ e. passes_words a.input.to e.0) es)) c.fold_walk.new.scratch)) same c.fold_walk.ensures

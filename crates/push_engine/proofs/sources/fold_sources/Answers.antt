@@ -17,7 +17,8 @@ returns-in_default c m steps test are tests has =
 
 pub returns-in_ok-fold_members-in-Members : goal.returns-in_ok-fold_members-in-Members
 returns-in_ok-fold_members-in-Members c m steps test are tests has =
-    c.in_ok-fold_members-in-Members.ensures m steps test are (subst (λ (e : EndpointFilter). IsTest e m test) c.in-Members.is (left_is_end m test c.in-Some.end c.args.from.now c.in-Some.ensures tests)) has
+    c.in_ok-fold_members-in-Members.ensures m steps test are (subst (λ (e : EndpointFilter). IsTest e m test) c.in-Members.is
+    (left_is_end m test c.in-Some.end c.args.from.now c.in-Some.ensures tests)) has
 
 pub returns-in_ok-fold_passing-in-Filter : goal.returns-in_ok-fold_passing-in-Filter
 returns-in_ok-fold_passing-in-Filter c m steps test are tests has =

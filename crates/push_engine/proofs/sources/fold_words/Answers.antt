@@ -14,7 +14,8 @@ rounds-init c = none_folded c.args.input.context c.args.scratch.now
 pub rounds-preserved : goal.rounds-preserved
 rounds-preserved c =
     let a = c.args in
-    block_folded a.input.context (passes_words a.input.to) (passes_words a.words) a.input.flat.now.edges c.rounds.number a.scratch.now c.rounds.scratch c.fold_block.new.scratch c.in_ok-fold_block.ensures c.rounds.invariant
+    block_folded a.input.context (passes_words a.input.to)
+    (passes_words a.words) a.input.flat.now.edges c.rounds.number a.scratch.now c.rounds.scratch c.fold_block.new.scratch c.in_ok-fold_block.ensures c.rounds.invariant
 
 pub returns : goal.returns
 returns c m steps are has =

@@ -14,12 +14,14 @@ pub returns-in_err-send_run : goal.returns-in_err-send_run
 returns-in_err-send_run g c =
     let within : c.runs.index < length c.args.all.now = omega (arith, c.runs-test.true, c.runs.auto.index-end) in
     emits_failed _ _ _ _ _ c.from_residual.ensures.1
-    (fails_numbered early_run _ _ _ c.args.all.now c.runs.index (get_or c.args.all.now c.runs.index c.index-all-index.result) c.index-all-index.result within refl _ c.runs.invariant c.in_err-send_run.ensures)
+    (fails_numbered early_run _ _ _ c.args.all.now c.runs.index
+    (get_or c.args.all.now c.runs.index c.index-all-index.result) c.index-all-index.result within refl _ c.runs.invariant c.in_err-send_run.ensures)
 
 pub runs-preserved : goal.runs-preserved
 runs-preserved g c =
     let within : c.runs.index < length c.args.all.now = omega (arith, c.runs-test.true, c.runs.auto.index-end) in
-    sends_numbered early_run _ _ _ c.args.all.now c.runs.index (get_or c.args.all.now c.runs.index c.index-all-index.result) c.index-all-index.result within refl c.runs.invariant c.in_ok-send_run.ensures
+    sends_numbered early_run _ _ _ c.args.all.now c.runs.index
+    (get_or c.args.all.now c.runs.index c.index-all-index.result) c.index-all-index.result within refl c.runs.invariant c.in_ok-send_run.ensures
 
 pub returns : goal.returns
 returns g c =

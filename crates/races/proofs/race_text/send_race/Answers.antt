@@ -7,7 +7,8 @@ use Rattle.races.proofs.race_text.send_race.Goals as goal
 
 pub returns-in_err-send_line : goal.returns-in_err-send_line
 returns-in_err-send_line g c =
-    emits_stopped _ _ (word_line (codes "open") c.args.race.now.vertices) (replies_text c.args.race.now.replies.items ++ (early_text c.args.race.now.runs.items ++ late_text c.args.race.now.runs.items))
+    emits_stopped _ _ (word_line (codes "open") c.args.race.now.vertices) (replies_text c.args.race.now.replies.items
+    ++ (early_text c.args.race.now.runs.items ++ late_text c.args.race.now.runs.items))
     _ _ _ c.from_residual.ensures.1 refl c.in_err-send_line.ensures
 
 pub returns-in_err-send_replies : goal.returns-in_err-send_replies

@@ -22,11 +22,13 @@ loop-batch-preserved g c =
       tt,
       tt,
       answering_goes base c.args.writer.now c.args.batches.items _ _ _ _ _ c.loop-batch.writer _
-          (subst (λ (left : List (List Change)). IsAnswering base c.args.writer.now c.args.batches.items left c.loop-batch.replies.items c.loop-batch.writer) c.in-Some.ensures.steps.0 c.loop-batch.invariant.2)
+          (subst (λ (left : List
+          (List Change)). IsAnswering base c.args.writer.now c.args.batches.items left c.loop-batch.replies.items c.loop-batch.writer) c.in-Some.ensures.steps.0 c.loop-batch.invariant.2)
           (is_answered base c.loop-batch.writer _ _ _ _ _ c.commit-committed.ensures c.in_ok-reply.ensures refl) c.in_ok-push.ensures.items,
     )
 
 pub returns : goal.returns
 returns g c =
-    answering_ends (opened g.J.Naming.vertices g.J.Naming.room) c.args.writer.now c.args.batches.items c.loop-batch.batch-iterator.rest.items c.loop-batch.replies.items c.loop-batch.writer c.loop-batch.invariant.2
+    answering_ends
+    (opened g.J.Naming.vertices g.J.Naming.room) c.args.writer.now c.args.batches.items c.loop-batch.batch-iterator.rest.items c.loop-batch.replies.items c.loop-batch.writer c.loop-batch.invariant.2
     (nil_from_length c.loop-batch.batch-iterator.rest.items (omega (arith, c.in-None.ensures.steps.0, c.loop-batch.batch-iterator.rest.ok.0)))

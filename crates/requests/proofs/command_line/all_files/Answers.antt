@@ -22,6 +22,7 @@ returns-clause-rule c =
     let required : rule_of c.required.result ≡ record (new_rule (codes "FILE")) { required = true } = search rules in
     let ranged : rule_of c.num_args.result ≡ record (new_rule (codes "FILE")) { required = true; range = Some at_least_one } =
     ap rule_of c.num_args.ensures.0 ∙ ap₂ (λ (r : Rule) (o : Option ValueRange). record r { range = o }) required range in
-    let acting : rule_of c.action.result ≡ record (new_rule (codes "FILE")) { required = true; range = Some at_least_one; action = Some Append } = ap rule_of c.action.ensures ∙ ap (λ (r : Rule). record r { action = Some Append }) ranged in
+    let acting : rule_of c.action.result ≡ record (new_rule (codes "FILE")) { required = true; range = Some at_least_one; action = Some Append } = ap rule_of c.action.ensures
+    ∙ ap (λ (r : Rule). record r { action = Some Append }) ranged in
     let shown : rule_of c.value_names.result ≡ script_files = ap rule_of c.value_names.ensures ∙ ap (λ (r : Rule). record r { value_names = 2 }) acting in
     ap rule_of c.help.ensures ∙ shown

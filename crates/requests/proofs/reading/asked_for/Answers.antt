@@ -10,7 +10,8 @@ pub returns-in-Some : goal.returns-in-Some
 returns-in-Some c =
     let p = subcommand_rows_of c.args.matches.now in
     let is = met_command p c.in-Some.name.now (rows_of (found_of c.in-Some.found.now)) (c.in-Some.ensures.name ∙ name-rows c.args.matches.now) c.in-Some.ensures.rows in
-    IfOk-weaker c.named_request.result (λ r. asked_by r ≡ command_of c.in-Some.name.now (rows_of (found_of c.in-Some.found.now))) (λ r. asked_by r ≡ found_request p) (λ r same. same ∙ is) c.named_request.ensures
+    IfOk-weaker c.named_request.result (λ r. asked_by r ≡ command_of c.in-Some.name.now (rows_of (found_of c.in-Some.found.now))) (λ r. asked_by r ≡ found_request p)
+    (λ r same. same ∙ is) c.named_request.ensures
 
 pub returns-in-None : goal.returns-in-None
 returns-in-None c = met_none (subcommand_rows_of c.args.matches.now) (c.in-None.ensures.name ∙ name-rows c.args.matches.now)

@@ -19,7 +19,8 @@ pub returns-in-Some-graph-clause-emits : goal.returns-in-Some-graph-clause-emits
 returns-in-Some-graph-clause-emits g c =
     let some : 0 < length c.args.line.now = grind (arith, common_steps) in
     let is = answer_command (g.P.Programs.trees c.args.host.now.programs.now) c.args.graph.now c.args.line.now some in
-    let text : (answer (g.P.Programs.trees c.args.host.now.programs.now) c.args.graph.now c.args.line.now).text ≡ (on_open (g.P.Programs.trees c.args.host.now.programs.now) c.in-Some-graph.open c.in-Some.command).text = grind (arith, common_steps) in
+    let text : (answer (g.P.Programs.trees c.args.host.now.programs.now) c.args.graph.now c.args.line.now).text ≡
+    (on_open (g.P.Programs.trees c.args.host.now.programs.now) c.in-Some-graph.open c.in-Some.command).text = grind (arith, common_steps) in
     emits_as _ _ _ _ _ c.answer.ensures.emits text
 
 pub returns-in-None-clause-emits : goal.returns-in-None-clause-emits

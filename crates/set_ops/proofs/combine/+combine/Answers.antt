@@ -32,7 +32,8 @@ rejoin-requires-clause-ascending t c =
     let h = c.in-Halved.halves in
     let op = c.args.task.operation in
     let is : AreHalves a b h.left h.key h.weight h.right h.second = rw c.in-Halved.is at c.in_ok-combined.ensures in
-    let are : AreAnswers op h.left h.right h.second c.in_ok-below.below c.in_ok-above.above = record { below = rw c.view-below.ensures at c.in_ok-below.ensures; above = rw (c.above.ensures, c.view-above.ensures) at c.in_ok-above.ensures } in
+    let are : AreAnswers op h.left h.right h.second c.in_ok-below.below c.in_ok-above.above =
+    record { below = rw c.view-below.ensures at c.in_ok-below.ensures; above = rw (c.above.ensures, c.view-above.ensures) at c.in_ok-above.ensures } in
     let round : to_z w64 (of_z w64 h.weight) ≡ h.weight = search rules in
     rw round (halves_rejoin c.args.task.base a b h.left h.key h.weight h.right h.second is c.requires.first_over c.requires.second_over op c.in_ok-below.below c.in_ok-above.above are).ascending
 
@@ -43,7 +44,8 @@ rejoin-requires-clause-below_room t c =
     let h = c.in-Halved.halves in
     let op = c.args.task.operation in
     let is : AreHalves a b h.left h.key h.weight h.right h.second = rw c.in-Halved.is at c.in_ok-combined.ensures in
-    let are : AreAnswers op h.left h.right h.second c.in_ok-below.below c.in_ok-above.above = record { below = rw c.view-below.ensures at c.in_ok-below.ensures; above = rw (c.above.ensures, c.view-above.ensures) at c.in_ok-above.ensures } in
+    let are : AreAnswers op h.left h.right h.second c.in_ok-below.below c.in_ok-above.above =
+    record { below = rw c.view-below.ensures at c.in_ok-below.ensures; above = rw (c.above.ensures, c.view-above.ensures) at c.in_ok-above.ensures } in
     (halves_rejoin c.args.task.base a b h.left h.key h.weight h.right h.second is c.requires.first_over c.requires.second_over op c.in_ok-below.below c.in_ok-above.above are).below_room
 
 pub rejoin-requires-clause-above_room : goal.rejoin-requires-clause-above_room
@@ -53,7 +55,8 @@ rejoin-requires-clause-above_room t c =
     let h = c.in-Halved.halves in
     let op = c.args.task.operation in
     let is : AreHalves a b h.left h.key h.weight h.right h.second = rw c.in-Halved.is at c.in_ok-combined.ensures in
-    let are : AreAnswers op h.left h.right h.second c.in_ok-below.below c.in_ok-above.above = record { below = rw c.view-below.ensures at c.in_ok-below.ensures; above = rw (c.above.ensures, c.view-above.ensures) at c.in_ok-above.ensures } in
+    let are : AreAnswers op h.left h.right h.second c.in_ok-below.below c.in_ok-above.above =
+    record { below = rw c.view-below.ensures at c.in_ok-below.ensures; above = rw (c.above.ensures, c.view-above.ensures) at c.in_ok-above.ensures } in
     (halves_rejoin c.args.task.base a b h.left h.key h.weight h.right h.second is c.requires.first_over c.requires.second_over op c.in_ok-below.below c.in_ok-above.above are).above_room
 
 pub returns : goal.returns
@@ -63,7 +66,8 @@ returns t c =
     let h = c.in-Halved.halves in
     let op = c.args.task.operation in
     let is : AreHalves a b h.left h.key h.weight h.right h.second = rw c.in-Halved.is at c.in_ok-combined.ensures in
-    let are : AreAnswers op h.left h.right h.second c.in_ok-below.below c.in_ok-above.above = record { below = rw c.view-below.ensures at c.in_ok-below.ensures; above = rw (c.above.ensures, c.view-above.ensures) at c.in_ok-above.ensures } in
+    let are : AreAnswers op h.left h.right h.second c.in_ok-below.below c.in_ok-above.above =
+    record { below = rw c.view-below.ensures at c.in_ok-below.ensures; above = rw (c.above.ensures, c.view-above.ensures) at c.in_ok-above.ensures } in
     let round : to_z w64 (of_z w64 h.weight) ≡ h.weight = search rules in
     ok_is
     (λ m. IsRejoined op c.in_ok-below.below (head_of h.key h.weight h.second.found) c.in_ok-above.above m.part m.common)

@@ -32,7 +32,8 @@ loop-position-preserved c =
     let rest = drop (l.position + 1) es in
     let within : l.position < length es = omega (arith, c.loop-position-test.true, ap length c.keys-first_keys.ensures, length_keys es) in
     let key : get_or first_keys l.position 0 ≡ e.0 = ap (λ v. get_or v l.position 0) c.keys-first_keys.ensures ∙ key_of l.position es within in
-    let on : zip l.keys.items l.weights.items ++ without_keys (e ∷ rest) ks ≡ without_keys es ks = ap (λ v. zip l.keys.items l.weights.items ++ without_keys v ks) (sym (drop_more es l.position (0, pos 0) within)) ∙ l.invariant.whole in
+    let on : zip l.keys.items l.weights.items ++ without_keys (e ∷ rest) ks ≡ without_keys es ks =
+    ap (λ v. zip l.keys.items l.weights.items ++ without_keys v ks) (sym (drop_more es l.position (0, pos 0) within)) ∙ l.invariant.whole in
     elim c.if-not-contains.branch [
       | then-not-contains+in_ok-push+in_ok-push-2 w ↦
           let out : Contains ks e.0 → ⊥ = λ there. absurd (false≢true (sym w.if-not-contains.true ∙ c.contains.ensures.1 (rw key there))) in

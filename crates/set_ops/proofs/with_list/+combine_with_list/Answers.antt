@@ -22,7 +22,8 @@ combine_with_list-requires t c =
     let base = c.args.task.base in
     let a = c.args.first.now in
     let ys = c.args.second.now in
-    (omega (arith, less_left base a p.left p.key p.weight p.right p.ensures ys y.0 y.2 y.1 c.cut_entries-below.ensures c.requires.first_over c.requires.second_over), over_left base a p.left p.key p.weight p.right p.ensures ys y.0 y.2 y.1 c.cut_entries-below.ensures c.requires.first_over c.requires.second_over)
+    (omega (arith, less_left base a p.left p.key p.weight p.right p.ensures ys y.0 y.2 y.1 c.cut_entries-below.ensures c.requires.first_over c.requires.second_over),
+    over_left base a p.left p.key p.weight p.right p.ensures ys y.0 y.2 y.1 c.cut_entries-below.ensures c.requires.first_over c.requires.second_over)
 
 pub combine_with_list-requires-2 : goal.combine_with_list-requires-2
 combine_with_list-requires-2 t c =
@@ -31,7 +32,8 @@ combine_with_list-requires-2 t c =
     let base = c.args.task.base in
     let a = c.args.first.now in
     let ys = c.args.second.now in
-    (omega (arith, less_right base a p.left p.key p.weight p.right p.ensures ys y.0 y.2 y.1 c.cut_entries-below.ensures c.requires.first_over c.requires.second_over), rw c.above.ensures (over_right base a p.left p.key p.weight p.right p.ensures ys y.0 y.2 y.1 c.cut_entries-below.ensures c.requires.first_over c.requires.second_over))
+    (omega (arith, less_right base a p.left p.key p.weight p.right p.ensures ys y.0 y.2 y.1 c.cut_entries-below.ensures c.requires.first_over c.requires.second_over),
+    rw c.above.ensures (over_right base a p.left p.key p.weight p.right p.ensures ys y.0 y.2 y.1 c.cut_entries-below.ensures c.requires.first_over c.requires.second_over))
 
 pub rejoin-requires-clause-ascending : goal.rejoin-requires-clause-ascending
 rejoin-requires-clause-ascending t c =
@@ -39,21 +41,24 @@ rejoin-requires-clause-ascending t c =
     let y = c.cut_entries-below.result in
     let hi : IsCombined c.args.task.operation p.right.chunk_size p.right.entries y.2 c.in_ok-above.above.part c.in_ok-above.above.common = rw c.above.ensures at c.in_ok-above.ensures in
     let same : to_z w64 (of_z w64 p.weight) ≡ p.weight = search rules in
-    rw same (root_rejoin c.args.task.base c.args.first.now p.left p.key p.weight p.right p.ensures c.args.second.now y.0 y.2 y.1 c.cut_entries-below.ensures c.requires.first_over c.requires.second_over c.args.task.operation c.in_ok-below.below c.in_ok-above.above c.in_ok-below.ensures hi).ascending
+    rw same (root_rejoin c.args.task.base c.args.first.now p.left p.key p.weight p.right p.ensures c.args.second.now y.0 y.2 y.1 c.cut_entries-below.ensures c.requires.first_over
+    c.requires.second_over c.args.task.operation c.in_ok-below.below c.in_ok-above.above c.in_ok-below.ensures hi).ascending
 
 pub rejoin-requires-clause-below_room : goal.rejoin-requires-clause-below_room
 rejoin-requires-clause-below_room t c =
     let p = c.in-Some in
     let y = c.cut_entries-below.result in
     let hi : IsCombined c.args.task.operation p.right.chunk_size p.right.entries y.2 c.in_ok-above.above.part c.in_ok-above.above.common = rw c.above.ensures at c.in_ok-above.ensures in
-    (root_rejoin c.args.task.base c.args.first.now p.left p.key p.weight p.right p.ensures c.args.second.now y.0 y.2 y.1 c.cut_entries-below.ensures c.requires.first_over c.requires.second_over c.args.task.operation c.in_ok-below.below c.in_ok-above.above c.in_ok-below.ensures hi).below_room
+    (root_rejoin c.args.task.base c.args.first.now p.left p.key p.weight p.right p.ensures c.args.second.now y.0 y.2 y.1 c.cut_entries-below.ensures c.requires.first_over c.requires.second_over
+    c.args.task.operation c.in_ok-below.below c.in_ok-above.above c.in_ok-below.ensures hi).below_room
 
 pub rejoin-requires-clause-above_room : goal.rejoin-requires-clause-above_room
 rejoin-requires-clause-above_room t c =
     let p = c.in-Some in
     let y = c.cut_entries-below.result in
     let hi : IsCombined c.args.task.operation p.right.chunk_size p.right.entries y.2 c.in_ok-above.above.part c.in_ok-above.above.common = rw c.above.ensures at c.in_ok-above.ensures in
-    (root_rejoin c.args.task.base c.args.first.now p.left p.key p.weight p.right p.ensures c.args.second.now y.0 y.2 y.1 c.cut_entries-below.ensures c.requires.first_over c.requires.second_over c.args.task.operation c.in_ok-below.below c.in_ok-above.above c.in_ok-below.ensures hi).above_room
+    (root_rejoin c.args.task.base c.args.first.now p.left p.key p.weight p.right p.ensures c.args.second.now y.0 y.2 y.1 c.cut_entries-below.ensures c.requires.first_over c.requires.second_over
+    c.args.task.operation c.in_ok-below.below c.in_ok-above.above c.in_ok-below.ensures hi).above_room
 
 pub returns : goal.returns
 returns t c =
@@ -66,5 +71,6 @@ returns t c =
     ok_is
     (λ m. IsRejoined op c.in_ok-below.below (head_of p.key p.weight y.1) c.in_ok-above.above m.part m.common)
     (λ m. IsCombined op a.chunk_size a.entries c.args.second.now m.part m.common)
-    (root_rejoin c.args.task.base a p.left p.key p.weight p.right p.ensures c.args.second.now y.0 y.2 y.1 c.cut_entries-below.ensures c.requires.first_over c.requires.second_over op c.in_ok-below.below c.in_ok-above.above c.in_ok-below.ensures hi).whole
+    (root_rejoin c.args.task.base a p.left p.key p.weight p.right p.ensures c.args.second.now y.0 y.2 y.1 c.cut_entries-below.ensures c.requires.first_over c.requires.second_over op
+    c.in_ok-below.below c.in_ok-above.above c.in_ok-below.ensures hi).whole
     c.rejoin.result (rw same at c.rejoin.ensures)

@@ -7,7 +7,8 @@ use Rattle.shared_tree.proofs.iter.descend.Goals as goal
 
 pub loop-next-preserved : goal.loop-next-preserved
 loop-next-preserved g c =
-    let rooms = fork_room c.loop-next.next.now c.link-next.result.now _ _ _ c.in-Fork.is (rw c.deref.ensures at c.link-next.ensures) c.loop-next.top c.loop-next.invariant.balanced c.loop-next.invariant.room in
+    let rooms = fork_room c.loop-next.next.now c.link-next.result.now _ _ _ c.in-Fork.is
+    (rw c.deref.ensures at c.link-next.ensures) c.loop-next.top c.loop-next.invariant.balanced c.loop-next.invariant.room in
     let within : c.loop-next.top < length c.loop-next.links = omega (arith, rooms.0) in
     record {
       indices = omega (arith, length-set c.loop-next.links c.loop-next.top c.loop-next.next);

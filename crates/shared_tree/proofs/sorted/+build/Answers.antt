@@ -23,4 +23,5 @@ returns-clause-taken g t c =
 
 pub returns-clause-deep : goal.returns-clause-deep
 returns-clause-deep g t c =
-    halves_depth c.args.count _ (c.args.count / 2) (c.args.count - c.args.count / 2 - 1) _ _ (omega arith) (c.in_ok-fork_new.ensures.depth ∙ max_swap _ _) (omega arith) (omega arith) c.in_ok-right.ensures.deep c.in_ok-left.ensures.deep
+    halves_depth c.args.count _ (c.args.count / 2) (c.args.count - c.args.count / 2 - 1) _ _ (omega arith) (c.in_ok-fork_new.ensures.depth ∙ max_swap _ _) (omega arith)
+    (omega arith) c.in_ok-right.ensures.deep c.in_ok-left.ensures.deep

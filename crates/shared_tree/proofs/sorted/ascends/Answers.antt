@@ -9,7 +9,8 @@ returns-then-position-low g c =
 
 pub loop-key-preserved : goal.loop-key-preserved
 loop-key-preserved g c = record {
-  rises = rw c.from-position.ensures (rises_more c.args.entries.now c.loop-key.key-index c.loop-key-item.result c.loop-key-test.true c.loop-key-item.is c.loop-key.low (omega arith) c.loop-key.invariant.rises);
+  rises = rw c.from-position.ensures (rises_more c.args.entries.now c.loop-key.key-index c.loop-key-item.result c.loop-key-test.true c.loop-key-item.is c.loop-key.low
+      (omega arith) c.loop-key.invariant.rises);
   least = rw c.from-position.ensures (least_more c.args.entries.now c.loop-key.key-index c.loop-key-item.result c.loop-key-test.true c.loop-key-item.is);
   fits = omega arith;
 }

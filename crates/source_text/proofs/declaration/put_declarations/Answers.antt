@@ -12,9 +12,12 @@ declarations-init c =
 
 pub declarations-preserved : goal.declarations-preserved
 declarations-preserved c =
-    up_to_more _ (λ x. declaration_before (declaration_tree x)) c.args.declarations.now c.declarations.declaration-index c.declaration-item.result c.declaration-item.result c.args.out.now.items c.declarations.out.items c.put_declaration.new.out.items
+    up_to_more _ (λ x. declaration_before
+    (declaration_tree x)) c.args.declarations.now c.declarations.declaration-index c.declaration-item.result c.declaration-item.result c.args.out.now.items c.declarations.out.items
+    c.put_declaration.new.out.items
     c.declarations.invariant c.declarations-test.true c.declaration-item.is c.in_ok-put_declaration.ensures
 
 pub returns : goal.returns
 returns c =
-    up_to_all _ (λ x. declaration_before (declaration_tree x)) c.args.declarations.now c.declarations.declaration-index c.args.out.now.items c.declarations.out.items c.declarations.invariant c.declarations-test.false
+    up_to_all _ (λ x. declaration_before
+    (declaration_tree x)) c.args.declarations.now c.declarations.declaration-index c.args.out.now.items c.declarations.out.items c.declarations.invariant c.declarations-test.false

@@ -12,9 +12,12 @@ parameters-init c =
 
 pub parameters-preserved : goal.parameters-preserved
 parameters-preserved c =
-    up_to_more _ (λ x. next_parameter_before (parameter_tree x)) c.args.parameters.now c.parameters.parameter-index c.parameter-item.result c.parameter-item.result c.args.out.now.items c.parameters.out.items c.put_next_parameter.new.out.items
+    up_to_more _ (λ x. next_parameter_before
+    (parameter_tree x)) c.args.parameters.now c.parameters.parameter-index c.parameter-item.result c.parameter-item.result c.args.out.now.items c.parameters.out.items
+    c.put_next_parameter.new.out.items
     c.parameters.invariant c.parameters-test.true c.parameter-item.is c.in_ok-put_next_parameter.ensures
 
 pub returns : goal.returns
 returns c =
-    up_to_all _ (λ x. next_parameter_before (parameter_tree x)) c.args.parameters.now c.parameters.parameter-index c.args.out.now.items c.parameters.out.items c.parameters.invariant c.parameters-test.false
+    up_to_all _ (λ x. next_parameter_before
+    (parameter_tree x)) c.args.parameters.now c.parameters.parameter-index c.args.out.now.items c.parameters.out.items c.parameters.invariant c.parameters-test.false

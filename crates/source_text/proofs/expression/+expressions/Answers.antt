@@ -79,7 +79,8 @@ put_expression-others-init t c =
 
 pub put_expression-others-preserved : goal.put_expression-others-preserved
 put_expression-others-preserved t c =
-    up_to_more _ or_before c.deref-conjunction-items.result.now c.others.conjunction-index c.conjunction-item.result c.conjunction-item.result c.args.out.now.items c.others.out.items c.put_conjunction-in-others.new.out.items
+    up_to_more _ or_before c.deref-conjunction-items.result.now c.others.conjunction-index c.conjunction-item.result c.conjunction-item.result c.args.out.now.items c.others.out.items
+    c.put_conjunction-in-others.new.out.items
     c.others.invariant c.others-test.true c.conjunction-item.is
     (λ rest whole h. c.in_ok-put_conjunction-2.ensures rest whole (c.in_ok-put_keyword.ensures.reserved (conjunction_terminals (conjunction_of c.conjunction-item.result) ++ rest) whole h))
 
@@ -110,7 +111,9 @@ pub put_primary-returns-in_ok-put_expression-in-Parentheses : goal.put_primary-r
 put_primary-returns-in_ok-put_expression-in-Parentheses t c =
     let inside = expression_terminals c.deref-in-Parentheses.result.now in
     on_ok_weaker c.put_symbol-in-Parentheses-2.result (λ puts rest whole h.
-    puts rest whole (puts_all_but inside (OfSymbol symbol.CloseParenthesis) c.put_symbol-in-Parentheses.new.out.items c.put_expression-in-Parentheses.new.out.items c.in_ok-put_expression-in-Parentheses.ensures rest whole
+    puts rest whole
+    (puts_all_but inside
+    (OfSymbol symbol.CloseParenthesis) c.put_symbol-in-Parentheses.new.out.items c.put_expression-in-Parentheses.new.out.items c.in_ok-put_expression-in-Parentheses.ensures rest whole
     (c.in_ok-put_symbol-in-Parentheses.ensures ((inside ++ OfSymbol symbol.CloseParenthesis ∷ []) ++ rest) whole
     (rw (c.in-Parentheses.is, ← c.deref-in-Parentheses.ensures) at h))))
     c.put_symbol-in-Parentheses-2.ensures

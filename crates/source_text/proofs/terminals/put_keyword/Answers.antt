@@ -6,8 +6,11 @@ use Rattle.source_text.proofs.terminals.put_keyword.Goals as goal
 
 pub returns-clause-opening : goal.returns-clause-opening
 returns-clause-opening c =
-    on_ok_weaker c.put.result (λ is at. put_terminal (Opening c.args.keyword at) c.spelling.result.now c.gap_after_keyword.result c.args.out.now.items c.put.new.out.items c.spelling.ensures c.gap_after_keyword.ensures is) c.put.ensures
+    on_ok_weaker c.put.result
+    (λ is at. put_terminal
+    (Opening c.args.keyword at) c.spelling.result.now c.gap_after_keyword.result c.args.out.now.items c.put.new.out.items c.spelling.ensures c.gap_after_keyword.ensures is) c.put.ensures
 
 pub returns-clause-reserved : goal.returns-clause-reserved
 returns-clause-reserved c =
-    on_ok_weaker c.put.result (put_terminal (OfKeyword c.args.keyword) c.spelling.result.now c.gap_after_keyword.result c.args.out.now.items c.put.new.out.items c.spelling.ensures c.gap_after_keyword.ensures) c.put.ensures
+    on_ok_weaker c.put.result
+    (put_terminal (OfKeyword c.args.keyword) c.spelling.result.now c.gap_after_keyword.result c.args.out.now.items c.put.new.out.items c.spelling.ensures c.gap_after_keyword.ensures) c.put.ensures

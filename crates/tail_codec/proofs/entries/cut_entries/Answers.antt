@@ -8,7 +8,8 @@ use Rattle.tail_codec.proofs.MapPositions.{IsAt, IsMissing, position_there, posi
 use Rattle.tail_codec.proofs.entries.cut_entries.Goals as goal
 
 -- the position of a key, by the cut of the keys alone
-module _ (k : ℕ) (es : List (ℕ × ℤ)) (keys front : List ℕ) (found : Bool) (ascends : AscendsFrom 0 (keys_of es)) (same : keys ≡ keys_of es) (cut : front ≡ below k keys) (there : found ≡ has k keys) where
+module _ (k : ℕ) (es : List (ℕ × ℤ)) (keys front : List ℕ) (found : Bool) (ascends : AscendsFrom 0 (keys_of es)) (same : keys ≡ keys_of es) (cut : front ≡ below k keys)
+    (there : found ≡ has k keys) where
   front_is : front ≡ below k (keys_of es)
   front_is = cut ∙ ap (below k) same
 
@@ -29,20 +30,24 @@ module _ (k : ℕ) (es : List (ℕ × ℤ)) (keys front : List ℕ) (found : Boo
 
 pub up_to-front-requires : goal.up_to-front-requires
 up_to-front-requires c =
-    within c.args.key c.args.entries.now c.keys.result.now c.cut_list-found.result.0.now c.cut_list-found.result.1 c.requires c.keys.ensures c.cut_list-found.ensures.front c.cut_list-found.ensures.there
+    within c.args.key c.args.entries.now c.keys.result.now c.cut_list-found.result.0.now c.cut_list-found.result.1 c.requires c.keys.ensures c.cut_list-found.ensures.front
+    c.cut_list-found.ensures.there
 
 pub weight-requires : goal.weight-requires
 weight-requires c =
-    (is_at c.args.key c.args.entries.now c.keys.result.now c.cut_list-found.result.0.now c.cut_list-found.result.1 c.requires c.keys.ensures c.cut_list-found.ensures.front c.cut_list-found.ensures.there c.if-found.true).within
+    (is_at c.args.key c.args.entries.now c.keys.result.now c.cut_list-found.result.0.now c.cut_list-found.result.1 c.requires c.keys.ensures c.cut_list-found.ensures.front
+    c.cut_list-found.ensures.there c.if-found.true).within
 
 pub from-requires : goal.from-requires
 from-requires c =
-    let at = is_at c.args.key c.args.entries.now c.keys.result.now c.cut_list-found.result.0.now c.cut_list-found.result.1 c.requires c.keys.ensures c.cut_list-found.ensures.front c.cut_list-found.ensures.there c.if-found.true in
+    let at = is_at c.args.key c.args.entries.now c.keys.result.now c.cut_list-found.result.0.now c.cut_list-found.result.1 c.requires c.keys.ensures c.cut_list-found.ensures.front
+    c.cut_list-found.ensures.there c.if-found.true in
     omega (arith, at.within)
 
 pub returns-then-found : goal.returns-then-found
 returns-then-found c =
-    let at = is_at c.args.key c.args.entries.now c.keys.result.now c.cut_list-found.result.0.now c.cut_list-found.result.1 c.requires c.keys.ensures c.cut_list-found.ensures.front c.cut_list-found.ensures.there c.if-found.true in
+    let at = is_at c.args.key c.args.entries.now c.keys.result.now c.cut_list-found.result.0.now c.cut_list-found.result.1 c.requires c.keys.ensures c.cut_list-found.ensures.front
+    c.cut_list-found.ensures.there c.if-found.true in
     record {
       front = c.up_to-front.ensures ∙ at.front;
       there = rw (← at.there, ← c.weight.ensures) (search rules);
@@ -51,11 +56,13 @@ returns-then-found c =
 
 pub from-requires-2 : goal.from-requires-2
 from-requires-2 c =
-    (is_missing c.args.key c.args.entries.now c.keys.result.now c.cut_list-found.result.0.now c.cut_list-found.result.1 c.requires c.keys.ensures c.cut_list-found.ensures.front c.cut_list-found.ensures.there c.if-found.false).within
+    (is_missing c.args.key c.args.entries.now c.keys.result.now c.cut_list-found.result.0.now c.cut_list-found.result.1 c.requires c.keys.ensures c.cut_list-found.ensures.front
+    c.cut_list-found.ensures.there c.if-found.false).within
 
 pub returns : goal.returns
 returns c =
-    let at = is_missing c.args.key c.args.entries.now c.keys.result.now c.cut_list-found.result.0.now c.cut_list-found.result.1 c.requires c.keys.ensures c.cut_list-found.ensures.front c.cut_list-found.ensures.there c.if-found.false in
+    let at = is_missing c.args.key c.args.entries.now c.keys.result.now c.cut_list-found.result.0.now c.cut_list-found.result.1 c.requires c.keys.ensures c.cut_list-found.ensures.front
+    c.cut_list-found.ensures.there c.if-found.false in
     record {
       front = c.up_to-front.ensures ∙ at.front;
       there = at.there;

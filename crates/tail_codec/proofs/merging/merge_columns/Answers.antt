@@ -32,7 +32,8 @@ returns c =
     c.new.ensures ∙ elim c.if-takes_second.branch [
       | then-takes_second+in_ok-append_to-2 w ↦
           let takes : takes_second op ≡ true = sym c.takes_second.ensures ∙ w.if-takes_second.true in
-          rw (w.keys-is, w.weights-is) (w.in_ok-append_to-2.ensures.whole ∙ ap (λ v. v ++ w.from-then-takes_second.result) more ∙ ap (λ v. (take m.result.len (zip m.new.keys m.new.weights) ++ drop m.result.first xs) ++ v) w.from-then-takes_second.ensures ∙ (rw takes at whole))
+          rw (w.keys-is, w.weights-is) (w.in_ok-append_to-2.ensures.whole ∙ ap (λ v. v ++ w.from-then-takes_second.result) more
+          ∙ ap (λ v. (take m.result.len (zip m.new.keys m.new.weights) ++ drop m.result.first xs) ++ v) w.from-then-takes_second.ensures ∙ (rw takes at whole))
       | else-takes_second w ↦
           let takes : takes_second op ≡ false = sym c.takes_second.ensures ∙ w.if-takes_second.false in
           let all = rw takes at whole in

@@ -29,5 +29,6 @@ returns c =
     let n = c.in-Some.number in
     let m = c.in-Some-read_number.number in
     let same : to_z w64 (of_z w64 c.weight_of_number.result) ≡ number_weight m = search rules in
-    let made = entry_of_two c.args.low n m c.in-Some.rest.now c.in-Some-read_number.rest.now c.args.bytes.now c.in-Some.ensures c.in-Some-read_number.ensures (odd n c.if-number-eq0.false) c.if-key-ge-LIMIT.false (not_one m c.if-number-eq-ONE.false) in
+    let made = entry_of_two c.args.low n m c.in-Some.rest.now c.in-Some-read_number.rest.now c.args.bytes.now c.in-Some.ensures c.in-Some-read_number.ensures
+    (odd n c.if-number-eq0.false) c.if-key-ge-LIMIT.false (not_one m c.if-number-eq-ONE.false) in
     rw same made

@@ -19,7 +19,8 @@ overflow_sub-key c =
     let l = c.loop-position in
     let es = c.args.entries.now in
     let within : l.position < length es = omega (arith, c.loop-position-test.true, as_long c.keys-keys.result.now es c.keys-keys.ensures) in
-    rw (key_at l.position c.from-key.result c.keys-keys.result.now es c.keys-keys.ensures within c.from-key.ensures, l.invariant.next) (entry_fits c.args.low l.position es within c.requires.ascending).0
+    rw (key_at l.position c.from-key.result c.keys-keys.result.now es c.keys-keys.ensures within c.from-key.ensures, l.invariant.next)
+    (entry_fits c.args.low l.position es within c.requires.ascending).0
 
 pub write_entry-len-requires-clause-small : goal.write_entry-len-requires-clause-small
 write_entry-len-requires-clause-small c =
@@ -49,7 +50,8 @@ loop-position-preserved c =
     let entry = rw round at c.write_entry-len.ensures in
     let fits : weight_number (get_or es l.position (0, pos 0)).1 < 2 ^ 64 = rw (← weight) (search rules) in
     record {
-      spells = written c.args.low l.position es (c.from-key.result - l.low) l.len c.write_entry-len.result l.buffer c.write_entry-len.new.buffer within c.requires.ascending l.invariant.spells g fits (rw (← weight) entry);
+      spells = written c.args.low l.position es (c.from-key.result - l.low) l.len c.write_entry-len.result l.buffer c.write_entry-len.new.buffer within c.requires.ascending l.invariant.spells g fits
+      (rw (← weight) entry);
       next = ap (λ (n : ℕ). n + 1) key ∙ sym (entry_next c.args.low l.position es within);
       room = omega (arith, entry.after, room_after l.position es within, l.invariant.room, ap entry_room weight);
     }

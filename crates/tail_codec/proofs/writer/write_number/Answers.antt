@@ -6,7 +6,8 @@ use Rattle.tail_codec.specs.inside.Writing.{Fits}
 use Rattle.tail_codec.proofs.writer.write_number.Goals as goal
 
 -- one byte more is written
-more : (buffer front : List ℕ) (position byte : ℕ) (last bytes : List ℕ) → position < length buffer → take position buffer ++ byte ∷ last ≡ front ++ bytes → take (position + 1) (set buffer position byte) ++ last ≡ front ++ bytes
+more : (buffer front : List ℕ) (position byte : ℕ) (last bytes : List ℕ) → position < length buffer → take position buffer ++ byte ∷ last ≡ front ++ bytes
+    → take (position + 1) (set buffer position byte) ++ last ≡ front ++ bytes
 more buffer front position byte last bytes within is =
     ap (λ v. v ++ last) (take_more_set buffer position byte within) ∙ append_assoc (take position buffer) (byte ∷ []) last ∙ is
 

@@ -11,7 +11,8 @@ new-requires c =
     let is = c.in-Some.ensures.2 in
     let so_far = subst (λ ds. AreCutSoFar c.args.updates.now ds c.loop-first.changes.items) is c.loop-first.invariant in
     let whole = sym is ∙ sym (take-append-drop c.cut_length.result c.loop-first.rest) in
-    rw c.split_at-cut.ensures.front (cut_ascends c.args.updates.now _ _ (take c.cut_length.result c.loop-first.rest) (drop c.cut_length.result c.loop-first.rest) c.loop-first.changes.items so_far whole (rw vertex at c.cut_length.ensures.cut) (rw vertex at c.cut_length.ensures.rest))
+    rw c.split_at-cut.ensures.front (cut_ascends c.args.updates.now _ _ (take c.cut_length.result c.loop-first.rest)
+    (drop c.cut_length.result c.loop-first.rest) c.loop-first.changes.items so_far whole (rw vertex at c.cut_length.ensures.cut) (rw vertex at c.cut_length.ensures.rest))
 
 pub loop-first-preserved : goal.loop-first-preserved
 loop-first-preserved c =
@@ -19,8 +20,10 @@ loop-first-preserved c =
     let so_far = subst (λ ds. AreCutSoFar c.args.updates.now ds c.loop-first.changes.items) is c.loop-first.invariant in
     let whole = sym is ∙ sym (take-append-drop c.cut_length.result c.loop-first.rest) in
     let vertex = c.vertex-block.ensures.value in
-    let more = cut_more c.args.updates.now _ _ (take c.cut_length.result c.loop-first.rest) (drop c.cut_length.result c.loop-first.rest) c.loop-first.changes.items so_far whole (rw vertex at c.cut_length.ensures.cut) (rw vertex at c.cut_length.ensures.rest) in
-    rw (c.in_ok-push.ensures.items, c.split_at-cut.ensures.back, vertex) (more c.new.result (c.new.ensures.updates ∙ c.split_at-cut.ensures.front) (omega (arith, vertex, c.vertex-block.ensures.small)))
+    let more = cut_more c.args.updates.now _ _ (take c.cut_length.result c.loop-first.rest) (drop c.cut_length.result c.loop-first.rest) c.loop-first.changes.items so_far whole
+    (rw vertex at c.cut_length.ensures.cut) (rw vertex at c.cut_length.ensures.rest) in
+    rw (c.in_ok-push.ensures.items, c.split_at-cut.ensures.back, vertex) (more c.new.result (c.new.ensures.updates ∙ c.split_at-cut.ensures.front)
+    (omega (arith, vertex, c.vertex-block.ensures.small)))
 
 pub returns : goal.returns
 returns c = cut_all c.args.updates.now c.loop-first.rest c.loop-first.changes.items c.loop-first.invariant (ap length c.in_default.ensures)

@@ -9,10 +9,12 @@ loop-count-preserved c =
     let at = c.vertex.ensures.value ∙ ap vertex_of (c.update.ensures (c.update.result, pos 0)) in
     record {
       bounded = omega (arith, c.loop-count-test.true, c.len.ensures);
-      cut = cut_longer c.args.block c.args.updates.now c.loop-count.count (c.update.result, pos 0) (omega (arith, c.loop-count-test.true, c.len.ensures)) (sym (ap (λ v. v / 64) at) ∙ c.if-vertex-block.false) c.loop-count.invariant.cut;
+      cut = cut_longer c.args.block c.args.updates.now c.loop-count.count (c.update.result, pos 0) (omega (arith, c.loop-count-test.true, c.len.ensures))
+      (sym (ap (λ v. v / 64) at) ∙ c.if-vertex-block.false) c.loop-count.invariant.cut;
     }
 
 pub returns-then-vertex-block-clause-rest : goal.returns-then-vertex-block-clause-rest
 returns-then-vertex-block-clause-rest c =
     let at = c.vertex.ensures.value ∙ ap vertex_of (c.update.ensures (c.update.result, pos 0)) in
-    begins_elsewhere c.args.block c.args.updates.now c.loop-count.count (c.update.result, pos 0) (omega (arith, c.loop-count-test.true, c.len.ensures)) (λ same. c.if-vertex-block.true (ap (λ v. v / 64) at ∙ same))
+    begins_elsewhere c.args.block c.args.updates.now c.loop-count.count (c.update.result, pos 0) (omega (arith, c.loop-count-test.true, c.len.ensures))
+    (λ same. c.if-vertex-block.true (ap (λ v. v / 64) at ∙ same))

@@ -12,5 +12,6 @@ returns c =
     record {
       map = c.in_ok-lower.ensures;
       cut = rw (c.split_at-block.ensures.front, c.split_at-block.ensures.back, c.split_at-below.ensures.front, back)
-          (cut_around c.args.updates.now c.count_below.result c.cut_length.result _ (c.vertex-number.result / 64) _ _ c.requires c.count_below.ensures.below c.count_below.ensures.rest is (ap (λ v. v / 64) c.vertex-number.ensures.value) (omega (arith, c.vertex-number.ensures.small)) cut rest);
+          (cut_around c.args.updates.now c.count_below.result c.cut_length.result _ (c.vertex-number.result / 64) _ _ c.requires c.count_below.ensures.below c.count_below.ensures.rest is
+          (ap (λ v. v / 64) c.vertex-number.ensures.value) (omega (arith, c.vertex-number.ensures.small)) cut rest);
     }

@@ -12,7 +12,8 @@ returns-in_default c =
 
 pub returns-then-is_empty : goal.returns-then-is_empty
 returns-then-is_empty c =
-    in_block c.args.vertex c.args.tree.now.entries c.requires ∙ ap (λ o. neighbours_of (c.args.vertex % 64) (vertices_at o)) (sym c.in-Some.ensures) ∙ sym c.neighbours-neighbours.ensures ∙ c.is_empty.ensures.0 c.if-is_empty.true
+    in_block c.args.vertex c.args.tree.now.entries c.requires ∙ ap (λ o. neighbours_of (c.args.vertex % 64) (vertices_at o)) (sym c.in-Some.ensures) ∙ sym c.neighbours-neighbours.ensures
+    ∙ c.is_empty.ensures.0 c.if-is_empty.true
 
 pub returns : goal.returns
 returns c =

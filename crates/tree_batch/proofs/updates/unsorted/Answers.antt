@@ -25,7 +25,8 @@ loop-entry-preserved c =
             room = omega (arith, ap (λ v. vec_capacity v) w.updates-is, w.push_reserved.ensures.capacity, known.room);
           }
       | in_default w ↦ record {
-        same = decided_more entries index _ (weighted before.items []) (weighted after.items []) None c.loop-entry-test.true w.in_default.ensures (ap (λ v. weighted v.items []) w.updates-is ∙ sym (append-nil (weighted before.items []))) known.same;
+        same = decided_more entries index _ (weighted before.items []) (weighted after.items []) None c.loop-entry-test.true w.in_default.ensures
+        (ap (λ v. weighted v.items []) w.updates-is ∙ sym (append-nil (weighted before.items []))) known.same;
         len = omega (arith, ap (λ v. vec_len v) w.updates-is, known.len);
         room = omega (arith, ap (λ v. vec_capacity v) w.updates-is, known.room);
       }

@@ -37,5 +37,6 @@ returns c =
     c.function_is.result c.in_ok-open.ensures.opened
     (reports_then (λ _. declared_of c.function_is.new.declared) c.open.new.first_fault c.steps.new.first_fault new (steps_typed inner NoStep body) (b, last)
     (λ b. function_declared (record d { checker = with_scope b.1 scope }) kind c.args.written.name.now b.0) c.function_is.result c.in_ok-steps.ensures.typed
-    (subst (λ s. ReportsFaults (λ _. declared_of c.function_is.new.declared) c.steps.new.first_fault new c.function_is.result (function_declared (record d { checker = with_scope last s }) kind c.args.written.name.now b))
+    (subst (λ s. ReportsFaults (λ _. declared_of c.function_is.new.declared) c.steps.new.first_fault new c.function_is.result
+    (function_declared (record d { checker = with_scope last s }) kind c.args.written.name.now b))
     again c.function_is.ensures)))

@@ -31,7 +31,8 @@ returns c =
     let again = c.leave.ensures ∙ ap (λ m. left m c.statements.new.checker.scope) c.mark-mark.ensures.mark ∙ left_again scope c.statements.new.checker.scope kept in
     outcome_then c.args.first_fault.now c.open.new.first_fault (opened (restarted d.checker) (MainKind fits) ps r) inner
     (λ k. statements_typed k Empty body >>= λ b. declare_name (record d { checker = with_scope b.1 scope }) name entity.Main >>= λ e. sure (with_main e fits b.0))
-    (subst (λ n. outcome c.args.first_fault.now (opened (record d.checker { statements = n }) (MainKind fits) ps r) ≡ (inner, c.open.new.first_fault)) (ap length c.new.ensures.items) c.in_ok-open.ensures.opened)
+    (subst (λ n. outcome c.args.first_fault.now (opened (record d.checker { statements = n }) (MainKind fits) ps r) ≡ (inner, c.open.new.first_fault))
+    (ap length c.new.ensures.items) c.in_ok-open.ensures.opened)
     ∙ outcome_then c.open.new.first_fault c.statements.new.first_fault (statements_typed inner Empty body) (b, last)
     (λ b. declare_name (record d { checker = with_scope b.1 scope }) name entity.Main >>= λ e. sure (with_main e fits b.0)) c.in_ok-body.ensures.typed
     ∙ outcome_then c.statements.new.first_fault c.name_is.new.first_fault (declare_name (record d { checker = with_scope last scope }) name entity.Main) e (λ e. sure (with_main e fits b))

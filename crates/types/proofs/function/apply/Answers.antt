@@ -21,6 +21,7 @@ returns c =
     let new = c.read_apply-apply.new.first_fault in
     subst (λ at. outcome c.args.first_fault.now (no_apply scope at c.args.target.now ends c.args.function.now) ≡ (function_statement_tree c.wrong-step.result, new)) c.at-at.ensures
     (outcome_then c.args.first_fault.now between (fault_at at rule.WrongType no_step) no_step
-    (λ s. used scope c.args.target.now >>= λ t. end_of scope ends.from >>= λ a. end_of scope ends.to >>= λ b. used scope c.args.function.now >>= λ f. sure s) (ap (λ n. (no_step, n)) (sym c.wrong-step.ensures.first_fault))
+    (λ s. used scope c.args.target.now >>= λ t. end_of scope ends.from >>= λ a. end_of scope ends.to >>= λ b. used scope c.args.function.now >>= λ f. sure s)
+    (ap (λ n. (no_step, n)) (sym c.wrong-step.ensures.first_fault))
     ∙ apply_then scope c.args.target.now ends c.args.function.now between new (apply_tree c.read_apply-apply.result) (λ a. sure no_step) c.read_apply-apply.ensures
     ∙ ap (λ s. (s, new)) (sym c.wrong-step.ensures.step))

@@ -17,7 +17,10 @@ returns c =
     let at = c.at-at.result in
     let e = c.entity-entity.result in
     let initializer = initializer_tree c.in_ok-initializer.initializer in
-    subst (λ at. outcome c.args.first_fault.now (assign_step checker at c.args.name.now (initial_tree c.args.initial.now)) ≡ (function_statement_tree c.assign_initializer.result, c.assign_initializer.new.first_fault)) c.at-at.ensures
-    (outcome_then c.args.first_fault.now c.entity-entity.new.first_fault (used checker.scope c.args.name.now) e (λ e. initializer_of checker at (initial_tree c.args.initial.now) >>= λ initializer. assigned_step at initializer e) c.entity-entity.ensures
-    ∙ outcome_then c.entity-entity.new.first_fault c.read_initial.new.first_fault (initializer_of checker at (initial_tree c.args.initial.now)) initializer (λ initializer. assigned_step at initializer e) c.in_ok-initializer.ensures
+    subst (λ at. outcome c.args.first_fault.now (assign_step checker at c.args.name.now (initial_tree c.args.initial.now)) ≡
+    (function_statement_tree c.assign_initializer.result, c.assign_initializer.new.first_fault)) c.at-at.ensures
+    (outcome_then c.args.first_fault.now c.entity-entity.new.first_fault (used checker.scope c.args.name.now) e
+    (λ e. initializer_of checker at (initial_tree c.args.initial.now) >>= λ initializer. assigned_step at initializer e) c.entity-entity.ensures
+    ∙ outcome_then c.entity-entity.new.first_fault c.read_initial.new.first_fault (initializer_of checker at (initial_tree c.args.initial.now)) initializer
+    (λ initializer. assigned_step at initializer e) c.in_ok-initializer.ensures
     ∙ c.assign_initializer.ensures)

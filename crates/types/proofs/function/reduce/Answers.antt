@@ -14,7 +14,9 @@ returns c =
     let at = c.at-at.result in
     let n = c.entity-entity.result in
     let v = value_tree c.in_ok-value.value in
-    subst (λ at. outcome c.args.first_fault.now (reduce_step scope at c.args.name.now c.args.by c.args.value.now) ≡ (function_statement_tree c.reduce_value.result, c.reduce_value.new.first_fault)) c.at-at.ensures
-    (outcome_then c.args.first_fault.now c.entity-entity.new.first_fault (used scope c.args.name.now) n (λ n. value_of scope at c.args.value.now >>= λ v. reduced_step at c.args.by v n) c.entity-entity.ensures
+    subst (λ at. outcome c.args.first_fault.now (reduce_step scope at c.args.name.now c.args.by c.args.value.now) ≡
+    (function_statement_tree c.reduce_value.result, c.reduce_value.new.first_fault)) c.at-at.ensures
+    (outcome_then c.args.first_fault.now c.entity-entity.new.first_fault (used scope c.args.name.now) n
+    (λ n. value_of scope at c.args.value.now >>= λ v. reduced_step at c.args.by v n) c.entity-entity.ensures
     ∙ outcome_then c.entity-entity.new.first_fault c.type_expression.new.first_fault (value_of scope at c.args.value.now) v (λ v. reduced_step at c.args.by v n) c.in_ok-value.ensures
     ∙ c.reduce_value.ensures)

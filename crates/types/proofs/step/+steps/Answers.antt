@@ -22,7 +22,8 @@ use Rattle.types.proofs.step.+steps.Goals as goal
 pub tested-returns-in_ok-_body-in-While-clause-typed : goal.tested-returns-in_ok-_body-in-While-clause-typed
 tested-returns-in_ok-_body-in-While-clause-typed t c =
     while_step (checker_of c.args.checker.now) (checker_of c.inner.new.checker) c.args.action.now c.in-While.at c.in-While.test c.in-While.body c.deref.result.now
-    (bool_expression_tree c.in_ok-_test-in-While._test) (function_statements_tree c.in_ok-_body-in-While._body.items) c.args.first_fault.now c.wrong-step.new.first_fault c.condition.new.first_fault c.inner.new.first_fault
+    (bool_expression_tree c.in_ok-_test-in-While._test)
+    (function_statements_tree c.in_ok-_body-in-While._body.items) c.args.first_fault.now c.wrong-step.new.first_fault c.condition.new.first_fault c.inner.new.first_fault
     c.deref.ensures.value c.in-While.is c.wrong-step.ensures.first_fault c.in_ok-_test-in-While.ensures c.in_ok-_body-in-While.ensures.typed
     ∙ ap (λ s. ((s, checker_of c.inner.new.checker), c.inner.new.first_fault)) (sym c.wrong-step.ensures.step)
 

@@ -15,7 +15,8 @@ returns-then-not-locate-clause-fit c = λ no start before fit.
     let ls = c.names.locations in
     let names = c.as_slice-names.result.now in
     let e : names ≡ get_or groups k [] = c.as_slice-names.ensures ∙ get_or_read groups k c.index-groups-k.result c.requires c.index-groups-k.is [] in
-    let size : vertices ≡ vertices_of start (get_or groups k []) = c.vertices_of-vertices.ensures ∙ same_vertices start groups k 0 c.args.locations.now before (get_or names 0 0) ∙ ap (vertices_of start) e in
+    let size : vertices ≡ vertices_of start (get_or groups k []) = c.vertices_of-vertices.ensures ∙ same_vertices start groups k 0 c.args.locations.now before (get_or names 0 0)
+    ∙ ap (vertices_of start) e in
     let Inside : List ℕ → Type 0 = λ ns. j < length ns in
     let Free : List ℕ → Type 0 = λ ns. IsFree ls (get_or ns j 0) vertices in
     let free = unfit start groups k j vertices ls (c.names.invariant.located start before) c.requires (subst Inside e c.names-test.true) size fit in
@@ -31,7 +32,8 @@ names-preserved c = record {
       let ls = c.names.locations in
       let names = c.as_slice-names.result.now in
       let e : names ≡ get_or groups k [] = c.as_slice-names.ensures ∙ get_or_read groups k c.index-groups-k.result c.requires c.index-groups-k.is [] in
-      let size : vertices ≡ vertices_of start (get_or groups k []) = c.vertices_of-vertices.ensures ∙ same_vertices start groups k 0 c.args.locations.now before (get_or names 0 0) ∙ ap (vertices_of start) e in
+      let size : vertices ≡ vertices_of start (get_or groups k []) = c.vertices_of-vertices.ensures ∙ same_vertices start groups k 0 c.args.locations.now before (get_or names 0 0)
+      ∙ ap (vertices_of start) e in
       let Inside : List ℕ → Type 0 = λ ns. j < length ns in
       let Free : List ℕ → Type 0 = λ ns. IsFree ls (get_or ns j 0) vertices in
       let more = one_more start groups k j vertices ls (c.names.invariant.located start before) (subst Inside e c.names-test.true) size (subst Free e (c.if-not-locate.ensures.free refl)) in

@@ -56,7 +56,8 @@ push_updated-requires-clause-ready c =
     let us = c.args.updates.now in
     let old = option_copied c.args.old in
     let first = first_vertex l.low v (c.in-Some.first, c.in-Some.ensures.0) c.in-Some.ensures.1 l.rest (ap (λ w. w % 64) c.vertex-vertex.ensures.value) c.in-Some.ensures.2 l.invariant.coming in
-    some_then (option_copied c.args.ready) _ _ (λ r h at. h ∙ ap (list_after us old) at ∙ sym (updated_at us old l.low v l.rest c.split_at-run.result.0 first.0 l.invariant.passed (c.split_at-run.ensures.front ∙ c.run_length.ensures.run))) c.requires.ready
+    some_then (option_copied c.args.ready) _ _ (λ r h at. h ∙ ap (list_after us old) at
+    ∙ sym (updated_at us old l.low v l.rest c.split_at-run.result.0 first.0 l.invariant.passed (c.split_at-run.ensures.front ∙ c.run_length.ensures.run))) c.requires.ready
 
 pub loop-first-preserved : goal.loop-first-preserved
 loop-first-preserved c =
@@ -68,7 +69,8 @@ loop-first-preserved c =
     let carried = c.in_ok-carry.ensures (list_after us old) l.invariant.built (kept_to us old l.low v l.rest first.2 l.invariant.passed) in
     record {
       low = omega (arith, first.1);
-      built = built_put (list_after us old) v (updated (neighbours_of v (vertices_at old)) c.split_at-run.result.0) _ _ _ _ carried c.in_ok-push_updated.ensures (updated_at us old l.low v l.rest c.split_at-run.result.0 first.0 l.invariant.passed (c.split_at-run.ensures.front ∙ c.run_length.ensures.run));
+      built = built_put (list_after us old) v (updated (neighbours_of v (vertices_at old)) c.split_at-run.result.0) _ _ _ _ carried c.in_ok-push_updated.ensures
+      (updated_at us old l.low v l.rest c.split_at-run.result.0 first.0 l.invariant.passed (c.split_at-run.ensures.front ∙ c.run_length.ensures.run));
       coming = rw c.split_at-run.ensures.back c.run_length.ensures.rest;
       passed = λ u ge.
           let other : u ≢ v = omega arith in

@@ -21,7 +21,8 @@ loop-index-preserved c =
       | then-is_added+in_ok-push w ↦
           let fits : SFits w64 w.weight.result = search rules in
           let read : to_z w64 (of_z w64 w.weight.result) ≡ v = to_z-of_z w64 w.weight.result fits ∙ w.weight.ensures no_update in
-          rw w.added-is (next_added cs l.index u v lt pair l.added w.push.new.self (sym c.is_added.ensures ∙ w.if-is_added.true) (w.in_ok-push.ensures ∙ ap (λ n. l.added ++ (n, to_z w64 (of_z w64 w.weight.result)) ∷ []) w.neighbour.ensures.value ∙ ap (λ x. l.added ++ (neighbour_of u, x) ∷ []) read) l.invariant)
+          rw w.added-is (next_added cs l.index u v lt pair l.added w.push.new.self (sym c.is_added.ensures ∙ w.if-is_added.true)
+          (w.in_ok-push.ensures ∙ ap (λ n. l.added ++ (n, to_z w64 (of_z w64 w.weight.result)) ∷ []) w.neighbour.ensures.value ∙ ap (λ x. l.added ++ (neighbour_of u, x) ∷ []) read) l.invariant)
       | else-is_added w ↦ rw w.added-is (none_added cs l.index u v lt pair l.added (sym c.is_added.ensures ∙ w.if-is_added.false) l.invariant)
     ]
 

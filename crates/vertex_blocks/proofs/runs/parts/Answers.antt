@@ -21,7 +21,8 @@ returns-clause-added_ascend c = rw (returns-clause-added c) (added_ascend 0 c.ar
 
 pub returns-clause-removed_ascend : goal.returns-clause-removed_ascend
 returns-clause-removed_ascend c =
-    rw (parted_end c.loop-index.index removed_in c.args.updates.now c.loop-index.removed.items refl (omega (arith, c.loop-index-test.false, c.len-index-end.ensures)) c.loop-index.invariant.removed) (removed_ascend 0 c.args.updates.now c.requires)
+    rw (parted_end c.loop-index.index removed_in c.args.updates.now c.loop-index.removed.items refl (omega (arith, c.loop-index-test.false, c.len-index-end.ensures)) c.loop-index.invariant.removed)
+    (removed_ascend 0 c.args.updates.now c.requires)
 
 pub loop-index-preserved : goal.loop-index-preserved
 loop-index-preserved c =
@@ -52,6 +53,7 @@ loop-index-preserved c =
           rw (w.added-is, w.weights-is, w.removed-is) (record {
             columns = l.invariant.columns;
             added = none_added cs l.index u v lt pair (zip ks ws) isnt l.invariant.added;
-            removed = next_removed cs l.index u v lt pair l.removed.items w.push-else-is_added.new.self.items isnt (w.in_ok-push-3.ensures.items ∙ ap (λ n. l.removed.items ++ n ∷ []) c.neighbour-neighbour.ensures.value) l.invariant.removed;
+            removed = next_removed cs l.index u v lt pair l.removed.items w.push-else-is_added.new.self.items isnt
+            (w.in_ok-push-3.ensures.items ∙ ap (λ n. l.removed.items ++ n ∷ []) c.neighbour-neighbour.ensures.value) l.invariant.removed;
           })
     ]

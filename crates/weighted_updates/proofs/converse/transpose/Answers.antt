@@ -13,12 +13,14 @@ pub returns-clause-same : goal.returns-clause-same
 returns-clause-same c u v =
     let old = c.args.updates.now.items in
     let len : length c.loop-update.update-items ≡ c.args.updates.now.len = c.loop-update.auto.update-items ∙ c.deref_mut-update-items.ensures.len in
-    let all = transposed_all old c.loop-update.update-items (drop (length c.loop-update.update-items) old) c.loop-update.update-index c.args.updates.now.len c.loop-update.invariant (omega arith) len in
+    let all = transposed_all old c.loop-update.update-items (drop (length c.loop-update.update-items) old) c.loop-update.update-index c.args.updates.now.len c.loop-update.invariant
+    (omega arith) len in
     weights_transposed old _ u v all
 
 pub returns-clause-once : goal.returns-clause-once
 returns-clause-once c once =
     let old = c.args.updates.now.items in
     let len : length c.loop-update.update-items ≡ c.args.updates.now.len = c.loop-update.auto.update-items ∙ c.deref_mut-update-items.ensures.len in
-    let all = transposed_all old c.loop-update.update-items (drop (length c.loop-update.update-items) old) c.loop-update.update-index c.args.updates.now.len c.loop-update.invariant (omega arith) len in
+    let all = transposed_all old c.loop-update.update-items (drop (length c.loop-update.update-items) old) c.loop-update.update-index c.args.updates.now.len c.loop-update.invariant
+    (omega arith) len in
     weighted_once old _ all once

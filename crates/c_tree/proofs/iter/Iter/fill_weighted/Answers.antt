@@ -30,7 +30,8 @@ loop-filled-preserved c =
     let one : IsFilled key_of (l.filled + 1) whole (tail ++ next) c.args.keys.now keys =
     filled_one key_of l.filled whole (head, weight) (tail ++ next) c.args.keys.now l.keys keys (rw list at l.invariant.keys) c.loop-filled-test.true refl in
     let other : IsFilled weight_of (l.filled + 1) whole (tail ++ next) c.args.weights.now weights =
-    filled_one weight_of l.filled whole (head, weight) (tail ++ next) c.args.weights.now l.weights weights (rw list at l.invariant.weights) (omega (arith, l.invariant.columns, c.loop-filled-test.true)) refl in
+    filled_one weight_of l.filled whole (head, weight) (tail ++ next) c.args.weights.now l.weights weights (rw list at l.invariant.weights)
+    (omega (arith, l.invariant.columns, c.loop-filled-test.true)) refl in
     let round : to_z w64 (of_z w64 c.weight.result) ≡ c.weight.result = search rules in
     let value : to_z w64 (of_z w64 c.weight.result) ≡ weight = round ∙ c.weight.ensures in
     let from : c.iter-self-inside.result ≡ tail = search rules in

@@ -15,7 +15,8 @@ joined-requires c =
     let p = c.into_parts-prefix.result in
     let q = c.into_parts-between.result in
     let is : c.new-at_head.result ≡ head_value c.args.weight (based_list (Some c.args.key) q.0.entries) = search rules in
-    joined_map p.2 q.2 p.0 p.1 c.args.key c.args.weight q.0 q.1 c.into_parts-prefix.ensures.part c.into_parts-between.ensures.part c.args.self c.args.other c.into_parts-prefix.ensures.whole c.into_parts-between.ensures.whole c.requires.sizes c.requires.head c.requires.ascending c.new-at_head.result is
+    joined_map p.2 q.2 p.0 p.1 c.args.key c.args.weight q.0 q.1 c.into_parts-prefix.ensures.part c.into_parts-between.ensures.part c.args.self c.args.other c.into_parts-prefix.ensures.whole
+    c.into_parts-between.ensures.whole c.requires.sizes c.requires.head c.requires.ascending c.new-at_head.result is
 
 pub new-requires : goal.new-requires
 new-requires c =
@@ -23,7 +24,8 @@ new-requires c =
     let q = c.into_parts-between.result in
     let is : c.new-at_head.result ≡ head_value c.args.weight (based_list (Some c.args.key) q.0.entries) = search rules in
     let all : c.in_ok-chunks.chunks.entries ≡ p.1.entries ++ (c.args.key, c.new-at_head.result) ∷ q.1.entries = search rules in
-    joined_part p.2 q.2 p.0 p.1 c.args.key c.args.weight q.0 q.1 c.into_parts-prefix.ensures.part c.into_parts-between.ensures.part c.args.self c.args.other c.into_parts-prefix.ensures.whole c.into_parts-between.ensures.whole c.requires.sizes c.requires.head c.requires.ascending c.new-at_head.result is c.in_ok-chunks.chunks.entries all
+    joined_part p.2 q.2 p.0 p.1 c.args.key c.args.weight q.0 q.1 c.into_parts-prefix.ensures.part c.into_parts-between.ensures.part c.args.self c.args.other c.into_parts-prefix.ensures.whole
+    c.into_parts-between.ensures.whole c.requires.sizes c.requires.head c.requires.ascending c.new-at_head.result is c.in_ok-chunks.chunks.entries all
 
 pub returns : goal.returns
 returns c =
@@ -31,4 +33,5 @@ returns c =
     let q = c.into_parts-between.result in
     let is : c.new-at_head.result ≡ head_value c.args.weight (based_list (Some c.args.key) q.0.entries) = search rules in
     let all : c.in_ok-chunks.chunks.entries ≡ p.1.entries ++ (c.args.key, c.new-at_head.result) ∷ q.1.entries = search rules in
-    joined_whole p.2 q.2 p.0 p.1 c.args.key c.args.weight q.0 q.1 c.into_parts-prefix.ensures.part c.into_parts-between.ensures.part c.args.self c.args.other c.into_parts-prefix.ensures.whole c.into_parts-between.ensures.whole c.requires.sizes c.requires.head c.requires.ascending c.new-at_head.result is c.new.result c.in_ok-chunks.chunks c.new.ensures all
+    joined_whole p.2 q.2 p.0 p.1 c.args.key c.args.weight q.0 q.1 c.into_parts-prefix.ensures.part c.into_parts-between.ensures.part c.args.self c.args.other c.into_parts-prefix.ensures.whole
+    c.into_parts-between.ensures.whole c.requires.sizes c.requires.head c.requires.ascending c.new-at_head.result is c.new.result c.in_ok-chunks.chunks c.new.ensures all

@@ -14,7 +14,8 @@ concatenated-requires c =
     let p = c.into_parts-prefix.result in
     let q = c.into_parts-between.result in
     let is : IsSetOf (c.args.self.entries ++ q.0.entries) c.args.self.chunk_size c.in_ok-front.front = search rules in
-    two_map p.2 q.2 p.0 p.1 q.0 q.1 c.into_parts-prefix.ensures.part c.into_parts-between.ensures.part c.args.self c.args.other c.in_ok-front.front c.into_parts-between.ensures.whole c.requires.sizes c.requires.ascending c.into_parts-prefix.ensures.whole is
+    two_map p.2 q.2 p.0 p.1 q.0 q.1 c.into_parts-prefix.ensures.part c.into_parts-between.ensures.part c.args.self c.args.other c.in_ok-front.front c.into_parts-between.ensures.whole c.requires.sizes
+    c.requires.ascending c.into_parts-prefix.ensures.whole is
 
 pub new-requires : goal.new-requires
 new-requires c =
@@ -22,7 +23,8 @@ new-requires c =
     let q = c.into_parts-between.result in
     let is : IsSetOf (c.args.self.entries ++ q.0.entries) c.args.self.chunk_size c.in_ok-front.front = search rules in
     let all : c.in_ok-chunks.chunks.entries ≡ p.1.entries ++ q.1.entries = search rules in
-    two_part p.2 q.2 p.0 p.1 q.0 q.1 c.into_parts-prefix.ensures.part c.into_parts-between.ensures.part c.args.self c.args.other c.in_ok-front.front c.into_parts-between.ensures.whole c.requires.sizes c.requires.ascending c.into_parts-prefix.ensures.whole is c.in_ok-chunks.chunks.entries all
+    two_part p.2 q.2 p.0 p.1 q.0 q.1 c.into_parts-prefix.ensures.part c.into_parts-between.ensures.part c.args.self c.args.other c.in_ok-front.front c.into_parts-between.ensures.whole c.requires.sizes
+    c.requires.ascending c.into_parts-prefix.ensures.whole is c.in_ok-chunks.chunks.entries all
 
 pub returns : goal.returns
 returns c =
@@ -30,4 +32,5 @@ returns c =
     let q = c.into_parts-between.result in
     let is : IsSetOf (c.args.self.entries ++ q.0.entries) c.args.self.chunk_size c.in_ok-front.front = search rules in
     let all : c.in_ok-chunks.chunks.entries ≡ p.1.entries ++ q.1.entries = search rules in
-    two_whole p.2 q.2 p.0 p.1 q.0 q.1 c.into_parts-prefix.ensures.part c.into_parts-between.ensures.part c.args.self c.args.other c.in_ok-front.front c.into_parts-between.ensures.whole c.requires.sizes c.requires.ascending c.into_parts-prefix.ensures.whole is c.new.result c.in_ok-chunks.chunks c.new.ensures all
+    two_whole p.2 q.2 p.0 p.1 q.0 q.1 c.into_parts-prefix.ensures.part c.into_parts-between.ensures.part c.args.self c.args.other c.in_ok-front.front c.into_parts-between.ensures.whole
+    c.requires.sizes c.requires.ascending c.into_parts-prefix.ensures.whole is c.new.result c.in_ok-chunks.chunks c.new.ensures all

@@ -12,7 +12,8 @@ zip_columns [] = refl
 zip_columns (e ∷ es) = ap (λ v. e ∷ v) (zip_columns es)
 
 -- columns that were filled as far as they go
-whole : (es : List (ℕ × ℤ)) (n : ℕ) (keys : List ℕ) (weights : List ℤ) → n ≡ length es → length keys ≡ n → length weights ≡ n → take n keys ≡ take n (keys_of es) → take n weights ≡ take n (values_of es) → zip keys weights ≡ es
+whole : (es : List (ℕ × ℤ)) (n : ℕ) (keys : List ℕ) (weights : List ℤ) → n ≡ length es → length keys ≡ n → length weights ≡ n → take n keys ≡ take n (keys_of es)
+    → take n weights ≡ take n (values_of es) → zip keys weights ≡ es
 whole es n keys weights all long long' front front' =
     let is : keys ≡ keys_of es = sym (take_all n keys (omega (arith, long))) ∙ front ∙ take_all n (keys_of es) (omega (arith, all, length-keys_of es)) in
     let is' : weights ≡ values_of es = sym (take_all n weights (omega (arith, long'))) ∙ front' ∙ take_all n (values_of es) (omega (arith, all, length-values_of es)) in

@@ -20,7 +20,8 @@ pub loop-below-preserved : goal.loop-below-preserved
 loop-below-preserved c =
     let l = c.loop-below in
     let p = c.in-Some in
-    rw c.tail-tail.ensures (turn_right c.args.key c.args.self.now.entries l.tail.now l.chunks.now p.below.now p.head p.at_head.now p.above.now p.ensures l.invariant (omega (arith, c.if-key-head.false, c.if-key-head-2.false)))
+    rw c.tail-tail.ensures (turn_right c.args.key c.args.self.now.entries l.tail.now l.chunks.now p.below.now p.head p.at_head.now p.above.now p.ensures l.invariant
+    (omega (arith, c.if-key-head.false, c.if-key-head-2.false)))
 
 pub returns-then-key-head : goal.returns-then-key-head
 returns-then-key-head c =

@@ -60,17 +60,20 @@ module _ {M : Type 1} {𝓤 : Ura M} (𝓛 : Logic 𝓤) (at_mem : Memory → SP
   abbrev Post : Val → SProp 𝓤
   Post = (walk_of 𝓛 f.ended stayed (f.clauses 𝓛 at_mem run)).post (((κ, (κ', tt)), (q, (q', tt)), tt, x, at), tt)
 
-  exits : ent 𝓤 (sep 𝓤 (A.obs γ (account.the_row.coded.code new)) (sep 𝓤 (A.bor κ (Body (mem account.the_row) b o γ)) (sep 𝓤 (A.lft κ q) (sep 𝓤 (sem 𝓛 rest) (sep 𝓤 (A.lft κ' q') (emp 𝓤)))))) (Post vunit)
+  exits : ent 𝓤 (sep 𝓤 (A.obs γ (account.the_row.coded.code new)) (sep 𝓤 (A.bor κ (Body (mem account.the_row) b o γ)) (sep 𝓤 (A.lft κ q) (sep 𝓤 (sem 𝓛 rest) (sep 𝓤 (A.lft κ' q') (emp 𝓤))))))
+      (Post vunit)
   exits =
       qed 𝓛 (‵ (fobs γ (account.the_row.coded.code new)) ∷ ‵ (fbor κ (Body (mem account.the_row) b o γ)) ∷ ‵ (flft κ q) ∷ ‵ rest ∷ (‵ (flft κ' q') ⊛ ‵ ftrue) ∷ []) ∵
-      suffices ! _ (ends_at 𝓛 f.ended stayed (f.clauses 𝓛 at_mem run) (((κ, (κ', tt)), (q, (q', tt)), tt, x, at), tt) vunit tt (new, (tt, tt)) (tt, (tt, tt))) $ says_both ! refl refl $ move ! (2 ∷ 4 ∷ []) $ join ! $
+      suffices ! _ (ends_at 𝓛 f.ended stayed (f.clauses 𝓛 at_mem run) (((κ, (κ', tt)), (q, (q', tt)), tt, x, at), tt) vunit tt (new, (tt, tt)) (tt, (tt, tt))) $ says_both ! refl refl $ move !
+      (2 ∷ 4 ∷ []) $ join ! $
       frame ! $ feq_i ! (List Val) (vptr b o ∷ []) (vptr b o ∷ []) refl $ fjoin3 ! $ fjoin ! $
       feq_i ! (List Val) (vunit ∷ []) (vunit ∷ []) refl $ move ! (1 ∷ 0 ∷ []) $ done !
 
   module _ (C : Calls 𝓤 H) (Λ : Loops 𝓤 H) where
     walk : length s.now < 2 ^ 64 → ent 𝓤 (on_entry 𝓛 f.signature (κ, (κ', tt)) (q, (q', tt)) x at) (WpFn 𝓤 H C Λ code.function (vptr b o ∷ slice_val s.ref_ptr (length s.now) ∷ []) Post)
     walk fits =
-        qed 𝓛 ((‵ (flft κ q) ⊛ (‵ (flft κ' q') ⊛ ‵ ftrue)) ∷ ‵ (owns (MutRef (named 0) κ account.the_row ∷ ShrSlice (named 1) κ' u8 ∷ []) x at) ∷ []) ∵ split ! $ move ! (2 ∷ []) $ fsplit ! $ fsplit3 ! $ drop ! $ move ! (0 ∷ 1 ∷ 3 ∷ []) $
+        qed 𝓛 ((‵ (flft κ q) ⊛ (‵ (flft κ' q') ⊛ ‵ ftrue)) ∷ ‵ (owns (MutRef (named 0) κ account.the_row ∷ ShrSlice (named 1) κ' u8 ∷ []) x at) ∷ []) ∵ split ! $ move !
+        (2 ∷ []) $ fsplit ! $ fsplit3 ! $ drop ! $ move ! (0 ∷ 1 ∷ 3 ∷ []) $
         enter ! C Λ code.function (vptr b o ∷ slice_val s.ref_ptr (length s.now) ∷ []) _ $
         alloc_all ! (λ l. pass_all ! refl ((tt, tt), ((tt, (tt, (record { fits = fits }, tt))), tt)) $
         move ! (0 ∷ 1 ∷ 2 ∷ []) $ opens ! tt account.the_row {h = old} b o (λ vs.
@@ -83,7 +86,8 @@ module _ {M : Type 1} {𝓤 : Ura M} (𝓛 : Logic 𝓤) (at_mem : Memory → SP
   open 𝓛 use {H}
 
   walks : (C : Calls 𝓤 H) (Λ : Loops 𝓤 H) → Walks 𝓛 f.ended stayed (WpFn 𝓤 H C Λ code.function) (f.clauses 𝓛 at_mem run)
-  walks C Λ = walked 𝓛 f.ended stayed (f.clauses 𝓛 at_mem run) (WpFn 𝓤 H C Λ code.function) (λ κs. (mut_vals, (shr_slice_vals, tt))) (λ κs. (mut_Tells (named 0) κs.0 account.the_row, (shr_slice_Tells (named 1) κs.1.0 u8, tt)))
+  walks C Λ = walked 𝓛 f.ended stayed (f.clauses 𝓛 at_mem run) (WpFn 𝓤 H C Λ code.function) (λ κs. (mut_vals, (shr_slice_vals, tt)))
+      (λ κs. (mut_Tells (named 0) κs.0 account.the_row, (shr_slice_Tells (named 1) κs.1.0 u8, tt)))
       (λ κs qs bounds a _ are. via 𝓤 _ (fst∗ 𝓤 _ (emp 𝓤)) (walk 𝓛 at_mem run κs.0 κs.1.0 qs.0 qs.1.0 a.0.ref_ptr.0 a.0.ref_ptr.1 a.0.ghost_name a.0.now a.1.0 C Λ are.1.0.0.1.0))
 
   goes : AllGo 𝓛 2 (f.signature).params (f.ended).kept stayed
@@ -91,7 +95,8 @@ module _ {M : Type 1} {𝓤 : Ura M} (𝓛 : Logic 𝓤) (at_mem : Memory → SP
 
 meets : {M : Type 1} {𝓤 : Ura M} (𝓛 : Logic 𝓤) → (at_mem : Memory → SProp 𝓤) (run : Routine → Fun 𝓤) (𝓣 : Tables 𝓤 𝓛.H)
     → Meets 𝓛 f.signature (WpFn 𝓤 𝓛.H 𝓣.C 𝓣.Λ code.function) (f.spec 𝓛 at_mem run)
-meets {𝓤 = 𝓤} 𝓛 at_mem run 𝓣 = walk_Meets 𝓛 f.ended stayed (goes 𝓛 at_mem run) (f.clauses 𝓛 at_mem run) (WpFn 𝓤 𝓛.H 𝓣.C 𝓣.Λ code.function) (WpFn-mono 𝓤 𝓛.H 𝓛.laws 𝓣 code.function) (walks 𝓛 at_mem run 𝓣.C 𝓣.Λ)
+meets {𝓤 = 𝓤} 𝓛 at_mem run 𝓣 = walk_Meets 𝓛 f.ended stayed (goes 𝓛 at_mem run) (f.clauses 𝓛 at_mem run) (WpFn 𝓤 𝓛.H 𝓣.C 𝓣.Λ code.function) (WpFn-mono 𝓤 𝓛.H 𝓛.laws 𝓣 code.function)
+    (walks 𝓛 at_mem run 𝓣.C 𝓣.Λ)
 
 pub add_bytes_spec : {M : Type 1} → stated.statement M
 unfolding tables_of

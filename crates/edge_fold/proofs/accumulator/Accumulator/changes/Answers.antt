@@ -39,7 +39,8 @@ kept-preserved c =
           ∙ ap (λ (y : ℤ). items ++ change_at (λ _. y) (λ _. number) v) was
           ∙ ap (λ (y : ℤ). items ++ change_at (λ _. old v) (λ _. y) v) is
           ∙ ap (λ (cs : List EntryChange). cs ++ change_at old new v) (c.kept.invariant.found up given new here there)
-          ∙ changed_more old new next v from (λ u a b. there u (omega (arith, b, c.if-vertices-vertex.false)) (between_kept kept index next c.args.vertices u up (c.kept.invariant.passed up) a (omega (arith, b, c.if-vertices-vertex.false)) (λ l. b)));
+          ∙ changed_more old new next v from (λ u a b. there u (omega (arith, b, c.if-vertices-vertex.false))
+          (between_kept kept index next c.args.vertices u up (c.kept.invariant.passed up) a (omega (arith, b, c.if-vertices-vertex.false)) (λ l. b)));
     }
 
 pub returns : goal.returns

@@ -10,6 +10,7 @@ abbrev pub invariant-kept : goal.invariant-kept
 invariant-kept l = record {
   inside : l.next ≤ l.vertices;
   passed : IsNonDecreasing l.kept → (i : ℕ) → i < l.vertex-index → (get_or l.kept i 0 < l.next) ⊎ (l.vertices ≤ get_or l.kept i 0);
-  found : IsNonDecreasing l.kept → AreMarked l.self l.kept → (new : ℕ → ℤ) → ((v : ℕ) → Contains l.kept v → new v ≡ held l.self v (lane_entry l.old v)) → ((v : ℕ) → v < l.vertices → ¬ Contains l.kept v → new v ≡ lane_entry l.old v)
+  found : IsNonDecreasing l.kept → AreMarked l.self l.kept → (new : ℕ → ℤ) → ((v : ℕ) → Contains l.kept v → new v ≡ held l.self v (lane_entry l.old v))
+      → ((v : ℕ) → v < l.vertices → ¬ Contains l.kept v → new v ≡ lane_entry l.old v)
       → l.changes.items ≡ changed_from (lane_entry l.old) new 0 l.next;
 }

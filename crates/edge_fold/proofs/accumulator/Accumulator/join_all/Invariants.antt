@@ -10,5 +10,7 @@ use Rattle.edge_fold.proofs.accumulator.Accumulator.join_all.Given as goal
 -- the entries that are held, reduced with what is left to join, are the whole
 abbrev pub invariant-pairs : goal.invariant-pairs
 invariant-pairs l = (v : ℕ) (h : ℤ)
-    → reduced_at l.reduction v (held_with (combined (start_of l.opening) l.reduction) l.self v (opening_seed l.opening v h)) (given_from l.contribution.vector (contribution_at l.contribution) l.k (drop l.k l.destinations))
-    ≡ reduced_at l.reduction v (held_with (combined (start_of l.opening) l.reduction) l.fn.self v (opening_seed l.opening v h)) (given_from l.contribution.vector (contribution_at l.contribution) 0 l.destinations)
+    → reduced_at l.reduction v (held_with (combined (start_of l.opening) l.reduction) l.self v (opening_seed l.opening v h))
+    (given_from l.contribution.vector (contribution_at l.contribution) l.k (drop l.k l.destinations))
+    ≡ reduced_at l.reduction v (held_with (combined (start_of l.opening) l.reduction) l.fn.self v (opening_seed l.opening v h))
+    (given_from l.contribution.vector (contribution_at l.contribution) 0 l.destinations)

@@ -23,7 +23,8 @@ returns-clause-joined g c o v h =
     let number = to_z-of_z w64 c.args.number fits in
     let o' = opening_seed o v h in
     rw back (joined_either (start_of o) r v o' (get_or new v (pos 0)) (get_or old v (pos 0)) (each_given c.args.number rest) (each_given c.args.number ds) (is_marked self.marks v)
-    (subst (λ (n : ℤ). reduced_at r v (get_or new v (pos 0)) (each_given n rest) ≡ reduced_at r v (get_or c.as_mut_slice.result.now v (pos 0)) (each_given n ds)) number (c.reduce_filled.ensures.reduced v)
+    (subst (λ (n : ℤ). reduced_at r v (get_or new v (pos 0)) (each_given n rest) ≡ reduced_at r v (get_or c.as_mut_slice.result.now v (pos 0)) (each_given n ds)) number
+    (c.reduce_filled.ensures.reduced v)
     ∙ ap (λ (ys : List ℤ). reduced_at r v (get_or ys v (pos 0)) (each_given c.args.number ds)) c.as_mut_slice.ensures.value)
     (λ off. elim (cases_lt v self.filled) [
       | inl low ↦ absurd (false≢true (sym off ∙ self.whole v low))

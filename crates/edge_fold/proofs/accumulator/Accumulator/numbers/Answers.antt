@@ -40,7 +40,8 @@ kept-preserved c =
           (c.kept.invariant.found up r h new here there v)
           (c.kept.invariant.left r v h)
           (λ own. here v (subst (λ (u : ℕ). Contains kept u) own (Contains-get_or kept index 0 inside)))
-          (λ b d. there v (omega (arith, d, c.if-vertices-vertex.false)) (between_kept kept index next a.vertices v up (c.kept.invariant.passed up) b (omega (arith, d, c.if-vertices-vertex.false)) (λ _. d)));
+          (λ b d. there v (omega (arith, d, c.if-vertices-vertex.false)) (between_kept kept index next a.vertices v up (c.kept.invariant.passed up) b (omega (arith, d, c.if-vertices-vertex.false))
+          (λ _. d)));
       left = λ r v h l. more r v h ∙ left_step (λ n. onto r a.self.now v n) (reduced_at r v h (numbers_of was)) h k v l (c.kept.invariant.left r v h (omega (arith, from, l)));
       ascends = ascends_more a.self.now next k was c.push_number.new.numbers.items from c.in_ok-push_number.ensures c.kept.invariant.ascends;
     }

@@ -11,7 +11,8 @@ returns-in-Some c =
     let contribution = c.in-Some.contribution in
     on_ok_weaker c.fill.result
     (λ joined m steps are x r by.
-    let own : IsBy r x ((contribution.vector, contribution.reduction, contribution.number) ∷ []) = subst (λ (gs : List (ℕ × Reduction × ℤ)). IsBy r x gs) (c.in-Some.ensures m steps are 0 (pos 0)) (by (0, 0, pos 0)) in
+    let own : IsBy r x ((contribution.vector, contribution.reduction, contribution.number) ∷ []) =
+    subst (λ (gs : List (ℕ × Reduction × ℤ)). IsBy r x gs) (c.in-Some.ensures m steps are 0 (pos 0)) (by (0, 0, pos 0)) in
     folded_nothing c.args.context m steps _ _ x r refl refl (joined x r own.0))
     c.fill.ensures
 
@@ -19,5 +20,6 @@ pub returns-in-Some-entry_contribution : goal.returns-in-Some-entry_contribution
 returns-in-Some-entry_contribution c =
     on_ok_weaker c.fill-in-Some-entry_contribution.result
     (λ joined m steps are x r by.
-    folded_nothing c.args.context m steps _ _ x r refl refl (joined x r (subst (λ (gs : List (ℕ × Reduction × ℤ)). IsBy r x gs) (c.in-Some-entry_contribution.ensures m steps are (0, 0, pos 0)) (by (0, 0, pos 0))).0))
+    folded_nothing c.args.context m steps _ _ x r refl refl (joined x r (subst (λ (gs : List (ℕ × Reduction × ℤ)). IsBy r x gs) (c.in-Some-entry_contribution.ensures m steps are (0, 0, pos 0))
+    (by (0, 0, pos 0))).0))
     c.fill-in-Some-entry_contribution.ensures

@@ -22,5 +22,6 @@ returns-in-Some-entry_contribution-clause-folded g c done m steps edges are has 
     let es = g.E.NeighbourEntries.entries c.args.destinations.now in
     let source = c.args.source in
     folded_before f m steps edges (row source es) now _ x r refl
-    (joined_weighed f m x r now.slots c.join_weights.new.self source c.in-Some-entry_contribution.given (all_given m steps) es are.vectors (c.in-Some-entry_contribution.ensures m steps are) by (c.in_ok-join_weights.ensures x r))
+    (joined_weighed f m x r now.slots c.join_weights.new.self source c.in-Some-entry_contribution.given (all_given m steps) es are.vectors (c.in-Some-entry_contribution.ensures m steps are) by
+    (c.in_ok-join_weights.ensures x r))
     (has x r by)

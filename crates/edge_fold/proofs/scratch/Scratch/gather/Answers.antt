@@ -24,6 +24,8 @@ returns c m steps edges are has =
     let front = entries_of (take k ds) [] in
     let back = entries_of (drop k ds) [] in
     let flushed = c.in_ok-flush.ensures.folded m steps (edges ++ row s front) are
-    (λ y t own. folded_later f m steps edges (row s front) now _ y t false plain refl (c.add-2.ensures.waiting ∙ ap (λ us. waiting false now.pairs ++ row s (entries_of us [])) c.split_at.ensures.front) (has y t own)) in
+    (λ y t own. folded_later f m steps edges (row s front) now _ y t false plain refl
+    (c.add-2.ensures.waiting ∙ ap (λ us. waiting false now.pairs ++ row s (entries_of us [])) c.split_at.ensures.front) (has y t own)) in
     folded_along f m steps ((edges ++ row s front) ++ row s back) (edges ++ row s (entries_of ds [])) _ (row_parts s front back (entries_of ds []) edges (unit_parts k ds))
-    (λ x r by. folded_later f m steps (edges ++ row s front) (row s back) then _ x r false plain refl (c.add-3.ensures.waiting ∙ ap (λ us. waiting false then.pairs ++ row s (entries_of us [])) c.split_at.ensures.back) (flushed x r by))
+    (λ x r by. folded_later f m steps (edges ++ row s front) (row s back) then _ x r false plain refl
+    (c.add-3.ensures.waiting ∙ ap (λ us. waiting false then.pairs ++ row s (entries_of us [])) c.split_at.ensures.back) (flushed x r by))

@@ -10,7 +10,8 @@ use Rattle.edge_fold.proofs.scratch.Scratch.gather_into.Goals as goal
 
 pub returns-then-sources-room : goal.returns-then-sources-room
 returns-then-sources-room c m steps edges are has x r by =
-    folded_later c.args.context m steps edges (column c.args.destination (entries_of c.args.sources.now [])) c.args.self.now _ x r false c.requires.unweighted refl c.add_into.ensures.waiting (has x r by)
+    folded_later c.args.context m steps edges (column c.args.destination (entries_of c.args.sources.now [])) c.args.self.now _ x r false c.requires.unweighted refl c.add_into.ensures.waiting
+    (has x r by)
 
 pub returns : goal.returns
 returns c m steps edges are has =
@@ -24,6 +25,8 @@ returns c m steps edges are has =
     let front = entries_of (take k ss) [] in
     let back = entries_of (drop k ss) [] in
     let flushed = c.in_ok-flush.ensures.folded m steps (edges ++ column d front) are
-    (λ y t own. folded_later f m steps edges (column d front) now _ y t false plain refl (c.add_into-2.ensures.waiting ∙ ap (λ us. waiting false now.pairs ++ column d (entries_of us [])) c.split_at.ensures.front) (has y t own)) in
+    (λ y t own. folded_later f m steps edges (column d front) now _ y t false plain refl
+    (c.add_into-2.ensures.waiting ∙ ap (λ us. waiting false now.pairs ++ column d (entries_of us [])) c.split_at.ensures.front) (has y t own)) in
     folded_along f m steps ((edges ++ column d front) ++ column d back) (edges ++ column d (entries_of ss [])) _ (column_parts d front back (entries_of ss []) edges (unit_parts k ss))
-    (λ x r by. folded_later f m steps (edges ++ column d front) (column d back) then _ x r false plain refl (c.add_into-3.ensures.waiting ∙ ap (λ us. waiting false then.pairs ++ column d (entries_of us [])) c.split_at.ensures.back) (flushed x r by))
+    (λ x r by. folded_later f m steps (edges ++ column d front) (column d back) then _ x r false plain refl
+    (c.add_into-3.ensures.waiting ∙ ap (λ us. waiting false then.pairs ++ column d (entries_of us [])) c.split_at.ensures.back) (flushed x r by))

@@ -10,7 +10,8 @@ use Rattle.edge_fold.proofs.scratch.Scratch.gather_into_weighted.Goals as goal
 
 pub returns-then-sources-room : goal.returns-then-sources-room
 returns-then-sources-room c m steps edges are has x r by =
-    folded_later c.args.context m steps edges (column c.args.destination (entries_of c.args.sources.now c.args.weights.now)) c.args.self.now _ x r true c.requires.weighted refl c.add_into_weighted.ensures.waiting (has x r by)
+    folded_later c.args.context m steps edges
+    (column c.args.destination (entries_of c.args.sources.now c.args.weights.now)) c.args.self.now _ x r true c.requires.weighted refl c.add_into_weighted.ensures.waiting (has x r by)
 
 pub returns : goal.returns
 returns c m steps edges are has =
@@ -29,6 +30,7 @@ returns c m steps edges are has =
     let flushed = c.in_ok-flush.ensures.folded m steps (edges ++ column d front) are
     (λ y t own. folded_later f m steps edges (column d front) now _ y t true counts refl
     (c.add_into_weighted-2.ensures.waiting ∙ ap (λ us. added us c.split_at-2.result.0.now) c.split_at.ensures.front ∙ ap (added (take k ss)) c.split_at-2.ensures.front) (has y t own)) in
-    folded_along f m steps ((edges ++ column d front) ++ column d back) (edges ++ column d (entries_of ss ws)) _ (column_parts d front back (entries_of ss ws) edges (entries_parts k ss ws c.requires.same))
+    folded_along f m steps ((edges ++ column d front) ++ column d back) (edges ++ column d (entries_of ss ws)) _
+    (column_parts d front back (entries_of ss ws) edges (entries_parts k ss ws c.requires.same))
     (λ x r by. folded_later f m steps (edges ++ column d front) (column d back) then _ x r true counts refl
     (c.add_into_weighted-3.ensures.waiting ∙ ap (λ us. more us c.split_at-2.result.1.now) c.split_at.ensures.back ∙ ap (more (drop k ss)) c.split_at-2.ensures.back) (flushed x r by))

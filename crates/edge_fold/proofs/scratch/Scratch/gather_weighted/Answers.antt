@@ -10,7 +10,8 @@ use Rattle.edge_fold.proofs.scratch.Scratch.gather_weighted.Goals as goal
 
 pub returns-then-destinations-room : goal.returns-then-destinations-room
 returns-then-destinations-room c m steps edges are has x r by =
-    folded_later c.args.context m steps edges (row c.args.source (entries_of c.args.destinations.now c.args.weights.now)) c.args.self.now _ x r true c.requires.weighted refl c.add_weighted.ensures.waiting (has x r by)
+    folded_later c.args.context m steps edges
+    (row c.args.source (entries_of c.args.destinations.now c.args.weights.now)) c.args.self.now _ x r true c.requires.weighted refl c.add_weighted.ensures.waiting (has x r by)
 
 pub returns : goal.returns
 returns c m steps edges are has =

@@ -9,7 +9,8 @@ pub returns-clause-position : goal.returns-clause-position
 returns-clause-position c =
     let now = c.args.self.now in
     let inside : now.used < length now.slots.items = search rules in (
-      added_index (active now) _ c.begin.new.self c.args.vector now.used (take_more_set now.slots.items now.used c.begin.new.self inside) (length-take-le now.used now.slots.items (search rules)) c.in_ok-begin.ensures.vector c.requires.none,
+      added_index (active now) _ c.begin.new.self c.args.vector now.used (take_more_set now.slots.items now.used c.begin.new.self inside)
+      (length-take-le now.used now.slots.items (search rules)) c.in_ok-begin.ensures.vector c.requires.none,
       omega arith,
     )
 
@@ -23,4 +24,5 @@ pub returns-clause-reduction : goal.returns-clause-reduction
 returns-clause-reduction c x r =
     let now = c.args.self.now in
     let inside : now.used < length now.slots.items = search rules in
-    added_reduction (active now) _ c.begin.new.self c.args.vector x c.args.reduction r (take_more_set now.slots.items now.used c.begin.new.self inside) c.in_ok-begin.ensures.vector c.in_ok-begin.ensures.reduction
+    added_reduction (active now) _ c.begin.new.self c.args.vector x c.args.reduction r
+    (take_more_set now.slots.items now.used c.begin.new.self inside) c.in_ok-begin.ensures.vector c.in_ok-begin.ensures.reduction

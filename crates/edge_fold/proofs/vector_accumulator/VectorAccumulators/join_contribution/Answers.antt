@@ -35,5 +35,6 @@ returns c x r by =
     let own = own_reduction r x g some.0 some.2 (by some.0 some.1) in
     joined_slot f x g.vector p r c.args.self.now now _ was (record { vector = was.vector; reduction = was.reduction; entries = c.join_column.new.self }) (given x) refl
     at.0 at.1 few c.index_mut.ensures.value refl refl c.in_ok-position.ensures.held (c.in_ok-position.ensures.reduction x r own)
-    (λ v h same. along f x g.vector v g.reduction r (start_of op.result) was.entries c.join_column.new.self h _ given (equal g.vector x same) (own (equal g.vector x same)) op.ensures.start (op.ensures.seed v h) (joined v h))
+    (λ v h same. along f x g.vector v g.reduction r (start_of op.result) was.entries c.join_column.new.self h _ given (equal g.vector x same) (own (equal g.vector x same)) op.ensures.start
+    (op.ensures.seed v h) (joined v h))
     (λ off. others_get_nothing x g 0 ds off)

@@ -26,6 +26,7 @@ returns c x r own =
     ∙ ap (λ (cs : List EntryChange). reduced_at of.reduction v (held_with combine was.entries v (opening_seed op.result v h)) (numbers_of cs)) c.deref.ensures.value in
     joined_slot f x of.vector p r c.args.self.now now _ was (record { vector = was.vector; reduction = was.reduction; entries = c.join_changes.new.self }) (cond (of.vector == x) all []) refl
     at.0 at.1 few c.index_mut.ensures.value refl refl c.in_ok-position.ensures.held (c.in_ok-position.ensures.reduction x r own)
-    (λ v h same. along f x of.vector v of.reduction r (start_of op.result) was.entries c.join_changes.new.self h _ (λ _. all) (equal of.vector x same) (own (equal of.vector x same)) op.ensures.start (op.ensures.seed v h) (joined v h)
+    (λ v h same. along f x of.vector v of.reduction r (start_of op.result) was.entries c.join_changes.new.self h _ (λ _. all) (equal of.vector x same) (own (equal of.vector x same)) op.ensures.start
+    (op.ensures.seed v h) (joined v h)
     ∙ ap (λ (b : Bool). reduced_at r v (held_with (combined f.start r) was.entries v (first_entry f x v h)) (cond b all [])) (sym same))
     (λ off. ap (λ (b : Bool). cond b all []) off)

@@ -13,12 +13,14 @@ pub returns-clause-front : goal.returns-clause-front
 returns-clause-front c =
     let u = c.self.inside in
     let n = c.args.count in
-    c.new.ensures ∙ ap (λ v. weighted v c.split_at-2.result.0.now) c.split_at.ensures.front ∙ ap (weighted (take n u.updates.now)) (c.split_at-2.ensures.front ∙ ap (λ k. take k u.weights.now) c.min.ensures ∙ take_min n u.weights.now)
+    c.new.ensures ∙ ap (λ v. weighted v c.split_at-2.result.0.now) c.split_at.ensures.front
+    ∙ ap (weighted (take n u.updates.now)) (c.split_at-2.ensures.front ∙ ap (λ k. take k u.weights.now) c.min.ensures ∙ take_min n u.weights.now)
     ∙ sym (take_weighted n u.updates.now u.weights.now) ∙ ap (take n) c.self.view_is
 
 pub returns-clause-back : goal.returns-clause-back
 returns-clause-back c =
     let u = c.self.inside in
     let n = c.args.count in
-    c.new-2.ensures ∙ ap (λ v. weighted v c.split_at-2.result.1.now) c.split_at.ensures.back ∙ ap (weighted (drop n u.updates.now)) (c.split_at-2.ensures.back ∙ ap (λ k. drop k u.weights.now) c.min.ensures ∙ drop_min n u.weights.now)
+    c.new-2.ensures ∙ ap (λ v. weighted v c.split_at-2.result.1.now) c.split_at.ensures.back
+    ∙ ap (weighted (drop n u.updates.now)) (c.split_at-2.ensures.back ∙ ap (λ k. drop k u.weights.now) c.min.ensures ∙ drop_min n u.weights.now)
     ∙ sym (drop_weighted n u.updates.now u.weights.now) ∙ ap (drop n) c.self.view_is

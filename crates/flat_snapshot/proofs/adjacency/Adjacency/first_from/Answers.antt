@@ -13,7 +13,8 @@ returns-clause-degrees c =
     let rises = rises_in 0 a.blocks.items c.self.invariant.1 in
     let none : (w : ℕ) → c.args.from ≤ w → w < c.loop-vertex.vertex → neighbours_of w all ≡ [] = rw (c.self.view_is) c.loop-vertex.invariant.none in
     let past : 64 * (0 + length a.blocks.items) ≤ c.loop-vertex.vertex = omega (arith, c.loop-vertex-test.false, c.len.ensures) in
-    rw (← c.self.view_is) (ap degrees_of (passed c.args.from c.loop-vertex.vertex 0 (64 * (0 + length a.blocks.items)) all rises (lists_in_are 0 a.blocks.items c.self.invariant.1) c.loop-vertex.invariant.from none ∙ none_from c.loop-vertex.vertex 0 (64 * (0 + length a.blocks.items)) all rises past))
+    rw (← c.self.view_is) (ap degrees_of (passed c.args.from c.loop-vertex.vertex 0 (64 * (0 + length a.blocks.items)) all rises
+    (lists_in_are 0 a.blocks.items c.self.invariant.1) c.loop-vertex.invariant.from none ∙ none_from c.loop-vertex.vertex 0 (64 * (0 + length a.blocks.items)) all rises past))
 
 pub returns-then-degree-gt0-clause-degrees : goal.returns-then-degree-gt0-clause-degrees
 returns-then-degree-gt0-clause-degrees c =
@@ -25,4 +26,5 @@ returns-then-degree-gt0-clause-degrees c =
     let list : neighbours_of (v % 64) c.in-Some.block.now ≡ neighbours_of v all = c.in-Some.ensures.lists v refl ∙ ap (neighbours_of v) (sym c.self.view_is) in
     let degree : c.degree-degree.result ≡ length (neighbours_of v all) = c.degree-degree.ensures ∙ ap length list in
     let some : 0 < length (neighbours_of v all) = omega (arith, c.if-degree-gt0.true, degree) in
-    rw (← c.self.view_is, degree) (ap degrees_of (passed c.args.from v 0 (64 * (0 + length a.blocks.items)) all rises (lists_in_are 0 a.blocks.items c.self.invariant.1) c.loop-vertex.invariant.from none ∙ next_at v 0 (64 * (0 + length a.blocks.items)) all rises some))
+    rw (← c.self.view_is, degree) (ap degrees_of (passed c.args.from v 0 (64 * (0 + length a.blocks.items)) all rises
+    (lists_in_are 0 a.blocks.items c.self.invariant.1) c.loop-vertex.invariant.from none ∙ next_at v 0 (64 * (0 + length a.blocks.items)) all rises some))

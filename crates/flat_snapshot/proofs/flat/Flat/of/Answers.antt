@@ -8,7 +8,8 @@ use Rattle.flat_snapshot.proofs.flat.Flat.of.Goals as goal
 pub invariant_of-result : goal.invariant_of-result
 invariant_of-result c =
     rw (c.in_ok-outgoing.ensures, c.in_ok-incoming.ensures)
-    (flat_made c.args.graph.now c.vertices-vertices.result c.edge_count-edge_count.result c.outgoing.result c.incoming.result c.vertices-vertices.ensures.graph c.vertices-vertices.ensures.count c.edge_count-edge_count.ensures
+    (flat_made c.args.graph.now c.vertices-vertices.result c.edge_count-edge_count.result c.outgoing.result c.incoming.result c.vertices-vertices.ensures.graph c.vertices-vertices.ensures.count
+    c.edge_count-edge_count.ensures
     c.outgoing.ensures.blocks c.outgoing.ensures.edges c.incoming.ensures.blocks)
 
 pub returns : goal.returns

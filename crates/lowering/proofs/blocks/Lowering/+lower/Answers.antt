@@ -34,7 +34,8 @@ put_all-statements-preserved t c =
     let left : c.statements.left.now ≡ here ∷ c.in-Some.rest.now = search rules in
     let before = subst (λ (ls : List MainStatement). HasPut p s whole a b d c.statements.is_done (block_tree ls)) left c.statements.invariant.put in
     let put = has_put_next p s whole a b k d c.statements.is_done here.number here.label (statement_kind_tree here.action) rest before c.in_ok-is_done.ensures.code in
-    let size : block_size (block_tree (here ∷ c.in-Some.rest.now)) ≤ block_size (block_tree c.args.statements.now) = subst (λ (ls : List MainStatement). block_size (block_tree ls) ≤ block_size (block_tree c.args.statements.now)) left c.statements.invariant.size in
+    let size : block_size (block_tree (here ∷ c.in-Some.rest.now)) ≤ block_size (block_tree c.args.statements.now) =
+    subst (λ (ls : List MainStatement). block_size (block_tree ls) ≤ block_size (block_tree c.args.statements.now)) left c.statements.invariant.size in
     record {
       put = subst (λ e. HasPut p s whole a k e c.in_ok-is_done.is_done rest) (sym c.in_ok-is_done.ensures.visible)
           (subst (λ e. HasPut p s whole a k (behind (statement_kind_tree here.action) d) e rest) (sym c.in_ok-is_done.ensures.next) put);
@@ -82,7 +83,8 @@ put_statement-put_apply_schedule-requires t c =
     let tree = ap statement_kind_tree c.in-IfElse.is ∙ statement_kind_tree-IfElse c.in-IfElse.c c.in-IfElse.body c.in-IfElse.other in
     let body = ap (λ (ls : List MainStatement). block_size (block_tree ls)) c.deref-in-IfElse.ensures.value in
     let other = ap (λ (ls : List MainStatement). block_size (block_tree ls)) c.deref-in-IfElse-2.ensures.value in
-    let falls = inner_falls _ (block_size (block_tree c.in-IfElse.body.items) + block_size (block_tree c.in-IfElse.other.items)) (block_size (block_tree c.deref-in-IfElse.result.now) + block_size (block_tree c.deref-in-IfElse-2.result.now)) (ap action_size tree) (omega (arith, body, other)) in
+    let falls = inner_falls _ (block_size (block_tree c.in-IfElse.body.items) + block_size (block_tree c.in-IfElse.other.items))
+    (block_size (block_tree c.deref-in-IfElse.result.now) + block_size (block_tree c.deref-in-IfElse-2.result.now)) (ap action_size tree) (omega (arith, body, other)) in
     (omega (arith, c.decreases, falls), tt)
 
 pub put_statement-put_while-requires : goal.put_statement-put_while-requires
@@ -132,7 +134,8 @@ put_apply_schedule-returns-clause-code t c label =
     let body = block_tree c.args.branches.body.now in
     let other = block_tree c.args.branches.other.now in
     let put : Puts p b k (plan_all p s (length b) d false body) = subst (λ x. Puts p b k (plan_all p s (length b) x false body)) (sym c.depth-depth.ensures) c.in_ok-put_inside.ensures.code in
-    let put_other : Puts p m g (plan_all p s (length m) d false other) = subst (λ x. Puts p m g (plan_all p s (length m) x false other)) (c.in_ok-put_inside.ensures.visible ∙ sym c.depth-depth.ensures) c.in_ok-put_inside-2.ensures.code in
+    let put_other : Puts p m g (plan_all p s (length m) d false other) = subst (λ x. Puts p m g (plan_all p s (length m) x false other))
+    (c.in_ok-put_inside.ensures.visible ∙ sym c.depth-depth.ensures) c.in_ok-put_inside-2.ensures.code in
     let otherwise = ap (λ n. n + 1) (c.len.ensures ∙ c.put_inside.new.code.ok.0) in
     on_ok_weaker c.fill_jump.result (λ fills.
     subst (λ x. Puts p a h (plan p s (length a) x c.args.number label (IfElse (bool_expression_tree c.args.c.now) body other))) c.depth-depth.ensures
@@ -184,7 +187,8 @@ put_for-returns-clause-code t c label =
     let shown = c.depth-depth.ensures in
     let begins : BeginsLoop p f b test (loop_step n (in_loop d) d Turn) =
     subst (λ x. BeginsLoop p f b test (loop_step n (in_loop d) x Turn)) shown (subst (λ x. BeginsLoop p f b test (loop_step n x c.depth-depth.result Turn)) inside c.in_ok-test.ensures) in
-    let put : Puts p b k (plan_all p s (length b) (in_loop d) false body) = subst (λ x. Puts p b k (plan_all p s (length b) x false body)) c.in_ok-put_bounds.ensures.visible c.in_ok-put_inside.ensures.code in
+    let put : Puts p b k (plan_all p s (length b) (in_loop d) false body) = subst
+    (λ x. Puts p b k (plan_all p s (length b) x false body)) c.in_ok-put_bounds.ensures.visible c.in_ok-put_inside.ensures.code in
     let back : Puts p k g (plain n d (Advance name) ∷ loop_step n (in_loop d) d (Jump test) ∷ []) =
     subst (λ x. Puts p k g (plain n x (Advance name) ∷ loop_step n (in_loop d) x (Jump test) ∷ [])) shown
     (subst (λ x. Puts p k g (plain n c.depth-depth.result (Advance name) ∷ loop_step n x c.depth-depth.result (Jump test) ∷ [])) inside c.in_ok-put_back.ensures) in

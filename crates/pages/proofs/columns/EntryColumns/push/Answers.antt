@@ -29,7 +29,8 @@ returns c =
     let len : c.len-len.result ≡ length keys = omega (arith, c.len-len.ensures) in
     let w = c.args.weight in
     let padded : List ℤ = column_of c.len-len.result old.weights.items in
-    let weights : c.push-2.new.self.items ≡ padded ++ w ∷ [] = c.in_ok-push-2.ensures.items ∙ ap (λ v. v ++ to_z w64 (of_z w64 w) ∷ []) c.in_ok-pad.ensures ∙ ap (λ x. padded ++ x ∷ []) (to_z-of_z w64 w c.ranges.weight) in
+    let weights : c.push-2.new.self.items ≡ padded ++ w ∷ [] = c.in_ok-push-2.ensures.items ∙ ap (λ v. v ++ to_z w64 (of_z w64 w) ∷ []) c.in_ok-pad.ensures
+    ∙ ap (λ x. padded ++ x ∷ []) (to_z-of_z w64 w c.ranges.weight) in
     ap (λ v. weighted v c.push-2.new.self.items) c.in_ok-push-3.ensures.items
     ∙ ap (weighted (keys ++ n ∷ [])) weights
     ∙ weighted_append keys (n ∷ []) padded (w ∷ []) (column_length c.len-len.result old.weights.items ∙ len)

@@ -9,7 +9,8 @@ use Rattle.pages.proofs.Weighing.{column_length, weighted_column}
 use Rattle.pages.proofs.neighbours.Neighbours.append_to.Goals as goal
 
 -- a part of a list comes after others in columns
-appended : (keys keys' : List ℕ) (ws ws' : List ℤ) (es : List (ℕ × ℤ)) (from count n : ℕ) → n ≡ length keys → keys' ≡ keys ++ take count (drop from (keys_of es)) → column_of (n + count) ws' ≡ column_of n ws ++ take count (drop from (values_of es)) → from + count ≤ length es → weighted keys' ws' ≡ weighted keys ws ++ take count (drop from es)
+appended : (keys keys' : List ℕ) (ws ws' : List ℤ) (es : List (ℕ × ℤ)) (from count n : ℕ) → n ≡ length keys → keys' ≡ keys ++ take count (drop from (keys_of es))
+    → column_of (n + count) ws' ≡ column_of n ws ++ take count (drop from (values_of es)) → from + count ≤ length es → weighted keys' ws' ≡ weighted keys ws ++ take count (drop from es)
 appended keys keys' ws ws' es from count n len more column room =
     let ks : List ℕ = take count (drop from (keys_of es)) in
     let within : count ≤ length (drop from (keys_of es)) = omega (arith, room, length-drop from (keys_of es), length-map es (λ e. e.0)) in
@@ -30,5 +31,6 @@ returns c =
     let len : n ≡ length old.keys.items = omega (arith, c.len.ensures) in
     let count : ℕ = c.args.to - c.args.from in
     let es = c.args.self.now in
-    appended old.keys.items c.append_keys.new.keys.items old.weights.items c.append_weights.new.weights.items es c.args.from count n len c.in_ok-append_keys.ensures c.in_ok-append_weights.ensures (omega (arith, c.requires.order, c.requires.within))
+    appended old.keys.items c.append_keys.new.keys.items old.weights.items c.append_weights.new.weights.items es c.args.from count n len c.in_ok-append_keys.ensures c.in_ok-append_weights.ensures
+    (omega (arith, c.requires.order, c.requires.within))
     ∙ ap (λ v. v ++ take count (drop c.args.from es)) c.list.view_is

@@ -16,7 +16,8 @@ returns-then-is_ones c =
     let position : ℕ = l.packed.width * (l.packed.len - 1) + weight_size l.weights * c.args.from in
     let ones : l.weights ≡ Ones = c.is_ones.ensures.0 (search rules) in
     let these : weights_from Ones count (drop position l.packed.offsets.now) ≡ take count (drop c.args.from (values_of c.args.self.now)) =
-    ap (λ v. weights_from v count (drop position l.packed.offsets.now)) (sym ones) ∙ weights_are l.packed.first l.packed.width l.packed.mask l.packed.len l.weights l.packed.offsets.now c.args.self.now c.self.invariant c.self.view_is c.args.from count c.requires in
+    ap (λ v. weights_from v count (drop position l.packed.offsets.now)) (sym ones)
+    ∙ weights_are l.packed.first l.packed.width l.packed.mask l.packed.len l.weights l.packed.offsets.now c.args.self.now c.self.invariant c.self.view_is c.args.from count c.requires in
     ap (column_of (n + count)) c.truncate.ensures.items ∙ column_ones n count (drop position l.packed.offsets.now) c.args.weights.now.items ∙ ap (λ v. column_of n c.args.weights.now.items ++ v) these
 
 pub returns : goal.returns

@@ -30,7 +30,8 @@ returns-then-count-gt0 c =
     let first = read_first l.packed.first l.packed.width l.packed.mask l.packed.len l.packed.offsets.now xs c.self.invariant.view keys some in
     let last : get_or xs 0 0 ≡ get_or whole (length block - 1) 0 = down_at xs c.args.end (length block - 1) 0 (omega (arith, c.requires.within, long_keys)) (omega arith) in
     let rest = rw keys at c.fill_before-then-count-gt0.ensures in
-    last_filled block c.fill_before-then-count-gt0.new.block whole (length block) (length (take (length block - 1) block)) l.packed.first refl c.if-count-gt0.true long (length-take-le (length block - 1) block (omega arith)) rest (first ∙ last)
+    last_filled block c.fill_before-then-count-gt0.new.block whole (length block) (length (take (length block - 1) block)) l.packed.first refl c.if-count-gt0.true long
+    (length-take-le (length block - 1) block (omega arith)) rest (first ∙ last)
 
 pub returns-then-count-end : goal.returns-then-count-end
 returns-then-count-end c =

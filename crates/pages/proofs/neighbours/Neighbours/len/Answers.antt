@@ -12,4 +12,5 @@ returns-clause-count c =
 pub returns-clause-ascending : goal.returns-clause-ascending
 returns-clause-ascending c =
     let l = c.self.inside in
-    ascending l.packed.first l.packed.width l.packed.mask l.packed.len l.packed.offsets.now (keys_of c.args.self.now) c.self.invariant.view (keys_seen l.packed.first l.packed.width l.packed.mask l.packed.len l.weights l.packed.offsets.now c.args.self.now c.self.invariant c.self.view_is)
+    ascending l.packed.first l.packed.width l.packed.mask l.packed.len l.packed.offsets.now (keys_of c.args.self.now) c.self.invariant.view
+    (keys_seen l.packed.first l.packed.width l.packed.mask l.packed.len l.weights l.packed.offsets.now c.args.self.now c.self.invariant c.self.view_is)

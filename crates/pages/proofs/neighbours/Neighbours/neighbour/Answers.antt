@@ -16,13 +16,15 @@ pub offset-requires-clause-room : goal.offset-requires-clause-room
 offset-requires-clause-room c =
     let l = c.self.inside in
     let keys = keys_seen l.packed.first l.packed.width l.packed.mask l.packed.len l.weights l.packed.offsets.now c.args.self.now c.self.invariant c.self.view_is in
-    room_at l.packed.first l.packed.width l.packed.mask l.packed.len l.packed.offsets.now (keys_of c.args.self.now) c.self.invariant.view keys (c.args.index - 1) (omega (arith, keys_long c.args.self.now))
+    room_at l.packed.first l.packed.width l.packed.mask l.packed.len l.packed.offsets.now (keys_of c.args.self.now) c.self.invariant.view keys (c.args.index - 1)
+    (omega (arith, keys_long c.args.self.now))
 
 pub overflow_add-result : goal.overflow_add-result
 overflow_add-result c =
     let l = c.self.inside in
     let keys = keys_seen l.packed.first l.packed.width l.packed.mask l.packed.len l.weights l.packed.offsets.now c.args.self.now c.self.invariant c.self.view_is in
-    omega (arith, (read_at l.packed.first l.packed.width l.packed.mask l.packed.len l.packed.offsets.now (keys_of c.args.self.now) c.self.invariant.view keys (c.args.index - 1) c.offset.result (omega (arith, keys_long c.args.self.now)) c.offset.ensures).1)
+    omega (arith, (read_at l.packed.first l.packed.width l.packed.mask l.packed.len l.packed.offsets.now (keys_of c.args.self.now) c.self.invariant.view keys (c.args.index - 1) c.offset.result
+    (omega (arith, keys_long c.args.self.now)) c.offset.ensures).1)
 
 pub returns : goal.returns
 returns c =
@@ -30,5 +32,6 @@ returns c =
     let k : ℕ = c.args.index - 1 in
     let back : k + 1 ≡ c.args.index = omega arith in
     let keys = keys_seen l.packed.first l.packed.width l.packed.mask l.packed.len l.weights l.packed.offsets.now c.args.self.now c.self.invariant c.self.view_is in
-    (read_at l.packed.first l.packed.width l.packed.mask l.packed.len l.packed.offsets.now (keys_of c.args.self.now) c.self.invariant.view keys k c.offset.result (omega (arith, keys_long c.args.self.now)) c.offset.ensures).0
+    (read_at l.packed.first l.packed.width l.packed.mask l.packed.len l.packed.offsets.now (keys_of c.args.self.now) c.self.invariant.view keys k c.offset.result
+    (omega (arith, keys_long c.args.self.now)) c.offset.ensures).0
     ∙ ap (λ i. get_or (keys_of c.args.self.now) i 0) back

@@ -13,4 +13,5 @@ returns-clause-count c =
 pub returns-clause-ascending : goal.returns-clause-ascending
 returns-clause-ascending c =
     let l = c.self.inside in
-    ascending (number_of (take 4 l.bytes.items)) l.width (2 ^ (8 * l.width) - 1) l.len (drop 4 l.bytes.items) (keys_of c.args.self.now) c.self.invariant.view.view (keys_seen (number_of (take 4 l.bytes.items)) l.width (2 ^ (8 * l.width) - 1) l.len l.weights (drop 4 l.bytes.items) c.args.self.now c.self.invariant.view c.self.view_is)
+    ascending (number_of (take 4 l.bytes.items)) l.width (2 ^ (8 * l.width) - 1) l.len (drop 4 l.bytes.items) (keys_of c.args.self.now) c.self.invariant.view.view
+    (keys_seen (number_of (take 4 l.bytes.items)) l.width (2 ^ (8 * l.width) - 1) l.len l.weights (drop 4 l.bytes.items) c.args.self.now c.self.invariant.view c.self.view_is)

@@ -40,7 +40,9 @@ loop-first-preserved c =
     let es = c.args.self.now in
     record {
       low = omega (arith, first.1);
-      page = c.in_ok-push_updated.ensures ∙ ap (λ p. p ++ slice_range es (count_below l.low es) (count_below v es) ++ entry_of v (updated (neighbours_of v es) c.split_at-run.result.0)) l.invariant.page ∙ updated_to es c.in_ok-page.ensures.page c.args.updates.now l.low v l.rest c.split_at-run.result.0 first.0 first.2 l.invariant.passed run;
+      page = c.in_ok-push_updated.ensures ∙ ap (λ p. p ++ slice_range es (count_below l.low es) (count_below v es)
+      ++ entry_of v (updated (neighbours_of v es) c.split_at-run.result.0)) l.invariant.page
+      ∙ updated_to es c.in_ok-page.ensures.page c.args.updates.now l.low v l.rest c.split_at-run.result.0 first.0 first.2 l.invariant.passed run;
       coming = rw c.split_at-run.ensures.back c.run_length.ensures.rest;
       passed = λ u ge.
           let other : u ≢ v = omega arith in
@@ -64,4 +66,5 @@ pub returns : goal.returns
 returns c =
     let l = c.loop-first in
     let none : l.rest ≡ [] = c.in_default.ensures in
-    all_updated c.args.self.now c.in_ok-page.ensures.page c.args.updates.now l.low 64 c.index.result c.index-2.result c.push_run.new.self l.page l.invariant.low (λ u ge. l.invariant.passed u ge ∙ ap (updates_of u) none) l.invariant.page c.index.ensures.index c.index-2.ensures.index c.in_ok-push_run.ensures.ok
+    all_updated c.args.self.now c.in_ok-page.ensures.page c.args.updates.now l.low 64 c.index.result c.index-2.result c.push_run.new.self l.page l.invariant.low
+    (λ u ge. l.invariant.passed u ge ∙ ap (updates_of u) none) l.invariant.page c.index.ensures.index c.index-2.ensures.index c.in_ok-push_run.ensures.ok

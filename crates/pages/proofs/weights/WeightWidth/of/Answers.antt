@@ -55,8 +55,10 @@ loop-weight-preserved c =
     let fits_greatest : SFits w64 c.max-greatest.result = search rules in
     let low : ℤ = to_z w64 (of_z w64 c.min-least.result) in
     let high : ℤ = to_z w64 (of_z w64 c.max-greatest.result) in
-    let least : low ≡ int_min (to_z w64 l.least-bits) x = to_z-of_z w64 c.min-least.result fits_least ∙ c.min-least.ensures ∙ ap (λ w. ord_min int_cmp (to_z w64 l.least-bits) w) (to_z-of_z w64 x fits) ∙ min_is (to_z w64 l.least-bits) x in
-    let greatest : high ≡ int_max (to_z w64 l.greatest-bits) x = to_z-of_z w64 c.max-greatest.result fits_greatest ∙ c.max-greatest.ensures ∙ ap (λ w. ord_max int_cmp (to_z w64 l.greatest-bits) w) (to_z-of_z w64 x fits) ∙ max_is (to_z w64 l.greatest-bits) x in
+    let least : low ≡ int_min (to_z w64 l.least-bits) x = to_z-of_z w64 c.min-least.result fits_least ∙ c.min-least.ensures ∙ ap (λ w. ord_min int_cmp (to_z w64 l.least-bits) w) (to_z-of_z w64 x fits)
+    ∙ min_is (to_z w64 l.least-bits) x in
+    let greatest : high ≡ int_max (to_z w64 l.greatest-bits) x = to_z-of_z w64 c.max-greatest.result fits_greatest ∙ c.max-greatest.ensures
+    ∙ ap (λ w. ord_max int_cmp (to_z w64 l.greatest-bits) w) (to_z-of_z w64 x fits) ∙ max_is (to_z w64 l.greatest-bits) x in
     let under = min_low (to_z w64 l.least-bits) x low least in
     let over = max_high (to_z w64 l.greatest-bits) x high greatest in
     let same : x ≡ get_or ws n (pos 1) = get_or_default ws n (pos 0) (pos 1) c.loop-weight-test.true in

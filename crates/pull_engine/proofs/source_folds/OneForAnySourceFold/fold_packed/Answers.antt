@@ -17,7 +17,8 @@ returns c =
     let fits : FitsSigned w64 old = search rules in
     let number_fits : FitsSigned w64 f.number = search rules in
     let came : FitsSigned w64 c.reduce_number.result = search rules in
-    to_z-of_z w64 c.reduce_number.result came ∙ c.reduce_number.ensures ∙ ap (λ (n : ℤ). reduced_once f.reduction (λ s. n) (to_z w64 (of_z w64 old)) c.first_packed-source.result) (to_z-of_z w64 f.number number_fits)
+    to_z-of_z w64 c.reduce_number.result came ∙ c.reduce_number.ensures ∙ ap (λ (n : ℤ). reduced_once f.reduction (λ s. n) (to_z w64 (of_z w64 old)) c.first_packed-source.result)
+    (to_z-of_z w64 f.number number_fits)
     ∙ ap (λ (n : ℤ). reduced_once f.reduction (λ s. f.number) n c.first_packed-source.result) (to_z-of_z w64 old fits)
     ∙ ap (λ o. reduced_once f.reduction (λ s. f.number) old o) (c.first_packed-source.ensures)
     ∙ sym (one_number f.reduction f.once f.number old (filter p (keys_of c.args.sources)))

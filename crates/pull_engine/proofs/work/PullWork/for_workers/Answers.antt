@@ -12,5 +12,6 @@ invariant_of-result c = record {
   passing = search rules;
   member_bits = c.in_ok-members.ensures;
   shaped = search rules;
-  mask = mask_alike c.apply_shape-shape.result c.args.apply.now.vectors.now.vectors (passes_words c.words.result) (is_source c.in_ok-sources.sources) c.in_ok-masked.masked.items c.words.ensures c.in_ok-masked.ensures;
+  mask = mask_alike c.apply_shape-shape.result c.args.apply.now.vectors.now.vectors (passes_words c.words.result)
+      (is_source c.in_ok-sources.sources) c.in_ok-masked.masked.items c.words.ensures c.in_ok-masked.ensures;
 }

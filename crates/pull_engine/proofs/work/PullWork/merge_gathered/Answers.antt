@@ -28,7 +28,9 @@ returns-clause-changes c answers order m steps from to vectors sizes kernels is_
     let each = subst (λ (n : ℕ). EachGathered n m steps edges_of fs) (sym count) (each_gathered w fs m steps from to answers vectors sizes kernels is_from is_to) in
     let has = c.in_ok-join_all.ensures m steps edges_of each (c.begin.ensures _ m steps) in
     let whole_list = subst (λ (n : ℕ). AreEnds 0 n w.partition) (sym (length-range_with_len 0 w.apply.flat.now.vertices)) w.whole in
-    let whole = merged _ m steps w.apply.flat.now from to w.partition (range_with_len 0 w.apply.flat.now.vertices) (pieces_of fs) c.join_all.new.scratch c.context-context.ensures.graph whole_list refl order has in
-    c.in_ok-changes.ensures.changes m steps (edges_between from to edges) (λ _. true) (c.context-context.ensures.reads m steps (record { vectors = vectors; sizes = sizes; kernels = kernels })) (λ v. refl) whole (ap (λ (f : ApplyContext). f.start) c.context-context.ensures.context) x r by (omega (arith, count, long))
+    let whole = merged _ m steps w.apply.flat.now from to w.partition (range_with_len 0 w.apply.flat.now.vertices)
+    (pieces_of fs) c.join_all.new.scratch c.context-context.ensures.graph whole_list refl order has in
+    c.in_ok-changes.ensures.changes m steps (edges_between from to edges) (λ _. true) (c.context-context.ensures.reads m steps (record { vectors = vectors; sizes = sizes; kernels = kernels }))
+    (λ v. refl) whole (ap (λ (f : ApplyContext). f.start) c.context-context.ensures.context) x r by (omega (arith, count, long))
     ∙ ap (λ (n : ℕ). changed n old (new (filter (λ e. true) (edges_between from to edges)))) count
     ∙ ap (λ (es : List Edge). changed w.apply.flat.now.vertices old (new es)) (filter_all (λ _. true) (edges_between from to edges) (λ e. refl))

@@ -17,7 +17,8 @@ runs-preserved c =
     let w = c.weight_of-weight.result in
     let inside : s < length us = omega (arith, c.runs-test.true, c.div_ceil-runs.ensures) in
     let run : w ≡ weight (slice_range ds s (s + 64)) =
-    c.weight_of-weight.ensures.weight ∙ ap (λ (vs : List ℕ). weight (out_degrees g vs)) (run_stop us s c.min-stop.result (omega (arith, inside)) c.min-stop.ensures) ∙ ap weight (run_degrees g us s (s + 64)) in
+    c.weight_of-weight.ensures.weight ∙ ap (λ (vs : List ℕ). weight (out_degrees g vs)) (run_stop us s c.min-stop.result (omega (arith, inside)) c.min-stop.ensures)
+    ∙ ap weight (run_degrees g us s (s + 64)) in
     let next : s + 64 ≡ 64 * (c.runs.run + 1) = omega arith in
     let more = weight_more ds s in
     let count = before.count in

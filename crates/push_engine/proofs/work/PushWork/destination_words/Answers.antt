@@ -12,7 +12,8 @@ use Rattle.push_engine.proofs.work.PushWork.destination_words.Goals as goal
 pub returns-in-Some : goal.returns-in-Some
 returns-in-Some c =
     let w = c.args.self.now in
-    let passing = subst (λ (b : Option VertexSubset). IfSome b (λ s. (m : StateValue) (to : ℕ → Bool) → w.apply.vectors.now.vectors ≡ m.vectors → HasSizes w.apply.sizes.now m → IsEndTest w.apply.to m to
+    let passing = subst (λ (b : Option VertexSubset). IfSome b (λ s. (m : StateValue) (to : ℕ → Bool) → w.apply.vectors.now.vectors ≡ m.vectors → HasSizes w.apply.sizes.now m
+    → IsEndTest w.apply.to m to
     → (v : ℕ) → v < w.apply.flat.now.vertices → is_member v s.members ≡ to v)) c.in-Some.is w.destinations in
     IfSome_then c.words.result c.words.ensures.members
     (λ words are m to vectors sizes is v l. words_have_members c.in-Some.set words.now are v ∙ passing m to vectors sizes is v l)

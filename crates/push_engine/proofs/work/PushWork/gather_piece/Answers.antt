@@ -41,6 +41,8 @@ returns-clause-given c m steps from test vectors sizes kernels is_from is_test x
     ∙ ap (λ (e : ℕ). slice_range w.sources.items (end_of w.partition (k - 1)) e) c.piece-indices.ensures.end in
     let reads = c.context-context.ensures.reads m steps (record { vectors = vectors; sizes = sizes; kernels = kernels }) in
     let has = c.in_ok-fold_part.ensures m steps from reads is_from (c.begin.ensures _ m steps) in
-    let gathered = c.in_ok-gathered.ensures.given m steps (folded c.part_between-part.result.now) test reads is_test has (ap (λ (f : ApplyContext). f.start) c.context-context.ensures.context) x r by in
-    subst (λ (n : ℕ). AreGatheredFor n m steps (filter (λ e. test e.1) (folded (piece_of w.partition w.sources.items k))) g x r) (ap (λ (f : ApplyContext). f.vertices) c.context-context.ensures.context)
+    let gathered = c.in_ok-gathered.ensures.given m steps (folded c.part_between-part.result.now) test reads is_test has
+    (ap (λ (f : ApplyContext). f.start) c.context-context.ensures.context) x r by in
+    subst (λ (n : ℕ). AreGatheredFor n m steps (filter (λ e. test e.1) (folded (piece_of w.partition w.sources.items k))) g x r)
+    (ap (λ (f : ApplyContext). f.vertices) c.context-context.ensures.context)
     (subst (λ (us : List ℕ). AreGatheredFor c.context-context.result.vertices m steps (filter (λ e. test e.1) (folded us)) g x r) part gathered)

@@ -10,5 +10,6 @@ returns-in_err-make_room g c =
 
 pub returns-in_err-push_end_line : goal.returns-in_err-push_end_line
 returns-in_err-push_end_line g c =
-    let part = lacks_memory _ c.make_room.new.self _ [] (end_line c.args.end c.args.turns) c.in_ok-make_room.ensures (ap (λ o. o.writer) c.self.view_is) (ap (λ o. o.bytes_written) c.self.view_is) (ap (λ o. o.failures) c.self.view_is) in
+    let part = lacks_memory _ c.make_room.new.self _ [] (end_line c.args.end c.args.turns) c.in_ok-make_room.ensures (ap (λ o. o.writer) c.self.view_is) (ap (λ o. o.bytes_written) c.self.view_is)
+    (ap (λ o. o.failures) c.self.view_is) in
     emits_failed _ _ _ _ _ c.from_residual-in_err-push_end_line.ensures.1 part

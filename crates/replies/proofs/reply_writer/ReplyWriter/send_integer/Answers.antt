@@ -10,5 +10,6 @@ returns-in_err-make_room g c =
 
 pub returns-in_err-push_spaced_integer : goal.returns-in_err-push_spaced_integer
 returns-in_err-push_spaced_integer g c =
-    let part = lacks_memory _ c.make_room.new.self _ [] (32 ∷ signed_decimal c.args.integer) c.in_ok-make_room.ensures (ap (λ o. o.writer) c.self.view_is) (ap (λ o. o.bytes_written) c.self.view_is) (ap (λ o. o.failures) c.self.view_is) in
+    let part = lacks_memory _ c.make_room.new.self _ [] (32 ∷ signed_decimal c.args.integer) c.in_ok-make_room.ensures (ap (λ o. o.writer) c.self.view_is) (ap (λ o. o.bytes_written) c.self.view_is)
+    (ap (λ o. o.failures) c.self.view_is) in
     emits_failed _ _ _ _ _ c.from_residual-in_err-push_spaced_integer.ensures.1 part

@@ -9,5 +9,6 @@ returns-in_err-make_room g c =
 
 pub returns-in_err-push_spaced_number : goal.returns-in_err-push_spaced_number
 returns-in_err-push_spaced_number g c =
-    let part = lacks_memory _ c.make_room.new.self _ [] (32 ∷ decimal c.args.member) c.in_ok-make_room.ensures (ap (λ o. o.writer) c.self.view_is) (ap (λ o. o.bytes_written) c.self.view_is) (ap (λ o. o.failures) c.self.view_is) in
+    let part = lacks_memory _ c.make_room.new.self _ [] (32 ∷ decimal c.args.member) c.in_ok-make_room.ensures (ap (λ o. o.writer) c.self.view_is) (ap (λ o. o.bytes_written) c.self.view_is)
+    (ap (λ o. o.failures) c.self.view_is) in
     emits_failed _ _ _ _ _ c.from_residual-in_err-push_spaced_number.ensures.1 part

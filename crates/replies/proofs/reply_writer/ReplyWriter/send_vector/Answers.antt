@@ -7,25 +7,29 @@ use Rattle.replies.proofs.reply_writer.ReplyWriter.send_vector.Goals as goal
 
 pub returns-in_err-send_bytes : goal.returns-in_err-send_bytes
 returns-in_err-send_bytes g c =
-    emits_stopped _ _ (codes "vector ") (c.args.vector.now.name ++ (58 ∷ ((flat_map (λ n. 32 ∷ signed_decimal n) c.args.vector.now.entries) ++ (10 ∷ [])))) _ _ _ c.from_residual.ensures.1 refl c.in_err-send_bytes.ensures
+    emits_stopped _ _ (codes "vector ") (c.args.vector.now.name ++ (58 ∷ ((flat_map (λ n. 32 ∷ signed_decimal n) c.args.vector.now.entries)
+    ++ (10 ∷ [])))) _ _ _ c.from_residual.ensures.1 refl c.in_err-send_bytes.ensures
 
 pub returns-in_err-send_bytes-2 : goal.returns-in_err-send_bytes-2
 returns-in_err-send_bytes-2 g c =
     emits_next _ _ _ (codes "vector ") (c.args.vector.now.name ++ (58 ∷ ((flat_map (λ n. 32 ∷ signed_decimal n) c.args.vector.now.entries) ++ (10 ∷ [])))) _ _ c.in_ok-send_bytes.ensures refl
-    (emits_stopped _ _ c.args.vector.now.name (58 ∷ ((flat_map (λ n. 32 ∷ signed_decimal n) c.args.vector.now.entries) ++ (10 ∷ []))) _ _ _ c.from_residual-in_err-send_bytes-2.ensures.1 c.as_slice.ensures c.in_err-send_bytes-2.ensures)
+    (emits_stopped _ _ c.args.vector.now.name (58 ∷ ((flat_map (λ n. 32 ∷ signed_decimal n) c.args.vector.now.entries)
+    ++ (10 ∷ []))) _ _ _ c.from_residual-in_err-send_bytes-2.ensures.1 c.as_slice.ensures c.in_err-send_bytes-2.ensures)
 
 pub returns-in_err-send_bytes-3 : goal.returns-in_err-send_bytes-3
 returns-in_err-send_bytes-3 g c =
     emits_next _ _ _ (codes "vector ") (c.args.vector.now.name ++ (58 ∷ ((flat_map (λ n. 32 ∷ signed_decimal n) c.args.vector.now.entries) ++ (10 ∷ [])))) _ _ c.in_ok-send_bytes.ensures refl
     (emits_next _ _ _ c.args.vector.now.name (58 ∷ ((flat_map (λ n. 32 ∷ signed_decimal n) c.args.vector.now.entries) ++ (10 ∷ []))) _ _ c.in_ok-send_bytes-2.ensures c.as_slice.ensures
-    (emits_stopped _ _ (58 ∷ []) ((flat_map (λ n. 32 ∷ signed_decimal n) c.args.vector.now.entries) ++ (10 ∷ [])) _ _ _ c.from_residual-in_err-send_bytes-3.ensures.1 refl c.in_err-send_bytes-3.ensures))
+    (emits_stopped _ _ (58 ∷ []) ((flat_map (λ n. 32 ∷ signed_decimal n) c.args.vector.now.entries)
+    ++ (10 ∷ [])) _ _ _ c.from_residual-in_err-send_bytes-3.ensures.1 refl c.in_err-send_bytes-3.ensures))
 
 pub returns-in_err-send_integers : goal.returns-in_err-send_integers
 returns-in_err-send_integers g c =
     emits_next _ _ _ (codes "vector ") (c.args.vector.now.name ++ (58 ∷ ((flat_map (λ n. 32 ∷ signed_decimal n) c.args.vector.now.entries) ++ (10 ∷ [])))) _ _ c.in_ok-send_bytes.ensures refl
     (emits_next _ _ _ c.args.vector.now.name (58 ∷ ((flat_map (λ n. 32 ∷ signed_decimal n) c.args.vector.now.entries) ++ (10 ∷ []))) _ _ c.in_ok-send_bytes-2.ensures c.as_slice.ensures
     (emits_next _ _ _ (58 ∷ []) ((flat_map (λ n. 32 ∷ signed_decimal n) c.args.vector.now.entries) ++ (10 ∷ [])) _ _ c.in_ok-send_bytes-3.ensures refl
-    (emits_stopped _ _ (flat_map (λ n. 32 ∷ signed_decimal n) c.args.vector.now.entries) (10 ∷ []) _ _ _ c.from_residual-in_err-send_integers.ensures.1 (ap (flat_map (λ n. 32 ∷ signed_decimal n)) c.as_slice-2.ensures) c.in_err-send_integers.ensures)))
+    (emits_stopped _ _ (flat_map (λ n. 32 ∷ signed_decimal n) c.args.vector.now.entries) (10 ∷ []) _ _ _ c.from_residual-in_err-send_integers.ensures.1
+    (ap (flat_map (λ n. 32 ∷ signed_decimal n)) c.as_slice-2.ensures) c.in_err-send_integers.ensures)))
 
 pub returns : goal.returns
 returns g c =

@@ -15,7 +15,8 @@ returns c =
     let k = c.args.count in
     let names = c.args.names.now in
     subst (λ (shown : List NamedSet). IfOk c.name_sets.result (λ v. v.items ≡ shown))
-    (ap₂ (λ (xs : List ℕ) (ys : List VertexSubset). map (named_set names) (named xs ys).sets) (c.first-set_names.ensures ∙ ap (take k) c.deref.ensures.value) (c.first.ensures ∙ ap (take k) c.deref-2.ensures.value)
+    (ap₂ (λ (xs : List ℕ) (ys : List VertexSubset). map (named_set names) (named xs ys).sets) (c.first-set_names.ensures ∙ ap (take k) c.deref.ensures.value)
+    (c.first.ensures ∙ ap (take k) c.deref-2.ensures.value)
     ∙ ap (λ (state : StateValue). map (named_set names) state.sets) (named_take k s.names.items s.members.items)
     ∙ ap (λ (r : RunState). map (named_set names) (take k r.state.sets)) c.self.view_is)
     c.name_sets.ensures

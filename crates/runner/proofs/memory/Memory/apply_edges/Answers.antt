@@ -28,7 +28,8 @@ returns-clause-done over c p g t same on functions is reduces =
     let indices = ap (λ (o : Option ℕ). indices_of part.function o) c.function_of-both.ensures in
     let reduced = subst (λ (fs : List ℕ). AreReduced (steps_at p.edge_functions fs) s) (sym indices) (are_reduced p ends part second t is reduces s) in
     let after = after_edge_apply p.filters p.edge_functions g ends (function_indices part second) s in
-    let changes = subst (λ (fs : List ℕ). AreChangesTo g.vertices s.vectors (after_edge_apply p.filters p.edge_functions g ends fs s) cs) indices (c.in_ok-changes.ensures.changes p s g view entries reduced) in
+    let changes = subst (λ (fs : List ℕ). AreChangesTo g.vertices s.vectors (after_edge_apply p.filters p.edge_functions g ends fs s) cs) indices
+    (c.in_ok-changes.ensures.changes p s g view entries reduced) in
     let changes_here = subst (λ (n : ℕ). AreChangesTo n s.vectors after cs) (sym on) changes in
     let new : Memory = record { loops = run.loops; state = c.take_changes.new.state; block = run.block; registers = run.registers } in
     edges_done c.args.instruction.now run new p g ends part second t is (λ index.

@@ -23,27 +23,33 @@ returns-in-Grow-clause-emits g c =
 
 pub returns-in-Commit-clause-emits : goal.returns-in-Commit-clause-emits
 returns-in-Commit-clause-emits g c =
-    emits_step _ _ _ _ _ c.commit.result c.reply.result (ap (λ (k : Command). on_open (g.P.Programs.trees c.args.host.now.programs.now) c.args.self.now k) c.in-Commit.is) c.commit.ensures c.reply.ensures.sent c.reply.ensures.unsent
+    emits_step _ _ _ _ _ c.commit.result c.reply.result (ap (λ (k : Command). on_open
+    (g.P.Programs.trees c.args.host.now.programs.now) c.args.self.now k) c.in-Commit.is) c.commit.ensures c.reply.ensures.sent c.reply.ensures.unsent
 
 pub returns-in-Commit-clause-state : goal.returns-in-Commit-clause-state
 returns-in-Commit-clause-state g c =
-    leaves_step _ _ _ _ _ c.commit.result c.reply.result (ap (λ (k : Command). on_open (g.P.Programs.trees c.args.host.now.programs.now) c.args.self.now k) c.in-Commit.is) c.commit.ensures c.reply.ensures.unsent
+    leaves_step _ _ _ _ _ c.commit.result c.reply.result (ap (λ (k : Command). on_open
+    (g.P.Programs.trees c.args.host.now.programs.now) c.args.self.now k) c.in-Commit.is) c.commit.ensures c.reply.ensures.unsent
 
 pub returns-in-Hold-clause-emits : goal.returns-in-Hold-clause-emits
 returns-in-Hold-clause-emits g c =
-    emits_step _ _ _ _ _ c.hold.result c.reply-in-Hold.result (ap (λ (k : Command). on_open (g.P.Programs.trees c.args.host.now.programs.now) c.args.self.now k) c.in-Hold.is) c.hold.ensures c.reply-in-Hold.ensures.sent c.reply-in-Hold.ensures.unsent
+    emits_step _ _ _ _ _ c.hold.result c.reply-in-Hold.result (ap (λ (k : Command). on_open
+    (g.P.Programs.trees c.args.host.now.programs.now) c.args.self.now k) c.in-Hold.is) c.hold.ensures c.reply-in-Hold.ensures.sent c.reply-in-Hold.ensures.unsent
 
 pub returns-in-Hold-clause-state : goal.returns-in-Hold-clause-state
 returns-in-Hold-clause-state g c =
-    leaves_step _ _ _ _ _ c.hold.result c.reply-in-Hold.result (ap (λ (k : Command). on_open (g.P.Programs.trees c.args.host.now.programs.now) c.args.self.now k) c.in-Hold.is) c.hold.ensures c.reply-in-Hold.ensures.unsent
+    leaves_step _ _ _ _ _ c.hold.result c.reply-in-Hold.result (ap (λ (k : Command). on_open
+    (g.P.Programs.trees c.args.host.now.programs.now) c.args.self.now k) c.in-Hold.is) c.hold.ensures c.reply-in-Hold.ensures.unsent
 
 pub returns-in-Release-clause-emits : goal.returns-in-Release-clause-emits
 returns-in-Release-clause-emits g c =
-    emits_step _ _ _ _ _ c.release.result c.reply-in-Release.result (ap (λ (k : Command). on_open (g.P.Programs.trees c.args.host.now.programs.now) c.args.self.now k) c.in-Release.is) c.release.ensures c.reply-in-Release.ensures.sent c.reply-in-Release.ensures.unsent
+    emits_step _ _ _ _ _ c.release.result c.reply-in-Release.result (ap (λ (k : Command). on_open
+    (g.P.Programs.trees c.args.host.now.programs.now) c.args.self.now k) c.in-Release.is) c.release.ensures c.reply-in-Release.ensures.sent c.reply-in-Release.ensures.unsent
 
 pub returns-in-Release-clause-state : goal.returns-in-Release-clause-state
 returns-in-Release-clause-state g c =
-    leaves_step _ _ _ _ _ c.release.result c.reply-in-Release.result (ap (λ (k : Command). on_open (g.P.Programs.trees c.args.host.now.programs.now) c.args.self.now k) c.in-Release.is) c.release.ensures c.reply-in-Release.ensures.unsent
+    leaves_step _ _ _ _ _ c.release.result c.reply-in-Release.result (ap (λ (k : Command). on_open
+    (g.P.Programs.trees c.args.host.now.programs.now) c.args.self.now k) c.in-Release.is) c.release.ensures c.reply-in-Release.ensures.unsent
 
 pub returns-in-Edges-clause-emits : goal.returns-in-Edges-clause-emits
 returns-in-Edges-clause-emits g c =

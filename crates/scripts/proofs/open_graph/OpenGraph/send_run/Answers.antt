@@ -16,27 +16,33 @@ use Rattle.scripts.proofs.open_graph.OpenGraph.send_run.Goals.{then-self, else-s
 pub returns-in_default-clause-emits : goal.returns-in_default-clause-emits
 returns-in_default-clause-emits g c =
     let found = is_at (g.P.Programs.trees c.args.host.now.programs.now) c.args.index c.requires.index in
-    let nowhere = runs_nowhere c.args.self.now c.args.line.turns c.args.line.workers _ found.0 _ found.1 (ap (λ (o : OpenState). graph_of o.versions c.args.line.ticket) (sym c.self.view_is) ∙ sym c.version_of.ensures.graph ∙ ap (option_map (λ v. v.1.now)) c.in_default.is) in
+    let nowhere = runs_nowhere c.args.self.now c.args.line.turns c.args.line.workers _ found.0 _ found.1
+    (ap (λ (o : OpenState). graph_of o.versions c.args.line.ticket) (sym c.self.view_is) ∙ sym c.version_of.ensures.graph ∙ ap (option_map (λ v. v.1.now)) c.in_default.is) in
     emits_as _ _ _ _ _ c.refuse.ensures (ap (λ (a : Answer OpenState). a.text) nowhere ∙ ap (λ (n : ℕ). line_text (line_reply.Refused n)) (sym c.number.ensures))
 
 pub returns-in_default-clause-state : goal.returns-in_default-clause-state
 returns-in_default-clause-state g c =
     let found = is_at (g.P.Programs.trees c.args.host.now.programs.now) c.args.index c.requires.index in
-    let nowhere = runs_nowhere c.args.self.now c.args.line.turns c.args.line.workers _ found.0 _ found.1 (ap (λ (o : OpenState). graph_of o.versions c.args.line.ticket) (sym c.self.view_is) ∙ sym c.version_of.ensures.graph ∙ ap (option_map (λ v. v.1.now)) c.in_default.is) in
+    let nowhere = runs_nowhere c.args.self.now c.args.line.turns c.args.line.workers _ found.0 _ found.1
+    (ap (λ (o : OpenState). graph_of o.versions c.args.line.ticket) (sym c.self.view_is) ∙ sym c.version_of.ensures.graph ∙ ap (option_map (λ v. v.1.now)) c.in_default.is) in
     on_ok_where c.refuse.result (sym (ap (λ (a : Answer OpenState). a.state) nowhere))
 
 pub returns-then-workers-eq0-clause-emits : goal.returns-then-workers-eq0-clause-emits
 returns-then-workers-eq0-clause-emits g c =
     let found = is_at (g.P.Programs.trees c.args.host.now.programs.now) c.args.index c.requires.index in
-    let many : (c.args.line.workers ≡ 0) ⊎ (64 < c.args.line.workers) = elim c.then-workers-eq0.branch [ then-workers-eq0-via-then-workers-eq0 w ↦ inl w.if-workers-eq0.true | then-workers-eq0-via-else-workers-eq0+then-workers w ↦ inr w.if-workers.true ] in
-    let refused = runs_by_too_many c.args.self.now c.args.line.turns c.args.line.workers _ found.0 _ _ found.1 (ap (λ (o : OpenState). graph_of o.versions c.args.line.ticket) (sym c.self.view_is) ∙ sym c.version_of.ensures.graph ∙ ap (option_map (λ v. v.1.now)) c.in-Some.is) many in
+    let many : (c.args.line.workers ≡ 0) ⊎ (64 < c.args.line.workers) =
+    elim c.then-workers-eq0.branch [ then-workers-eq0-via-then-workers-eq0 w ↦ inl w.if-workers-eq0.true | then-workers-eq0-via-else-workers-eq0+then-workers w ↦ inr w.if-workers.true ] in
+    let refused = runs_by_too_many c.args.self.now c.args.line.turns c.args.line.workers _ found.0 _ _ found.1
+    (ap (λ (o : OpenState). graph_of o.versions c.args.line.ticket) (sym c.self.view_is) ∙ sym c.version_of.ensures.graph ∙ ap (option_map (λ v. v.1.now)) c.in-Some.is) many in
     emits_as _ _ _ _ _ c.refuse-then-workers-eq0.ensures (ap (λ (a : Answer OpenState). a.text) refused)
 
 pub returns-then-workers-eq0-clause-state : goal.returns-then-workers-eq0-clause-state
 returns-then-workers-eq0-clause-state g c =
     let found = is_at (g.P.Programs.trees c.args.host.now.programs.now) c.args.index c.requires.index in
-    let many : (c.args.line.workers ≡ 0) ⊎ (64 < c.args.line.workers) = elim c.then-workers-eq0.branch [ then-workers-eq0-via-then-workers-eq0 w ↦ inl w.if-workers-eq0.true | then-workers-eq0-via-else-workers-eq0+then-workers w ↦ inr w.if-workers.true ] in
-    let refused = runs_by_too_many c.args.self.now c.args.line.turns c.args.line.workers _ found.0 _ _ found.1 (ap (λ (o : OpenState). graph_of o.versions c.args.line.ticket) (sym c.self.view_is) ∙ sym c.version_of.ensures.graph ∙ ap (option_map (λ v. v.1.now)) c.in-Some.is) many in
+    let many : (c.args.line.workers ≡ 0) ⊎ (64 < c.args.line.workers) =
+    elim c.then-workers-eq0.branch [ then-workers-eq0-via-then-workers-eq0 w ↦ inl w.if-workers-eq0.true | then-workers-eq0-via-else-workers-eq0+then-workers w ↦ inr w.if-workers.true ] in
+    let refused = runs_by_too_many c.args.self.now c.args.line.turns c.args.line.workers _ found.0 _ _ found.1
+    (ap (λ (o : OpenState). graph_of o.versions c.args.line.ticket) (sym c.self.view_is) ∙ sym c.version_of.ensures.graph ∙ ap (option_map (λ v. v.1.now)) c.in-Some.is) many in
     on_ok_where c.refuse-then-workers-eq0.result (sym (ap (λ (a : Answer OpenState). a.state) refused))
 
 pub returns-in_err-flat-clause-emits : goal.returns-in_err-flat-clause-emits
@@ -48,14 +54,18 @@ returns-in_err-outcome-clause-emits g c = emits_none _ _ _ c.from_residual-in_er
 pub returns-clause-emits : goal.returns-clause-emits
 returns-clause-emits g c =
     let found = is_at (g.P.Programs.trees c.args.host.now.programs.now) c.args.index c.requires.index in
-    let ran = runs c.args.self.now c.args.line.turns c.args.line.workers _ found.0 _ c.in-Some.graph.now found.1 (ap (λ (o : OpenState). graph_of o.versions c.args.line.ticket) (sym c.self.view_is) ∙ sym c.version_of.ensures.graph ∙ ap (option_map (λ v. v.1.now)) c.in-Some.is) c.if-workers-eq0.false c.if-workers.false in
+    let ran = runs c.args.self.now c.args.line.turns c.args.line.workers _ found.0 _ c.in-Some.graph.now found.1
+    (ap (λ (o : OpenState). graph_of o.versions c.args.line.ticket) (sym c.self.view_is) ∙ sym c.version_of.ensures.graph
+    ∙ ap (option_map (λ v. v.1.now)) c.in-Some.is) c.if-workers-eq0.false c.if-workers.false in
     let shown = c.in_ok-outcome.ensures found.0 found.1 ∙ ap (λ (d : Digraph). meaning_on d found.0 c.args.line.turns) (c.deref.ensures ∙ c.in_ok-flat.ensures.flat) in
     emits_as _ _ _ _ _ c.send_outcome.ensures (ap (λ (a : Answer OpenState). a.text) ran ∙ ap outcome_text (sym shown))
 
 pub returns-clause-state : goal.returns-clause-state
 returns-clause-state g c =
     let found = is_at (g.P.Programs.trees c.args.host.now.programs.now) c.args.index c.requires.index in
-    let ran = runs c.args.self.now c.args.line.turns c.args.line.workers _ found.0 _ c.in-Some.graph.now found.1 (ap (λ (o : OpenState). graph_of o.versions c.args.line.ticket) (sym c.self.view_is) ∙ sym c.version_of.ensures.graph ∙ ap (option_map (λ v. v.1.now)) c.in-Some.is) c.if-workers-eq0.false c.if-workers.false in
+    let ran = runs c.args.self.now c.args.line.turns c.args.line.workers _ found.0 _ c.in-Some.graph.now found.1
+    (ap (λ (o : OpenState). graph_of o.versions c.args.line.ticket) (sym c.self.view_is) ∙ sym c.version_of.ensures.graph
+    ∙ ap (option_map (λ v. v.1.now)) c.in-Some.is) c.if-workers-eq0.false c.if-workers.false in
     let shown = c.in_ok-outcome.ensures found.0 found.1 ∙ ap (λ (d : Digraph). meaning_on d found.0 c.args.line.turns) (c.deref.ensures ∙ c.in_ok-flat.ensures.flat) in
     let inside = c.self.inside in
     let last = is_fault c.in_ok-outcome.outcome.end in

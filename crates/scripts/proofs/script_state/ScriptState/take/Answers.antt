@@ -11,12 +11,15 @@ lines-init g c = taking_starts (g.P.Programs.trees c.args.host.now.programs.now)
 pub returns-in_err-end_line-clause-emits : goal.returns-in_err-end_line-clause-emits
 returns-in_err-end_line-clause-emits g c =
     emits_failed _ _ _ _ _ c.from_residual.ensures.1
-    (taking_fails (g.P.Programs.trees c.args.host.now.programs.now) c.args.self.now c.args.bytes.now _ c.lines.self c.lines.rest.now _ c.lines.invariant c.in-Some.line.now c.in-Some.after.now c.in-Some.ensures.cut.0 c.in-Some.ensures.cut.1 _ c.in_err-end_line.field-0.0 c.in_err-end_line.ensures.emits)
+    (taking_fails
+    (g.P.Programs.trees c.args.host.now.programs.now) c.args.self.now c.args.bytes.now _ c.lines.self c.lines.rest.now _ c.lines.invariant c.in-Some.line.now c.in-Some.after.now
+    c.in-Some.ensures.cut.0 c.in-Some.ensures.cut.1 _ c.in_err-end_line.field-0.0 c.in_err-end_line.ensures.emits)
 
 pub lines-preserved : goal.lines-preserved
 lines-preserved g c =
     rw (c.in_ok-end_line.ensures.reading)
-    (taking_line (g.P.Programs.trees c.args.host.now.programs.now) c.args.self.now c.args.bytes.now _ c.lines.self c.lines.rest.now _ c.lines.invariant c.in-Some.line.now c.in-Some.after.now c.in-Some.ensures.cut.0 c.in-Some.ensures.cut.1 _ c.in_ok-end_line.ensures.emits)
+    (taking_line (g.P.Programs.trees c.args.host.now.programs.now) c.args.self.now c.args.bytes.now _ c.lines.self c.lines.rest.now _ c.lines.invariant c.in-Some.line.now c.in-Some.after.now
+    c.in-Some.ensures.cut.0 c.in-Some.ensures.cut.1 _ c.in_ok-end_line.ensures.emits)
 
 pub returns-in_err-extend_from_slice-clause-emits : goal.returns-in_err-extend_from_slice-clause-emits
 returns-in_err-extend_from_slice-clause-emits g c =

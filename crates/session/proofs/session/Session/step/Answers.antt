@@ -11,7 +11,8 @@ use Rattle.session.proofs.session.Session.step.Goals as goal
 
 pub returns-clause-takes : goal.returns-clause-takes
 returns-clause-takes c =
-    subst (λ (r : Result SessionReply SessionError). IfOk r (λ reply. (programs : List ScheduledProgram) (w : World) → IsAt programs w c.args.self.now → Takes programs (answer programs w c.args.step) reply c.attempt.new.self))
+    subst (λ (r : Result SessionReply SessionError). IfOk r (λ reply. (programs : List ScheduledProgram) (w : World) → IsAt programs w c.args.self.now
+    → Takes programs (answer programs w c.args.step) reply c.attempt.new.self))
     (sym c.told.ensures) (told_takes c.args.step c.args.self.now c.attempt.new.self c.attempt.result c.attempt.ensures.attempts)
 
 pub returns-clause-err : goal.returns-clause-err

@@ -17,6 +17,7 @@ pub returns-clause-attempts : goal.returns-clause-attempts
 returns-clause-attempts c = λ programs w at.
     let jobs : List JobValue = c.self.inside.jobs.items in
     let there = subst (λ (found : Option (MutBor JobValue)). IsItemAtMut jobs c.in-Some.index found) c.in-Some-get_mut.is c.get_mut.ensures.item in
-    steps_job_there programs w c.args.self.now _ jobs c.args.number c.in-Some.index c.in-Some-get_mut.job.now c.step.new.self c.in_ok-stand.stand at (ap (λ (v : SessionValue). v.jobs) (sym c.self.view_is)) c.in-Some.ensures
+    steps_job_there programs w c.args.self.now _ jobs c.args.number c.in-Some.index c.in-Some-get_mut.job.now c.step.new.self c.in_ok-stand.stand at
+    (ap (λ (v : SessionValue). v.jobs) (sym c.self.view_is)) c.in-Some.ensures
     there.3.0 there.3.1 c.in_ok-stand.ensures.steps c.in_ok-stand.ensures.stand
     (ap (λ (v : SessionValue). record v { jobs = slice_set jobs c.in-Some.index c.step.new.self }) c.self.view_is)

@@ -39,7 +39,8 @@ invariant_of-self g c =
     let found : c.compare_exchange-found.result == c.self.inside.count ≡ true = eq-eqb c.compare_exchange-found.result c.self.inside.count c.if-found-count.false in
     let told = rw found at c.compare_exchange-found.ensures.7 in
     let added : c.compare_exchange-found.new.seen.log ≡ log ++ e ∷ [] =
-    told ∙ ap (λ s. s.log ++ c.plain-offer.result.ask ∷ []) c.again-seen.ensures ∙ ap (λ (x : Entry). log ++ x ∷ []) (c.plain-offer.ensures.1 ∙ ap (λ d. record { by = c.args.by; done = d }) c.of.ensures) in
+    told ∙ ap (λ s. s.log ++ c.plain-offer.result.ask ∷ []) c.again-seen.ensures
+    ∙ ap (λ (x : Entry). log ++ x ∷ []) (c.plain-offer.ensures.1 ∙ ap (λ d. record { by = c.args.by; done = d }) c.of.ensures) in
     let may : MayFollow (opened g.J.Naming.vertices g.J.Naming.room) log e.done = rw c.self.view_is c.requires.follows in (
       omega (arith, c.self.invariant.0, ap length added, length-append log (e ∷ [])),
       c.compare_exchange-found.ensures.0 ∙ ap (λ s. s.book) c.again-seen.ensures ∙ c.self.invariant.1,

@@ -20,7 +20,8 @@ invariant_of-self-2 g c =
     let p = c.in_ok-prepared.prepared in
     let log : List Entry = c.self.inside.published_log in
     let e : Entry = record { by = c.prepare_hold.new.me.number; done = record { step = Acquire c.args.which; reply = Ticket p.ticket.number p.version } } in
-    let accepted = subst (λ (w : Which). Accepts c.prepare_hold.new.versions (Acquire w) (Ticket p.ticket.number p.version) c.finish_acquire.new.self) c.in_ok-prepared.ensures.prepared.which c.finish_acquire.ensures.accepted in
+    let accepted = subst (λ (w : Which). Accepts c.prepare_hold.new.versions (Acquire w)
+    (Ticket p.ticket.number p.version) c.finish_acquire.new.self) c.in_ok-prepared.ensures.prepared.which c.finish_acquire.ensures.accepted in
     subst (λ (l : List Entry). IsTimelineOf base l c.finish_acquire.new.self) (sym c.record.ensures.log)
     (timeline_push base log e c.prepare_hold.new.versions c.finish_acquire.new.self c.in_ok-prepared.ensures.timeline accepted)
 

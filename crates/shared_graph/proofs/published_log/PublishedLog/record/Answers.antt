@@ -14,7 +14,8 @@ new-shown-requires-clause-newest g c =
     let log : List Entry = c.self.inside.history_prefix in
     let e : Entry = record { by = c.args.me.now.number; done = c.args.done.now } in
     let after : state_at base c.make_step.new.history_prefix ≡ state_after (state_at base log) e.done.step = ap (state_at base) c.make_step.ensures.history_prefix ∙ state_at-push base log e in
-    let before : state_after (state_at base log) e.done.step ≡ state_after (state_at base c.args.self.now) e.done.step = ap (λ (l : List Entry). state_after (state_at base l) e.done.step) c.self.view_is in
+    let before : state_after (state_at base log) e.done.step ≡ state_after (state_at base c.args.self.now) e.done.step =
+    ap (λ (l : List Entry). state_after (state_at base l) e.done.step) c.self.view_is in
     subst (λ (s : State). IsNewest s c.args.number (arc_value c.args.graph)) (sym (after ∙ before)) c.requires.newest
 
 pub has_made-requires-clause-few : goal.has_made-requires-clause-few

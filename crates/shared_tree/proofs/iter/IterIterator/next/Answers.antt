@@ -24,7 +24,8 @@ pub returns-clause-steps : goal.returns-clause-steps
 returns-clause-steps g c =
     let within : c.self.inside.height - 1 < length c.self.inside.links = omega arith in
     let top = pending_top c.self.inside.links (c.self.inside.height - 1) c.index-links-height.result within c.index-links-height.is c.self.inside.height (omega arith) in
-    rw c.deref-in-Fork.ensures (next_entries c.index-links-height.result.now c.link.result.now _ _ _ c.in-Fork.is (rw c.deref.ensures at c.link.ensures) _ _ _ (sym c.self.view_is ∙ top) c.descend-top.ensures.entries)
+    rw c.deref-in-Fork.ensures (next_entries c.index-links-height.result.now c.link.result.now _ _ _ c.in-Fork.is (rw c.deref.ensures at c.link.ensures) _ _ _
+    (sym c.self.view_is ∙ top) c.descend-top.ensures.entries)
 
 pub returns-clause-goes : goal.returns-clause-goes
 returns-clause-goes g c = record {

@@ -23,9 +23,11 @@ join_around-requires g t c =
 pub returns-clause-values : goal.returns-clause-values
 returns-clause-values g t c =
     let halves = c.in-Some.ensures in
-    rw c.in_ok-tree-2.ensures (changed_around g.C.ValueChange.makes _ _ _ _ _ _ _ _ _ c.in_ok-below.ensures.values c.in_ok-above.ensures.values _ _ c.in_ok-value.value halves.map halves.changes c.in_ok-value.ensures.made)
+    rw c.in_ok-tree-2.ensures
+    (changed_around g.C.ValueChange.makes _ _ _ _ _ _ _ _ _ c.in_ok-below.ensures.values c.in_ok-above.ensures.values _ _ c.in_ok-value.value halves.map halves.changes c.in_ok-value.ensures.made)
 
 pub returns-clause-growth : goal.returns-clause-growth
 returns-clause-growth g t c =
     let halves = c.in-Some.ensures in
-    grew_around g.C.ValueChange.weight _ _ _ _ _ _ _ _ _ halves.map.whole c.in_ok-tree-2.ensures c.in_ok-below.below.growth c.in_ok-above.above.growth c.in_ok-value.growth _ _ c.in_ok-below.ensures.growth c.in_ok-above.ensures.growth c.in_ok-value.ensures.growth refl refl
+    grew_around g.C.ValueChange.weight _ _ _ _ _ _ _ _ _ halves.map.whole c.in_ok-tree-2.ensures c.in_ok-below.below.growth c.in_ok-above.above.growth c.in_ok-value.growth _ _
+    c.in_ok-below.ensures.growth c.in_ok-above.ensures.growth c.in_ok-value.ensures.growth refl refl

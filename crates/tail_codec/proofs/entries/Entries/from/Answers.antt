@@ -15,7 +15,8 @@ pub returns-in-None : goal.returns-in-None
 returns-in-None c =
     let e = c.self.inside in
     let n = c.args.position in
-    c.of_keys.ensures ∙ ap (λ v. entries_in v None) (take_rest e.keys.now n) ∙ sym (drop_in n e.keys.now None) ∙ ap (drop n) (seen_ones e.keys.now e.weights c.args.self.now c.self.invariant c.self.view_is c.in-None.is)
+    c.of_keys.ensures ∙ ap (λ v. entries_in v None) (take_rest e.keys.now n) ∙ sym (drop_in n e.keys.now None)
+    ∙ ap (drop n) (seen_ones e.keys.now e.weights c.args.self.now c.self.invariant c.self.view_is c.in-None.is)
 
 pub returns-in-Some : goal.returns-in-Some
 returns-in-Some c =

@@ -38,7 +38,8 @@ side-requires-clause-over c =
     let es = c.args.self.now.entries in
     let same : c.lent.result ≡ es = search rules in
     let cut = c.cut_entries-below in
-    rw (keys_under c.args.key cut.result.0 c.lent.result es cut.ensures.front same, c.base-base.ensures.base) (below_ascends c.args.key (least c.args.self.now.base) (keys_of es) c.base-base.ensures.valid)
+    rw (keys_under c.args.key cut.result.0 c.lent.result es cut.ensures.front same, c.base-base.ensures.base)
+    (below_ascends c.args.key (least c.args.self.now.base) (keys_of es) c.base-base.ensures.valid)
 
 pub side-requires-clause-whole : goal.side-requires-clause-whole
 side-requires-clause-whole c =

@@ -7,7 +7,8 @@ use Rattle.tail_codec.proofs.Columns.{set_zip}
 use Rattle.tail_codec.proofs.tail.Tail.read_into.Goals as goal
 
 -- one entry more stands in the columns
-put : (keys : List ℕ) (weights : List ℤ) (n k : ℕ) (w : ℤ) (now rest : List (ℕ × ℤ)) → n < length (zip keys weights) → now ≡ (k, w) ∷ rest → take (n + 1) (zip (slice_set keys n k) (slice_set weights n w)) ++ rest ≡ take n (zip keys weights) ++ now
+put : (keys : List ℕ) (weights : List ℤ) (n k : ℕ) (w : ℤ) (now rest : List (ℕ × ℤ)) → n < length (zip keys weights) → now ≡ (k, w) ∷ rest
+    → take (n + 1) (zip (slice_set keys n k) (slice_set weights n w)) ++ rest ≡ take n (zip keys weights) ++ now
 put keys weights n k w now rest within is =
     ap (λ v. take (n + 1) v ++ rest) (set_zip n keys weights k w)
     ∙ ap (λ v. v ++ rest) (take_more_set (zip keys weights) n (k, w) within)
@@ -21,7 +22,8 @@ loop-key-preserved c =
     let w = c.in-Some.weight in
     let step : l.key-iterator ≡ (k, w) ∷ c.next.new.self = search rules in
     let same : to_z w64 (of_z w64 w) ≡ w = search rules in
-    let within : l.position < length (zip l.keys l.weights) = omega (arith, length-zip l.keys l.weights, l.invariant.keys, l.invariant.weights, l.invariant.position, ap length step, c.requires.room) in
+    let within : l.position < length (zip l.keys l.weights) = omega (arith, length-zip l.keys l.weights, l.invariant.keys, l.invariant.weights, l.invariant.position, ap length step,
+    c.requires.room) in
     record {
       can = tt;
       finite = tt;

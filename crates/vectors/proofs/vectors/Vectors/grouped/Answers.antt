@@ -16,7 +16,8 @@ locate_groups-requires c =
     let count : length own ≡ length arrays = omega arith in
     let alone = c.in_ok-locations.ensures.own in
     subst (λ (ls : List Location). AreLocated ls groups 0 0 ls) (sym c.deref_mut.ensures.value)
-    (own_are_located own groups (λ i l. ap (λ (m : Location). m.array) (alone i (omega arith))) (λ i l. ap (λ (m : Location). m.first) (alone i (omega arith))) (λ i l. ap (λ (m : Location). m.stride) (alone i (omega arith))))
+    (own_are_located own groups (λ i l. ap (λ (m : Location). m.array) (alone i (omega arith))) (λ i l. ap (λ (m : Location). m.first) (alone i (omega arith)))
+    (λ i l. ap (λ (m : Location). m.stride) (alone i (omega arith))))
 
 pub returns-then-not-locate_groups : goal.returns-then-not-locate_groups
 returns-then-not-locate_groups c = record {
@@ -63,6 +64,7 @@ load_all-requires-clause-even c = λ i.
     let all : n ≡ length new = omega arith in
     let back : take n (new ++ drop (length new) own) ≡ new = ap (λ (k : ℕ). take k (new ++ drop (length new) own)) all ∙ take-append_seam new (drop (length new) own) in
     let count : length own ≡ length given = omega arith in
-    let located : AreLocated own groups (length groups) 0 new = subst (λ (ls : List Location). AreLocated ls groups (length groups) 0 new) c.deref_mut.ensures.value (c.if-not-locate_groups.ensures.located refl) in
+    let located : AreLocated own groups (length groups) 0 new = subst (λ (ls : List Location). AreLocated ls groups (length groups) 0 new) c.deref_mut.ensures.value
+    (c.if-not-locate_groups.ensures.located refl) in
     subst (λ (ls : List Location). length (get_or given i []) ≡ length (get_or (vectors_at arrays ls) i [])) (sym back)
     (even_vectors given own groups (length groups) 0 new arrays located count c.in_ok-locations.ensures.own i)

@@ -15,7 +15,8 @@ move_home-requires-clause-stands c =
     let position = c.positions.position in
     let inside : position < length ls = omega (arith, c.self.inside.locations.ok) in
     let at = get_or_read ls position c.index.result.now inside c.index.ensures nowhere in
-    subst (StandsIn c.positions.arrays.items) (sym at) (still_stands c.self.inside.arrays.items c.positions.arrays.items ls c.self.inside.groups.items c.self.invariant position inside c.positions.invariant)
+    subst (StandsIn c.positions.arrays.items) (sym at)
+    (still_stands c.self.inside.arrays.items c.positions.arrays.items ls c.self.inside.groups.items c.self.invariant position inside c.positions.invariant)
 
 pub positions-preserved : goal.positions-preserved
 positions-preserved c =
@@ -23,7 +24,8 @@ positions-preserved c =
     let position = c.positions.position in
     let inside : position < length ls = omega (arith, c.self.inside.locations.ok) in
     let at = get_or_read ls position c.index.result.now inside c.index.ensures nowhere in
-    next_home c.self.inside.arrays.items c.positions.arrays.items c.move_home.new.arrays.items ls c.self.inside.groups.items c.index.result.now c.self.invariant position inside c.positions.invariant at
+    next_home c.self.inside.arrays.items c.positions.arrays.items c.move_home.new.arrays.items ls c.self.inside.groups.items c.index.result.now c.self.invariant position inside c.positions.invariant
+    at
     c.in_ok-move_home.ensures.moved c.in_ok-move_home.ensures.stays
 
 pub returns : goal.returns

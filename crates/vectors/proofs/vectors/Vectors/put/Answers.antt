@@ -54,7 +54,8 @@ returns-then-vertex-location c =
     let position = v * l.stride + l.first in
     let whole = λ (vs : List (List ℤ)). (let w : VectorsValue = record { vectors = vs; groups = groups } in w) in
     let number = to_z-of_z w64 x c.ranges.number in
-    ap (λ (ys : List ℤ). whole (vectors_at (set arrays l.array ys) ls)) (c.set.ensures ∙ ap (λ (ys : List ℤ). set ys position (to_z w64 (of_z w64 x))) here ∙ ap (set (get_or arrays l.array []) position) number)
+    ap (λ (ys : List ℤ). whole (vectors_at (set arrays l.array ys) ls)) (c.set.ensures ∙ ap (λ (ys : List ℤ). set ys position (to_z w64 (of_z w64 x))) here
+    ∙ ap (set (get_or arrays l.array []) position) number)
     ∙ ap (λ (m : Location). whole (vectors_at (set arrays m.array (set (get_or arrays m.array []) (v * m.stride + m.first) x)) ls)) at
     ∙ ap whole (entry_set arrays ls groups c.self.invariant i v x hi hv)
     ∙ ap (λ (now : VectorsValue). let w : VectorsValue = record now { vectors = with_entry now.vectors i v x } in w) c.self.view_is

@@ -31,9 +31,12 @@ invariant_of-self c =
     let was : get nat_eq old.held.tickets number ≡ Some open_ticket.0 = shows.held.tickets number ∙ open_ticket.1 in
     let closed = c.close.ensures.version ∙ was in
     let one_fewer = rw (closed) at c.close.ensures.count in
-    let holds = holds_closed old.held new.held s.open_tickets (version_graph s) number open_ticket.0 shows.tickets.distinct open_ticket.1 c.close.ensures.tickets (one_fewer refl) (c.close.ensures.versions open_ticket.0 closed) shows.held in
+    let holds = holds_closed old.held new.held s.open_tickets (version_graph s) number open_ticket.0 shows.tickets.distinct open_ticket.1 c.close.ensures.tickets (one_fewer refl)
+    (c.close.ensures.versions open_ticket.0 closed) shows.held in
     kept_step old new c.self.invariant (Release number) Released (release_reply s number open_ticket.0 open_ticket.1) tt refl c.push_reserved.ensures.items refl
-    (subst (Shows new) (sym (release_after s number open_ticket.0 open_ticket.1)) (shows_released old new s shows (record { step = Release number; reply = Released }) refl c.push_reserved.ensures.items refl refl number open_ticket.0 open_ticket.1 refl refl refl holds c.push_reserved.ensures.capacity))
+    (subst (Shows new) (sym (release_after s number open_ticket.0 open_ticket.1))
+    (shows_released old new s shows
+    (record { step = Release number; reply = Released }) refl c.push_reserved.ensures.items refl refl number open_ticket.0 open_ticket.1 refl refl refl holds c.push_reserved.ensures.capacity))
 
 pub returns-clause-answer : goal.returns-clause-answer
 returns-clause-answer c =

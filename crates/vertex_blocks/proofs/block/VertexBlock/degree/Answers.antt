@@ -6,4 +6,5 @@ use Rattle.vertex_blocks.proofs.block.VertexBlock.degree.Goals as goal
 
 pub returns-in-Some : goal.returns-in-Some
 returns-in-Some c =
-    c.len.ensures.len ∙ ap length (from_long c.args.self.now c.parts.result.0.now c.parts.result.1.now c.args.vertex (entries_in c.in-Some.list.now) c.parts.ensures c.requires c.in-Some.ensures.0 c.in-Some.ensures.1)
+    c.len.ensures.len ∙ ap length (from_long c.args.self.now c.parts.result.0.now c.parts.result.1.now c.args.vertex
+    (entries_in c.in-Some.list.now) c.parts.ensures c.requires c.in-Some.ensures.0 c.in-Some.ensures.1)

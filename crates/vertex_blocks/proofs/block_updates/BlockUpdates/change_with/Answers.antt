@@ -17,4 +17,5 @@ pub returns : goal.returns
 returns c =
     let made = c.in_ok-build.field-0 in
     let old = option_copied c.args.old in
-    IfOk-weaker c.into_block.result _ _ (λ new is. subst (λ v. IsBlockAfter v old new) c.self.view_is (block_after c.self.inside.updates old c.self.inside.chunk_size made.page made.long new c.in_ok-build.ensures is)) c.into_block.ensures
+    IfOk-weaker c.into_block.result _ _ (λ new is. subst (λ v. IsBlockAfter v old new) c.self.view_is
+    (block_after c.self.inside.updates old c.self.inside.chunk_size made.page made.long new c.in_ok-build.ensures is)) c.into_block.ensures

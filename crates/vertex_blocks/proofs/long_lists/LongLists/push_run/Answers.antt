@@ -25,10 +25,12 @@ pub push-requires-clause-some : goal.push-requires-clause-some
 push-requires-clause-some c =
     let run = slice_range c.deref.result.now c.args.from c.args.to in
     let lists : AreNeighbourLists (long_entries c.deref.result.now) = rw c.deref.ensures.value c.others.invariant.lists in
-    rw c.in_ok-share.ensures (some_at run c.loop-entry.entry-index c.entry-item.result (lists_between c.args.from c.args.to c.deref.result.now lists) (omega (arith, c.loop-entry-test.true)) c.entry-item.is)
+    rw c.in_ok-share.ensures (some_at run c.loop-entry.entry-index c.entry-item.result (lists_between c.args.from c.args.to c.deref.result.now lists)
+    (omega (arith, c.loop-entry-test.true)) c.entry-item.is)
 
 pub returns : goal.returns
 returns c =
     let run = slice_range c.deref.result.now c.args.from c.args.to in
     let whole = run_is c.args.from c.args.to c.args.others.now c.deref.result.now c.others.inside.entries.items c.others.view_is c.deref.ensures.value in
-    c.loop-entry.invariant ∙ ap (λ rs. c.args.self.now ++ long_entries rs) (take_all c.loop-entry.entry-index run (omega (arith, c.loop-entry-test.false))) ∙ ap (λ ls. c.args.self.now ++ ls) (sym whole)
+    c.loop-entry.invariant ∙ ap (λ rs. c.args.self.now ++ long_entries rs) (take_all c.loop-entry.entry-index run (omega (arith, c.loop-entry-test.false)))
+    ∙ ap (λ ls. c.args.self.now ++ ls) (sym whole)
