@@ -88,7 +88,7 @@ module _ (op : Operation) (all : List ℕ) (xs ys list : List ℕ) (i j k : ℕ)
             let low : min x y ≡ x = omega arith in
             rw (le-ltb x y (omega (arith, e)), le-leb x y (omega (arith, e)), le-leb y x (omega (arith, e)), low, or_false (takes_second op)) (record {
               whole = ap (λ v. v ++ combined op (drop (i + 1) xs) (drop (j + 1) ys)) (put x (takes_second op))
-              ∙ append_assoc (take k list) (written (takes_second op) x) (combined op (drop (i + 1) xs) (drop (j + 1) ys))
+                  ∙ append_assoc (take k list) (written (takes_second op) x) (combined op (drop (i + 1) xs) (drop (j + 1) ys))
                   ∙ ap (λ v. take k list ++ v) (sym (equal op x y (drop (i + 1) xs) (drop (j + 1) ys) e left.2 right.2)) ∙ whole;
               left = later x (drop (i + 1) xs) left;
               right = later y (drop (j + 1) ys) right;
@@ -106,7 +106,7 @@ module _ (op : Operation) (all : List ℕ) (xs ys list : List ℕ) (i j k : ℕ)
               let low : min x y ≡ y = omega arith in
               rw (le-ltb x y (omega arith), lt-leb x y gt, le-leb y x (omega arith), low, or_false (takes_second op), none i, cells) (record {
                 whole = ap (λ v. v ++ combined op (x ∷ drop (i + 1) xs) (drop (j + 1) ys)) (put y (takes_second op))
-                ∙ append_assoc (take k list) (written (takes_second op) y) (combined op (x ∷ drop (i + 1) xs) (drop (j + 1) ys))
+                    ∙ append_assoc (take k list) (written (takes_second op) y) (combined op (x ∷ drop (i + 1) xs) (drop (j + 1) ys))
                     ∙ ap (λ v. take k list ++ v) (sym (greater op x y (drop (i + 1) xs) (drop (j + 1) ys) gt left)) ∙ whole;
                 left = left;
                 right = later y (drop (j + 1) ys) right;

@@ -64,13 +64,13 @@ module _ (prefix : BasedList) (t l : Balanced HeadValue) (k : ℕ) (v : HeadValu
   module _ (front : BasedList) (bytes own : List ℕ) (left : SpellsUpTo prefix.base (together prefix l.entries) front bytes) (fits : weight_number v.weight < 2 ^ 64)
       (entry : SpellsNumbers (entry_numbers (k - least_after (least front.base) (keys_of front.entries)) v.weight) own) where
     pub spelled_whole : (more : List ℕ) (last : BasedList) → SpellsUpTo v.tail.base (together v.tail r.entries) last more
-    → SpellsUpTo prefix.base (together prefix t.entries) last (bytes ++ (own ++ more))
+        → SpellsUpTo prefix.base (together prefix t.entries) last (bytes ++ (own ++ more))
     spelled_whole more last right =
         let after : least v.tail.base ≡ k + 1 = ap least root_over in
         rw whole
         (record {
           spells = spells-joined (least prefix.base) (together prefix l.entries) (k, v.weight) (together v.tail r.entries) bytes own more left.spells root_fits.0 root_fits.1 fits
-          (rw left.after at entry) (rw after at right.spells);
+              (rw left.after at entry) (rw after at right.spells);
           after = right.after ∙ ap (λ n. least_after n (keys_of (together v.tail r.entries))) after ∙ sym_after;
         })
       where
@@ -84,6 +84,10 @@ three old one two new a b c is is' is'' =
 
 pub appended_after : {T E : Type 0} (P Q : T → List ℕ → Type 0) (old one two a b : List ℕ) → one ≡ old ++ a → two ≡ one ++ b → (x : Result T E) (new : List ℕ) → IsAppended two x P new
     → ((t : T) (c : List ℕ) → P t c → Q t (a ++ (b ++ c))) → IsAppended old x Q new
-appended_after P Q old one two a b is is' (Ok t) new last so = record { more = a ++ (b ++ last.more); behind = three old one two new a b last.more is is' last.behind; bytes =
-    so t last.more last.bytes }
+appended_after P Q old one two a b is is' (Ok t) new last so = record {
+  more = a ++ (b ++ last.more);
+  behind = three old one two new a b last.more is is' last.behind;
+  bytes =
+      so t last.more last.bytes;
+}
 appended_after P Q old one two a b is is' (Err e) new last so = record { more = a ++ (b ++ last.more); behind = three old one two new a b last.more is is' last.behind; bytes = tt }

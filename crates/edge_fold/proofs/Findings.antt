@@ -105,9 +105,10 @@ named_push x (d ∷ ds) c none off = named_push_at x d ds c (d.vector == x) none
 
 pub apart_push : (cs : List VectorChanges) (c : VectorChanges) → is_named c.vector cs ≡ false → AreApart cs → AreApart (cs ++ c ∷ [])
 apart_push [] c none apart = (refl, tt)
-apart_push (d ∷ ds) c none apart =
-    (named_push d.vector ds c apart.0 (turned d.vector c.vector (first_off (d.vector == c.vector) (is_named c.vector ds) none)),
-    apart_push ds c (rest_off (d.vector == c.vector) (is_named c.vector ds) none) apart.1)
+apart_push (d ∷ ds) c none apart = (
+  named_push d.vector ds c apart.0 (turned d.vector c.vector (first_off (d.vector == c.vector) (is_named c.vector ds) none)),
+  apart_push ds c (rest_off (d.vector == c.vector) (is_named c.vector ds) none) apart.1,
+)
 
 -- kept vertices
 choose : {A B C : Type 0} → A ⊎ B → (A → C) → (B → C) → C

@@ -27,7 +27,11 @@ impl ApplyContext<'_> {
 
     /// What sources give each destination together by a statement of a shape, if each gives its own number.
     #[inline]
-    pub(crate) fn reduced_contribution_by(self, shape: Shape, sources: &[u32]) -> Option<SourceContribution>
+    pub(crate) fn reduced_contribution_by(
+        self,
+        shape: Shape,
+        sources: &[u32],
+    ) -> Option<SourceContribution>
         ensures { IfSome result (λ s. (m : StateValue) → self.entry.vectors.now.vectors ≡ m.vectors
             → IsReducedContribution s (shape_given shape m) sources.now) }
     {

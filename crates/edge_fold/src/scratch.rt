@@ -72,7 +72,8 @@ impl Scratch {
         ensures unchanged { IfOk result (λ done. done ≡ false → self.new ≡ self.old) }
     {
         if let Some(contribution) = context.source_contribution(source) {
-            self.slots.join_number(alloc, context, contribution, destinations)?;
+            self.slots
+                .join_number(alloc, context, contribution, destinations)?;
             return Ok(true);
         }
         if let Some(given) = context.entry_contribution() {

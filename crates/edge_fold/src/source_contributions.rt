@@ -26,7 +26,11 @@ impl ApplyContext<'_> {
 
     /// What a statement of a shape gives on every edge from a source, if it is the same on all.
     #[inline(always)]
-    pub(crate) fn source_contribution_by(self, shape: Shape, source: u32) -> Option<SourceContribution>
+    pub(crate) fn source_contribution_by(
+        self,
+        shape: Shape,
+        source: u32,
+    ) -> Option<SourceContribution>
         ensures { IfSome result (λ s. (m : StateValue) → self.entry.vectors.now.vectors ≡ m.vectors
             → (d : ℕ) (w : ℤ) → shape_given shape m (source, d, w) ≡ (s.vector, s.reduction, s.number) ∷ []) }
     {

@@ -167,10 +167,20 @@ impl VectorAccumulators {
         ensures { OnOk result ((x : ℕ) (r : Reduction) → (contribution.vector ≡ x → contribution.reduction ≡ r)
             → HaveJoined context.entry x r self.old self.new (if contribution.vector == x then each_given contribution.number (firsts (E.entries destinations.now)) else [])) }
     {
-        let position = self.position(alloc, contribution.vector, contribution.reduction, context.vertices)?;
+        let position = self.position(
+            alloc,
+            contribution.vector,
+            contribution.reduction,
+            context.vertices,
+        )?;
         let opening = context.opening(contribution.vector);
         let entries = &mut self.slots[position].entries;
-        entries.join_number(contribution.reduction, opening, contribution.number, destinations)?;
+        entries.join_number(
+            contribution.reduction,
+            opening,
+            contribution.number,
+            destinations,
+        )?;
         Ok(())
     }
 

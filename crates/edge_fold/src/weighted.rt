@@ -124,7 +124,8 @@ impl Scratch {
             let column = UnitColumn {
                 neighbours: &[destination],
             };
-            self.slots.join_number(alloc, context, contribution, &column)?;
+            self.slots
+                .join_number(alloc, context, contribution, &column)?;
             return Ok(());
         }
         let done = self.fold_pair_into(alloc, context, sources, weights, destination)?;

@@ -439,7 +439,15 @@ impl Lowering<'_> {
                 ends,
                 first,
                 second,
-            } => { lines.put_edges(words, ends, part_of(first), Some(part_of(second)), apply_schedule) }
+            } => {
+                lines.put_edges(
+                    words,
+                    ends,
+                    part_of(first),
+                    Some(part_of(second)),
+                    apply_schedule,
+                )
+            }
             FusedPair::Vertices { set, first, second } => {
                 lines.put_vertices(words, set, first, Some(second))
             }

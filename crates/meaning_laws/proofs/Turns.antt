@@ -165,7 +165,7 @@ module _ (d : ℕ) where
       block_follows : (b : BlockTree) (s : StateValue) → Follows d (after_all p g b s) (after_all p g b (plus d s))
       block_follows Empty s = refl
       block_follows (Then number label a rest) s = then_follows (after p g number a s) (after p g number a (plus d s)) (after_all p g rest) (after_all p g rest) (action_follows a number s)
-      (block_follows rest)
+          (block_follows rest)
 
     shown_same : (turns : ℕ) (s : StateValue) (end : End) → shown p (turns + d) (plus d s) end ≡ shown p turns s end
     shown_same turns s end = let left : turns + d - (s.turns + d) ≡ turns - s.turns = omega arith in ap (λ (n : ℕ). record (shown p turns s end) { turns = n }) left

@@ -81,8 +81,11 @@ are_placed from to n bytes bytes' (e ∷ es) ok ends same room =
     ap (take k) (sym (drop-drop s to bytes')) ∙ sym (drop-take s k (drop to bytes')) ∙ ap (λ j. drop s (take j (drop to bytes'))) up ∙ ap (drop s) same
     ∙ sym (ap (λ j. drop s (take j (drop from bytes))) up) ∙ drop-take s k (drop from bytes) ∙ ap (take k) (drop-drop s from bytes) in
     let others = are_placed (from + s) (to + s) k bytes bytes' es ok.2 (omega (arith, ends)) rest (omega arith) in (
-      (refl, record { wide = ok.1.wide; width = ok.1.width; few = ok.1.few; within = omega arith; ascends = subst (AscendsFrom 0) (sym (same_keys bytes bytes' e e' refl refl moved)) ok.1.ascends },
-      others.0),
+      (
+        refl,
+        record { wide = ok.1.wide; width = ok.1.width; few = ok.1.few; within = omega arith; ascends = subst (AscendsFrom 0) (sym (same_keys bytes bytes' e e' refl refl moved)) ok.1.ascends },
+        others.0,
+      ),
       rw (list, others.1) refl,
       omega (arith, others.2),
     )

@@ -116,8 +116,14 @@ module _ {V : Type 0} (bits : ℕ) (es : List (ℕ × V)) (ok : IsIndex bits es)
   marks_with : (j : ℕ) → j ≤ 64 → count_below j all ≡ count_ones ((1 * 2 ^ v + bits) % 2 ^ j)
   marks_with j le = elim (cases_lt v j) [
     | inl after ↦
-        omega (arith, below_push_here j es (v, x) after, below_end j 0 v es rises (omega arith), below_end v 0 v es rises (omega arith), ok.marks v (omega arith),
-        mark_counted bits v j (ok.small v rises) after)
+        omega (
+          arith,
+          below_push_here j es (v, x) after,
+          below_end j 0 v es rises (omega arith),
+          below_end v 0 v es rises (omega arith),
+          ok.marks v (omega arith),
+          mark_counted bits v j (ok.small v rises) after,
+        )
     | inr before ↦ below_push_not j es (v, x) before ∙ ok.marks j le ∙ ap count_ones (sym (mark_above bits v j before))
   ]
 

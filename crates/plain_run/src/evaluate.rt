@@ -67,10 +67,7 @@ fn total_of(
         IntExpression::SetSize(slot) => Total {
             number: (members_at(sets, slot.index).len() as u64).cast_signed(),
         },
-        IntExpression::Negative(signs, e) => after_signs(
-            *signs,
-            total_of(e, vectors, sets, scope),
-        ),
+        IntExpression::Negative(signs, e) => after_signs(*signs, total_of(e, vectors, sets, scope)),
         IntExpression::Arithmetic(first, operands) => {
             let left = total_of(first, vectors, sets, scope);
             before_operands(operands, left, vectors, sets, scope)

@@ -8,9 +8,9 @@ ghost use Rattle.plain_run.specs.inside.Seen.{graph_of, state_of};
 
 use crate::state::{EdgeList, Environment, InterpreterState};
 use algorithm_meaning::{SetBinding, arithmetic_of};
-use weighted_edges::UNIT_WEIGHT;
 use std::alloc::{AllocError, Global};
 use typed_tree::{InitialValue, Operator, Sequence, Typed, Vector};
+use weighted_edges::UNIT_WEIGHT;
 
 /// The state before the first statement.
 pub(crate) fn open(

@@ -8,9 +8,9 @@ use crate::evaluate::members_at;
 use crate::function::{FunctionFrame, begin, new_frame, run_steps, steps_at};
 use crate::state::InterpreterState;
 use algorithm_meaning::{SetBinding, Writing};
-use weighted_edges::UNIT_WEIGHT;
 use std::alloc::{AllocError, Global};
 use typed_tree::{Function, FunctionStatement, Sequence};
+use weighted_edges::UNIT_WEIGHT;
 
 /// Runs the function at an index for each member of a set alone.
 pub(crate) fn apply_vertex(

@@ -110,7 +110,7 @@ module _ (p : ProgramTree) (s : ScheduleTree) where
     action_entry (For name first end body) index number label d is at rows = first_entry index is d _ at.0 rows.0 refl
 
     company_entry : (company : FusionRole) (action : StatementKindTree) (rest : BlockTree) (index number : ℕ) (label : Option ℕ) (d : Depth) (is : List ℕ) (own : List InstructionTree)
-    (own_rows : List (List ℕ)) (n : ℕ)
+        (own_rows : List (List ℕ)) (n : ℕ)
         → FitsCompany company action rest
         → HasAt code index (plan_in company s number label d own) → HasRows table index (around_in company is own_rows)
         → (HasAt code index own → HasRows table index own_rows → Entry code table index is d.integers)
@@ -123,7 +123,7 @@ module _ (p : ProgramTree) (s : ScheduleTree) where
         entry_more code table index is (behind action d).integers d.integers (omega (arith, none)) (entry_along code table (index + 0) index is (behind action d).integers same next)
 
     pub block_entry : (b : BlockTree) (is_done : Bool) (index : ℕ) (d : Depth) (is : List ℕ) → IsDone is_done b → HasAt code index (plan_all p s index d is_done b)
-    → HasRows table index (around_all d is is_done b)
+        → HasRows table index (around_all d is is_done b)
         → Entry code table (index + size_all p s d is_done b) is (behind_all b d).integers → Entry code table index is d.integers
     block_entry Empty is_done index d is done at rows end = let same : index + 0 ≡ index = omega arith in entry_along code table (index + 0) index is d.integers same end
     block_entry (Then number label action rest) is_done index d is done at rows end =
@@ -147,7 +147,7 @@ module _ (p : ProgramTree) (s : ScheduleTree) where
         (entry_along code table (index + (n + m)) (index + n + m) is (behind_all rest (behind action d)).integers same end))
 
     company_local : (company : FusionRole) (action : StatementKindTree) (rest : BlockTree) (index number : ℕ) (label : Option ℕ) (d : Depth) (is : List ℕ) (own : List InstructionTree)
-    (own_rows : List (List ℕ)) (n : ℕ)
+        (own_rows : List (List ℕ)) (n : ℕ)
         → FitsCompany company action rest → AreBelow is d.integers
         → HasAt code index (plan_in company s number label d own) → HasRows table index (around_in company is own_rows)
         → (HasAt code index own → HasRows table index own_rows → Entry code table (index + n) is (behind action d).integers → AllLocal code table index own own_rows)
@@ -269,8 +269,13 @@ module _ (p : ProgramTree) (s : ScheduleTree) where
           let left = entry_more code table to is d.integers deep.integers (omega arith) there in
           let keeps_deep : KeepsLoops deep.integers more body = subst (λ (x : ℕ). KeepsLoops x more body) (omega arith) keeps in
           let below_deep : AreBelow more deep.integers = (omega arith, below_more is d.integers deep.integers (omega arith) below) in
-          let at_enter : Entry code table (index + 1) is (d.integers + 1) = record { instruction = loop_step number (with_integer d) d (Enter name end); stands = at.1.0; around = rows.1.0; keeps =
-          omega arith } in
+          let at_enter : Entry code table (index + 1) is (d.integers + 1) = record {
+            instruction = loop_step number (with_integer d) d (Enter name end);
+            stands = at.1.0;
+            around = rows.1.0;
+            keeps =
+                omega arith;
+          } in
           let at_test : Entry code table (index + 1 + 1) more (d.integers + 2) =
           record { instruction = loop_step number deep d (UnlessBelow name to); stands = at.1.1.0; around = rows.1.1.0; keeps = omega arith } in
           let at_turn : Entry code table (index + 1 + 1 + 1) more deep.integers =
@@ -282,12 +287,20 @@ module _ (p : ProgramTree) (s : ScheduleTree) where
           (block_local body false (index + 4) deep more tt body_at body_rows body_end below_deep keeps_deep)
           ((refl, refl, at_jump, below), ((head, below_deep), tt)) in (
             (tt, tt, at_enter, below),
-            ((refl, at_test, below), ((refl, at_turn, left, below_deep), ((start, below_deep),
-            subst (λ (x : ℕ). AllLocal code table x (own ++ advance ∷ jump ∷ []) (own_rows ++ more ∷ more ∷ [])) (sym fourth) all))),
+            (
+              (refl, at_test, below),
+              (
+                (refl, at_turn, left, below_deep),
+                (
+                  (start, below_deep),
+                  subst (λ (x : ℕ). AllLocal code table x (own ++ advance ∷ jump ∷ []) (own_rows ++ more ∷ more ∷ [])) (sym fourth) all,
+                ),
+              ),
+            ),
           )
 
       pub block_local : (b : BlockTree) (is_done : Bool) (index : ℕ) (d : Depth) (is : List ℕ) → IsDone is_done b → HasAt code index (plan_all p s index d is_done b)
-      → HasRows table index (around_all d is is_done b)
+          → HasRows table index (around_all d is is_done b)
           → Entry code table (index + size_all p s d is_done b) is (behind_all b d).integers → AreBelow is d.integers → KeepsLoops d.integers is b
           → AllLocal code table index (plan_all p s index d is_done b) (around_all d is is_done b)
       block_local Empty is_done index d is done at rows end below keeps = tt

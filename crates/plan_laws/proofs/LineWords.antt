@@ -166,7 +166,7 @@ edges_bare p ends first second apply_schedule are =
         (
           end_is_bare p ends.to are,
           all_both IsBare (part_words p first)
-          (second_words p second ++ codes ":" ∷ direction_word apply_schedule.direction ∷ parallelization_word apply_schedule.parallelization ∷ dense_word apply_schedule.dense_vertex_set ∷ [])
+              (second_words p second ++ codes ":" ∷ direction_word apply_schedule.direction ∷ parallelization_word apply_schedule.parallelization ∷ dense_word apply_schedule.dense_vertex_set ∷ [])
               (part_bare p first are) (all_both IsBare (second_words p second) _ (second_bare p second are) last),
         ),
       ),

@@ -122,7 +122,7 @@ module _ (p : ProgramTree) (all : IsResolved p) where
         (and_from _ _ (first_apart f g alone.function x.apply.part.result x.written) (second_apart f g alone.function y.apply.part.result y.written))))
 
     fused_vertices_do_fit : (x : IsVertexApply p names a one) (y : IsVertexApply p names b other)
-    → have_same_sets p.names (Vertices x.apply.set x.apply.function) (Vertices y.apply.set y.apply.function) ≡ true
+        → have_same_sets p.names (Vertices x.apply.set x.apply.function) (Vertices y.apply.set y.apply.function) ≡ true
         → vertices_fit p x.apply y.apply ≡ true
     fused_vertices_do_fit x y same =
         and_from _ _ (same_set p names x.apply.set y.apply.set apart x.visible y.visible same)

@@ -109,7 +109,7 @@ module _ (p : ProgramTree) (s : ScheduleTree) (pairs : FusesInPairs s) where
   second_fused (Some first) other is = by_apply_schedule (apply_schedule_of first s).fused other refl is
     where
       by_apply_schedule : (fused : Option Fused) (other : Option ℕ) → (apply_schedule_of first s).fused ≡ fused → is_with fused other ≡ true → (label : ℕ)
-      × ((apply_schedule_at other s).fused ≡ Some (Into label))
+          × ((apply_schedule_at other s).fused ≡ Some (Into label))
       by_apply_schedule None other chosen is = absurd cc
       by_apply_schedule (Some (Into label)) other chosen is = absurd cc
       by_apply_schedule (Some (With second)) None chosen is = absurd cc

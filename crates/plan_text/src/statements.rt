@@ -30,8 +30,18 @@ impl Lines<'_> {
             ++ spaced (statement_words (program_tree self.entry.program.now) (statement_kind_tree action.now) apply_schedule)) }
     {
         match action {
-            StatementKind::DeclareSet(name, value) => self.put_set(out, *name, *value, apply_schedule),
-            StatementKind::AssignSet(slot, value) => self.put_set(out, slot.name, *value, apply_schedule),
+            StatementKind::DeclareSet(name, value) => self.put_set(
+                out,
+                *name,
+                *value,
+                apply_schedule,
+            ),
+            StatementKind::AssignSet(slot, value) => self.put_set(
+                out,
+                slot.name,
+                *value,
+                apply_schedule,
+            ),
             StatementKind::ApplyVertex(set, function) => self.put_vertices(
                 out, *set, *function, None,
             ),

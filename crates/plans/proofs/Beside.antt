@@ -101,8 +101,10 @@ module _ (vectors indices : List ℕ) (a b : List SetBinding) (sets_agree : Sets
 -- what is written is collected
 module _ (vectors indices : List ℕ) (a b : List SetBinding) (sets_agree : SetsAgreeBut indices a b) (writing : _)
     (sets_nothing : (vector : ℕ) (n : ℤ) (w : WorkValue) → after_set writing vector n w ≡ w)
-    (gives_number : (vector : ℕ) (r : Reduction) (n : ℤ) (w : WorkValue) → after_reduce writing vector r n w ≡ record w { given =
-    w.given ++ record { vector = vector; reduction = r; number = n } ∷ [] }) where
+    (gives_number : (vector : ℕ) (r : Reduction) (n : ℤ) (w : WorkValue) → after_reduce writing vector r n w ≡ record w {
+      given =
+          w.given ++ record { vector = vector; reduction = r; number = n } ∷ [];
+    }) where
   set_beside : (v w : WorkValue) → IsBeside vectors v w → (vector : ℕ) (x y : ℤ) → IsBeside vectors (after_set writing vector x v) (after_set writing vector y w)
   set_beside v w h vector x y =
       subst (λ (z : WorkValue). IsBeside vectors z (after_set writing vector y w)) (sym (sets_nothing vector x v))

@@ -55,8 +55,10 @@ either_given P true v w h k = h
 either_given P false v w h k = k
 
 module _ (P : ℕ → Bool) (sets : List SetBinding) (writing : _) (sets_nothing : (vector : ℕ) (n : ℤ) (w : WorkValue) → after_set writing vector n w ≡ w)
-    (gives_number : (vector : ℕ) (r : Reduction) (n : ℤ) (w : WorkValue) → after_reduce writing vector r n w ≡ record w { given =
-    w.given ++ record { vector = vector; reduction = r; number = n } ∷ [] }) where
+    (gives_number : (vector : ℕ) (r : Reduction) (n : ℤ) (w : WorkValue) → after_reduce writing vector r n w ≡ record w {
+      given =
+          w.given ++ record { vector = vector; reduction = r; number = n } ∷ [];
+    }) where
   mutual
     step_gives : (step : FunctionStatementTree) (w : WorkValue) → list_all P (step_writes step) ≡ true → AreFor P w.given → AreFor P (after_step writing sets step w).given
     step_gives (DeclareInteger name e) w writes h = h

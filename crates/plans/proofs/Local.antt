@@ -158,7 +158,7 @@ module _ (u : ℕ) (sets : List SetBinding) (writing : _) (sets_at_once : (vecto
         (block_alike u sets v (after_steps writing sets other v) w (after_steps writing sets other w) h (steps_alike other v w blocks.1 h))
 
     pub steps_alike : (steps : FunctionStatementsTree) (v w : WorkValue) → steps_are_local steps ≡ true → IsAlike u v w
-    → IsAlike u (after_steps writing sets steps v) (after_steps writing sets steps w)
+        → IsAlike u (after_steps writing sets steps v) (after_steps writing sets steps w)
     steps_alike NoStep v w local h = h
     steps_alike (StepThen step rest) v w local h =
         let both = and_parts (step_is_local step) (steps_are_local rest) local in

@@ -90,7 +90,7 @@ module _ (p : ProgramTree) (schedule : ScheduleTree) (P : InstructionTree → Ty
 
   mutual
     action_comes : (a : StatementKindTree) (index number : ℕ) (label : Option ℕ) (d : Depth) → HoldsFor number label a
-    → ((n : ℕ) (l : Option ℕ) (c : StatementKindTree) → StandsInside a n l c → HoldsFor n l c)
+        → ((n : ℕ) (l : Option ℕ) (c : StatementKindTree) → StandsInside a n l c → HoldsFor n l c)
         → AllOf P (plan p schedule index d number label a)
     action_comes (DeclareInteger name e) index number label d own inner = (own _ refl (λ x e. (e, refl)), tt)
     action_comes (DeclareCondition name c) index number label d own inner = (own _ refl (λ x e. (e, refl)), tt)
@@ -141,7 +141,7 @@ module _ (p : ProgramTree) (schedule : ScheduleTree) (P : InstructionTree → Ty
         )
 
     block_comes : (b : BlockTree) (is_done : Bool) (index : ℕ) (d : Depth) → ((n : ℕ) (l : Option ℕ) (c : StatementKindTree) → StandsIn b n l c → HoldsFor n l c)
-    → AllOf P (plan_all p schedule index d is_done b)
+        → AllOf P (plan_all p schedule index d is_done b)
     block_comes Empty is_done index d holds = tt
     block_comes (Then number label action rest) is_done index d holds =
         let company = fusion_role_of p schedule d is_done label action rest in

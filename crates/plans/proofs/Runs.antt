@@ -176,7 +176,7 @@ module _ (p : ProgramTree) (g : GraphValue) (schedule : ScheduleTree) (code : Li
       action_runs (ReduceInteger slot reduction e) index number label d turns loops m s at same q = single (ReduceInteger slot reduction e) tt index number label d turns loops m s at same q
       action_runs (SetEntry vector subscript e) index number label d turns loops m s at same q = single (SetEntry vector subscript e) tt index number label d turns loops m s at same q
       action_runs (ReduceEntry vector subscript reduction e) index number label d turns loops m s at same q =
-      single (ReduceEntry vector subscript reduction e) tt index number label d turns loops m s at same q
+          single (ReduceEntry vector subscript reduction e) tt index number label d turns loops m s at same q
       action_runs (DeclareSet name set) index number label d turns loops m s at same q = single (DeclareSet name set) tt index number label d turns loops m s at same q
       action_runs (AssignSet slot set) index number label d turns loops m s at same q = single (AssignSet slot set) tt index number label d turns loops m s at same q
       action_runs (AddVertex slot e) index number label d turns loops m s at same q = single (AddVertex slot e) tt index number label d turns loops m s at same q

@@ -115,7 +115,7 @@ module _ (p : ProgramTree) (schedule : ScheduleTree) (code : List InstructionTre
 
   mutual
     action_leads : (a : StatementKindTree) (index number : ℕ) (label : Option ℕ) (d : Depth) → HasAt code index (plan p schedule index d number label a)
-    → AllLeadWell code index (plan p schedule index d number label a)
+        → AllLeadWell code index (plan p schedule index d number label a)
     action_leads (DeclareInteger name e) index number label d at = (tt, tt)
     action_leads (DeclareCondition name c) index number label d at = (tt, tt)
     action_leads (SetInteger slot e) index number label d at = (tt, tt)

@@ -19,7 +19,7 @@ ghost use Rattle.pull_engine.specs.inside.Masked.{IsMaskOf};
 ghost use Rattle.kernels.specs.inside.Propositions.{HasShape-prop};
 ghost use Rattle.pull_engine.specs.inside.Ranges.{IsShapeOfApply};
 
-use crate::listed::{partition_vertices, member_bits};
+use crate::listed::{member_bits, partition_vertices};
 use crate::masks::mask_of;
 use crate::shapes::apply_shape;
 use crate::source_words::SourceWords;

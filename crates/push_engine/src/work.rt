@@ -17,7 +17,7 @@ ghost use Rattle.push_engine.specs.inside.Sources.{AreSources};
 ghost use Rattle.push_engine.specs.Sources.{cut_list};
 ghost use Rattle.push_engine.specs.Work.{makes_bits};
 
-use crate::listed::{partition_sources, destination_bits, list_sources};
+use crate::listed::{destination_bits, list_sources, partition_sources};
 use crew::{CrewError, Partition, WorkerCount};
 use edge_apply::Apply;
 use edge_fold::Scratch;

@@ -8,10 +8,10 @@ use crate::outcome_text::push_spaced_integer;
 use crate::send_error::SendError;
 use decimal::push_number;
 use devices::{Drain, write_all};
-use weighted_edges::UNIT_WEIGHT;
 use std::alloc::AllocError;
 use std::marker::Model;
 use tree_batch::Graph;
+use weighted_edges::UNIT_WEIGHT;
 
 /// How many bytes are read at once, and kept before they are written.
 pub const BLOCK: usize = 65_536;

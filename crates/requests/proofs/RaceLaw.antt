@@ -156,7 +156,7 @@ module _ (all_files all_workers all_turns : List Text) (w : IsTaken the_workers 
         rows = rows;
         pending = some_programs program (programs ++ file ∷ []);
         turn = subst (λ (k : ℕ). Turn (walk_at k rows (some_programs program programs)) file (walk_at 2 rows (some_programs program (programs ++ file ∷ []))))
-        (sym (at.index ∙ position_some files program programs))
+            (sym (at.index ∙ position_some files program programs))
             (one_more_program rows program programs file h);
         at = record {
           found = at.found;

@@ -28,6 +28,8 @@ pub fn changed_vertices(
         → s.members ≡ modified vertices vector before after) }
     ensures form { IfOk result (λ s. s.form ≡ form_of (length s.members) vertices (dense_vertex_set_or_flags apply_schedule)) }
 {
-    let dense = apply_schedule.dense_vertex_set.unwrap_or(DenseVertexSet::BoolArray);
+    let dense = apply_schedule
+        .dense_vertex_set
+        .unwrap_or(DenseVertexSet::BoolArray);
     apply_modified(alloc, changes, vector, vertices, dense)
 }

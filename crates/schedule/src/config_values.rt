@@ -70,7 +70,10 @@ pub(crate) fn with_value(
             })
         }
         Setting::Parallelization => {
-            let parallelization = first_given(apply_schedule.parallelization, parallelization_named(text))?;
+            let parallelization = first_given(
+                apply_schedule.parallelization,
+                parallelization_named(text),
+            )?;
             Ok(ApplySchedule {
                 parallelization,
                 ..apply_schedule

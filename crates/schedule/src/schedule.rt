@@ -117,7 +117,11 @@ impl Schedule {
     }
 
     /// Puts what a call says of a label.
-    pub(crate) fn put(&mut self, label: usize, apply_schedule: ApplySchedule) -> Result<(), AllocError>
+    pub(crate) fn put(
+        &mut self,
+        label: usize,
+        apply_schedule: ApplySchedule,
+    ) -> Result<(), AllocError>
         ensures { OnOk result (self.new ≡ with_apply_schedule label apply_schedule self.old) }
     {
         self.apply_schedules.insert(label, apply_schedule)?;

@@ -26,9 +26,17 @@ body_of : (line : List ℕ) → IsPrintedLine line → (body : List ℕ) × HasN
 body_of line (inl (pos n, is)) = (decimal n, digits_none 10 (inl (omega arith)) (decimal n) (decimal_digits n), is)
 body_of line (inl (negsuc n, is)) = (45 ∷ decimal (suc n), ((λ same. absurd (omega (arith, same))), digits_none 10 (inl (omega arith)) (decimal (suc n)) (decimal_digits (suc n))), is)
 body_of line (inr (true, is)) = (codes "true", ((λ e. absurd (omega (arith, e))), ((λ e. absurd (omega (arith, e))), ((λ e. absurd (omega (arith, e))), ((λ e. absurd (omega (arith, e))), tt)))), is)
-body_of line (inr (false, is)) =
-    (codes "false", ((λ e. absurd (omega (arith, e))), ((λ e. absurd (omega (arith, e))),
-    ((λ e. absurd (omega (arith, e))), ((λ e. absurd (omega (arith, e))), ((λ e. absurd (omega (arith, e))), tt))))), is)
+body_of line (inr (false, is)) = (
+  codes "false",
+  (
+    (λ e. absurd (omega (arith, e))),
+    (
+      (λ e. absurd (omega (arith, e))),
+      ((λ e. absurd (omega (arith, e))), ((λ e. absurd (omega (arith, e))), ((λ e. absurd (omega (arith, e))), tt))),
+    ),
+  ),
+  is,
+)
 
 digits_first : (digits rest more : List ℕ) → AllByRecursion IsDigit digits → digits ++ 10 ∷ rest ≡ 101 ∷ more → ⊥
 digits_first [] rest more are same = let head : ◌≡◌ {A = ℕ} 10 101 = cc in absurd (omega (arith, head))

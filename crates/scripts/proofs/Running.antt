@@ -116,7 +116,7 @@ module _ (programs : List ProgramTree) (old now : Input) (a : Output) (reading :
 
     -- or the answer to one fails
     pub lines_fail : (e : SendError) → a.kept ≡ [] → Fails b c (replies_within programs reading more) e
-    → RunsScript programs old new (bytes_written_by a.bytes_written a.failures) (bytes_written_by c.bytes_written c.failures) (Err (error_of_send e))
+        → RunsScript programs old new (bytes_written_by a.bytes_written a.failures) (bytes_written_by c.bytes_written c.failures) (Err (error_of_send e))
     lines_fail e empty fails =
         let both = fails_then a b c (replies_to_ended programs r.bytes) (replies_within programs reading more) e r.sends fails in
         let all = begins_lines programs new (r.bytes ++ more) in
@@ -125,7 +125,7 @@ module _ (programs : List ProgramTree) (old now : Input) (a : Output) (reading :
 
     -- what was kept is written, and the reading goes on
     pub reading_goes_on : Sends b c (replies_within programs reading more) → (later : Reading) → later ≡ reading_after programs reading more → (d : Output) → Sends c d [] → d.kept ≡ []
-    → IsReading programs old new a later d
+        → IsReading programs old new a later d
     reading_goes_on sends later is d flushed empty = record {
       bytes = r.bytes ++ more;
       bytes_read = read_now;
@@ -137,7 +137,7 @@ module _ (programs : List ProgramTree) (old now : Input) (a : Output) (reading :
 
     -- or that fails
     pub flush_fails : Sends b c (replies_within programs reading more) → (d : Output) (e : SendError) → a.kept ≡ [] → Fails c d [] e
-    → RunsScript programs old new (bytes_written_by a.bytes_written a.failures) (bytes_written_by d.bytes_written d.failures) (Err (error_of_send e))
+        → RunsScript programs old new (bytes_written_by a.bytes_written a.failures) (bytes_written_by d.bytes_written d.failures) (Err (error_of_send e))
     flush_fails sends d e empty fails =
         let both = fails_then a c d (replies_to_ended programs (r.bytes ++ more)) [] e (lines_sent sends) fails in
         let all = begins_lines programs new (r.bytes ++ more) in
@@ -163,7 +163,7 @@ module _ (programs : List ProgramTree) (old now : Input) (a : Output) (reading :
 
     -- or its answer fails
     pub finish_fails : (e : SendError) → a.kept ≡ [] → Fails b c last e → RunsScript programs old new (bytes_written_by a.bytes_written a.failures) (bytes_written_by c.bytes_written c.failures)
-    (Err (error_of_send e))
+        (Err (error_of_send e))
     finish_fails e empty fails =
         let both = fails_then a b c (replies_to_ended programs r.bytes) last e r.sends fails in
         ends_in_part programs old new a c r.bytes (replies programs r.bytes) e empty read_all (same ∙ r.failures) (begins_whole programs new r.bytes ended)
@@ -171,7 +171,7 @@ module _ (programs : List ProgramTree) (old now : Input) (a : Output) (reading :
 
     -- and then the last flush fails
     pub last_flush_fails : Sends b c last → (d : Output) (e : SendError) → a.kept ≡ [] → Fails c d [] e
-    → RunsScript programs old new (bytes_written_by a.bytes_written a.failures) (bytes_written_by d.bytes_written d.failures) (Err (error_of_send e))
+        → RunsScript programs old new (bytes_written_by a.bytes_written a.failures) (bytes_written_by d.bytes_written d.failures) (Err (error_of_send e))
     last_flush_fails sends d e empty fails =
         let both = fails_then a c d (replies programs r.bytes) [] e (all_sent sends) fails in
         ends_in_part programs old new a d r.bytes (replies programs r.bytes) e empty read_all (same ∙ r.failures) (begins_whole programs new r.bytes ended)
@@ -186,7 +186,7 @@ module _ (programs : List ProgramTree) (old now : Input) (a : Output) (reading :
       bytes_read = read_all;
       ended = ended;
       bytes_written = all_written a d (replies programs r.bytes) empty flushed (subst (Sends a d) (append-nil (replies programs r.bytes))
-      (sends_then a c d (replies programs r.bytes) [] (all_sent sends) last_flush));
+          (sends_then a c d (replies programs r.bytes) [] (all_sent sends) last_flush));
       fault = fault ∙ ap has_faulted is ∙ ap (λ s. has_faulted (answer programs s.state s.partial).state) r.reading_is ∙ sym (faults-last programs r.bytes);
       quiet = (same ∙ r.failures, (sends_then a c d (replies programs r.bytes) [] (all_sent sends) last_flush).failures);
     }
@@ -206,5 +206,14 @@ runs_tied bytes_written failures name kept programs old new before o last sent r
 
 -- a script that ends before it reads
 pub nothing_done : (programs : List ProgramTree) (i : Input) (t : Written) → RepliesInPart programs i i t t × NoneFails i i t t
-nothing_done programs i t = (record { bytes = []; bytes_read = sym (append-nil i.bytes_read); written = []; bytes_written = sym (append-nil t.bytes_written); beginning =
-    λ more nothing. (replies programs more, refl) }, (refl, refl))
+nothing_done programs i t = (
+  record {
+    bytes = [];
+    bytes_read = sym (append-nil i.bytes_read);
+    written = [];
+    bytes_written = sym (append-nil t.bytes_written);
+    beginning =
+        λ more nothing. (replies programs more, refl);
+  },
+  (refl, refl),
+)

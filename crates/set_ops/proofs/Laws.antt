@@ -32,11 +32,17 @@ cut_length k low [] s = refl
 cut_length k low (e ∷ es) s =
     elim (cases_order e.0 k) [
       | inl is ↦ rw (eq-eqb e.0 k is, le-ltb e.0 k (omega arith), le-ltb k e.0 (omega arith), entries_below_none k (e.0 + 1) es (omega arith) s.2, entries_above_all k (e.0 + 1) es (omega arith) s.2)
-      (omega arith)
+          (omega arith)
       | inr other ↦ elim other [
         | inl lt ↦ rw (ne_eqb e.0 k (omega arith), lt-ltb e.0 k lt, le-ltb k e.0 (omega arith)) (omega (arith, cut_length k (e.0 + 1) es s.2))
-        | inr gt ↦ rw (ne_eqb e.0 k (omega arith), le-ltb e.0 k (omega arith), lt-ltb k e.0 gt, entries_below_none k (e.0 + 1) es (omega arith) s.2, entries_above_all k (e.0 + 1) es (omega arith) s.2,
-        no_value k (e.0 + 1) es (omega arith) s.2) (omega arith)
+        | inr gt ↦ rw (
+          ne_eqb e.0 k (omega arith),
+          le-ltb e.0 k (omega arith),
+          lt-ltb k e.0 gt,
+          entries_below_none k (e.0 + 1) es (omega arith) s.2,
+          entries_above_all k (e.0 + 1) es (omega arith) s.2,
+          no_value k (e.0 + 1) es (omega arith) s.2,
+        ) (omega arith)
       ]
     ]
 

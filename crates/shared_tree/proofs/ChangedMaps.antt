@@ -59,7 +59,7 @@ module _ {V C : Type 0} (makes : C → Option V → Option V → Type 0) (k : �
     }
 
     within_bounds : (o : Option V) (c : Option C) (m : Option V) (low high : ℕ) → IsSplit k es l o r → IsSplit k cs b c a → MadeAt makes c o m → Rises low high es → Rises low high cs
-    → Rises low high (l' ++ (entry_at k m ++ r'))
+        → Rises low high (l' ++ (entry_at k m ++ r'))
     within_bounds o c None low high s t made p q =
         let is = split_changed o c None s t in
         let ls = lower.within low high (rises_front low high l (entry_at k o ++ r) (rw s.whole at p)) (rises_front low high b (entry_at k c ++ a) (rw t.whole at q)) in
@@ -75,7 +75,7 @@ module _ {V C : Type 0} (makes : C → Option V → Option V → Type 0) (k : �
         rises_joined low high l' k v r' (rises_between low high 0 k l' ls is.below inside.0) (rises_between (k + 1) (2 ^ 32) low high r' is.above rs inside.1)
 
     values_changed : (o : Option V) (c : Option C) (m : Option V) → IsSplit k es l o r → IsSplit k cs b c a → MadeAt makes c o m → (j : ℕ)
-    → MadeAt makes (lookup j cs) (lookup j es) (lookup j (l' ++ (entry_at k m ++ r')))
+        → MadeAt makes (lookup j cs) (lookup j es) (lookup j (l' ++ (entry_at k m ++ r')))
     values_changed o c m s t made j =
         let new = l' ++ (entry_at k m ++ r') in
         let is = split_changed o c m s t in

@@ -85,13 +85,18 @@ move_initial (ApplyModified edges ends function vector) rest ws same =
     let m3 = take_name (function) (OfSymbol symbol.Comma ∷ Name (vector) ∷ OfSymbol symbol.CloseParenthesis ∷ rest) m2.0 m2.2 in
     let m4 = take_fixed (OfSymbol symbol.Comma ∷ []) (Name (vector) ∷ OfSymbol symbol.CloseParenthesis ∷ rest) m3.1 refl m3.3 in
     let m5 = take_name (vector) (OfSymbol symbol.CloseParenthesis ∷ rest) m4.0 m4.2 in
-    let m6 = take_fixed (OfSymbol symbol.CloseParenthesis ∷ []) (rest) m5.1 refl m5.3 in
-    (ApplyModified m0.0 m1.0 m3.0 m5.0, m6.0, (m0.2) ∙ ap (λ o. Name (m0.0) ∷ o) (m1.2) ∙ ap (λ o. Name (m0.0) ∷ (ends_before (m1.0) (o))) (m2.1)
-    ∙ ap (λ o. Name (m0.0) ∷ (ends_before (m1.0) (OfSymbol symbol.Dot ∷ OfKeyword keyword.ApplyModified ∷ OfSymbol symbol.OpenParenthesis ∷ o))) (m3.2)
-    ∙ ap (λ o. Name (m0.0) ∷ (ends_before (m1.0) (OfSymbol symbol.Dot ∷ OfKeyword keyword.ApplyModified ∷ OfSymbol symbol.OpenParenthesis ∷ Name (m3.0) ∷ o))) (m4.1)
-    ∙ ap (λ o. Name (m0.0) ∷ (ends_before (m1.0) (OfSymbol symbol.Dot ∷ OfKeyword keyword.ApplyModified ∷ OfSymbol symbol.OpenParenthesis ∷ Name (m3.0) ∷ OfSymbol symbol.Comma ∷ o))) (m5.2)
-    ∙ ap (λ o. Name (m0.0) ∷ (ends_before (m1.0) (OfSymbol symbol.Dot ∷ OfKeyword keyword.ApplyModified ∷ OfSymbol symbol.OpenParenthesis ∷ Name (m3.0) ∷ OfSymbol symbol.Comma ∷ Name (m5.0) ∷ o)))
-    (m6.1), m6.2)
+    let m6 = take_fixed (OfSymbol symbol.CloseParenthesis ∷ []) (rest) m5.1 refl m5.3 in (
+      ApplyModified m0.0 m1.0 m3.0 m5.0,
+      m6.0,
+      (m0.2) ∙ ap (λ o. Name (m0.0) ∷ o) (m1.2) ∙ ap (λ o. Name (m0.0) ∷ (ends_before (m1.0) (o))) (m2.1)
+          ∙ ap (λ o. Name (m0.0) ∷ (ends_before (m1.0) (OfSymbol symbol.Dot ∷ OfKeyword keyword.ApplyModified ∷ OfSymbol symbol.OpenParenthesis ∷ o))) (m3.2)
+          ∙ ap (λ o. Name (m0.0) ∷ (ends_before (m1.0) (OfSymbol symbol.Dot ∷ OfKeyword keyword.ApplyModified ∷ OfSymbol symbol.OpenParenthesis ∷ Name (m3.0) ∷ o))) (m4.1)
+          ∙ ap (λ o. Name (m0.0) ∷ (ends_before (m1.0) (OfSymbol symbol.Dot ∷ OfKeyword keyword.ApplyModified ∷ OfSymbol symbol.OpenParenthesis ∷ Name (m3.0) ∷ OfSymbol symbol.Comma ∷ o))) (m5.2)
+          ∙ ap (λ o. Name (m0.0) ∷ (ends_before (m1.0) (OfSymbol symbol.Dot ∷ OfKeyword keyword.ApplyModified ∷ OfSymbol symbol.OpenParenthesis ∷ Name (m3.0) ∷ OfSymbol symbol.Comma ∷ Name
+          (m5.0) ∷ o)))
+          (m6.1),
+      m6.2,
+    )
 move_initial (Value e) rest ws same =
     let m0 = move_expression (e) (rest) ws same in
     (Value m0.0, m0.1, (m0.2), m0.3)
@@ -127,9 +132,13 @@ mutual
       let m0 = take_opening (keyword.While) (at) ((expression_terminals (test) ++ ((block_before (body) (OfKeyword keyword.End ∷ rest))))) ws same in
       let m1 = move_expression (test) ((block_before (body) (OfKeyword keyword.End ∷ rest))) m0.1 m0.3 in
       let m2 = move_block (body) (OfKeyword keyword.End ∷ rest) m1.1 m1.3 in
-      let m3 = take_fixed (OfKeyword keyword.End ∷ []) (rest) m2.1 refl m2.3 in
-      (While m0.0 m1.0 m2.0, m3.0, (m0.2) ∙ ap (λ o. Opening (keyword.While) (m0.0) ∷ o) (m1.2) ∙ ap (λ o. Opening (keyword.While) (m0.0) ∷ (expression_terminals (m1.0) ++ (o))) (m2.2)
-      ∙ ap (λ o. Opening (keyword.While) (m0.0) ∷ (expression_terminals (m1.0) ++ ((block_before (m2.0) (o))))) (m3.1), m3.2)
+      let m3 = take_fixed (OfKeyword keyword.End ∷ []) (rest) m2.1 refl m2.3 in (
+        While m0.0 m1.0 m2.0,
+        m3.0,
+        (m0.2) ∙ ap (λ o. Opening (keyword.While) (m0.0) ∷ o) (m1.2) ∙ ap (λ o. Opening (keyword.While) (m0.0) ∷ (expression_terminals (m1.0) ++ (o))) (m2.2)
+            ∙ ap (λ o. Opening (keyword.While) (m0.0) ∷ (expression_terminals (m1.0) ++ ((block_before (m2.0) (o))))) (m3.1),
+        m3.2,
+      )
   move_action (For at name first limit body) rest ws same =
       let m0 = take_opening (keyword.For) (at) (Name (name) ∷ OfKeyword keyword.In ∷
       (expression_terminals (first) ++ (OfSymbol symbol.Colon ∷ (expression_terminals (limit) ++ ((block_before (body) (OfKeyword keyword.End ∷ rest))))))) ws same in
@@ -141,32 +150,44 @@ mutual
       let m4 = take_fixed (OfSymbol symbol.Colon ∷ []) ((expression_terminals (limit) ++ ((block_before (body) (OfKeyword keyword.End ∷ rest))))) m3.1 refl m3.3 in
       let m5 = move_expression (limit) ((block_before (body) (OfKeyword keyword.End ∷ rest))) m4.0 m4.2 in
       let m6 = move_block (body) (OfKeyword keyword.End ∷ rest) m5.1 m5.3 in
-      let m7 = take_fixed (OfKeyword keyword.End ∷ []) (rest) m6.1 refl m6.3 in
-      (For m0.0 m1.0 m3.0 m5.0 m6.0, m7.0, (m0.2) ∙ ap (λ o. Opening (keyword.For) (m0.0) ∷ o) (m1.2) ∙ ap (λ o. Opening (keyword.For) (m0.0) ∷ Name (m1.0) ∷ o) (m2.1)
-      ∙ ap (λ o. Opening (keyword.For) (m0.0) ∷ Name (m1.0) ∷ OfKeyword keyword.In ∷ o) (m3.2)
-      ∙ ap (λ o. Opening (keyword.For) (m0.0) ∷ Name (m1.0) ∷ OfKeyword keyword.In ∷ (expression_terminals (m3.0) ++ (o))) (m4.1)
-      ∙ ap (λ o. Opening (keyword.For) (m0.0) ∷ Name (m1.0) ∷ OfKeyword keyword.In ∷ (expression_terminals (m3.0) ++ (OfSymbol symbol.Colon ∷ o))) (m5.2)
-      ∙ ap (λ o. Opening (keyword.For) (m0.0) ∷ Name (m1.0) ∷ OfKeyword keyword.In ∷ (expression_terminals (m3.0) ++ (OfSymbol symbol.Colon ∷ (expression_terminals (m5.0) ++ (o))))) (m6.2)
-      ∙ ap (λ o. Opening (keyword.For) (m0.0) ∷ Name (m1.0) ∷ OfKeyword keyword.In ∷
-      (expression_terminals (m3.0) ++ (OfSymbol symbol.Colon ∷ (expression_terminals (m5.0) ++ ((block_before (m6.0) (o))))))) (m7.1), m7.2)
+      let m7 = take_fixed (OfKeyword keyword.End ∷ []) (rest) m6.1 refl m6.3 in (
+        For m0.0 m1.0 m3.0 m5.0 m6.0,
+        m7.0,
+        (m0.2) ∙ ap (λ o. Opening (keyword.For) (m0.0) ∷ o) (m1.2) ∙ ap (λ o. Opening (keyword.For) (m0.0) ∷ Name (m1.0) ∷ o) (m2.1)
+            ∙ ap (λ o. Opening (keyword.For) (m0.0) ∷ Name (m1.0) ∷ OfKeyword keyword.In ∷ o) (m3.2)
+            ∙ ap (λ o. Opening (keyword.For) (m0.0) ∷ Name (m1.0) ∷ OfKeyword keyword.In ∷ (expression_terminals (m3.0) ++ (o))) (m4.1)
+            ∙ ap (λ o. Opening (keyword.For) (m0.0) ∷ Name (m1.0) ∷ OfKeyword keyword.In ∷ (expression_terminals (m3.0) ++ (OfSymbol symbol.Colon ∷ o))) (m5.2)
+            ∙ ap (λ o. Opening (keyword.For) (m0.0) ∷ Name (m1.0) ∷ OfKeyword keyword.In ∷ (expression_terminals (m3.0) ++ (OfSymbol symbol.Colon ∷ (expression_terminals (m5.0) ++ (o))))) (m6.2)
+            ∙ ap (λ o. Opening (keyword.For) (m0.0) ∷ Name (m1.0) ∷ OfKeyword keyword.In ∷
+            (expression_terminals (m3.0) ++ (OfSymbol symbol.Colon ∷ (expression_terminals (m5.0) ++ ((block_before (m6.0) (o))))))) (m7.1),
+        m7.2,
+      )
   move_action (If at test body) rest ws same =
       let m0 = take_opening (keyword.If) (at) ((expression_terminals (test) ++ ((block_before (body) (OfKeyword keyword.End ∷ rest))))) ws same in
       let m1 = move_expression (test) ((block_before (body) (OfKeyword keyword.End ∷ rest))) m0.1 m0.3 in
       let m2 = move_block (body) (OfKeyword keyword.End ∷ rest) m1.1 m1.3 in
-      let m3 = take_fixed (OfKeyword keyword.End ∷ []) (rest) m2.1 refl m2.3 in
-      (If m0.0 m1.0 m2.0, m3.0, (m0.2) ∙ ap (λ o. Opening (keyword.If) (m0.0) ∷ o) (m1.2) ∙ ap (λ o. Opening (keyword.If) (m0.0) ∷ (expression_terminals (m1.0) ++ (o))) (m2.2)
-      ∙ ap (λ o. Opening (keyword.If) (m0.0) ∷ (expression_terminals (m1.0) ++ ((block_before (m2.0) (o))))) (m3.1), m3.2)
+      let m3 = take_fixed (OfKeyword keyword.End ∷ []) (rest) m2.1 refl m2.3 in (
+        If m0.0 m1.0 m2.0,
+        m3.0,
+        (m0.2) ∙ ap (λ o. Opening (keyword.If) (m0.0) ∷ o) (m1.2) ∙ ap (λ o. Opening (keyword.If) (m0.0) ∷ (expression_terminals (m1.0) ++ (o))) (m2.2)
+            ∙ ap (λ o. Opening (keyword.If) (m0.0) ∷ (expression_terminals (m1.0) ++ ((block_before (m2.0) (o))))) (m3.1),
+        m3.2,
+      )
   move_action (IfElse at test body otherwise) rest ws same =
       let m0 = take_opening (keyword.If) (at) ((expression_terminals (test) ++ ((block_before (body) (OfKeyword keyword.Else ∷ (block_before (otherwise) (OfKeyword keyword.End ∷ rest))))))) ws same in
       let m1 = move_expression (test) ((block_before (body) (OfKeyword keyword.Else ∷ (block_before (otherwise) (OfKeyword keyword.End ∷ rest))))) m0.1 m0.3 in
       let m2 = move_block (body) (OfKeyword keyword.Else ∷ (block_before (otherwise) (OfKeyword keyword.End ∷ rest))) m1.1 m1.3 in
       let m3 = take_fixed (OfKeyword keyword.Else ∷ []) ((block_before (otherwise) (OfKeyword keyword.End ∷ rest))) m2.1 refl m2.3 in
       let m4 = move_block (otherwise) (OfKeyword keyword.End ∷ rest) m3.0 m3.2 in
-      let m5 = take_fixed (OfKeyword keyword.End ∷ []) (rest) m4.1 refl m4.3 in
-      (IfElse m0.0 m1.0 m2.0 m4.0, m5.0, (m0.2) ∙ ap (λ o. Opening (keyword.If) (m0.0) ∷ o) (m1.2) ∙ ap (λ o. Opening (keyword.If) (m0.0) ∷ (expression_terminals (m1.0) ++ (o))) (m2.2)
-      ∙ ap (λ o. Opening (keyword.If) (m0.0) ∷ (expression_terminals (m1.0) ++ ((block_before (m2.0) (o))))) (m3.1)
-      ∙ ap (λ o. Opening (keyword.If) (m0.0) ∷ (expression_terminals (m1.0) ++ ((block_before (m2.0) (OfKeyword keyword.Else ∷ o))))) (m4.2)
-      ∙ ap (λ o. Opening (keyword.If) (m0.0) ∷ (expression_terminals (m1.0) ++ ((block_before (m2.0) (OfKeyword keyword.Else ∷ (block_before (m4.0) (o))))))) (m5.1), m5.2)
+      let m5 = take_fixed (OfKeyword keyword.End ∷ []) (rest) m4.1 refl m4.3 in (
+        IfElse m0.0 m1.0 m2.0 m4.0,
+        m5.0,
+        (m0.2) ∙ ap (λ o. Opening (keyword.If) (m0.0) ∷ o) (m1.2) ∙ ap (λ o. Opening (keyword.If) (m0.0) ∷ (expression_terminals (m1.0) ++ (o))) (m2.2)
+            ∙ ap (λ o. Opening (keyword.If) (m0.0) ∷ (expression_terminals (m1.0) ++ ((block_before (m2.0) (o))))) (m3.1)
+            ∙ ap (λ o. Opening (keyword.If) (m0.0) ∷ (expression_terminals (m1.0) ++ ((block_before (m2.0) (OfKeyword keyword.Else ∷ o))))) (m4.2)
+            ∙ ap (λ o. Opening (keyword.If) (m0.0) ∷ (expression_terminals (m1.0) ++ ((block_before (m2.0) (OfKeyword keyword.Else ∷ (block_before (m4.0) (o))))))) (m5.1),
+        m5.2,
+      )
   move_action (Print at value) rest ws same =
       let m0 = take_opening (keyword.Print) (at) ((expression_terminals (value) ++ (OfSymbol symbol.Semicolon ∷ rest))) ws same in
       let m1 = move_expression (value) (OfSymbol symbol.Semicolon ∷ rest) m0.1 m0.3 in
@@ -180,9 +201,13 @@ mutual
       let m0 = take_name (name) (reduction_terminal reduction ∷ (expression_terminals (value) ++ (OfSymbol symbol.Semicolon ∷ rest))) ws same in
       let m1 = take_fixed (reduction_terminal reduction ∷ []) ((expression_terminals (value) ++ (OfSymbol symbol.Semicolon ∷ rest))) m0.1 (fixed_reduction reduction) m0.3 in
       let m2 = move_expression (value) (OfSymbol symbol.Semicolon ∷ rest) m1.0 m1.2 in
-      let m3 = take_fixed (OfSymbol symbol.Semicolon ∷ []) (rest) m2.1 refl m2.3 in
-      (Reduce m0.0 reduction m2.0, m3.0, (m0.2) ∙ ap (λ o. Name (m0.0) ∷ o) (m1.1) ∙ ap (λ o. Name (m0.0) ∷ reduction_terminal reduction ∷ o) (m2.2)
-      ∙ ap (λ o. Name (m0.0) ∷ reduction_terminal reduction ∷ (expression_terminals (m2.0) ++ (o))) (m3.1), m3.2)
+      let m3 = take_fixed (OfSymbol symbol.Semicolon ∷ []) (rest) m2.1 refl m2.3 in (
+        Reduce m0.0 reduction m2.0,
+        m3.0,
+        (m0.2) ∙ ap (λ o. Name (m0.0) ∷ o) (m1.1) ∙ ap (λ o. Name (m0.0) ∷ reduction_terminal reduction ∷ o) (m2.2)
+            ∙ ap (λ o. Name (m0.0) ∷ reduction_terminal reduction ∷ (expression_terminals (m2.0) ++ (o))) (m3.1),
+        m3.2,
+      )
   move_action (SetEntry vector index value) rest ws same =
       let m0 = take_name (vector) (OfSymbol symbol.OpenBracket ∷ (expression_terminals (index)
       ++ (OfSymbol symbol.CloseBracket ∷ OfSymbol symbol.Assign ∷ (expression_terminals (value) ++ (OfSymbol symbol.Semicolon ∷ rest))))) ws same in
@@ -191,12 +216,16 @@ mutual
       let m2 = move_expression (index) (OfSymbol symbol.CloseBracket ∷ OfSymbol symbol.Assign ∷ (expression_terminals (value) ++ (OfSymbol symbol.Semicolon ∷ rest))) m1.0 m1.2 in
       let m3 = take_fixed (OfSymbol symbol.CloseBracket ∷ OfSymbol symbol.Assign ∷ []) ((expression_terminals (value) ++ (OfSymbol symbol.Semicolon ∷ rest))) m2.1 refl m2.3 in
       let m4 = move_expression (value) (OfSymbol symbol.Semicolon ∷ rest) m3.0 m3.2 in
-      let m5 = take_fixed (OfSymbol symbol.Semicolon ∷ []) (rest) m4.1 refl m4.3 in
-      (SetEntry m0.0 m2.0 m4.0, m5.0, (m0.2) ∙ ap (λ o. Name (m0.0) ∷ o) (m1.1) ∙ ap (λ o. Name (m0.0) ∷ OfSymbol symbol.OpenBracket ∷ o) (m2.2)
-      ∙ ap (λ o. Name (m0.0) ∷ OfSymbol symbol.OpenBracket ∷ (expression_terminals (m2.0) ++ (o))) (m3.1)
-      ∙ ap (λ o. Name (m0.0) ∷ OfSymbol symbol.OpenBracket ∷ (expression_terminals (m2.0) ++ (OfSymbol symbol.CloseBracket ∷ OfSymbol symbol.Assign ∷ o))) (m4.2)
-      ∙ ap (λ o. Name (m0.0) ∷ OfSymbol symbol.OpenBracket ∷ (expression_terminals (m2.0) ++ (OfSymbol symbol.CloseBracket ∷ OfSymbol symbol.Assign ∷ (expression_terminals (m4.0) ++ (o))))) (m5.1),
-      m5.2)
+      let m5 = take_fixed (OfSymbol symbol.Semicolon ∷ []) (rest) m4.1 refl m4.3 in (
+        SetEntry m0.0 m2.0 m4.0,
+        m5.0,
+        (m0.2) ∙ ap (λ o. Name (m0.0) ∷ o) (m1.1) ∙ ap (λ o. Name (m0.0) ∷ OfSymbol symbol.OpenBracket ∷ o) (m2.2)
+            ∙ ap (λ o. Name (m0.0) ∷ OfSymbol symbol.OpenBracket ∷ (expression_terminals (m2.0) ++ (o))) (m3.1)
+            ∙ ap (λ o. Name (m0.0) ∷ OfSymbol symbol.OpenBracket ∷ (expression_terminals (m2.0) ++ (OfSymbol symbol.CloseBracket ∷ OfSymbol symbol.Assign ∷ o))) (m4.2)
+            ∙ ap (λ o. Name (m0.0) ∷ OfSymbol symbol.OpenBracket ∷ (expression_terminals (m2.0) ++ (OfSymbol symbol.CloseBracket ∷ OfSymbol symbol.Assign ∷ (expression_terminals (m4.0) ++ (o)))))
+            (m5.1),
+        m5.2,
+      )
   move_action (ReduceEntry vector index reduction value) rest ws same =
       let m0 = take_name (vector) (OfSymbol symbol.OpenBracket ∷ (expression_terminals (index)
       ++ (OfSymbol symbol.CloseBracket ∷ reduction_terminal reduction ∷ (expression_terminals (value) ++ (OfSymbol symbol.Semicolon ∷ rest))))) ws same in
@@ -206,31 +235,44 @@ mutual
       let m3 = take_fixed (OfSymbol symbol.CloseBracket ∷ []) (reduction_terminal reduction ∷ (expression_terminals (value) ++ (OfSymbol symbol.Semicolon ∷ rest))) m2.1 refl m2.3 in
       let m4 = take_fixed (reduction_terminal reduction ∷ []) ((expression_terminals (value) ++ (OfSymbol symbol.Semicolon ∷ rest))) m3.0 (fixed_reduction reduction) m3.2 in
       let m5 = move_expression (value) (OfSymbol symbol.Semicolon ∷ rest) m4.0 m4.2 in
-      let m6 = take_fixed (OfSymbol symbol.Semicolon ∷ []) (rest) m5.1 refl m5.3 in
-      (ReduceEntry m0.0 m2.0 reduction m5.0, m6.0, (m0.2) ∙ ap (λ o. Name (m0.0) ∷ o) (m1.1) ∙ ap (λ o. Name (m0.0) ∷ OfSymbol symbol.OpenBracket ∷ o) (m2.2)
-      ∙ ap (λ o. Name (m0.0) ∷ OfSymbol symbol.OpenBracket ∷ (expression_terminals (m2.0) ++ (o))) (m3.1)
-      ∙ ap (λ o. Name (m0.0) ∷ OfSymbol symbol.OpenBracket ∷ (expression_terminals (m2.0) ++ (OfSymbol symbol.CloseBracket ∷ o))) (m4.1)
-      ∙ ap (λ o. Name (m0.0) ∷ OfSymbol symbol.OpenBracket ∷ (expression_terminals (m2.0) ++ (OfSymbol symbol.CloseBracket ∷ reduction_terminal reduction ∷ o))) (m5.2)
-      ∙ ap (λ o. Name (m0.0) ∷ OfSymbol symbol.OpenBracket ∷ (expression_terminals (m2.0) ++ (OfSymbol symbol.CloseBracket ∷ reduction_terminal reduction ∷ (expression_terminals (m5.0) ++ (o)))))
-      (m6.1), m6.2)
+      let m6 = take_fixed (OfSymbol symbol.Semicolon ∷ []) (rest) m5.1 refl m5.3 in (
+        ReduceEntry m0.0 m2.0 reduction m5.0,
+        m6.0,
+        (m0.2) ∙ ap (λ o. Name (m0.0) ∷ o) (m1.1) ∙ ap (λ o. Name (m0.0) ∷ OfSymbol symbol.OpenBracket ∷ o) (m2.2)
+            ∙ ap (λ o. Name (m0.0) ∷ OfSymbol symbol.OpenBracket ∷ (expression_terminals (m2.0) ++ (o))) (m3.1)
+            ∙ ap (λ o. Name (m0.0) ∷ OfSymbol symbol.OpenBracket ∷ (expression_terminals (m2.0) ++ (OfSymbol symbol.CloseBracket ∷ o))) (m4.1)
+            ∙ ap (λ o. Name (m0.0) ∷ OfSymbol symbol.OpenBracket ∷ (expression_terminals (m2.0) ++ (OfSymbol symbol.CloseBracket ∷ reduction_terminal reduction ∷ o))) (m5.2)
+            ∙ ap (λ o. Name (m0.0) ∷ OfSymbol symbol.OpenBracket ∷ (expression_terminals (m2.0)
+            ++ (OfSymbol symbol.CloseBracket ∷ reduction_terminal reduction ∷ (expression_terminals (m5.0) ++ (o)))))
+            (m6.1),
+        m6.2,
+      )
   move_action (AddVertex set vertex) rest ws same =
       let m0 = take_name (set) (OfSymbol symbol.Dot ∷ OfKeyword keyword.AddVertex ∷ OfSymbol symbol.OpenParenthesis ∷
       (expression_terminals (vertex) ++ (OfSymbol symbol.CloseParenthesis ∷ OfSymbol symbol.Semicolon ∷ rest))) ws same in
       let m1 = take_fixed (OfSymbol symbol.Dot ∷ OfKeyword keyword.AddVertex ∷ OfSymbol symbol.OpenParenthesis ∷ [])
       ((expression_terminals (vertex) ++ (OfSymbol symbol.CloseParenthesis ∷ OfSymbol symbol.Semicolon ∷ rest))) m0.1 refl m0.3 in
       let m2 = move_expression (vertex) (OfSymbol symbol.CloseParenthesis ∷ OfSymbol symbol.Semicolon ∷ rest) m1.0 m1.2 in
-      let m3 = take_fixed (OfSymbol symbol.CloseParenthesis ∷ OfSymbol symbol.Semicolon ∷ []) (rest) m2.1 refl m2.3 in
-      (AddVertex m0.0 m2.0, m3.0, (m0.2) ∙ ap (λ o. Name (m0.0) ∷ o) (m1.1) ∙ ap (λ o. Name (m0.0) ∷ OfSymbol symbol.Dot ∷ OfKeyword keyword.AddVertex ∷ OfSymbol symbol.OpenParenthesis ∷ o) (m2.2)
-      ∙ ap (λ o. Name (m0.0) ∷ OfSymbol symbol.Dot ∷ OfKeyword keyword.AddVertex ∷ OfSymbol symbol.OpenParenthesis ∷ (expression_terminals (m2.0) ++ (o))) (m3.1), m3.2)
+      let m3 = take_fixed (OfSymbol symbol.CloseParenthesis ∷ OfSymbol symbol.Semicolon ∷ []) (rest) m2.1 refl m2.3 in (
+        AddVertex m0.0 m2.0,
+        m3.0,
+        (m0.2) ∙ ap (λ o. Name (m0.0) ∷ o) (m1.1) ∙ ap (λ o. Name (m0.0) ∷ OfSymbol symbol.Dot ∷ OfKeyword keyword.AddVertex ∷ OfSymbol symbol.OpenParenthesis ∷ o) (m2.2)
+            ∙ ap (λ o. Name (m0.0) ∷ OfSymbol symbol.Dot ∷ OfKeyword keyword.AddVertex ∷ OfSymbol symbol.OpenParenthesis ∷ (expression_terminals (m2.0) ++ (o))) (m3.1),
+        m3.2,
+      )
   move_action (Apply target ends function) rest ws same =
       let m0 = take_name (target) ((ends_before (ends) (OfSymbol symbol.Dot ∷ OfKeyword keyword.Apply ∷ (argument_terminals (function) ++ (OfSymbol symbol.Semicolon ∷ rest))))) ws same in
       let m1 = move_ends (ends) (OfSymbol symbol.Dot ∷ OfKeyword keyword.Apply ∷ (argument_terminals (function) ++ (OfSymbol symbol.Semicolon ∷ rest))) m0.1 m0.3 in
       let m2 = take_fixed (OfSymbol symbol.Dot ∷ OfKeyword keyword.Apply ∷ []) ((argument_terminals (function) ++ (OfSymbol symbol.Semicolon ∷ rest))) m1.1 refl m1.3 in
       let m3 = move_argument (function) (OfSymbol symbol.Semicolon ∷ rest) m2.0 m2.2 in
-      let m4 = take_fixed (OfSymbol symbol.Semicolon ∷ []) (rest) m3.1 refl m3.3 in
-      (Apply m0.0 m1.0 m3.0, m4.0, (m0.2) ∙ ap (λ o. Name (m0.0) ∷ o) (m1.2) ∙ ap (λ o. Name (m0.0) ∷ (ends_before (m1.0) (o))) (m2.1)
-      ∙ ap (λ o. Name (m0.0) ∷ (ends_before (m1.0) (OfSymbol symbol.Dot ∷ OfKeyword keyword.Apply ∷ o))) (m3.2)
-      ∙ ap (λ o. Name (m0.0) ∷ (ends_before (m1.0) (OfSymbol symbol.Dot ∷ OfKeyword keyword.Apply ∷ (argument_terminals (m3.0) ++ (o))))) (m4.1), m4.2)
+      let m4 = take_fixed (OfSymbol symbol.Semicolon ∷ []) (rest) m3.1 refl m3.3 in (
+        Apply m0.0 m1.0 m3.0,
+        m4.0,
+        (m0.2) ∙ ap (λ o. Name (m0.0) ∷ o) (m1.2) ∙ ap (λ o. Name (m0.0) ∷ (ends_before (m1.0) (o))) (m2.1)
+            ∙ ap (λ o. Name (m0.0) ∷ (ends_before (m1.0) (OfSymbol symbol.Dot ∷ OfKeyword keyword.Apply ∷ o))) (m3.2)
+            ∙ ap (λ o. Name (m0.0) ∷ (ends_before (m1.0) (OfSymbol symbol.Dot ∷ OfKeyword keyword.Apply ∷ (argument_terminals (m3.0) ++ (o))))) (m4.1),
+        m4.2,
+      )
 
   move_block : (block : BlockTree) → Moves block_before block
   move_block Empty rest ws same = (Empty, ws, refl, same)
@@ -284,14 +326,18 @@ move_declaration (Function at name parameters result body) rest ws same =
     let m4 = take_fixed (OfSymbol symbol.CloseParenthesis ∷ []) ((result_before (result) ((block_before (body) (OfKeyword keyword.End ∷ rest))))) m3.1 refl m3.3 in
     let m5 = move_result (result) ((block_before (body) (OfKeyword keyword.End ∷ rest))) m4.0 m4.2 in
     let m6 = move_block (body) (OfKeyword keyword.End ∷ rest) m5.1 m5.3 in
-    let m7 = take_fixed (OfKeyword keyword.End ∷ []) (rest) m6.1 refl m6.3 in
-    (Function m0.0 m1.0 m3.0 m5.0 m6.0, m7.0, (m0.2) ∙ ap (λ o. Opening (keyword.Func) (m0.0) ∷ o) (m1.2) ∙ ap (λ o. Opening (keyword.Func) (m0.0) ∷ Name (m1.0) ∷ o) (m2.1)
-    ∙ ap (λ o. Opening (keyword.Func) (m0.0) ∷ Name (m1.0) ∷ OfSymbol symbol.OpenParenthesis ∷ o) (m3.2)
-    ∙ ap (λ o. Opening (keyword.Func) (m0.0) ∷ Name (m1.0) ∷ OfSymbol symbol.OpenParenthesis ∷ (parameters_before (m3.0) (o))) (m4.1)
-    ∙ ap (λ o. Opening (keyword.Func) (m0.0) ∷ Name (m1.0) ∷ OfSymbol symbol.OpenParenthesis ∷ (parameters_before (m3.0) (OfSymbol symbol.CloseParenthesis ∷ o))) (m5.2)
-    ∙ ap (λ o. Opening (keyword.Func) (m0.0) ∷ Name (m1.0) ∷ OfSymbol symbol.OpenParenthesis ∷ (parameters_before (m3.0) (OfSymbol symbol.CloseParenthesis ∷ (result_before (m5.0) (o))))) (m6.2)
-    ∙ ap (λ o. Opening (keyword.Func) (m0.0) ∷ Name (m1.0) ∷ OfSymbol symbol.OpenParenthesis ∷
-    (parameters_before (m3.0) (OfSymbol symbol.CloseParenthesis ∷ (result_before (m5.0) ((block_before (m6.0) (o))))))) (m7.1), m7.2)
+    let m7 = take_fixed (OfKeyword keyword.End ∷ []) (rest) m6.1 refl m6.3 in (
+      Function m0.0 m1.0 m3.0 m5.0 m6.0,
+      m7.0,
+      (m0.2) ∙ ap (λ o. Opening (keyword.Func) (m0.0) ∷ o) (m1.2) ∙ ap (λ o. Opening (keyword.Func) (m0.0) ∷ Name (m1.0) ∷ o) (m2.1)
+          ∙ ap (λ o. Opening (keyword.Func) (m0.0) ∷ Name (m1.0) ∷ OfSymbol symbol.OpenParenthesis ∷ o) (m3.2)
+          ∙ ap (λ o. Opening (keyword.Func) (m0.0) ∷ Name (m1.0) ∷ OfSymbol symbol.OpenParenthesis ∷ (parameters_before (m3.0) (o))) (m4.1)
+          ∙ ap (λ o. Opening (keyword.Func) (m0.0) ∷ Name (m1.0) ∷ OfSymbol symbol.OpenParenthesis ∷ (parameters_before (m3.0) (OfSymbol symbol.CloseParenthesis ∷ o))) (m5.2)
+          ∙ ap (λ o. Opening (keyword.Func) (m0.0) ∷ Name (m1.0) ∷ OfSymbol symbol.OpenParenthesis ∷ (parameters_before (m3.0) (OfSymbol symbol.CloseParenthesis ∷ (result_before (m5.0) (o))))) (m6.2)
+          ∙ ap (λ o. Opening (keyword.Func) (m0.0) ∷ Name (m1.0) ∷ OfSymbol symbol.OpenParenthesis ∷
+          (parameters_before (m3.0) (OfSymbol symbol.CloseParenthesis ∷ (result_before (m5.0) ((block_before (m6.0) (o))))))) (m7.1),
+      m7.2,
+    )
 
 move_next_text : (text : List ℕ) → Moves next_text_before text
 move_next_text text rest ws same =
@@ -304,10 +350,14 @@ move_call call rest ws same =
     (each_before next_text_before (call.more) (OfSymbol symbol.CloseParenthesis ∷ rest))) ws same in
     let m1 = take_fixed (OfSymbol symbol.OpenParenthesis ∷ Text call.first ∷ []) ((each_before next_text_before (call.more) (OfSymbol symbol.CloseParenthesis ∷ rest))) m0.1 refl m0.3 in
     let m2 = move_each next_text_before move_next_text (call.more) (OfSymbol symbol.CloseParenthesis ∷ rest) m1.0 m1.2 in
-    let m3 = take_fixed (OfSymbol symbol.CloseParenthesis ∷ []) (rest) m2.1 refl m2.3 in
-    (record { at = m0.0; setting = call.setting; first = call.first; more = m2.0 }, m3.0, (m0.2) ∙ ap (λ o. Opening (setting_keyword call.setting) (m0.0) ∷ o) (m1.1)
-    ∙ ap (λ o. Opening (setting_keyword call.setting) (m0.0) ∷ OfSymbol symbol.OpenParenthesis ∷ Text call.first ∷ o) (m2.2)
-    ∙ ap (λ o. Opening (setting_keyword call.setting) (m0.0) ∷ OfSymbol symbol.OpenParenthesis ∷ Text call.first ∷ (each_before next_text_before (m2.0) (o))) (m3.1), m3.2)
+    let m3 = take_fixed (OfSymbol symbol.CloseParenthesis ∷ []) (rest) m2.1 refl m2.3 in (
+      record { at = m0.0; setting = call.setting; first = call.first; more = m2.0 },
+      m3.0,
+      (m0.2) ∙ ap (λ o. Opening (setting_keyword call.setting) (m0.0) ∷ o) (m1.1)
+          ∙ ap (λ o. Opening (setting_keyword call.setting) (m0.0) ∷ OfSymbol symbol.OpenParenthesis ∷ Text call.first ∷ o) (m2.2)
+          ∙ ap (λ o. Opening (setting_keyword call.setting) (m0.0) ∷ OfSymbol symbol.OpenParenthesis ∷ Text call.first ∷ (each_before next_text_before (m2.0) (o))) (m3.1),
+      m3.2,
+    )
 
 move_next_call : (call : CallTree) → Moves next_call_before call
 move_next_call call rest ws same =
@@ -320,9 +370,13 @@ move_chain chain rest ws same =
     let m0 = take_fixed (OfKeyword keyword.Program ∷ []) ((next_call_before (chain.first) ((each_before next_call_before (chain.more) (OfSymbol symbol.Semicolon ∷ rest))))) ws refl same in
     let m1 = move_next_call (chain.first) ((each_before next_call_before (chain.more) (OfSymbol symbol.Semicolon ∷ rest))) m0.0 m0.2 in
     let m2 = move_each next_call_before move_next_call (chain.more) (OfSymbol symbol.Semicolon ∷ rest) m1.1 m1.3 in
-    let m3 = take_fixed (OfSymbol symbol.Semicolon ∷ []) (rest) m2.1 refl m2.3 in
-    (record { first = m1.0; more = m2.0 }, m3.0, (m0.1) ∙ ap (λ o. OfKeyword keyword.Program ∷ o) (m1.2) ∙ ap (λ o. OfKeyword keyword.Program ∷ (next_call_before (m1.0) (o))) (m2.2)
-    ∙ ap (λ o. OfKeyword keyword.Program ∷ (next_call_before (m1.0) ((each_before next_call_before (m2.0) (o))))) (m3.1), m3.2)
+    let m3 = take_fixed (OfSymbol symbol.Semicolon ∷ []) (rest) m2.1 refl m2.3 in (
+      record { first = m1.0; more = m2.0 },
+      m3.0,
+      (m0.1) ∙ ap (λ o. OfKeyword keyword.Program ∷ o) (m1.2) ∙ ap (λ o. OfKeyword keyword.Program ∷ (next_call_before (m1.0) (o))) (m2.2)
+          ∙ ap (λ o. OfKeyword keyword.Program ∷ (next_call_before (m1.0) ((each_before next_call_before (m2.0) (o))))) (m3.1),
+      m3.2,
+    )
 
 move_schedule : (schedule : Option (List ChainTree)) → Moves schedule_before schedule
 move_schedule None rest ws same = (None, ws, refl, same)

@@ -255,7 +255,7 @@ module _ (sound : IsSound expression (λ e rest. expression_terminals e ++ rest)
         label_sound ws ∙ ap (λ r. label_terminals l.0 ++ r) (action_sound l.1 a.0.0 a.0.1 a.1) ∙ same_before statement_before (l.0, a.0.0) s a.0.1 rest a.2
 
     where_sound : (begins : Bool) (ws : List Terminal) (s : LabelledAction) (rest : List Terminal) → where_begins begins (statement_by (action_by inside) ws) ≡ Some (Some (s, rest))
-    → ws ≡ statement_before s rest
+        → ws ≡ statement_before s rest
     where_sound false ws s rest is = cc is
     where_sound true ws s rest is = statement_sound ws s rest (same_found is)
 

@@ -29,7 +29,6 @@ impl Model for Expression {
     ghost coded = { coded_expression };
 
     ghost use Rattle.syntax.specs.ExpressionViews.{expression_from};
-
     ghost use Rattle.syntax.specs.inside.ExpressionViews.{conjunction_of};
 
     ghost view = { λ e. expression_from (conjunction_of e.first) (map conjunction_of e.more.items) };

@@ -141,7 +141,7 @@ module _ (op : Operation) (all : List (ℕ × ℤ)) (xs ys list : List (ℕ × �
   stepped_equal : x.0 ≡ y.0 → IsMerging op all (take (k + from_bool (takes_second op)) (set list k y)) (drop (i + 1) xs) (drop (j + 1) ys)
   stepped_equal e = record {
     whole = ap (λ v. v ++ merged op (drop (i + 1) xs) (drop (j + 1) ys)) (put y (takes_second op))
-    ∙ append_assoc (take k list) (written (takes_second op) y) (merged op (drop (i + 1) xs) (drop (j + 1) ys))
+        ∙ append_assoc (take k list) (written (takes_second op) y) (merged op (drop (i + 1) xs) (drop (j + 1) ys))
         ∙ ap (λ v. take k list ++ v) (sym (equal op x y (drop (i + 1) xs) (drop (j + 1) ys) e left.2 right.2)) ∙ whole;
     left = later x (drop (i + 1) xs) left;
     right = later y (drop (j + 1) ys) right;
@@ -158,7 +158,7 @@ module _ (op : Operation) (all : List (ℕ × ℤ)) (xs ys list : List (ℕ × �
   stepped_greater : y.0 < x.0 → IsMerging op all (take (k + from_bool (takes_second op)) (set list k y)) (drop i xs) (drop (j + 1) ys)
   stepped_greater gt = rw cells (record {
     whole = ap (λ v. v ++ merged op (x ∷ drop (i + 1) xs) (drop (j + 1) ys)) (put y (takes_second op))
-    ∙ append_assoc (take k list) (written (takes_second op) y) (merged op (x ∷ drop (i + 1) xs) (drop (j + 1) ys))
+        ∙ append_assoc (take k list) (written (takes_second op) y) (merged op (x ∷ drop (i + 1) xs) (drop (j + 1) ys))
         ∙ ap (λ v. take k list ++ v) (sym (greater op x y (drop (i + 1) xs) (drop (j + 1) ys) gt left)) ∙ whole;
     left = left;
     right = later y (drop (j + 1) ys) right;

@@ -4,10 +4,10 @@
 //! nothing of plans. Both must show the same.
 
 use flat_snapshot::Flat;
-use test_oracle::{TestedProgram, shows_the_same};
 use std::alloc::{AllocError, Global};
 use std::io;
 use std::io::ErrorKind;
+use test_oracle::{TestedProgram, shows_the_same};
 use tree_batch::{Batch, Entry, Graph};
 
 /// The edges of a graph with their weights, ascending, and its number of vertices.

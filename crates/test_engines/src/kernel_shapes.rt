@@ -2,9 +2,9 @@
 //! is not.
 
 use kernels::{EdgeKernel, Shape, ShapePair};
-use test_oracle::checked;
 use std::alloc::{AllocError, Global};
 use std::test::Fail;
+use test_oracle::checked;
 use typed_tree::Operator;
 
 // What stands before each function: two vectors and a constant.

@@ -2,6 +2,7 @@
 //! its refusal.
 
 use crate::programs::{Counting, Program};
+use compiled_runs::{RunBounds, run_text_on_latest};
 use compiler::compile;
 use plans::Plan;
 use shared_graph::{Held, Naming, Reader};
@@ -9,7 +10,6 @@ use snapshot_runs::{run_held, run_latest};
 use std::alloc::Global;
 use std::thread::Threads;
 use test_helpers::{ask, tell};
-use compiled_runs::{RunBounds, run_text_on_latest};
 
 /// The plan of a text, if it has one.
 pub(crate) fn planned(alloc: Global, text: &[u8]) -> Option<Plan> {

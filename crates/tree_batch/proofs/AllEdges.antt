@@ -93,7 +93,7 @@ in_rows n a (suc k) p le lt within =
     among-append (ends_from a (numbers_from 0 n)) (all_rows n (a + 1) k) p ∙ elim (cases_lt a p.0) [
       | inl later ↦ or_right (are_among (ends_from a (numbers_from 0 n)) p) _ (in_rows n (a + 1) k p (omega arith) (omega arith) within)
       | inr here ↦ let is : p.0 ≡ a = omega arith in or_left (are_among (ends_from a (numbers_from 0 n)) p) _
-      (subst (λ w. are_among (ends_from w (numbers_from 0 n)) p ≡ true) is (in_row p.0 0 n p.1 (omega arith) (omega arith)))
+          (subst (λ w. are_among (ends_from w (numbers_from 0 n)) p ≡ true) is (in_row p.0 0 n p.1 (omega arith) (omega arith)))
     ]
 
 pub in_all : (n : ℕ) (p : Ends) → IsWithin n p → are_among (all_ends n) p ≡ true
@@ -127,7 +127,7 @@ edges_after_are g batch new ok fit are =
     (λ p. are.weights p ∙ sym (weight_in-weighed f (all_ends n) p ∙ passing n p (f p) refl))
   where
     passing : (n : ℕ) (p : Ends) (o : Option ℤ) → weight_after g.edges batch p ≡ o
-    → (if are_among (all_ends (vertices_after g.vertices batch)) p then weight_after g.edges batch p else None) ≡ weight_after g.edges batch p
+        → (if are_among (all_ends (vertices_after g.vertices batch)) p then weight_after g.edges batch p else None) ≡ weight_after g.edges batch p
     passing n p None is = elim (cases_Bool (are_among (all_ends (vertices_after g.vertices batch)) p)) [
       | inl there ↦ rw (there) refl
       | inr absent ↦ rw (absent) (sym is)

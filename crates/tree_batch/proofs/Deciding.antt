@@ -49,7 +49,7 @@ decided_within n (x ∷ xs) e b inside is =
     elim (cases_Bool (is_between (named_by x) e)) [
       | inl names ↦ names_this (IsWithin n) x e names (All-head (NamesWithin n) x xs inside)
       | inr other ↦ decided_within n xs e b (All-tail (NamesWithin n) x xs inside)
-      (sym (option_or-none (decision xs e)) ∙ ap (λ o. option_or (decision xs e) o) (sym (entry_decision-other x e other)) ∙ is)
+          (sym (option_or-none (decision xs e)) ∙ ap (λ o. option_or (decision xs e) o) (sym (entry_decision-other x e other)) ∙ is)
     ]
 
 -- where no entry names the edge none decides

@@ -114,7 +114,7 @@ module _ (n count : ℕ) (out into : List (ℕ × Block)) (ok : IsGraph n count 
     edges_after = record {
       ascending = ascending;
       weights = λ e. edge_weights 0 (2 ^ 24) (lists_of out') e (graph_rises out' out_ok) ∙ out_members e ∙ ap (λ o. unwrap_or o (weight_between (lists_of out) e)) (same e)
-      ∙ ap (λ h. unwrap_or (decision batch e) h) (sym (edge_weights 0 (2 ^ 24) (lists_of out) e (graph_rises out ok.out)));
+          ∙ ap (λ h. unwrap_or (decision batch e) h) (sym (edge_weights 0 (2 ^ 24) (lists_of out) e (graph_rises out ok.out)));
     }
 
     -- the new edges are those after the batch

@@ -7,9 +7,9 @@ ghost use Rattle.tree_batch.specs.Edge.{count_asked, entry_misfits, has_weight, 
 
 use crate::error::GraphError;
 use crate::graph::MAX_VERTICES;
-use weighted_edges::UNIT_WEIGHT;
 use std::alloc::{AllocError, Global};
 use std::marker::Model;
+use weighted_edges::UNIT_WEIGHT;
 
 /// One change of a batch: an edge, by its source and its destination, to add with a weight or to
 /// remove, or how many vertices the graph has from then on.

@@ -157,13 +157,17 @@ mutual
   main_broken f c (source.SetEntry vector index e) =
       by_parts f (MainStatement c (source.SetEntry vector index e)) (vector_broken f c.scope vector.at vector, (main_index_broken f c.scope vector.at index, (int_broken f c.scope vector.at e, tt)))
   main_broken f c (source.ReduceEntry vector index by e) =
-      by_parts f (MainStatement c (source.ReduceEntry vector index by e)) (vector_broken f c.scope vector.at vector,
-      (main_index_broken f c.scope vector.at index, (int_broken f c.scope vector.at e, tt)))
+      by_parts f (MainStatement c (source.ReduceEntry vector index by e)) (
+        vector_broken f c.scope vector.at vector,
+        (main_index_broken f c.scope vector.at index, (int_broken f c.scope vector.at e, tt)),
+      )
   main_broken f c (source.AddVertex set e) = by_parts f (MainStatement c (source.AddVertex set e)) (name_broken f c.scope set.at set, (expression_broken f c.scope set.at e, tt))
   main_broken f c (source.Apply target sides function) =
-      by_parts f (MainStatement c (source.Apply target sides function))
-      (name_broken f c.scope target.at target, before_broken f c.scope target.at sides.from _
-      (before_broken f c.scope target.at sides.to (form.Name function ∷ []) (name_broken f c.scope target.at function, tt)))
+      by_parts f (MainStatement c (source.Apply target sides function)) (
+        name_broken f c.scope target.at target,
+        before_broken f c.scope target.at sides.from _
+            (before_broken f c.scope target.at sides.to (form.Name function ∷ []) (name_broken f c.scope target.at function, tt)),
+      )
 
   main_block_broken : (f : Fault) (c : CheckerTree) (block : BlockTree) → IsBroken f (MainBlock c block)
   main_block_broken f c source.Empty = by_parts f (MainBlock c source.Empty) tt
@@ -175,8 +179,10 @@ mutual
   function_broken f c (source.Declare at p initial) = by_parts f (FunctionStatement c (source.Declare at p initial)) (initial_broken f c at initial, (new_broken f c.scope p.name, tt))
   function_broken f c (source.While at test body) = by_parts f (FunctionStatement c (source.While at test body)) (bool_broken f c.scope at test, (function_block_broken f _ body, tt))
   function_broken f c (source.For at name first limit body) =
-      by_parts f (FunctionStatement c (source.For at name first limit body)) (int_broken f c.scope at first,
-      (int_broken f c.scope at limit, (new_broken f c.scope name, (function_block_broken f _ body, tt))))
+      by_parts f (FunctionStatement c (source.For at name first limit body)) (
+        int_broken f c.scope at first,
+        (int_broken f c.scope at limit, (new_broken f c.scope name, (function_block_broken f _ body, tt))),
+      )
   function_broken f c (source.If at test body) = by_parts f (FunctionStatement c (source.If at test body)) (bool_broken f c.scope at test, (function_block_broken f _ body, tt))
   function_broken f c (source.IfElse at test body otherwise) =
       by_parts f (FunctionStatement c (source.IfElse at test body otherwise)) (bool_broken f c.scope at test, (function_block_broken f _ body, (function_block_broken f _ otherwise, tt)))
@@ -184,16 +190,22 @@ mutual
   function_broken f c (source.Assign name initial) = by_parts f (FunctionStatement c (source.Assign name initial)) (name_broken f c.scope name.at name, (initial_broken f c name.at initial, tt))
   function_broken f c (source.Reduce name by e) = by_parts f (FunctionStatement c (source.Reduce name by e)) (name_broken f c.scope name.at name, (expression_broken f c.scope name.at e, tt))
   function_broken f c (source.SetEntry vector index e) =
-      by_parts f (FunctionStatement c (source.SetEntry vector index e)) (vector_broken f c.scope vector.at vector,
-      (function_index_broken f c.scope vector.at index, (int_broken f c.scope vector.at e, tt)))
+      by_parts f (FunctionStatement c (source.SetEntry vector index e)) (
+        vector_broken f c.scope vector.at vector,
+        (function_index_broken f c.scope vector.at index, (int_broken f c.scope vector.at e, tt)),
+      )
   function_broken f c (source.ReduceEntry vector index by e) =
-      by_parts f (FunctionStatement c (source.ReduceEntry vector index by e)) (vector_broken f c.scope vector.at vector,
-      (function_index_broken f c.scope vector.at index, (int_broken f c.scope vector.at e, tt)))
+      by_parts f (FunctionStatement c (source.ReduceEntry vector index by e)) (
+        vector_broken f c.scope vector.at vector,
+        (function_index_broken f c.scope vector.at index, (int_broken f c.scope vector.at e, tt)),
+      )
   function_broken f c (source.AddVertex set e) = by_parts f (FunctionStatement c (source.AddVertex set e)) (name_broken f c.scope set.at set, (expression_broken f c.scope set.at e, tt))
   function_broken f c (source.Apply target sides function) =
-      by_parts f (FunctionStatement c (source.Apply target sides function))
-      (name_broken f c.scope target.at target, before_broken f c.scope target.at sides.from _
-      (before_broken f c.scope target.at sides.to (form.Name function ∷ []) (name_broken f c.scope target.at function, tt)))
+      by_parts f (FunctionStatement c (source.Apply target sides function)) (
+        name_broken f c.scope target.at target,
+        before_broken f c.scope target.at sides.from _
+            (before_broken f c.scope target.at sides.to (form.Name function ∷ []) (name_broken f c.scope target.at function, tt)),
+      )
 
   function_block_broken : (f : Fault) (c : CheckerTree) (block : BlockTree) → IsBroken f (FunctionBlock c block)
   function_block_broken f c source.Empty = by_parts f (FunctionBlock c source.Empty) tt
@@ -206,8 +218,10 @@ parameters_broken : (f : Fault) (weighted : Bool) (k : FunctionKindTree) (c : Ch
 parameters_broken f weighted k c p [] None = by_parts f (Parameters weighted k c p [] None) tt
 parameters_broken f weighted k c p [] (Some result) = by_parts f (Parameters weighted k c p [] (Some result)) (new_broken f c.scope result.name, tt)
 parameters_broken f weighted k c p (v ∷ others) result =
-    by_parts f (Parameters weighted k c p (v ∷ others) result) (new_broken f c.scope v.name,
-    (parameters_broken f weighted k (declared_in c v.name (parameter weighted p v.declared)).value endpoint.Destination others result, tt))
+    by_parts f (Parameters weighted k c p (v ∷ others) result) (
+      new_broken f c.scope v.name,
+      (parameters_broken f weighted k (declared_in c v.name (parameter weighted p v.declared)).value endpoint.Destination others result, tt),
+    )
 
 body_broken : (f : Fault) (k : FunctionKindTree) (c : CheckerTree) (body : BlockTree) → IsBroken f (body_part k c body)
 body_broken f (MainKind fits) c body = main_block_broken f c body

@@ -493,14 +493,25 @@ mutual
       elim (values_related at r a.value b.value x.0 y.0 x.1 y.1 (no_right b.faults _ behind)) [
         | inl numbers ↦ record {
           type = Truth;
-          has = (refl, inl (as_number a (SumHas (meanings_of scope.visible) scope.inside left) first numbers.first,
-          as_number b (SumHas (meanings_of scope.visible) scope.inside right) second numbers.second));
+          has = (
+            refl,
+            inl (
+              as_number a (SumHas (meanings_of scope.visible) scope.inside left) first numbers.first,
+              as_number b (SumHas (meanings_of scope.visible) scope.inside right) second numbers.second,
+            ),
+          );
           is = numbers.is;
         }
         | inr truths ↦ record {
           type = Truth;
-          has = (refl, inr (truths.0, as_truth a (SumHas (meanings_of scope.visible) scope.inside left) first truths.1.first,
-          as_truth b (SumHas (meanings_of scope.visible) scope.inside right) second truths.1.second));
+          has = (
+            refl,
+            inr (
+              truths.0,
+              as_truth a (SumHas (meanings_of scope.visible) scope.inside left) first truths.1.first,
+              as_truth b (SumHas (meanings_of scope.visible) scope.inside right) second truths.1.second,
+            ),
+          );
           is = truths.1.is;
         }
       ]

@@ -210,7 +210,7 @@ begins_literal at given initial sound plain none = at_degrees (is_degrees given)
     })).faults ≡ [] → IsSome (literal_integer initial)
     at_degrees true plain none = absurd cc
     at_degrees false plain none = literal_is at (is_sound given) (pos 0) (literal_integer initial) sound
-    (no_left (literal_or_fault at (is_sound given) (pos 0) (literal_integer initial)).faults [] none)
+        (no_left (literal_or_fault at (is_sound given) (pos 0) (literal_integer initial)).faults [] none)
 
 vector_wanted : (d : DeclaredTree) (k : Declarations) → SeesAll d k → (at : ℕ) (initial : InitialTree) → (initializer_of d.checker at initial).faults ≡ []
     → (begins at (initializer_of d.checker at initial).value initial).faults ≡ [] → ConstantKeeps k declared.Vector initial
@@ -391,8 +391,11 @@ filter_keeps d k s at name v test body is also none =
     let inner : Sees inside.Filter p.value (known_at_vertex k.known v) = record { matches = one.1; some = more_some k.known.names v.name.bytes (meaning.Parameter endpoint.Source) s.some tt } in
     let result_new = declares_new inside.Filter p.value (known_at_vertex k.known v) inner test.name (entity.ConditionVariable (condition_slot p.value)) (no_right (p.faults ++ []) r.faults sound) in
     let opens = filter_opens d.checker k.known s.agrees.checker v test is new result_new in
-    let within : Sees inside.Filter o.value (known_in_filter k.known v test) = record { matches = opens.1; some =
-    more_some (known_at_vertex k.known v).names test.name.bytes meaning.TruthVariable inner.some tt } in
+    let within : Sees inside.Filter o.value (known_in_filter k.known v test) = record {
+      matches = opens.1;
+      some =
+          more_some (known_at_vertex k.known v).names test.name.bytes meaning.TruthVariable inner.some tt;
+    } in
     let b = steps_typed o.value NoStep body in
     let after_o = no_right o.faults _ none in
     let keeps = steps_keep inside.Filter o.value (known_in_filter k.known v test) tt within NoStep body (no_left b.faults _ after_o) in

@@ -194,8 +194,14 @@ weights_are_seen false true lacks = absurd (false_is_not_true (sym lacks))
 weights_are_seen weights false lacks = tt
 
 function_fits_edges : (weights : Bool) (f : Entity) (index : ℕ) → edge_function f ≡ Some index → (not weights && reads_weight f) ≡ false → EdgesFit (entity.Edges weights) f index
-function_fits_edges weights (entity.EdgeFunction x weighted) index is lacks = record { weights = weights; weighted = weighted; edges = refl; function = cc; sees =
-    weights_are_seen weights weighted lacks }
+function_fits_edges weights (entity.EdgeFunction x weighted) index is lacks = record {
+  weights = weights;
+  weighted = weighted;
+  edges = refl;
+  function = cc;
+  sees =
+      weights_are_seen weights weighted lacks;
+}
 function_fits_edges weights _ index is lacks = absurd cc
 
 edges_fit : (e f : Entity) (index : ℕ) → is_edges e ≡ true → edge_function f ≡ Some index → lacks_weights e f ≡ false → EdgesFit e f index
@@ -297,8 +303,18 @@ modified_by_is c at e f v a b edges lacks from to (Some index) (Some vector) one
         → ModifiesBy (if x then sure (initial_value.Members (set.Modified (ends_given a b) index vector)) else fault_at at rule.WrongType ErrorInitializer) c e f v a b
     at_test true is none =
         let by = some_value (lookup (nat_eq vector) (slice_index_or c.written index [])) is in
-        record { from = from; to = to; index = index; vector = vector; by = by.0; fit = edges_fit e f index edges one lacks; vector_means_it = vector_means v vector other; writes = by.1; members =
-        tt }
+        record {
+          from = from;
+          to = to;
+          index = index;
+          vector = vector;
+          by = by.0;
+          fit = edges_fit e f index edges one lacks;
+          vector_means_it = vector_means v vector other;
+          writes = by.1;
+          members =
+              tt;
+        }
     at_test false is none = absurd (not_empty _ _ none)
 
 abbrev modified_at : CheckerTree → ℕ → (f v : Entity) → (a b : ApplyEndTree) → (error edges wrong : Bool) → WithFaults InitializerTree
@@ -639,8 +655,12 @@ set_applies : (at : ℕ) (t f : Entity) (a b : ApplyEndTree) (ends : Bool) (o : 
 set_applies at t f a b ends None clear is none = absurd (not_empty _ _ none)
 set_applies at t f a b true (Some slot) clear is none = absurd (not_empty _ _ none)
 set_applies at t f a b false (Some slot) clear is none = record {
-  edges = inr (set_means t slot is, refl, vertex_function_there at slot f (initial_value.vertex_function f) refl
-      (subst (λ x. (vertices_applied at slot x (initial_value.vertex_function f)).faults ≡ []) clear none));
+  edges = inr (
+    set_means t slot is,
+    refl,
+    vertex_function_there at slot f (initial_value.vertex_function f) refl
+        (subst (λ x. (vertices_applied at slot x (initial_value.vertex_function f)).faults ≡ []) clear none),
+  );
 }
 
 applied_where : (at : ℕ) (t f : Entity) (a b : ApplyEndTree) (ends : Bool) (error edges wrong : Bool) → error ≡ false → names_error f ≡ false → is_edges t ≡ edges

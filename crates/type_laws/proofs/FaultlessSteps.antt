@@ -219,8 +219,11 @@ mutual
       let o = steps_typed d NoStep otherwise in
       let after_t = no_right t.faults _ none in
       let first = steps_keep i c k user s NoStep body (no_left b.faults _ after_t) in
-      let inner : Sees i d (closed_known k (known_after i k body)) = record { matches =
-      closed_kept i i c b.value.1 k (known_after i k body) s.matches (steps_kept i c k user s.matches NoStep body first).1; some = s.some } in (
+      let inner : Sees i d (closed_known k (known_after i k body)) = record {
+        matches =
+            closed_kept i i c b.value.1 k (known_after i k body) s.matches (steps_kept i c k user s.matches NoStep body first).1;
+        some = s.some;
+      } in (
         condition_truth i c k s at test (no_left t.faults _ none),
         first,
         steps_keep i d (closed_known k (known_after i k body)) user inner NoStep otherwise (no_left o.faults [] (no_right b.faults _ after_t)),
@@ -251,6 +254,9 @@ mutual
       let labels = labelled_sees i c k s label (no_left l.faults _ none) in
       let known = labelled_known k label in
       let keeps = step_keeps i l.value.1 known user labels.1 action (no_left a.faults _ after_l) in
-      let next : Sees i a.value.1 (known_behind i known action) = record { matches = (step_kept i l.value.1 known user labels.1.matches action keeps).1; some =
-      after_some i known action labels.1.some keeps } in
+      let next : Sees i a.value.1 (known_behind i known action) = record {
+        matches = (step_kept i l.value.1 known user labels.1.matches action keeps).1;
+        some =
+            after_some i known action labels.1.some keeps;
+      } in
       (labels.0, keeps, steps_keep i a.value.1 (known_behind i known action) user next (step_after so_far a.value.0) others (no_right a.faults _ after_l))

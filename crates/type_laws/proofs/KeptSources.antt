@@ -147,8 +147,14 @@ vertex_function_kept d k a at name v body new keeps =
     let f = entity.VertexFunction (length d.vertex_functions) in
     let named = name_declared e (closed_known k.known after) (left_agrees inside.VertexFunction d.checker b.value.1 k.known after a.checker inner.1) name f meaning.VertexFunction refl new in (
       both_none o.faults _ opens.0 (both_none b.faults _ inner.0 (both_none (declare_name e name f).faults [] named.0 refl)),
-      record { checker = named.1; vectors = a.vectors; functions = a.functions ∙ ap length (sym (after_written inside.VertexFunction (known_at_vertex k.known v) body)); edges = a.edges; main =
-      a.main },
+      record {
+        checker = named.1;
+        vectors = a.vectors;
+        functions = a.functions ∙ ap length (sym (after_written inside.VertexFunction (known_at_vertex k.known v) body));
+        edges = a.edges;
+        main =
+            a.main;
+      },
     )
 
 filter_kept : (d : DeclaredTree) (k : Declarations) → Agrees d k → (at : ℕ) (name : Identifier) (v test : ParameterTree) (body : source.BlockTree) → IsNew k.known name
@@ -218,8 +224,14 @@ main_kept d k a name parameters result body new keeps =
     plain_main within =
         let s = begun (restarted d.checker) inside.Main in
         let b = statements_typed s Empty body in
-        let inner = statements_kept s (known_in_main k.known) (record { names = a.checker.names; labels = a.checker.labels; reduced = refl; written = a.checker.written; inside =
-        refl }) Empty body within in
+        let inner = statements_kept s (known_in_main k.known) (record {
+          names = a.checker.names;
+          labels = a.checker.labels;
+          reduced = refl;
+          written = a.checker.written;
+          inside =
+              refl;
+        }) Empty body within in
         let after = known_after inside.Main (known_in_main k.known) body in
         let e = record d { checker = with_scope b.value.1 d.checker.scope } in
         let named = name_declared e (closed_known k.known after) (left_agrees inside.Main d.checker b.value.1 k.known after a.checker inner.1) name entity.Main meaning.Main refl new in (
@@ -297,8 +309,14 @@ main_there length (Some main) is = refl
 pub source_kept : (source : SourceTree) (length : ℕ) → KeepsRules source → (program_of source length).faults ≡ []
 source_kept source length keeps =
     let begins = opening (set_count source.declarations) in
-    let all = declarations_kept begins nothing_declared (record { checker = record { names = refl; labels = refl; written = refl; inside = refl }; vectors = refl; functions = refl; edges =
-    refl; main = refl })
+    let all = declarations_kept begins nothing_declared (record {
+      checker = record { names = refl; labels = refl; written = refl; inside = refl };
+      vectors = refl;
+      functions = refl;
+      edges =
+          refl;
+      main = refl;
+    })
     source.declarations keeps in
     let d = declarations_typed begins source.declarations in
     both_none d.faults _ all.0 (both_none (main_of length d.value.main).faults [] (main_there length d.value.main all.1) refl)

@@ -201,19 +201,35 @@ module _ (p : ProgramTree) where
       → IsWithin (declare_constant_as d at name initial type initializer).value → IsWithin d
   constant_within d at name initial declared.Int initializer x = record { names = λ k n is. x.names k n (get_before d.checker.names (name.bytes ∷ []) k n is); sets = x.sets; functions = x.functions }
   constant_within d at name initial declared.Bool initializer x = record { names = λ k n is. x.names k n (get_before d.checker.names (name.bytes ∷ []) k n is); sets = x.sets; functions = x.functions }
-  constant_within d at name initial declared.Vertex initializer x = record { names = λ k n is. x.names k n (get_before d.checker.names (name.bytes ∷ []) k n is); sets = x.sets; functions =
-      x.functions }
+  constant_within d at name initial declared.Vertex initializer x = record {
+    names = λ k n is. x.names k n (get_before d.checker.names (name.bytes ∷ []) k n is);
+    sets = x.sets;
+    functions =
+        x.functions;
+  }
   constant_within d at name initial declared.VertexSet initializer x = record {
     names = λ k n is. x.names k n (get_before d.checker.names (name.bytes ∷ []) k n is);
     sets = λ k n is. x.sets k n (get_before d.sets (next_name d ∷ []) k n is);
     functions = x.functions;
   }
-  constant_within d at name initial declared.Vector initializer x = record { names = λ k n is. x.names k n (get_before d.checker.names (name.bytes ∷ []) k n is); sets = x.sets; functions =
-      x.functions }
-  constant_within d at name initial declared.EdgeSet initializer x = record { names = λ k n is. x.names k n (get_before d.checker.names (name.bytes ∷ []) k n is); sets = x.sets; functions =
-      x.functions }
-  constant_within d at name initial declared.WeightedEdgeSet initializer x = record { names = λ k n is. x.names k n (get_before d.checker.names (name.bytes ∷ []) k n is); sets = x.sets; functions =
-      x.functions }
+  constant_within d at name initial declared.Vector initializer x = record {
+    names = λ k n is. x.names k n (get_before d.checker.names (name.bytes ∷ []) k n is);
+    sets = x.sets;
+    functions =
+        x.functions;
+  }
+  constant_within d at name initial declared.EdgeSet initializer x = record {
+    names = λ k n is. x.names k n (get_before d.checker.names (name.bytes ∷ []) k n is);
+    sets = x.sets;
+    functions =
+        x.functions;
+  }
+  constant_within d at name initial declared.WeightedEdgeSet initializer x = record {
+    names = λ k n is. x.names k n (get_before d.checker.names (name.bytes ∷ []) k n is);
+    sets = x.sets;
+    functions =
+        x.functions;
+  }
 
   function_within : (d : DeclaredTree) (kind : FunctionKindTree) (name : Identifier) (steps : FunctionStatementsTree) → IsWithin (function_declared d kind name steps).value → IsWithin d
   function_within d (MainKind fits) name steps x = record { names = λ k n is. x.names k n (get_before d.checker.names (name.bytes ∷ []) k n is); sets = x.sets; functions = x.functions }

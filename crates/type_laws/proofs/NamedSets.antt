@@ -359,7 +359,7 @@ module _ (p : ProgramTree) where
         if_plain names ends _ _ ((tt, tt), tt, refl) (vertices_plain names at slot (names_error f) (vertex_function f) is)
 
     applied_plain : (names : SetNames) (at : ℕ) (t : Entity) (a b : ApplyEndTree) (ends : Bool) (f : Entity) → Stands names t → EndIsVisible names (given_filter a)
-    → EndIsVisible names (given_filter b)
+        → EndIsVisible names (given_filter b)
         → Plain names (applied at t a b ends f).value
     applied_plain names at t a b ends f target from to =
         if_plain names (names_error t) _ _ ((tt, tt), tt, refl) (if_plain names (is_edges t) _ _
@@ -462,7 +462,7 @@ module _ (p : ProgramTree) where
 
     mutual
       action_fits : (names : SetNames) (c : CheckerTree) (action : source.StatementKindTree) → (action_typed c action).faults ≡ [] → Begins (action_typed c action).value.1.names p.names
-      → MainFits functions names c
+          → MainFits functions names c
           → ActionFits names (action_typed c action).value
       action_fits names c (source.Declare at x initial) none begins fits =
           let initializer = initializer_of c at initial in

@@ -140,8 +140,11 @@ place_of at _ = at
 abbrev pub broken_form_rules : ScopeTree → ℕ → Form → List TypeRule → List Fault
 broken_form_rules scope at form [] = []
 broken_form_rules scope at form (r ∷ others) =
-    if form_breaks scope at form r then record { at = place_of at form; rule =
-    r } ∷ broken_form_rules scope at form others else broken_form_rules scope at form others
+    if form_breaks scope at form r then record {
+      at = place_of at form;
+      rule =
+          r;
+    } ∷ broken_form_rules scope at form others else broken_form_rules scope at form others
 
 -- the faults that a form has itself: none if a part is faulty
 abbrev pub own_faults : ScopeTree → ℕ → Form → List Fault

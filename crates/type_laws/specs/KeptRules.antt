@@ -259,8 +259,12 @@ function_after d name m after = record d { known = with_name (meaning.closed_kno
 -- what an edge function reduces is kept
 abbrev pub edge_function_after : Declarations → Identifier → (weighted : Bool) → Known → Declarations
 edge_function_after d name weighted after =
-    record d { known = record (with_name (meaning.closed_known d.known after) name (meaning.EdgeFunction (length d.known.written) weighted)) { written =
-    after.written ++ after.reduced ∷ [] } }
+    record d {
+      known = record (with_name (meaning.closed_known d.known after) name (meaning.EdgeFunction (length d.known.written) weighted)) {
+        written =
+            after.written ++ after.reduced ∷ [];
+      };
+    }
 
 abbrev pub after_function : Declarations → Identifier → List ParameterTree → Option ParameterTree → BlockTree → Declarations
 after_function d name [] result body = d

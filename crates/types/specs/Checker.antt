@@ -54,8 +54,14 @@ without_ends bytes = take (length bytes - 2) (drop 1 bytes)
 
 -- one more label, at its index among all, which must not stand already
 abbrev pub new_label : CheckerTree → Identifier → Option ℕ → WithFaults (Option ℕ × CheckerTree)
-new_label c label None = sure (Some (length c.labels), record c { labels = c.labels ++ (label.bytes, length c.labels) ∷ []; label_names =
-    c.label_names ++ without_ends label.bytes ∷ [] })
+new_label c label None = sure (
+  Some (length c.labels),
+  record c {
+    labels = c.labels ++ (label.bytes, length c.labels) ∷ [];
+    label_names =
+        c.label_names ++ without_ends label.bytes ∷ [];
+  },
+)
 new_label c label (Some index) = fault_at label.at rule.BadLabel (Some index, c)
 
 abbrev pub labelled : CheckerTree → Option Identifier → WithFaults (Option ℕ × CheckerTree)

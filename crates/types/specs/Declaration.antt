@@ -234,8 +234,11 @@ function_of d steps = record { name = next_name d; steps = steps }
 abbrev pub edge_function_declared : Bool → DeclaredTree → Identifier → FunctionTree → WithFaults DeclaredTree
 edge_function_declared weighted d name f =
     declare_name d name (entity.EdgeFunction (length d.edge_functions) weighted) >>= λ e.
-    sure (record e { edge_functions = e.edge_functions ++ f ∷ []; checker =
-    record e.checker { written = e.checker.written ++ e.checker.writes ∷ []; writes = [] } })
+    sure (record e {
+      edge_functions = e.edge_functions ++ f ∷ [];
+      checker =
+          record e.checker { written = e.checker.written ++ e.checker.writes ∷ []; writes = [] };
+    })
 
 abbrev pub function_declared : DeclaredTree → FunctionKindTree → Identifier → FunctionStatementsTree → WithFaults DeclaredTree
 function_declared d (MainKind fits) name steps = declare_name d name entity.Error

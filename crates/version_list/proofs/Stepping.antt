@@ -73,8 +73,13 @@ module _ (s : State) (which : Which) (kept : is_kept s (number_asked s which) �
   pub acquire_reply : reply_to s (Acquire which) ≡ Ticket (s.given + 1) (number_asked s which)
   acquire_reply = rw (kept, has_room) refl
 
-  pub acquire_after : state_after s (Acquire which) ≡ record s { open_tickets = s.open_tickets ++ record { number = s.given + 1; version = number_asked s which } ∷ []; given = s.given + 1; used =
-      s.used + 1; steps = s.steps + 1 }
+  pub acquire_after : state_after s (Acquire which) ≡ record s {
+    open_tickets = s.open_tickets ++ record { number = s.given + 1; version = number_asked s which } ∷ [];
+    given = s.given + 1;
+    used =
+        s.used + 1;
+    steps = s.steps + 1;
+  }
   acquire_after = ap (changed s (Acquire which)) acquire_reply
 
 module _ (s : State) (number version : ℕ) (held : ticket_version s.open_tickets number ≡ Some version) where

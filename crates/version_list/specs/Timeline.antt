@@ -69,8 +69,13 @@ Answers old step reply (Err HistoryFull) new = Refuses old step HistoryFull new
 abbrev pub with_reply : Timeline → Step → Reply → Timeline
 with_reply t step (Refused number) = t
 with_reply t step (Trimmed count) = beginning (state_after t.state step)
-with_reply t step reply = record { base = t.base; history = t.history ++ record { step = step; reply = reply } ∷ []; state =
-    state_after t.state step; reserved = 0 }
+with_reply t step reply = record {
+  base = t.base;
+  history = t.history ++ record { step = step; reply = reply } ∷ [];
+  state =
+      state_after t.state step;
+  reserved = 0;
+}
 
 -- what the steps are answered, one after another
 abbrev pub replies_to : State → List Step → List Reply

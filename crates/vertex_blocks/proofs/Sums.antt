@@ -22,8 +22,17 @@ total_entry u (x ∷ xs) = omega arith
 total_built : (f g : ℕ → List (ℕ × ℤ)) (n : ℕ) → edge_total (built (λ u. f u ++ g u) n) ≡ edge_total (built f n) + edge_total (built g n)
 total_built f g zero = refl
 total_built f g (suc u) =
-    omega (arith, total_append (built (λ v. f v ++ g v) u) (entry_of u (f u ++ g u)), total_append (built f u) (entry_of u (f u)), total_append (built g u) (entry_of u (g u)),
-    total_entry u (f u ++ g u), total_entry u (f u), total_entry u (g u), length-append (f u) (g u), total_built f g u)
+    omega (
+      arith,
+      total_append (built (λ v. f v ++ g v) u) (entry_of u (f u ++ g u)),
+      total_append (built f u) (entry_of u (f u)),
+      total_append (built g u) (entry_of u (g u)),
+      total_entry u (f u ++ g u),
+      total_entry u (f u),
+      total_entry u (g u),
+      length-append (f u) (g u),
+      total_built f g u,
+    )
 
 pub lists_append : (xs ys : Block) → AreNeighbourLists xs → AreNeighbourLists ys → AreNeighbourLists (xs ++ ys)
 lists_append [] ys ok ok' = ok'
@@ -73,7 +82,7 @@ module _ (p s : Block) where
   joined_block page long apart = record {
     map = rises_built (λ v. neighbours_of v p ++ neighbours_of v s) 64;
     lists = lists_built (λ v. neighbours_of v p ++ neighbours_of v s) 64 (λ u lt. either_ascends (neighbours_of u p) (neighbours_of u s) (apart u lt) (packed_ascends u p page.packed)
-    (list_ascends u s long.lists));
+        (list_ascends u s long.lists));
   }
 
   total_to : (n : ℕ) → n ≡ 64 → IsPage p → IsBlock s → edge_total (built (λ v. neighbours_of v p ++ neighbours_of v s) n) ≡ edge_total p + edge_total s

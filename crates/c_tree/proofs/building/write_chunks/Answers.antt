@@ -36,7 +36,7 @@ loop-head-preserved c =
     let more : c.push.new.self.items ≡ l.chunks.items ++ (head, c.new.result) ∷ [] = search rules in
     record {
       whole = one_chunk b l.rest h after next cells is l.chunks.items c.push.new.self.items c.new.result c.args.entries l.invariant.cut
-      (made ∙ ap (λ v. head_value weight (based_list (Some head) v)) c.split_at_head-tail.ensures.front) more l.invariant.whole;
+          (made ∙ ap (λ v. head_value weight (based_list (Some head) v)) c.split_at_head-tail.ensures.front) more l.invariant.whole;
       ascending = next_ascends b l.rest h after next cells is l.invariant.ascending;
       cut = next_cut b l.rest h after next cells is;
     }

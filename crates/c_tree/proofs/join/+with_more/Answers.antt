@@ -8,9 +8,13 @@ pub with_more-requires : goal.with_more-requires
 with_more-requires t c =
     let v = c.args.view.now in
     let root = c.in-Some.ensures in
-    let smaller = (root_smaller v c.in-Some.left c.in-Some.key c.in-Some.weight c.in-Some.right root).1 in
-    (omega (arith, smaller), (more_over v c.in-Some.left c.in-Some.key c.in-Some.weight c.in-Some.right root c.args.base c.args.more.now.entries c.requires.over,
-    rw root.right_size c.requires.no_head))
+    let smaller = (root_smaller v c.in-Some.left c.in-Some.key c.in-Some.weight c.in-Some.right root).1 in (
+      omega (arith, smaller),
+      (
+        more_over v c.in-Some.left c.in-Some.key c.in-Some.weight c.in-Some.right root c.args.base c.args.more.now.entries c.requires.over,
+        rw root.right_size c.requires.no_head,
+      ),
+    )
 
 pub join-requires-clause-ascending : goal.join-requires-clause-ascending
 join-requires-clause-ascending t c =

@@ -14,9 +14,13 @@ append_together-requires t c =
     let p = c.args.prefix.now in
     let whole = c.args.chunks.now in
     let k = c.in-Some in
-    let smaller = (sides_smaller p whole k.below.now k.head k.at_head.now k.above.now k.ensures c.requires.ascending c.requires.over).0 in
-    (omega (arith, smaller), (left_ascends p whole k.below.now k.head k.at_head.now k.above.now k.ensures c.requires.ascending c.requires.over,
-    left_over p whole k.below.now k.head k.at_head.now k.above.now k.ensures c.requires.ascending c.requires.over))
+    let smaller = (sides_smaller p whole k.below.now k.head k.at_head.now k.above.now k.ensures c.requires.ascending c.requires.over).0 in (
+      omega (arith, smaller),
+      (
+        left_ascends p whole k.below.now k.head k.at_head.now k.above.now k.ensures c.requires.ascending c.requires.over,
+        left_over p whole k.below.now k.head k.at_head.now k.above.now k.ensures c.requires.ascending c.requires.over,
+      ),
+    )
 
 pub overflow_sub-distance : goal.overflow_sub-distance
 overflow_sub-distance t c =

@@ -27,7 +27,7 @@ loop-worker-preserved g c =
     record {
       own = c.dismiss.ensures.0;
       claimed = gathers_more c.args.run.now.pieces (length c.pop.new.self.items) (view_of c.loop-worker.own) (view_of theirs.turn) (view_of c.dismiss.new.claim) (pieces_of c.loop-worker.found.items)
-      (pieces_of theirs.found.items) (pieces_of c.bring_back.new.found.items)
+          (pieces_of theirs.found.items) (pieces_of c.bring_back.new.found.items)
           (subst (λ n. IsGathered c.args.run.now.pieces n (view_of c.loop-worker.own) (pieces_of c.loop-worker.found.items)) out c.loop-worker.invariant.claimed)
           c.dismiss.ensures.1 done.1 done.2 done.3 done.6 (pieces_of-appended _ _ _ c.in_ok-bring_back.ensures.found);
       workers = popped.0;

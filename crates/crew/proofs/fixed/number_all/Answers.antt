@@ -12,7 +12,7 @@ loop-others-preserved g c =
     record {
       len = length_pushed _ _ _ _ c.in_ok-push.ensures.items c.loop-others.invariant.len;
       jobs = each_more (λ i job. (job.worker + i ≡ c.args.workers) × IfSome job.state keeps) _ _ _ _ c.in_ok-push.ensures.items c.loop-others.invariant.len c.loop-others.invariant.jobs
-      (omega arith, popped.1);
+          (omega arith, popped.1);
       states = popped.0;
       rest = (let left = popped_rest c.loop-others.states c.pop.new.self c.pop.result c.pop.ensures.cases in let before = c.loop-others.invariant.rest in omega arith);
     }

@@ -22,7 +22,7 @@ returns-in_err-write_race g c =
     rw (p.1, p.2) (inr (record {
       race = c.in-Ok.raced;
       is_race = race_of_files _ _ _ _ _ c.in_ok-compiled.compiled.items _ c.in_ok-plans.plans.items _ c.in_ok-order.order c.in-Ok.raced c.in_ok-compiled.ensures c.in_ok-order.ensures
-      c.deref.ensures.value c.in_ok-plans.ensures c.deref-2.ensures.value c.in-Ok.ensures.race c.in-Ok.ensures.opened c.in-Ok.ensures.workers;
+          c.deref.ensures.value c.in_ok-plans.ensures c.deref-2.ensures.value c.in-Ok.ensures.race c.in-Ok.ensures.opened c.in-Ok.ensures.workers;
       part = begins_text _ _ _ c.in_err-write_race.field-0.0 c.in_err-write_race.ensures;
       cause = ends_writing (race_text c.in-Ok.raced) _ _ c.in_err-write_race.field-0.0 c.in_err-write_race.ensures;
     }))

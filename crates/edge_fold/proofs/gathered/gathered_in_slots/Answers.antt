@@ -49,7 +49,7 @@ slots-preserved c =
     record {
       ascending = subst (λ (gs : List GatheredIn). AreAscending gs) (sym more) (ascending_push vs g c.slots.invariant.ascending c.in_ok-numbers.ensures.ascending);
       reduction = λ x r now. subst (λ (gs : List GatheredIn). IsGatheredBy r x gs) (sym more)
-      (gathered_by_more r x ts s vs g refl refl first (c.slots.invariant.reduction x r) (sym (ap (λ ss. reduction_in ss x r) step) ∙ now));
+          (gathered_by_more r x ts s vs g refl refl first (c.slots.invariant.reduction x r) (sym (ap (λ ss. reduction_in ss x r) step) ∙ now));
       numbers = λ m test vectors sizes is x v r h l.
           ap (λ (gs : List GatheredIn). reduced_at r v h (gathered_for x gs)) more
           ∙ gathered_more r x v h (test v) ts s vs g refl first (c.slots.invariant.numbers m test vectors sizes is x v r h l) (λ n. c.in_ok-numbers.ensures.given m test vectors sizes is r v n l)

@@ -10,6 +10,6 @@ invariant-vertices g l =
     let ds = firsts (g.E.NeighbourEntries.entries l.neighbours) in
     record {
       reduced : (v : ℕ) → reduced_at l.reduction v (get_or l.values v (pos 0)) (each_given l.number (drop l.index ds)) ≡ reduced_at l.reduction v (get_or l.fn.values v (pos 0))
-      (each_given l.number ds);
+          (each_given l.number ds);
       others : (v : ℕ) (h : ℤ) → l.filled ≤ v → reduced_at l.reduction v h (each_given l.number (drop l.index ds)) ≡ reduced_at l.reduction v h (each_given l.number ds);
     }

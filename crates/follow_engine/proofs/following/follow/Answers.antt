@@ -21,7 +21,7 @@ returns-then-not-fits_budget-clause-spent c none =
           c.in_ok-reached.ensures.marked (c.mark_reached.ensures.reached on)
           (subst (λ (vs : List ℕ). AreChosen apply vs chosen) c.deref.ensures.value c.in_ok-among.ensures),
       leb-false work c.args.followed.now.budget (subst (λ (vs : List ℕ). nat_le (edges_to apply.flat.now.edges vs) c.args.followed.now.budget ≡ false) c.deref-2.ensures.value
-      (sym c.fits_budget.ensures ∙ off)),
+          (sym c.fits_budget.ensures ∙ off)),
     )
 
 pub returns-clause-marked : goal.returns-clause-marked
@@ -43,7 +43,7 @@ returns-clause-within c =
             c.in_ok-reached.ensures.marked (c.mark_reached.ensures.reached on)
             (subst (λ (vs : List ℕ). AreChosen apply vs chosen) c.deref.ensures.value c.in_ok-among.ensures),
         leb-true work c.args.followed.now.budget (subst (λ (vs : List ℕ). nat_le (edges_to apply.flat.now.edges vs) c.args.followed.now.budget ≡ true) c.deref-2.ensures.value
-        (sym c.fits_budget.ensures ∙ fits)),
+            (sym c.fits_budget.ensures ∙ fits)),
       ),
     )
 

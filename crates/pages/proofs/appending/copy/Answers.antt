@@ -16,8 +16,14 @@ slice_bounds-part-start c = omega (arith, end_from c.args.start c.args.run.now, 
 
 pub append-requires-clause-fits : goal.append-requires-clause-fits
 append-requires-clause-fits c =
-    omega (arith, end_small 0 c.args.bytes.now.items c.args.entries.now.items c.requires.listed, end_room c.args.start c.args.from.now c.args.run.now c.requires.run (c.len-end.result - 3),
-    c.len-end.ensures, c.requires.ends, c.requires.room)
+    omega (
+      arith,
+      end_small 0 c.args.bytes.now.items c.args.entries.now.items c.requires.listed,
+      end_room c.args.start c.args.from.now c.args.run.now c.requires.run (c.len-end.result - 3),
+      c.len-end.ensures,
+      c.requires.ends,
+      c.requires.room,
+    )
 
 pub returns : goal.returns
 returns c =

@@ -12,8 +12,11 @@ overflow_add-position c =
     let xs : List ℕ = list_of a.packed.first a.packed.width a.packed.len a.packed.offsets.now in
     let l = c.loop-position in
     let count : length xs ≡ a.packed.len = list_length a.packed.first a.packed.width a.packed.len a.packed.offsets.now in
-    omega (arith, (read_at a.packed.first a.packed.width a.packed.mask a.packed.len a.packed.offsets.now xs c.requires.view refl (l.index - 1) c.offset.result
-    (omega (arith, count)) c.offset.ensures).1)
+    omega (
+      arith,
+      (read_at a.packed.first a.packed.width a.packed.mask a.packed.len a.packed.offsets.now xs c.requires.view refl (l.index - 1) c.offset.result
+          (omega (arith, count)) c.offset.ensures).1,
+    )
 
 pub offset-requires-clause-room : goal.offset-requires-clause-room
 offset-requires-clause-room c =
@@ -36,5 +39,5 @@ loop-position-preserved c =
     record {
       index = omega arith;
       front = written (reverse (take a.end xs)) l.block l.position-index (a.packed.first + c.offset.result) (omega (arith, long)) (omega arith)
-      (read ∙ ap (λ k. get_or xs k 0) here ∙ down_at xs a.end l.position-index l.index (omega (arith, count)) l.invariant.index) l.invariant.front;
+          (read ∙ ap (λ k. get_or xs k 0) here ∙ down_at xs a.end l.position-index l.index (omega (arith, count)) l.invariant.index) l.invariant.front;
     }

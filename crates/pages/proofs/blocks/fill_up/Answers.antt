@@ -32,5 +32,5 @@ loop-position-preserved c =
     record {
       index = omega arith;
       front = written (drop a.from xs) l.block l.position-index (a.packed.first + c.offset.result) (omega (arith, count, length-drop a.from xs)) (omega arith)
-      (read ∙ up_at xs a.from l.position-index l.index l.invariant.index) l.invariant.front;
+          (read ∙ up_at xs a.from l.position-index l.index l.invariant.index) l.invariant.front;
     }

@@ -15,5 +15,5 @@ loop-weight-preserved c =
     record {
       position = omega (arith, l.invariant.position, c.size-position.ensures.size, more);
       front = weight_filled c.args.width n c.args.start l.position (to_z w64 (of_z w64 c.weight_at.result)) c.args.bytes.now l.block (omega arith) l.invariant.position
-      (to_z-of_z w64 c.weight_at.result fits ∙ c.weight_at.ensures) l.invariant.front;
+          (to_z-of_z w64 c.weight_at.result fits ∙ c.weight_at.ensures) l.invariant.front;
     }

@@ -24,5 +24,5 @@ loop-index-preserved c =
       at = omega (arith, at, next);
       front = front_stays position l.at new l.bytes (omega (arith, at)) c.put-in-loop-index.ensures.front ∙ l.invariant.front;
       list = element_written w l.index m _ (drop position l.bytes) (drop position new) c.args.list.now (omega arith) c.requires.width.1 refl (omega arith) c.requires.ascending c.requires.wide refl
-      (middle_stays position m l.at new l.bytes at c.put-in-loop-index.ensures.front) (part ∙ c.put-in-loop-index.ensures.part) l.invariant.list;
+          (middle_stays position m l.at new l.bytes at c.put-in-loop-index.ensures.front) (part ∙ c.put-in-loop-index.ensures.part) l.invariant.list;
     }

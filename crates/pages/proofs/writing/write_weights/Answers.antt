@@ -24,5 +24,5 @@ loop-index-preserved c =
       at = omega (arith, l.invariant.at, c.size-at.ensures.size, more);
       front = front_stays c.args.position l.at new l.bytes (omega (arith, l.invariant.at)) c.put_weight.ensures.front ∙ l.invariant.front;
       weights = weight_written c.args.width n c.args.position l.at c.weight_of.result l.bytes new c.args.weights.now l.invariant.at c.put_weight.ensures.front
-      (c.put_weight.ensures.weight ∙ to_z-of_z w64 c.weight_of.result fits) c.weight_of.ensures l.invariant.weights;
+          (c.put_weight.ensures.weight ∙ to_z-of_z w64 c.weight_of.result fits) c.weight_of.ensures l.invariant.weights;
     }

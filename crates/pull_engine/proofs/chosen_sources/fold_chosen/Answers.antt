@@ -22,7 +22,7 @@ rounds-preserved c =
       room = kept.ensures.room ∙ c.rounds.invariant.room;
       inside = within;
       folded = entries_of_round (is_set c.args.words.now) c.args.reduction (entry_with c.args.numbers) (to_z w64 c.rounds.number-bits) (to_z w64 (of_z w64 came)) (drop low es) (drop high es)
-      (map (entry_at es) (take kept.result kept.new.indices)) (high - low)
+          (map (entry_at es) (take kept.result kept.new.indices)) (high - low)
           (rest_after es low high order) kept.ensures.chosen (to_z-of_z w64 came fits ∙ c.reduce_entries-number.ensures)
           ∙ c.rounds.invariant.folded;
     }

@@ -46,5 +46,5 @@ rounds-init g c =
       room = search rules;
       weights = search rules;
       walked = subst (λ (left : List (ℕ × ℤ)). HasWalked a.input.columns.context column_of all left a.scratch.now a.scratch.now) refl
-      (walk_begun a.input.columns.context column_of all a.scratch.now refl);
+          (walk_begun a.input.columns.context column_of all a.scratch.now refl);
     }

@@ -35,7 +35,7 @@ vertices-init c =
     let all = bit_members 64 (64 * a.number) (bit_and c.word_at.result c.present_in.result) in (
       all,
       ap (filter (λ (e : Edge). to e.1))
-      (block_begun (passes_words a.words) es a.number c.word_at.result c.present_in.result c.in-Some.found.now c.word_at.ensures c.in-Some.ensures c.present_in.ensures),
+          (block_begun (passes_words a.words) es a.number c.word_at.result c.present_in.result c.in-Some.found.now c.word_at.ensures c.in-Some.ensures c.present_in.ensures),
       walk_begun a.input.context (rows_to to es) all a.scratch.now refl,
     )
 

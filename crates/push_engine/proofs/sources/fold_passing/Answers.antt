@@ -33,7 +33,7 @@ parts-preserved c =
       w.0,
       w.1,
       pass_more a.from a.input.context (rows_to to edges) (firsts w.0) (firsts c.parts.sources) c.take_part.new.part.items
-      (firsts c.take_part.new.vertices) kept a.scratch.now c.parts.scratch c.fold_rows.new.scratch (rows_to-append to edges)
+          (firsts c.take_part.new.vertices) kept a.scratch.now c.parts.scratch c.fold_rows.new.scratch (rows_to-append to edges)
           c.in_ok-take_part.ensures.taken
           (λ m steps test are is. c.in_ok-keep_passing.ensures.kept m test are.vectors are.sizes is ∙ ap (λ (ks : List ℕ). ks ++ filter test c.deref.result.now) c.clear.ensures.items
           ∙ ap (filter test) c.deref.ensures.value)

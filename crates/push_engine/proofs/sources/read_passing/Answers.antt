@@ -24,5 +24,5 @@ indices-preserved c =
       few = omega (arith, c.indices.invariant.few, one_at_most k n c.passes.result on off);
       room = length-set c.indices.keys k c.neighbour-vertex.result ∙ c.indices.invariant.room;
       passing = one_read (passes_words a.words) (drop a.first all) c.indices.keys k i c.neighbour-vertex.result n c.passes.result inside fits (sym c.passes.ensures)
-      (c.neighbour-vertex.ensures ∙ sym (get_or-drop a.first all i 0)) on off c.indices.invariant.passing;
+          (c.neighbour-vertex.ensures ∙ sym (get_or-drop a.first all i 0)) on off c.indices.invariant.passing;
     }

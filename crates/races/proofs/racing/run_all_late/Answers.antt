@@ -13,7 +13,7 @@ loop-one-preserved g c =
       tt,
       All-rest (RanEarly g.J.Naming.vertices c.args.turns c.args.workers) c.in-Some.one c.next.new.self.rest.items c.loop-one.one-iterator.rest.items steps c.loop-one.invariant.2,
       running_goes_on g.J.Naming.vertices g.J.Naming.room c.args.turns c.args.told.now
-      (map (λ r. r.plan.now) c.args.ran.items) c.in-Some.one c.loop-one.one-iterator.rest.items c.next.new.self.rest.items _ _ _ steps
+          (map (λ r. r.plan.now) c.args.ran.items) c.in-Some.one c.loop-one.one-iterator.rest.items c.next.new.self.rest.items _ _ _ steps
           c.loop-one.invariant.3 c.in_ok-run_again.ensures.ran c.in_ok-push.ensures.items,
       (λ _. c.in_ok-run_again.ensures.workers),
     )

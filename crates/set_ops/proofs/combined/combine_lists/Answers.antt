@@ -16,8 +16,13 @@ pub merge_entries-requires-clause-second : goal.merge_entries-requires-clause-se
 merge_entries-requires-clause-second c = ascends_from 0 (least c.args.task.base) (keys_of c.args.second.now) (omega arith) c.requires.second_over
 
 pub most-most-requires : goal.most-most-requires
-most-most-requires c = omega (arith, c.len.ensures, c.len-2.ensures, few_entries (least c.args.task.base) c.args.first.now c.requires.first_over,
-    few_entries (least c.args.task.base) c.args.second.now c.requires.second_over)
+most-most-requires c = omega (
+  arith,
+  c.len.ensures,
+  c.len-2.ensures,
+  few_entries (least c.args.task.base) c.args.first.now c.requires.first_over,
+  few_entries (least c.args.task.base) c.args.second.now c.requires.second_over,
+)
 
 pub overflow_sub-common : goal.overflow_sub-common
 overflow_sub-common c =

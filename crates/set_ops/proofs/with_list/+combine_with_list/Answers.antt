@@ -21,9 +21,10 @@ combine_with_list-requires t c =
     let y = c.cut_entries-below.result in
     let base = c.args.task.base in
     let a = c.args.first.now in
-    let ys = c.args.second.now in
-    (omega (arith, less_left base a p.left p.key p.weight p.right p.ensures ys y.0 y.2 y.1 c.cut_entries-below.ensures c.requires.first_over c.requires.second_over),
-    over_left base a p.left p.key p.weight p.right p.ensures ys y.0 y.2 y.1 c.cut_entries-below.ensures c.requires.first_over c.requires.second_over)
+    let ys = c.args.second.now in (
+      omega (arith, less_left base a p.left p.key p.weight p.right p.ensures ys y.0 y.2 y.1 c.cut_entries-below.ensures c.requires.first_over c.requires.second_over),
+      over_left base a p.left p.key p.weight p.right p.ensures ys y.0 y.2 y.1 c.cut_entries-below.ensures c.requires.first_over c.requires.second_over,
+    )
 
 pub combine_with_list-requires-2 : goal.combine_with_list-requires-2
 combine_with_list-requires-2 t c =
@@ -31,9 +32,10 @@ combine_with_list-requires-2 t c =
     let y = c.cut_entries-below.result in
     let base = c.args.task.base in
     let a = c.args.first.now in
-    let ys = c.args.second.now in
-    (omega (arith, less_right base a p.left p.key p.weight p.right p.ensures ys y.0 y.2 y.1 c.cut_entries-below.ensures c.requires.first_over c.requires.second_over),
-    rw c.above.ensures (over_right base a p.left p.key p.weight p.right p.ensures ys y.0 y.2 y.1 c.cut_entries-below.ensures c.requires.first_over c.requires.second_over))
+    let ys = c.args.second.now in (
+      omega (arith, less_right base a p.left p.key p.weight p.right p.ensures ys y.0 y.2 y.1 c.cut_entries-below.ensures c.requires.first_over c.requires.second_over),
+      rw c.above.ensures (over_right base a p.left p.key p.weight p.right p.ensures ys y.0 y.2 y.1 c.cut_entries-below.ensures c.requires.first_over c.requires.second_over),
+    )
 
 pub rejoin-requires-clause-ascending : goal.rejoin-requires-clause-ascending
 rejoin-requires-clause-ascending t c =

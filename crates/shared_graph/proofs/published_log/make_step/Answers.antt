@@ -8,8 +8,12 @@ use Rattle.shared_graph.proofs.Steps.{made}
 use Rattle.shared_graph.proofs.published_log.make_step.Goals as goal
 
 pub overflow_add-steps : goal.overflow_add-steps
-overflow_add-steps g c = omega (arith, c.meet-place.ensures.steps.0, length-own c.args.me.now.number c.args.history_prefix.now,
-    next_few g.J.Naming.vertices g.J.Naming.room c.args.history_prefix.now c.args.done.now c.meet-place.ensures.legal c.requires.follows)
+overflow_add-steps g c = omega (
+  arith,
+  c.meet-place.ensures.steps.0,
+  length-own c.args.me.now.number c.args.history_prefix.now,
+  next_few g.J.Naming.vertices g.J.Naming.room c.args.history_prefix.now c.args.done.now c.meet-place.ensures.legal c.requires.follows,
+)
 
 pub returns-clause-made : goal.returns-clause-made
 returns-clause-made g c =

@@ -24,8 +24,21 @@ loop-from_first-preserved c =
     let first : to_z w64 (of_z w64 c.weight.result) ≡ c.weight.result = search rules in
     let second : to_z w64 (of_z w64 c.weight-in-loop-from_first.result) ≡ c.weight-in-loop-from_first.result = search rules in
     let further = on op all xs ys l.keys l.weights l.from_first l.from_second l.len within within2 room same l.invariant.merging in
-    rw (round, c.weight_of_lesser.ensures, first, second, c.from-from_first.ensures, c.from-from_second.ensures, c.from-len.ensures, c.min.ensures, c.takes_second-takes_second.ensures,
-    c.weight.ensures, c.weight-in-loop-from_first.ensures, c.keys-first_keys.ensures, c.keys-second_keys.ensures) (record {
+    rw (
+      round,
+      c.weight_of_lesser.ensures,
+      first,
+      second,
+      c.from-from_first.ensures,
+      c.from-from_second.ensures,
+      c.from-len.ensures,
+      c.min.ensures,
+      c.takes_second-takes_second.ensures,
+      c.weight.ensures,
+      c.weight-in-loop-from_first.ensures,
+      c.keys-first_keys.ensures,
+      c.keys-second_keys.ensures,
+    ) (record {
       merging = turned op all xs ys l.keys l.weights l.from_first l.from_second l.len within within2 room same l.invariant.merging;
       first = further.0;
       second = further.1;

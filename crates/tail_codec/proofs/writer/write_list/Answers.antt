@@ -51,7 +51,7 @@ loop-position-preserved c =
     let fits : weight_number (get_or es l.position (0, pos 0)).1 < 2 ^ 64 = rw (← weight) (search rules) in
     record {
       spells = written c.args.low l.position es (c.from-key.result - l.low) l.len c.write_entry-len.result l.buffer c.write_entry-len.new.buffer within c.requires.ascending l.invariant.spells g fits
-      (rw (← weight) entry);
+          (rw (← weight) entry);
       next = ap (λ (n : ℕ). n + 1) key ∙ sym (entry_next c.args.low l.position es within);
       room = omega (arith, entry.after, room_after l.position es within, l.invariant.room, ap entry_room weight);
     }

@@ -10,7 +10,7 @@ loop-count-preserved c =
     record {
       bounded = omega (arith, c.loop-count-test.true, c.len.ensures);
       cut = cut_longer c.args.block c.args.updates.now c.loop-count.count (c.update.result, pos 0) (omega (arith, c.loop-count-test.true, c.len.ensures))
-      (sym (ap (λ v. v / 64) at) ∙ c.if-vertex-block.false) c.loop-count.invariant.cut;
+          (sym (ap (λ v. v / 64) at) ∙ c.if-vertex-block.false) c.loop-count.invariant.cut;
     }
 
 pub returns-then-vertex-block-clause-rest : goal.returns-then-vertex-block-clause-rest

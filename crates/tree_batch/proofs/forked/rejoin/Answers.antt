@@ -22,5 +22,5 @@ returns c = λ bs us order around.
       cut = cut_joined us m.number _ _ _ around.cut order r.below.changes r.above.changes r.below.cut r.above.cut r.block.change r.block.updates;
       values = rw c.in_ok-tree.ensures (changed_around IsBlockAfter m.number bs _ _ _ _ _ _ _ r.below.values r.above.values _ (Some r.block.change) c.args.block around.map split r.block.after);
       growth = grew_around edge_total m.number bs _ _ _ c.in_ok-tree.tree.entries _ _ _ around.map.whole c.in_ok-tree.ensures c.args.below.growth c.args.above.growth c.growth-growth.result _ _
-      r.below.growth r.above.growth (rw (c.as_ref.ensures.value, c.as_ref-2.ensures.value) at c.growth-growth.ensures) refl refl;
+          r.below.growth r.above.growth (rw (c.as_ref.ensures.value, c.as_ref-2.ensures.value) at c.growth-growth.ensures) refl refl;
     }

@@ -10,7 +10,7 @@ loop-count-preserved c =
     record {
       bounded = omega (arith, c.loop-count-test.true, c.len.ensures);
       below = below_longer c.args.block c.vertex.result c.args.updates.now c.loop-count.count (c.update.result, pos 0)
-      (omega (arith, c.loop-count-test.true, c.len.ensures)) at c.if-vertex-block.false c.loop-count.invariant.below;
+          (omega (arith, c.loop-count-test.true, c.len.ensures)) at c.if-vertex-block.false c.loop-count.invariant.below;
     }
 
 pub returns-then-vertex-block-clause-rest : goal.returns-then-vertex-block-clause-rest

@@ -26,7 +26,7 @@ loop-entry-preserved c =
           }
       | in_default w ↦ record {
         same = decided_more entries index _ (weighted before.items []) (weighted after.items []) None c.loop-entry-test.true w.in_default.ensures
-        (ap (λ v. weighted v.items []) w.updates-is ∙ sym (append-nil (weighted before.items []))) known.same;
+            (ap (λ v. weighted v.items []) w.updates-is ∙ sym (append-nil (weighted before.items []))) known.same;
         len = omega (arith, ap (λ v. vec_len v) w.updates-is, known.len);
         room = omega (arith, ap (λ v. vec_capacity v) w.updates-is, known.room);
       }

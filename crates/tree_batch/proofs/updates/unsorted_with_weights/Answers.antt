@@ -24,7 +24,7 @@ loop-entry-preserved c =
           }
       | in_default w ↦ record {
         same = decided_more entries index _ (pairs_in before.items) (pairs_in after.items) None c.loop-entry-test.true w.in_default.ensures
-        (ap (λ v. pairs_in v.items) w.updates-is ∙ sym (append-nil (pairs_in before.items))) known.same;
+            (ap (λ v. pairs_in v.items) w.updates-is ∙ sym (append-nil (pairs_in before.items))) known.same;
         len = omega (arith, ap (λ v. vec_len v) w.updates-is, known.len);
         room = omega (arith, ap (λ v. vec_capacity v) w.updates-is, known.room);
       }

@@ -21,11 +21,24 @@ step_passes-returns-then-condition_passes g t c =
 pub step_passes-returns-then-steps_pass : goal.step_passes-returns-then-steps_pass
 step_passes-returns-then-steps_pass g t c =
     let tree = ap function_statement_tree c.in-IfElse.is ∙ function_statement_tree-IfElse c.in-IfElse.c c.in-IfElse.body c.in-IfElse.other in
-    rw (tree, ← c.condition_passes-in-IfElse.ensures, c.if-condition_passes-2.true, ← c.deref-then-condition_passes-2.ensures.value, ← c.steps_pass-then-condition_passes-2.ensures,
-    c.if-steps_pass.true, ← c.deref-then-steps_pass.ensures.value) c.steps_pass-then-steps_pass.ensures
+    rw (
+      tree,
+      ← c.condition_passes-in-IfElse.ensures,
+      c.if-condition_passes-2.true,
+      ← c.deref-then-condition_passes-2.ensures.value,
+      ← c.steps_pass-then-condition_passes-2.ensures,
+      c.if-steps_pass.true,
+      ← c.deref-then-steps_pass.ensures.value,
+    ) c.steps_pass-then-steps_pass.ensures
 
 pub step_passes-returns-else-steps_pass : goal.step_passes-returns-else-steps_pass
 step_passes-returns-else-steps_pass g t c =
     let tree = ap function_statement_tree c.in-IfElse.is ∙ function_statement_tree-IfElse c.in-IfElse.c c.in-IfElse.body c.in-IfElse.other in
-    rw (tree, ← c.condition_passes-in-IfElse.ensures, c.if-condition_passes-2.true, ← c.deref-then-condition_passes-2.ensures.value, ← c.steps_pass-then-condition_passes-2.ensures,
-    c.if-steps_pass.false) refl
+    rw (
+      tree,
+      ← c.condition_passes-in-IfElse.ensures,
+      c.if-condition_passes-2.true,
+      ← c.deref-then-condition_passes-2.ensures.value,
+      ← c.steps_pass-then-condition_passes-2.ensures,
+      c.if-steps_pass.false,
+    ) refl

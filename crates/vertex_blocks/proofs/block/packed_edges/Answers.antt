@@ -10,8 +10,14 @@ prove-unreachable-requires c = omega (arith, c.if-prove.true, c.len.ensures.coun
 
 pub overflow_add-total : goal.overflow_add-total
 overflow_add-total c =
-    omega (arith, c.loop-list.invariant.count, ap edge_total c.in-Some.ensures.steps, c.len-total.ensures.count, packed_total c.args.page.now c.len.ensures.page.packed,
-    rises_room 0 64 c.args.page.now c.len.ensures.page.map)
+    omega (
+      arith,
+      c.loop-list.invariant.count,
+      ap edge_total c.in-Some.ensures.steps,
+      c.len-total.ensures.count,
+      packed_total c.args.page.now c.len.ensures.page.packed,
+      rises_room 0 64 c.args.page.now c.len.ensures.page.map,
+    )
 
 pub returns-clause-few : goal.returns-clause-few
 returns-clause-few c =

@@ -70,7 +70,7 @@ loop-first-preserved c =
     record {
       low = omega (arith, first.1);
       built = built_put (list_after us old) v (updated (neighbours_of v (vertices_at old)) c.split_at-run.result.0) _ _ _ _ carried c.in_ok-push_updated.ensures
-      (updated_at us old l.low v l.rest c.split_at-run.result.0 first.0 l.invariant.passed (c.split_at-run.ensures.front ∙ c.run_length.ensures.run));
+          (updated_at us old l.low v l.rest c.split_at-run.result.0 first.0 l.invariant.passed (c.split_at-run.ensures.front ∙ c.run_length.ensures.run));
       coming = rw c.split_at-run.ensures.back c.run_length.ensures.rest;
       passed = λ u ge.
           let other : u ≢ v = omega arith in

@@ -54,6 +54,6 @@ loop-index-preserved c =
             columns = l.invariant.columns;
             added = none_added cs l.index u v lt pair (zip ks ws) isnt l.invariant.added;
             removed = next_removed cs l.index u v lt pair l.removed.items w.push-else-is_added.new.self.items isnt
-            (w.in_ok-push-3.ensures.items ∙ ap (λ n. l.removed.items ++ n ∷ []) c.neighbour-neighbour.ensures.value) l.invariant.removed;
+                (w.in_ok-push-3.ensures.items ∙ ap (λ n. l.removed.items ++ n ∷ []) c.neighbour-neighbour.ensures.value) l.invariant.removed;
           })
     ]

@@ -10,7 +10,7 @@ returns-clause-position c =
     let now = c.args.self.now in
     let inside : now.used < length now.slots.items = search rules in (
       added_index (active now) _ c.begin.new.self c.args.vector now.used (take_more_set now.slots.items now.used c.begin.new.self inside)
-      (length-take-le now.used now.slots.items (search rules)) c.in_ok-begin.ensures.vector c.requires.none,
+          (length-take-le now.used now.slots.items (search rules)) c.in_ok-begin.ensures.vector c.requires.none,
       omega arith,
     )
 

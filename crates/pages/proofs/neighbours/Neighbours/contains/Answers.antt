@@ -17,8 +17,11 @@ loop-low-preserved-then-found-neighbour-2 c =
     let middle : ℕ = l.low + (l.high - l.low) / 2 in
     record {
       within = l.invariant.within;
-      below = λ i lt in_list. omega (arith, rises 0 (keys_of c.args.self.now) c.len-high.ensures.ascending i middle (omega arith) (omega (arith, keys_long c.args.self.now)),
-      c.neighbour-found.ensures);
+      below = λ i lt in_list. omega (
+        arith,
+        rises 0 (keys_of c.args.self.now) c.len-high.ensures.ascending i middle (omega arith) (omega (arith, keys_long c.args.self.now)),
+        c.neighbour-found.ensures,
+      );
       above = l.invariant.above;
     }
 

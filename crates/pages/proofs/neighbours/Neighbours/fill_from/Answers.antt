@@ -17,8 +17,14 @@ fill_after-requires-then-not-is_empty-clause-room c =
     let l = c.self.inside in
     let block : List ℕ = slice_set c.args.block.now 0 l.packed.first in
     let some : 0 < length c.args.block.now = grind (arith, common_steps) in
-    omega (arith, entry_count l.packed.first l.packed.width l.packed.mask l.packed.len l.weights l.packed.offsets.now c.args.self.now c.self.invariant c.self.view_is,
-    length-set c.args.block.now 0 l.packed.first, length-take (length block - 1) (drop 1 block), length-drop 1 block, some)
+    omega (
+      arith,
+      entry_count l.packed.first l.packed.width l.packed.mask l.packed.len l.weights l.packed.offsets.now c.args.self.now c.self.invariant c.self.view_is,
+      length-set c.args.block.now 0 l.packed.first,
+      length-take (length block - 1) (drop 1 block),
+      length-drop 1 block,
+      some,
+    )
 
 pub returns-then-not-is_empty : goal.returns-then-not-is_empty
 returns-then-not-is_empty c =

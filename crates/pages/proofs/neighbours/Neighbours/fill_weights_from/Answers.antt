@@ -9,24 +9,36 @@ pub overflow_mul-start-2 : goal.overflow_mul-start-2
 overflow_mul-start-2 c =
     let l = c.self.inside in
     let position : c.size.result * c.args.from ≡ weight_size l.weights * c.args.from = ap (λ s. s * c.args.from) c.size.ensures.size in
-    omega (arith, position, c.self.told,
-    weights_room l.packed.first l.packed.width l.packed.mask l.packed.len l.weights l.packed.offsets.now c.args.self.now c.self.invariant c.self.view_is c.args.from (length c.args.block.now)
-    (grind (arith, common_steps)) c.requires)
+    omega (
+      arith,
+      position,
+      c.self.told,
+      weights_room l.packed.first l.packed.width l.packed.mask l.packed.len l.weights l.packed.offsets.now c.args.self.now c.self.invariant c.self.view_is c.args.from (length c.args.block.now)
+          (grind (arith, common_steps)) c.requires,
+    )
 
 pub overflow_add-start : goal.overflow_add-start
 overflow_add-start c =
     let l = c.self.inside in
     let position : c.size.result * c.args.from ≡ weight_size l.weights * c.args.from = ap (λ s. s * c.args.from) c.size.ensures.size in
-    omega (arith, position, c.self.told,
-    weights_room l.packed.first l.packed.width l.packed.mask l.packed.len l.weights l.packed.offsets.now c.args.self.now c.self.invariant c.self.view_is c.args.from (length c.args.block.now)
-    (grind (arith, common_steps)) c.requires)
+    omega (
+      arith,
+      position,
+      c.self.told,
+      weights_room l.packed.first l.packed.width l.packed.mask l.packed.len l.weights l.packed.offsets.now c.args.self.now c.self.invariant c.self.view_is c.args.from (length c.args.block.now)
+          (grind (arith, common_steps)) c.requires,
+    )
 
 pub fill_weights-requires : goal.fill_weights-requires
 fill_weights-requires c =
     let l = c.self.inside in
     let position : c.size.result * c.args.from ≡ weight_size l.weights * c.args.from = ap (λ s. s * c.args.from) c.size.ensures.size in
-    omega (arith, position, weights_room l.packed.first l.packed.width l.packed.mask l.packed.len l.weights l.packed.offsets.now c.args.self.now c.self.invariant c.self.view_is c.args.from
-    (length c.args.block.now) (grind (arith, common_steps)) c.requires)
+    omega (
+      arith,
+      position,
+      weights_room l.packed.first l.packed.width l.packed.mask l.packed.len l.weights l.packed.offsets.now c.args.self.now c.self.invariant c.self.view_is c.args.from
+          (length c.args.block.now) (grind (arith, common_steps)) c.requires,
+    )
 
 pub returns : goal.returns
 returns c =

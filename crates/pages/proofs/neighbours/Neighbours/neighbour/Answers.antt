@@ -23,8 +23,11 @@ pub overflow_add-result : goal.overflow_add-result
 overflow_add-result c =
     let l = c.self.inside in
     let keys = keys_seen l.packed.first l.packed.width l.packed.mask l.packed.len l.weights l.packed.offsets.now c.args.self.now c.self.invariant c.self.view_is in
-    omega (arith, (read_at l.packed.first l.packed.width l.packed.mask l.packed.len l.packed.offsets.now (keys_of c.args.self.now) c.self.invariant.view keys (c.args.index - 1) c.offset.result
-    (omega (arith, keys_long c.args.self.now)) c.offset.ensures).1)
+    omega (
+      arith,
+      (read_at l.packed.first l.packed.width l.packed.mask l.packed.len l.packed.offsets.now (keys_of c.args.self.now) c.self.invariant.view keys (c.args.index - 1) c.offset.result
+          (omega (arith, keys_long c.args.self.now)) c.offset.ensures).1,
+    )
 
 pub returns : goal.returns
 returns c =

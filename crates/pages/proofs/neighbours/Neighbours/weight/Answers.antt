@@ -10,24 +10,36 @@ pub overflow_mul-start-2 : goal.overflow_mul-start-2
 overflow_mul-start-2 c =
     let l = c.self.inside in
     let position : c.size.result * c.args.index ≡ weight_size l.weights * c.args.index = ap (λ s. s * c.args.index) c.size.ensures.size in
-    omega (arith, position, c.self.told,
-    weights_room l.packed.first l.packed.width l.packed.mask l.packed.len l.weights l.packed.offsets.now c.args.self.now c.self.invariant c.self.view_is c.args.index 1 (omega arith)
-    (omega (arith, c.requires)))
+    omega (
+      arith,
+      position,
+      c.self.told,
+      weights_room l.packed.first l.packed.width l.packed.mask l.packed.len l.weights l.packed.offsets.now c.args.self.now c.self.invariant c.self.view_is c.args.index 1 (omega arith)
+          (omega (arith, c.requires)),
+    )
 
 pub overflow_add-start : goal.overflow_add-start
 overflow_add-start c =
     let l = c.self.inside in
     let position : c.size.result * c.args.index ≡ weight_size l.weights * c.args.index = ap (λ s. s * c.args.index) c.size.ensures.size in
-    omega (arith, position, c.self.told,
-    weights_room l.packed.first l.packed.width l.packed.mask l.packed.len l.weights l.packed.offsets.now c.args.self.now c.self.invariant c.self.view_is c.args.index 1 (omega arith)
-    (omega (arith, c.requires)))
+    omega (
+      arith,
+      position,
+      c.self.told,
+      weights_room l.packed.first l.packed.width l.packed.mask l.packed.len l.weights l.packed.offsets.now c.args.self.now c.self.invariant c.self.view_is c.args.index 1 (omega arith)
+          (omega (arith, c.requires)),
+    )
 
 pub weight_at-requires : goal.weight_at-requires
 weight_at-requires c =
     let l = c.self.inside in
     let position : c.size.result * c.args.index ≡ weight_size l.weights * c.args.index = ap (λ s. s * c.args.index) c.size.ensures.size in
-    omega (arith, position, weights_room l.packed.first l.packed.width l.packed.mask l.packed.len l.weights l.packed.offsets.now c.args.self.now c.self.invariant c.self.view_is c.args.index 1
-    (omega arith) (omega (arith, c.requires)))
+    omega (
+      arith,
+      position,
+      weights_room l.packed.first l.packed.width l.packed.mask l.packed.len l.weights l.packed.offsets.now c.args.self.now c.self.invariant c.self.view_is c.args.index 1
+          (omega arith) (omega (arith, c.requires)),
+    )
 
 pub returns : goal.returns
 returns c =

@@ -41,8 +41,8 @@ loop-first-preserved c =
     record {
       low = omega (arith, first.1);
       page = c.in_ok-push_updated.ensures ∙ ap (λ p. p ++ slice_range es (count_below l.low es) (count_below v es)
-      ++ entry_of v (updated (neighbours_of v es) c.split_at-run.result.0)) l.invariant.page
-      ∙ updated_to es c.in_ok-page.ensures.page c.args.updates.now l.low v l.rest c.split_at-run.result.0 first.0 first.2 l.invariant.passed run;
+          ++ entry_of v (updated (neighbours_of v es) c.split_at-run.result.0)) l.invariant.page
+          ∙ updated_to es c.in_ok-page.ensures.page c.args.updates.now l.low v l.rest c.split_at-run.result.0 first.0 first.2 l.invariant.passed run;
       coming = rw c.split_at-run.ensures.back c.run_length.ensures.rest;
       passed = λ u ge.
           let other : u ≢ v = omega arith in

@@ -18,10 +18,14 @@ push-requires-clause-few c =
     let l = c.loop-first in
     let list : c.deref.result.now ≡ map (λ x. x % 2 ^ 32) (take c.source_run.result l.rest.now) = c.deref.ensures.value ∙ c.in_ok-take_neighbours.ensures
     ∙ ap (map (λ x. x % 2 ^ 32)) c.split_at.ensures.front in
-    omega (arith, ap length list, list_long c.args.block c.args.keys.now c.args.weights.now l.page l.rest.now l.rest_weights.now l.invariant c.source_run.result
-    (c.in-Some.first.now / 2 ^ 32) c.source_run.ensures.within c.source_run.ensures.run c.source_run.ensures.end c.in-Some.first.now c.in-Some.field-0-1.now c.in-Some.ensures.cases.0 refl,
-    list_few c.args.block c.args.keys.now c.args.weights.now l.page l.rest.now l.rest_weights.now l.invariant c.source_run.result
-    (c.in-Some.first.now / 2 ^ 32) c.source_run.ensures.within c.source_run.ensures.run c.source_run.ensures.end c.in-Some.first.now c.in-Some.field-0-1.now c.in-Some.ensures.cases.0 refl)
+    omega (
+      arith,
+      ap length list,
+      list_long c.args.block c.args.keys.now c.args.weights.now l.page l.rest.now l.rest_weights.now l.invariant c.source_run.result
+          (c.in-Some.first.now / 2 ^ 32) c.source_run.ensures.within c.source_run.ensures.run c.source_run.ensures.end c.in-Some.first.now c.in-Some.field-0-1.now c.in-Some.ensures.cases.0 refl,
+      list_few c.args.block c.args.keys.now c.args.weights.now l.page l.rest.now l.rest_weights.now l.invariant c.source_run.result
+          (c.in-Some.first.now / 2 ^ 32) c.source_run.ensures.within c.source_run.ensures.run c.source_run.ensures.end c.in-Some.first.now c.in-Some.field-0-1.now c.in-Some.ensures.cases.0 refl,
+    )
 
 pub push-requires-clause-ascending : goal.push-requires-clause-ascending
 push-requires-clause-ascending c =

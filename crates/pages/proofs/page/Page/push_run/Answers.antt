@@ -34,9 +34,20 @@ copy-requires-clause-room c =
     let p = c.self.inside in
     let q = c.page.inside in
     let part : List (ℕ × List (ℕ × ℤ)) = slice_range c.args.page.now c.args.from c.args.to in
-    omega (arith, rises_room 0 64 (c.args.self.now ++ part) c.requires.map, length-append c.args.self.now part, ap length c.self.view_is, lists_length p.bytes.items p.entries.items,
-    ap length c.page.view_is, lists_length q.bytes.items q.entries.items, ap length c.as_slice-lists.ensures.value, length-take (c.args.to - c.args.from) (drop c.args.from c.args.page.now),
-    length-drop c.args.from c.args.page.now, length-take (c.args.to - c.args.from) (drop c.args.from c.as_slice-lists.result.now), length-drop c.args.from c.as_slice-lists.result.now)
+    omega (
+      arith,
+      rises_room 0 64 (c.args.self.now ++ part) c.requires.map,
+      length-append c.args.self.now part,
+      ap length c.self.view_is,
+      lists_length p.bytes.items p.entries.items,
+      ap length c.page.view_is,
+      lists_length q.bytes.items q.entries.items,
+      ap length c.as_slice-lists.ensures.value,
+      length-take (c.args.to - c.args.from) (drop c.args.from c.args.page.now),
+      length-drop c.args.from c.args.page.now,
+      length-take (c.args.to - c.args.from) (drop c.args.from c.as_slice-lists.result.now),
+      length-drop c.args.from c.as_slice-lists.result.now,
+    )
 
 pub copy-requires-clause-run : goal.copy-requires-clause-run
 copy-requires-clause-run c =

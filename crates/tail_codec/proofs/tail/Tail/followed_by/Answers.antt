@@ -16,8 +16,16 @@ from_ascending-requires c =
     let s = c.read_into in
     let keys : c.deref_mut-3.result.now ≡ r.new.keys = c.deref_mut-3.ensures.value ∙ written_anew _ r.new.keys _ (r.auto.keys ∙ c.deref_mut.ensures.len) in
     let weights : c.deref_mut-4.result.now ≡ r.new.weights = c.deref_mut-4.ensures.value ∙ written_anew _ r.new.weights _ (r.auto.weights ∙ c.deref_mut-2.ensures.len) in
-    let long : length s.new.keys ≤ s.result = omega (arith, s.ensures.position, r.ensures.position, s.auto.keys, c.deref_mut-3.ensures.len, c.in_ok-resize.ensures.len, c.len.ensures.len,
-    c.len-2.ensures.len) in
+    let long : length s.new.keys ≤ s.result = omega (
+      arith,
+      s.ensures.position,
+      r.ensures.position,
+      s.auto.keys,
+      c.deref_mut-3.ensures.len,
+      c.in_ok-resize.ensures.len,
+      c.len.ensures.len,
+      c.len-2.ensures.len,
+    ) in
     let made : c.new-entries.result ≡ c.args.self.now.entries ++ c.args.more.now.entries =
     c.new-entries.ensures
     ∙ columns_anew _ _ s.new.keys _ s.new.weights _ (s.auto.keys ∙ c.deref_mut-3.ensures.len) (s.auto.weights ∙ c.deref_mut-4.ensures.len)
@@ -31,8 +39,16 @@ returns c =
     let s = c.read_into in
     let keys : c.deref_mut-3.result.now ≡ r.new.keys = c.deref_mut-3.ensures.value ∙ written_anew _ r.new.keys _ (r.auto.keys ∙ c.deref_mut.ensures.len) in
     let weights : c.deref_mut-4.result.now ≡ r.new.weights = c.deref_mut-4.ensures.value ∙ written_anew _ r.new.weights _ (r.auto.weights ∙ c.deref_mut-2.ensures.len) in
-    let long : length s.new.keys ≤ s.result = omega (arith, s.ensures.position, r.ensures.position, s.auto.keys, c.deref_mut-3.ensures.len, c.in_ok-resize.ensures.len, c.len.ensures.len,
-    c.len-2.ensures.len) in
+    let long : length s.new.keys ≤ s.result = omega (
+      arith,
+      s.ensures.position,
+      r.ensures.position,
+      s.auto.keys,
+      c.deref_mut-3.ensures.len,
+      c.in_ok-resize.ensures.len,
+      c.len.ensures.len,
+      c.len-2.ensures.len,
+    ) in
     let made : c.new-entries.result ≡ c.args.self.now.entries ++ c.args.more.now.entries =
     c.new-entries.ensures
     ∙ columns_anew _ _ s.new.keys _ s.new.weights _ (s.auto.keys ∙ c.deref_mut-3.ensures.len) (s.auto.weights ∙ c.deref_mut-4.ensures.len)

@@ -22,8 +22,15 @@ loop-key-preserved c =
     let w = c.in-Some.weight in
     let step : l.key-iterator ≡ (k, w) ∷ c.next.new.self = search rules in
     let same : to_z w64 (of_z w64 w) ≡ w = search rules in
-    let within : l.position < length (zip l.keys l.weights) = omega (arith, length-zip l.keys l.weights, l.invariant.keys, l.invariant.weights, l.invariant.position, ap length step,
-    c.requires.room) in
+    let within : l.position < length (zip l.keys l.weights) = omega (
+      arith,
+      length-zip l.keys l.weights,
+      l.invariant.keys,
+      l.invariant.weights,
+      l.invariant.position,
+      ap length step,
+      c.requires.room,
+    ) in
     record {
       can = tt;
       finite = tt;

@@ -23,9 +23,12 @@ pub returns : goal.returns
 returns c =
     let g = c.self.inside in
     let inside : misfits g.vertices c.args.batch.now ≡ false = sym c.if-misfits.ensures in
-    rw (← c.self.view_is) (inside, graph_is_after g.vertices g.edge_count g.outgoing.entries g.incoming.entries c.self.invariant c.args.batch.now inside (sorted_pairs c.in_ok-updates.updates)
-    (sorted_pairs c.in_ok-transposed.transposed) c.in_ok-updates.ensures.same c.in_ok-transposed.ensures.same c.in_ok-out.out c.in_ok-into.into c.in_ok-out.ensures c.in_ok-into.ensures _
-    c.vertices_after.ensures)
+    rw (← c.self.view_is) (
+      inside,
+      graph_is_after g.vertices g.edge_count g.outgoing.entries g.incoming.entries c.self.invariant c.args.batch.now inside (sorted_pairs c.in_ok-updates.updates)
+          (sorted_pairs c.in_ok-transposed.transposed) c.in_ok-updates.ensures.same c.in_ok-transposed.ensures.same c.in_ok-out.out c.in_ok-into.into c.in_ok-out.ensures c.in_ok-into.ensures _
+          c.vertices_after.ensures,
+    )
 
 pub returns-in_err-updates : goal.returns-in_err-updates
 returns-in_err-updates c = rw (← c.self.view_is) (lacks_memory _ c.args.batch.now _ c.from_residual.ensures.0 c.from_residual.ensures.1 (sym c.if-misfits.ensures))

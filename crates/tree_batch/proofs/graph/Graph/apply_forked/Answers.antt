@@ -23,9 +23,12 @@ pub returns : goal.returns
 returns g c =
     let h = c.self.inside in
     let inside : misfits h.vertices c.args.batch.now ≡ false = sym c.if-misfits.ensures in
-    rw (← c.self.view_is) (inside, graph_is_after h.vertices h.edge_count h.outgoing.entries h.incoming.entries c.self.invariant c.args.batch.now inside (sorted_pairs c.in_ok-updates.updates)
-    (sorted_pairs c.in_ok-transposed.transposed) c.in_ok-updates.ensures.same c.in_ok-transposed.ensures.same c.in_ok-outs.outs c.in_ok-ins.ins c.in_ok-outs.ensures c.in_ok-ins.ensures _
-    c.vertices_after.ensures)
+    rw (← c.self.view_is) (
+      inside,
+      graph_is_after h.vertices h.edge_count h.outgoing.entries h.incoming.entries c.self.invariant c.args.batch.now inside (sorted_pairs c.in_ok-updates.updates)
+          (sorted_pairs c.in_ok-transposed.transposed) c.in_ok-updates.ensures.same c.in_ok-transposed.ensures.same c.in_ok-outs.outs c.in_ok-ins.ins c.in_ok-outs.ensures c.in_ok-ins.ensures _
+          c.vertices_after.ensures,
+    )
 
 pub returns-in_err-updates : goal.returns-in_err-updates
 returns-in_err-updates g c = rw (← c.self.view_is) (lacks_memory _ c.args.batch.now _ c.from_residual.ensures.0 c.from_residual.ensures.1 (sym c.if-misfits.ensures))

@@ -37,8 +37,11 @@ overflow_add-result-2 c =
       | in_default w ↦ rw w.self-inside-is c.self.invariant.behind
     ] in
     let begun = block_begun later c.next-2.new.self c.in_ok-number.number c.in_ok-number.block.now ok c.in_ok-number.ensures.steps in
-    omega (arith, first_small c.in_ok-number.number c.in_ok-number.block.now c.next-2.new.self c.in-Some-next-2.vertex c.in-Some-next-2.neighbours _ begun
-    (sym c.iter-vertices.ensures.vertices ∙ c.in-Some-next-2.ensures.steps))
+    omega (
+      arith,
+      first_small c.in_ok-number.number c.in_ok-number.block.now c.next-2.new.self c.in-Some-next-2.vertex c.in-Some-next-2.neighbours _ begun
+          (sym c.iter-vertices.ensures.vertices ∙ c.in-Some-next-2.ensures.steps),
+    )
 
 pub invariant_of-self-2 : goal.invariant_of-self-2
 invariant_of-self-2 c =

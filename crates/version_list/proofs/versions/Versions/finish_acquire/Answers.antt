@@ -23,8 +23,18 @@ pub invariant_of-self : goal.invariant_of-self
 invariant_of-self c =
     let old : Inside = c.self.inside in
     let p = c.args.prepared in
-    let new : Inside = record { newest = old.newest; number = old.number; room = old.room; base = old.base; history = c.push_reserved.new.self; steps = old.steps + 1; given = p.ticket.number; held =
-    c.open.new.self; reserved = 0 } in
+    let new : Inside = record {
+      newest = old.newest;
+      number = old.number;
+      room = old.room;
+      base = old.base;
+      history = c.push_reserved.new.self;
+      steps = old.steps + 1;
+      given = p.ticket.number;
+      held =
+          c.open.new.self;
+      reserved = 0;
+    } in
     let ready : IsPreparedAcquire (timeline old) p.which p = subst (λ (t : Timeline). IsPreparedAcquire t p.which p) (sym c.self.view_is) c.requires in
     kept_acquire old new c.self.invariant p ready refl refl refl refl refl c.open.ensures.tickets c.open.ensures.count c.open.ensures.versions c.push_reserved.ensures.items refl
     c.push_reserved.ensures.capacity refl
@@ -33,8 +43,18 @@ pub returns-clause-accepted : goal.returns-clause-accepted
 returns-clause-accepted c =
     let old : Inside = c.self.inside in
     let p = c.args.prepared in
-    let new : Inside = record { newest = old.newest; number = old.number; room = old.room; base = old.base; history = c.push_reserved.new.self; steps = old.steps + 1; given = p.ticket.number; held =
-    c.open.new.self; reserved = 0 } in
+    let new : Inside = record {
+      newest = old.newest;
+      number = old.number;
+      room = old.room;
+      base = old.base;
+      history = c.push_reserved.new.self;
+      steps = old.steps + 1;
+      given = p.ticket.number;
+      held =
+          c.open.new.self;
+      reserved = 0;
+    } in
     let ready : IsPreparedAcquire (timeline old) p.which p = subst (λ (t : Timeline). IsPreparedAcquire t p.which p) (sym c.self.view_is) c.requires in
     subst (λ (t : Timeline). Accepts t (Acquire p.which) (Ticket p.ticket.number p.version) (timeline new)) c.self.view_is
     (accepts_acquire old new c.self.invariant p ready refl refl refl refl refl c.open.ensures.tickets c.open.ensures.count c.open.ensures.versions c.push_reserved.ensures.items refl

@@ -7,8 +7,12 @@ use Rattle.vertex_blocks.proofs.set_walk.SetWalk.fill_weighted.Goals as goal
 
 pub fill_weighted-count-requires : goal.fill_weighted-count-requires
 fill_weighted-count-requires c =
-    omega (arith, c.min-room.ensures, length-take-le c.min-room.result c.args.keys.now (omega (arith, c.min-room.ensures)),
-    length-take-le c.min-room.result c.args.weights.now (omega (arith, c.min-room.ensures)))
+    omega (
+      arith,
+      c.min-room.ensures,
+      length-take-le c.min-room.result c.args.keys.now (omega (arith, c.min-room.ensures)),
+      length-take-le c.min-room.result c.args.weights.now (omega (arith, c.min-room.ensures)),
+    )
 
 pub returns-clause-keys : goal.returns-clause-keys
 returns-clause-keys c =

@@ -32,11 +32,11 @@ loop-index-preserved g c =
         length_bits 64 (0 + 64 * length l.words.items) word fits,
       );
       below = rw pushed
-      (next_below (λ v b. g.F.Fn.post c.args.test.now
-      (v, tt) b) c.args.vertices l.words.items word l.index c.min.result l.invariant.words start many c.word_from_test-word.ensures.others l.invariant.below);
+          (next_below (λ v b. g.F.Fn.post c.args.test.now
+          (v, tt) b) c.args.vertices l.words.items word l.index c.min.result l.invariant.words start many c.word_from_test-word.ensures.others l.invariant.below);
       tested = rw pushed
-      (next_word (λ v b. g.F.Fn.post c.args.test.now
-      (v, tt) b) c.args.vertices l.words.items word l.index c.min.result l.invariant.words start many c.word_from_test-word.ensures.tested l.invariant.tested);
+          (next_word (λ v b. g.F.Fn.post c.args.test.now
+          (v, tt) b) c.args.vertices l.words.items word l.index c.min.result l.invariant.words start many c.word_from_test-word.ensures.tested l.invariant.tested);
     }
 
 pub returns-clause-below : goal.returns-clause-below
