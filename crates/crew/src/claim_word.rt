@@ -1,7 +1,7 @@
 //! The claim word: a counter from which the workers of a run draw the indices of their pieces.
 //!
 //! It has one kind of step, a `fetch_add` of 1. A claim is a seat at its table: a value of no bytes with
-//! a view, which says what its worker knows of the word. `specs/ClaimWord.antt` has the rule.
+//! a view, which says what its worker knows of the word. `specs/inside/ClaimWord.antt` has the rule.
 
 ghost use Rattle.std.specs.Prelude.{◌≡◌, ◌+◌, ◌-◌, ◌<◌, ◌≤◌, [], ◌++◌, length, IfOk};
 ghost use Rattle.crew.specs.inside.ClaimWord.{claim_view, all_rights, IsClaimWord, Claims};

@@ -7,7 +7,7 @@
 //! its memory once; the states of all come back to the caller, for the next run.
 //!
 //! By [`PieceAssignment::Claimed`] the workers draw the indices of their pieces from one word, the claim word, by
-//! steps of one kind, a `fetch_add` of 1. `specs/ClaimWord.antt` has its rule: every number below the
+//! steps of one kind, a `fetch_add` of 1. `specs/inside/ClaimWord.antt` has its rule: every number below the
 //! word was claimed by one worker, once, and by no other. Each worker has a part of the rights to claim;
 //! once all parts are back with the caller, it knows that no number was left out. By [`PieceAssignment::Fixed`]
 //! the pieces go round the workers in turn.

@@ -1,7 +1,7 @@
 //! The parser of the algorithm language: it takes exactly the texts that are in the grammar
 //! (`docs/LANGUAGE.md` has it).
 //!
-//! In the contracts a source is its tree (`specs/SourceTrees.antt` of `syntax`), and a text is the terminals of
+//! In the contracts a source is its tree (`syntax/specs/SourceTrees.antt`), and a text is the terminals of
 //! its tokens. [`parse`] answers with a source only where the text has its terminals, nests within the limit,
 //! and has the terminals of no other tree; each refusal names its cause and comes only where that holds
 //! (`specs/Outcome.antt`). [`one_answer`] is the law that a text has one answer, and

@@ -5,9 +5,8 @@
 //! under an `if` is done always, and counts where the test's register is true.
 //!
 //! `specs/Registers.antt` says what an instruction does to the registers (`step`, `run`), and what code that writes entries leaves
-//! (`after`). `specs/Code.antt`, `specs/FunctionCode.antt` and `specs/VertexCode.antt` say what the code of a tree is, for
-//! every tree, also one that no type checker would pass. `specs/Meaning.antt` says when code is that of a function, by the
-//! definitions of `algorithm_meaning`, and the calls here promise it:
+//! (`after`). `specs/Meaning.antt` says what the code of a tree is, for every tree, also one that no type checker would pass, and
+//! when code is that of a function, by the definitions of `algorithm_meaning`. The calls here promise it:
 //!
 //! - [`code_of_edge_function`]: on each edge the code gives what the function gives (`IsEdgeCode`).
 //! - [`code_of_filter`]: its result is the filter's (`IsFilterCode`).

@@ -1,7 +1,7 @@
 //! Replies to a person or a program: lines of words and numbers, on their way to a writer.
 //!
 //! A reply of one line is a [`LineReply`]; a list of edges and the outcome of a run are replies of several
-//! lines. Their texts are definitions apart from the code (`specs/ReplyText.antt`, `specs/OutcomeText.antt`). A
+//! lines. Their texts are definitions apart from the code (`specs/ReplyText.antt`). A
 //! [`ReplyWriter`] keeps texts in a block of 64 KiB and writes the block when it is full or when it is flushed.
 //! Each call that sends is proved to take its whole text, after all that was sent before, and where it fails a
 //! beginning of that (`specs/Sending.antt`).

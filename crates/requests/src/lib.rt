@@ -2,8 +2,7 @@
 //!
 //! [`request`] reads the words by `clap` and answers a [`Request`], or a [`RequestError`] with clap's own text. Its contract says
 //! both ways when there is a request: exactly where the words are without a fault of clap, but for memory; and which one it is:
-//! the one that a definition has for the words (`specs/Asked.antt`). The definition is read off what clap is told of the commands
-//! (`specs/CommandLine.antt`).
+//! the one that a definition has for the words (`specs/Asked.antt`). The definition is read off what clap is told of the commands.
 //!
 //! The other functions are laws in the words of the usage lines: which words are which request. They do nothing when called. The
 //! crate `driver` stands on this one.

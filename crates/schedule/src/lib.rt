@@ -2,9 +2,9 @@
 //!
 //! [`accept`] reads the calls of a checked program, one after the other, and answers with a [`Schedule`], or with the
 //! rule that the first faulty call breaks. Contracts see a `Schedule` as a `ScheduleTree`: what the calls say of each
-//! label that they name, and the groups of vectors. `specs/Calls.antt` says what a call comes to, and `specs/Sites.antt`
-//! what a label stands before; which applies may be fused says `Independence.antt` of `typed_tree`. `specs/RunLaws.antt`
-//! has what holds of each accepted schedule.
+//! label that they name, and the groups of vectors. `specs/Calls.antt` says what a call makes of the schedule before
+//! it, and `specs/Schedule.antt` which statement follows a label. `specs/Independence.antt` of `typed_tree` says which applies may
+//! be fused, and `specs/Laws.antt` what holds of each accepted schedule.
 //!
 //! `specs/BrokenRules.antt` says which rules a call breaks, one case for each rule. A schedule is refused exactly at the
 //! first call that breaks one, and by the least that it breaks (`refused_calls_break_the_least_rule`), and it is accepted

@@ -11,7 +11,7 @@
 //! runs, the caller says by [`Programs`].
 //!
 //! [`script`] is proved to write exactly those replies to the bytes that the reader gave, in whatever
-//! pieces it gave them, and [`run_text`] those to a text (`specs/Text.antt`). A reader that fails finds
+//! pieces it gave them, and [`run_text`] those to a text. A reader that fails finds
 //! the replies to all lines that had ended written, and no more; after the other errors a beginning of
 //! the replies stands there, whatever the reader would have given next (`specs/Script.antt`). A run's
 //! reply is written before the next line is done.

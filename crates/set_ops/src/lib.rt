@@ -7,7 +7,7 @@
 //! entries, that says how the answer is cut, whatever chunks the two had. The two sets stay as they were.
 //!
 //! Both sets are cut at the head at the first's root; what lies below it and above it is done each by
-//! itself, and joined. `specs/Answers.antt` says what that comes to. Where one side has nothing in a
+//! itself, and joined. `specs/inside/Answers.antt` says what that gives. Where one side has nothing in a
 //! range, the other's chunks there are shared. The recursion counts the keys that both have, so the
 //! answer's number of entries takes no walk. Sets of k and n entries take the heads of the smaller and
 //! of what lies beside them, about `k log(n / k + 1)` nodes, beside the chunks that both sets reach into.

@@ -6,7 +6,7 @@
 //! releases and trims.
 //!
 //! A contract sees a reader as what it shows: a history of accepted steps, each with its reply and
-//! the reader that made it, which only grows at its end (`specs/Passes.antt`). After a step the
+//! the reader that made it, which only grows at its end (`specs/Histories.antt`). After a step the
 //! history shown ends in that step; a refusal is the version machine's at the end of the history
 //! shown; a snapshot has the fold of its batches. What one reader showed another takes in by a
 //! [`Token`]. A contract sees what lies under the lock as the history, of which the versions are the

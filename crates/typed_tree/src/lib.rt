@@ -17,7 +17,7 @@
 //!
 //! What functions read and write besides their own variables is found by one walk over their trees. `specs/Fold.antt`
 //! says what it gives for each kind of tree, and the definitions of what functions use, of whatever crate, are cases of
-//! it; `specs/Access.antt` has those of vectors. In code [`function_passes`] and [`end_passes`] put each access to an
+//! it; `specs/Independence.antt` has those of vectors. In code [`function_passes`] and [`end_passes`] put each access to an
 //! [`AccessTest`], and [`push_written`] collects what is written.
 //!
 //! The trees have their `Drop` by hand. A derived one would be written out, and proved again, in each
