@@ -1,5 +1,5 @@
 -- Laws of the definitions, in the subject's words.
-use Rattle.std.specs.Prelude.{◌≡◌, ℕ, ℤ, pos, negsuc, FitsSigned, if◌then◌else◌, ◌==◌, List, ◌∷◌, ◌++◌}
+use Rattle.std.specs.Prelude.{[], ◌≡◌, ℕ, ℤ, pos, negsuc, FitsSigned, if◌then◌else◌, ◌==◌, List, ◌∷◌, ◌++◌}
 use Rattle.std.specs.Int.{w64}
 use Rattle.apply_options.specs.declared.reduction.Reduction.{Reduction}
 use Rattle.apply_options.specs.declared.reduction.Reduction.TheVariants as reduction

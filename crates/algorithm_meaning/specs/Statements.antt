@@ -1,5 +1,5 @@
 -- Statements on variables and entries, and `print`.
-use Rattle.std.specs.Prelude.{ℤ, ◌∷◌, ◌++◌, Bool, ℕ, slice_set, pos, slice_index_or, take, length, List, true, false}
+use Rattle.std.specs.Prelude.{[], ℤ, ◌∷◌, ◌++◌, Bool, ℕ, slice_set, pos, slice_index_or, take, length, List, true, false}
 use Rattle.std.specs.Fmt.{signed_decimal}
 use Rattle.apply_options.specs.declared.reduction.Reduction.{Reduction}
 use Rattle.typed_tree.specs.IntExpressionTree.{IntExpressionTree}

@@ -1,5 +1,5 @@
 -- The one way in which entries are cut into chunks.
-use Rattle.std.specs.Prelude.{◌≡◌, ℕ, ℤ, false, if◌then◌else◌, None, Some, List, ◌∷◌}
+use Rattle.std.specs.Prelude.{[], ◌≡◌, ℕ, ℤ, false, if◌then◌else◌, None, Some, List, ◌∷◌}
 use Rattle.std.specs.List.{All}
 use Rattle.std.specs.Map.{keys_of}
 use Rattle.ascending_lists.specs.Ascending.{Ascends}

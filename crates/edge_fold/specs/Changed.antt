@@ -1,5 +1,5 @@
 -- Changes of an apply: the vertices whose entries differ after it, with their new entries.
-use Rattle.std.specs.Prelude.{◌≡◌, ℕ, ◌+◌, zero, suc, ℤ, ◌==◌, Bool, false, if◌then◌else◌, List, ◌∷◌, ◌++◌}
+use Rattle.std.specs.Prelude.{[], ◌≡◌, ℕ, ◌+◌, zero, suc, ℤ, ◌==◌, Bool, false, if◌then◌else◌, List, ◌∷◌, ◌++◌}
 use Rattle.std.specs.List.{list_any}
 use Rattle.algorithm_meaning.specs.Arithmetic.{int_equal}
 use Rattle.vectors.specs.declared.changes.EntryChange.{EntryChange}

@@ -1,5 +1,5 @@
 -- Contributions of edges to vertices, and entries reduced with them.
-use Rattle.std.specs.Prelude.{◌≡◌, ℕ, ℤ, ◌==◌, if◌then◌else◌, List, ◌∷◌, ◌++◌, map}
+use Rattle.std.specs.Prelude.{[], ◌≡◌, ℕ, ℤ, ◌==◌, if◌then◌else◌, List, ◌∷◌, ◌++◌, map}
 use Rattle.apply_options.specs.declared.reduction.Reduction.{Reduction}
 use Rattle.weighted_edges.specs.Edge.{Edge, unit_weight}
 use Rattle.typed_tree.specs.FunctionStatementTree.{FunctionStatementsTree}

@@ -1,5 +1,5 @@
 -- Numbers of sources and weights.
-use Rattle.std.specs.Prelude.{ℕ, ℤ, List, ◌∷◌}
+use Rattle.std.specs.Prelude.{[], ℕ, ℤ, List, ◌∷◌}
 use Rattle.apply_options.specs.declared.reduction.Reduction.{Reduction}
 use Rattle.algorithm_meaning.specs.Arithmetic.{arithmetic, reduced}
 use Rattle.vectors.specs.Lanes.{lane_entry}

@@ -1,5 +1,5 @@
 -- Folds of a scratch: the edges that it has folded, and the entries that it has of them.
-use Rattle.std.specs.Prelude.{◌≡◌, ◌||◌, ℕ, ◌<◌, ℤ, Bool, false, if◌then◌else◌, Option, Some, None, List, ◌∷◌, take}
+use Rattle.std.specs.Prelude.{[], ◌≡◌, ◌||◌, ℕ, ◌<◌, ℤ, Bool, false, if◌then◌else◌, Option, Some, None, List, ◌∷◌, take}
 use Rattle.std.specs.Borrow.{Bor}
 use Rattle.apply_options.specs.declared.reduction.Reduction.{Reduction}
 use Rattle.weighted_edges.specs.Edge.{Edge}

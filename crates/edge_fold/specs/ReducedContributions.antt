@@ -1,5 +1,5 @@
 -- Reduced contributions: what several sources give a destination, as one number.
-use Rattle.std.specs.Prelude.{ℕ, ℤ, List, ◌∷◌}
+use Rattle.std.specs.Prelude.{[], ℕ, ℤ, List, ◌∷◌}
 use Rattle.apply_options.specs.declared.reduction.Reduction.{Reduction}
 use Rattle.algorithm_meaning.specs.Arithmetic.{reduced}
 

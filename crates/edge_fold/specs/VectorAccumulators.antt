@@ -1,5 +1,5 @@
 -- Accumulators of several vectors, one for each vector that is written.
-use Rattle.std.specs.Prelude.{ℕ, ℤ, ◌==◌, if◌then◌else◌, List, ◌∷◌, take}
+use Rattle.std.specs.Prelude.{[], ℕ, ℤ, ◌==◌, if◌then◌else◌, List, ◌∷◌, take}
 use Rattle.apply_options.specs.declared.reduction.Reduction.{Reduction}
 use Rattle.edge_fold.specs.declared.vector_accumulator.VectorAccumulator.{VectorAccumulator}
 use Rattle.edge_fold.specs.declared.vector_accumulator.VectorAccumulators.{VectorAccumulators}

@@ -1,5 +1,5 @@
 -- What parsing a text answers.
-use Rattle.std.specs.Prelude.{◌≡◌, ◌≢◌, ℕ, ◌≤◌, List, ◌∷◌, length, drop, Result, Ok, Err, IfSome}
+use Rattle.std.specs.Prelude.{[], ◌≡◌, ◌≢◌, ℕ, ◌≤◌, List, ◌∷◌, length, drop, Result, Ok, Err, IfSome}
 use Rattle.lexer.specs.declared.token.Token.{Token}
 use Rattle.lexer.specs.Tokens.{HasTokens, Reads}
 use Rattle.lexer.specs.declared.error.LexError.TheVariants as lexer

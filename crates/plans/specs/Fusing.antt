@@ -1,5 +1,5 @@
 -- Two applies that are done together.
-use Rattle.std.specs.Prelude.{ℕ, nat_eq, Bool, true, false, ◌&&◌, List, ◌∷◌, ◌++◌, if◌then◌else◌, Option, Some, None}
+use Rattle.std.specs.Prelude.{[], ℕ, nat_eq, Bool, true, false, ◌&&◌, List, ◌∷◌, ◌++◌, if◌then◌else◌, Option, Some, None}
 use Rattle.apply_options.specs.declared.apply_schedule.Fused.{Fused}
 use Rattle.apply_options.specs.declared.apply_schedule.Fused.TheVariants.{With, Into}
 use Rattle.apply_options.specs.ScheduleTree.{ScheduleTree, apply_schedule_at}

@@ -1,5 +1,5 @@
 -- Of which operation of a plan an operation is.
-use Rattle.std.specs.Prelude.{◌≡◌, List, Option, Some, None, ◌∷◌, ℕ, slice_get}
+use Rattle.std.specs.Prelude.{[], ◌≡◌, List, Option, Some, None, ◌∷◌, ℕ, slice_get}
 use Rattle.std.specs.Option.{unwrap_or}
 use Rattle.typed_tree.specs.declared.statement.ApplyEnds.{ApplyEnds}
 use Rattle.typed_tree.specs.IntExpressionTree.{IntExpressionTree}

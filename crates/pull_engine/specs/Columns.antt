@@ -1,5 +1,5 @@
 -- The edges into some destinations.
-use Rattle.std.specs.Prelude.{ℕ, ℤ, Bool, List, ◌∷◌, ◌++◌}
+use Rattle.std.specs.Prelude.{[], ℕ, ℤ, Bool, List, ◌∷◌, ◌++◌}
 use Rattle.std.specs.List.{filter}
 use Rattle.weighted_edges.specs.Edge.{Edge}
 use Rattle.flat_snapshot.specs.Neighbours.{sources_of}

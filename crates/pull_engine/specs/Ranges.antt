@@ -1,5 +1,5 @@
 -- Ranges of destinations, and the changes of a pull into one.
-use Rattle.std.specs.Prelude.{◌≡◌, ℕ, ℤ, Option, Some, None, List, ◌∷◌, ◌++◌}
+use Rattle.std.specs.Prelude.{[], ◌≡◌, ℕ, ℤ, Option, Some, None, List, ◌∷◌, ◌++◌}
 use Rattle.apply_options.specs.declared.reduction.Reduction.{Reduction}
 use Rattle.weighted_edges.specs.Edge.{Edge}
 use Rattle.vectors.specs.declared.changes.EntryChange.{EntryChange}

@@ -1,5 +1,5 @@
 -- The edges from some sources.
-use Rattle.std.specs.Prelude.{ℕ, List, ◌∷◌, ◌++◌}
+use Rattle.std.specs.Prelude.{[], ℕ, List, ◌∷◌, ◌++◌}
 use Rattle.weighted_edges.specs.Edge.{Edge}
 use Rattle.flat_snapshot.specs.Neighbours.{destinations_of}
 use Rattle.edge_fold.specs.Contributions.{row}

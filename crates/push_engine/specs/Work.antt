@@ -1,5 +1,5 @@
 -- The work of a push: vertices gone over, and the edges from them.
-use Rattle.std.specs.Prelude.{ℕ, ◌+◌, ◌/◌, ◌&&◌, ◌||◌, Bool, not, true, false, nat_lt, List, ◌∷◌, length, Option, Some, None}
+use Rattle.std.specs.Prelude.{[], ℕ, ◌+◌, ◌/◌, ◌&&◌, ◌||◌, Bool, not, true, false, nat_lt, List, ◌∷◌, length, Option, Some, None}
 use Rattle.weighted_edges.specs.Edge.{Edge}
 use Rattle.flat_snapshot.specs.Digraph.{Digraph}
 use Rattle.flat_snapshot.specs.Neighbours.{destinations_of}

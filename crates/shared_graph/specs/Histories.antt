@@ -1,5 +1,5 @@
 -- Histories of a shared graph: the accepted steps in order, each with its reply and the reader that made it.
-use Rattle.std.specs.Prelude.{◌≡◌, ℕ, ◌≤◌, ◌==◌, List, length, map, take, zero, suc, ◌∷◌, ◌++◌}
+use Rattle.std.specs.Prelude.{[], ◌≡◌, ℕ, ◌≤◌, ◌==◌, List, length, map, take, zero, suc, ◌∷◌, ◌++◌}
 use Rattle.std.specs.List.{filter}
 use mathlib.Core.List.{IsPrefix}
 use Rattle.tree_batch.specs.declared.batch.Entry.{Entry as Change}

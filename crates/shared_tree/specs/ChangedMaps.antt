@@ -1,5 +1,5 @@
 -- Maps changed at many keys.
-use Rattle.std.specs.Prelude.{◌≡◌, ℕ, ◌+◌, ◌%◌, ◌^◌, Option, Some, None, List, ◌∷◌}
+use Rattle.std.specs.Prelude.{[], ◌≡◌, ℕ, ◌+◌, ◌%◌, ◌^◌, Option, Some, None, List, ◌∷◌}
 use Rattle.ascending_lists.specs.Maps.{Rises, lookup}
 
 -- what becomes of the value at a key: as a change makes it, or as it was where there is no change

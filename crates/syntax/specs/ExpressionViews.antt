@@ -1,5 +1,5 @@
 -- The trees that the structs are seen as.
-use Rattle.std.specs.Prelude.{List, ◌∷◌}
+use Rattle.std.specs.Prelude.{[], List, ◌∷◌}
 use Rattle.syntax.specs.declared.operators.Addition.{Addition}
 use Rattle.syntax.specs.declared.operators.Multiplication.{Multiplication}
 use Rattle.syntax.specs.declared.operators.Prefix.{Prefix}

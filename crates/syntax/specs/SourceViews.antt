@@ -1,5 +1,5 @@
 -- The trees that the structs are.
-use Rattle.std.specs.Prelude.{ℕ, List, ◌∷◌, map, option_map}
+use Rattle.std.specs.Prelude.{[], ℕ, List, ◌∷◌, map, option_map}
 use Rattle.syntax.specs.declared.declaration.Declaration.{Declaration}
 use Rattle.syntax.specs.declared.declaration.Parameter.{Parameter}
 use Rattle.syntax.specs.declared.declaration.Source.{Source}

@@ -1,5 +1,5 @@
 -- Directed graphs as their vertices and edges, and the graph after a batch.
-use Rattle.std.specs.Prelude.{◌≡◌, ℕ, ℤ, nat_le, nat_eq, Bool, true, ◌&&◌, Some, List, ◌∷◌}
+use Rattle.std.specs.Prelude.{[], ◌≡◌, ℕ, ℤ, nat_le, nat_eq, Bool, true, ◌&&◌, Some, List, ◌∷◌}
 use Rattle.std.specs.List.{flat_map, list_any}
 use Rattle.weighted_edges.specs.Edge.{Edge}
 use Rattle.tree_batch.specs.declared.batch.Entry.{Entry}

@@ -1,5 +1,5 @@
 -- Neighbours of vertices with their weights, and the edges that they make.
-use Rattle.std.specs.Prelude.{◌≡◌, ◌≢◌, ℕ, ℤ, ◌==◌, if◌then◌else◌, Option, List, ◌∷◌, ◌++◌, MatchOption}
+use Rattle.std.specs.Prelude.{[], ◌≡◌, ◌≢◌, ℕ, ℤ, ◌==◌, if◌then◌else◌, Option, List, ◌∷◌, ◌++◌, MatchOption}
 use Rattle.weighted_edges.specs.Edge.{Edge}
 use Rattle.tree_batch.specs.Edge.{edges_from}
 

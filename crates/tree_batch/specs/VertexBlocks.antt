@@ -1,5 +1,5 @@
 -- The blocks of the vertices of a graph, each by its number: that of a vertex is the vertex divided by 64.
-use Rattle.std.specs.Prelude.{◌≡◌, ℕ, ℤ, ◌^◌, ◌≤◌, List, ◌∷◌, length}
+use Rattle.std.specs.Prelude.{[], ◌≡◌, ℕ, ℤ, ◌^◌, ◌≤◌, List, ◌∷◌, length}
 use Rattle.ascending_lists.specs.Maps.{Rises}
 use Rattle.pages.specs.Vertices.{neighbours_of}
 use Rattle.vertex_blocks.specs.Blocks.{Block, lists_of, AreBlocks}

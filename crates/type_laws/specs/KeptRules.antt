@@ -1,5 +1,5 @@
 -- Kept rules: sources that break no rule of types, said over the source alone, one case for each form of the language.
-use Rattle.std.specs.Prelude.{◌≡◌, ◌≢◌, ◌⊎◌, ℕ, suc, pos, Bool, true, false, nat_eq, List, ◌∷◌, ◌++◌, length, if◌then◌else◌, slice_index_or, Option, Some, None}
+use Rattle.std.specs.Prelude.{[], ◌≡◌, ◌≢◌, ◌⊎◌, ℕ, suc, pos, Bool, true, false, nat_eq, List, ◌∷◌, ◌++◌, length, if◌then◌else◌, slice_index_or, Option, Some, None}
 use Rattle.std.specs.Prelude.{IsSome}
 use Rattle.std.specs.Str.{bytes_eq}
 use Rattle.std.specs.Map.{lookup}

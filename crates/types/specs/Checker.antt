@@ -1,5 +1,5 @@
 -- The state of the checker on its way through a source.
-use Rattle.std.specs.Prelude.{ℕ, suc, List, ◌∷◌, ◌++◌, ◌-◌, length, take, drop, Option, Some, None, pos, false, if◌then◌else◌, Bool, true}
+use Rattle.std.specs.Prelude.{[], ℕ, suc, List, ◌∷◌, ◌++◌, ◌-◌, length, take, drop, Option, Some, None, pos, false, if◌then◌else◌, Bool, true}
 use Rattle.apply_options.specs.declared.reduction.Reduction.{Reduction}
 use Rattle.syntax.specs.Terminals.{Identifier}
 use Rattle.syntax.specs.SourceTrees.{ExpressionTree}

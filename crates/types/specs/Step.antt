@@ -1,5 +1,5 @@
 -- Typing of statements of functions, in the order of the text. Where one is faulty, or no function may hold it, a harmless one stands in its place.
-use Rattle.std.specs.Prelude.{ℕ, Bool, true, false, nat_eq, List, ◌∷◌, ◌++◌, length, Option, Some, None}
+use Rattle.std.specs.Prelude.{[], ℕ, Bool, true, false, nat_eq, List, ◌∷◌, ◌++◌, length, Option, Some, None}
 use Rattle.std.specs.Map.{lookup}
 use Rattle.apply_options.specs.declared.reduction.Reduction.{Reduction}
 use Rattle.apply_options.specs.declared.reduction.Reduction.TheVariants as reduction

@@ -1,5 +1,5 @@
 -- Histories of accepted steps, and what versions are to a contract.
-use Rattle.std.specs.Prelude.{◌≡◌, ℕ, ◌<◌, true, false, Result, Ok, Err, List, ◌∷◌, ◌++◌, length, take}
+use Rattle.std.specs.Prelude.{[], ◌≡◌, ℕ, ◌<◌, true, false, Result, Ok, Err, List, ◌∷◌, ◌++◌, length, take}
 use Rattle.tree_batch.specs.Digraph.{is_vertex_count, is_chunk_size}
 use Rattle.version_list.specs.declared.step.Step.{Step}
 use Rattle.version_list.specs.declared.step.Reply.{Reply}

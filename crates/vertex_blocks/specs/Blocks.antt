@@ -1,5 +1,5 @@
 -- Blocks of 64 vertices with the lists of their neighbours, each with a weight.
-use Rattle.std.specs.Prelude.{ℕ, ℤ, ◌+◌, ◌*◌, ◌<◌, Option, Some, None, List, ◌∷◌, ◌++◌, length}
+use Rattle.std.specs.Prelude.{[], ℕ, ℤ, ◌+◌, ◌*◌, ◌<◌, Option, Some, None, List, ◌∷◌, ◌++◌, length}
 use Rattle.std.specs.Map.{keys_of}
 use Rattle.ascending_lists.specs.Ascending.{AscendsFrom}
 use Rattle.ascending_lists.specs.Maps.{Rises}

@@ -1,5 +1,5 @@
 -- Beside `Chunks`: definitions that no public contract cites.
-use Rattle.std.specs.Prelude.{ℕ, ℤ, List, ◌∷◌, ◌++◌, ◌≡◌, true, Some, None}
+use Rattle.std.specs.Prelude.{[], ℕ, ℤ, List, ◌∷◌, ◌++◌, ◌≡◌, true, Some, None}
 use Rattle.std.specs.List.{All}
 use Rattle.tail_codec.specs.Spelling.{BasedList}
 use Rattle.c_tree.specs.Chunks.{HeadValue, HasNoHead}

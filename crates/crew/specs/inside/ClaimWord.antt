@@ -1,5 +1,5 @@
 -- The rule of the claim word: every number below the word was claimed by one worker, once, and by no other.
-use Rattle.std.specs.Prelude.{ℕ, List, ◌+◌, cond, nat_eq, ◌∷◌, nat_lt, ◌^◌, ◌≡◌, ◌≤◌, length, ◌++◌}
+use Rattle.std.specs.Prelude.{[], ℕ, List, ◌+◌, cond, nat_eq, ◌∷◌, nat_lt, ◌^◌, ◌≡◌, ◌≤◌, length, ◌++◌}
 use mathlib.Core.Option.{some}
 use lib.ListN.{get_elem?}
 use Rattle.crew.specs.declared.claim_word.ClaimView.{ClaimView}

@@ -1,5 +1,5 @@
 -- Merges of the pieces of an apply, range by range.
-use Rattle.std.specs.Prelude.{ℕ, List, ◌∷◌, ◌++◌, ◌≡◌, ◌-◌, ◌≤◌, length, slice_index_or}
+use Rattle.std.specs.Prelude.{[], ℕ, List, ◌∷◌, ◌++◌, ◌≡◌, ◌-◌, ◌≤◌, length, slice_index_or}
 use Rattle.std.specs.List.{flat_map}
 use Rattle.apply_options.specs.declared.reduction.Reduction.{Reduction}
 use Rattle.weighted_edges.specs.Edge.{Edge}

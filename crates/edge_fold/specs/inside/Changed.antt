@@ -1,5 +1,5 @@
 -- Beside `Changed`: definitions that no public contract cites.
-use Rattle.std.specs.Prelude.{ℕ, ℤ, List, ◌∷◌}
+use Rattle.std.specs.Prelude.{[], ℕ, ℤ, List, ◌∷◌}
 use Rattle.vectors.specs.declared.changes.EntryChange.{EntryChange}
 
 -- the new entries at these vertices

@@ -1,5 +1,5 @@
 -- Beside `Contributions`: definitions that no public contract cites.
-use Rattle.std.specs.Prelude.{ℕ, ◌+◌, ℤ, List, ◌∷◌, ◌++◌}
+use Rattle.std.specs.Prelude.{[], ℕ, ◌+◌, ℤ, List, ◌∷◌, ◌++◌}
 use Rattle.apply_options.specs.declared.reduction.Reduction.{Reduction}
 use Rattle.edge_fold.specs.Contributions.{for_vector}
 

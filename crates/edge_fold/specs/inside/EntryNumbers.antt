@@ -1,5 +1,5 @@
 -- Beside `EntryNumbers`: definitions that no public contract cites.
-use Rattle.std.specs.Prelude.{ℤ, ℕ, List, ◌∷◌, ◌≡◌}
+use Rattle.std.specs.Prelude.{[], ℤ, ℕ, List, ◌∷◌, ◌≡◌}
 use Rattle.apply_options.specs.declared.reduction.Reduction.{Reduction}
 use Rattle.weighted_edges.specs.Edge.{Edge}
 use Rattle.algorithm_meaning.specs.Arithmetic.{arithmetic}

@@ -1,5 +1,5 @@
 -- Beside `Gathered`: definitions that no public contract cites.
-use Rattle.std.specs.Prelude.{ℕ, pos, if◌then◌else◌, List, ◌∷◌, slice_index_or}
+use Rattle.std.specs.Prelude.{[], ℕ, pos, if◌then◌else◌, List, ◌∷◌, slice_index_or}
 use Rattle.vectors.specs.declared.changes.EntryChange.{EntryChange}
 use Rattle.vertex_marks.specs.Marks.{is_marked}
 use Rattle.edge_fold.specs.declared.accumulator.Accumulator.{Accumulator}

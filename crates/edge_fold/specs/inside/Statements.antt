@@ -1,5 +1,5 @@
 -- Functions of two statements: what each gives.
-use Rattle.std.specs.Prelude.{◌≡◌, ℕ, ℤ, List, ◌++◌, ◌∷◌}
+use Rattle.std.specs.Prelude.{[], ◌≡◌, ℕ, ℤ, List, ◌++◌, ◌∷◌}
 use Rattle.apply_options.specs.declared.reduction.Reduction.{Reduction}
 use Rattle.weighted_edges.specs.Edge.{Edge}
 use Rattle.algorithm_meaning.specs.State.{StateValue}

@@ -1,5 +1,5 @@
 -- Beside `VectorAccumulators`: definitions that no public contract cites.
-use Rattle.std.specs.Prelude.{ℕ, ℤ, List, suc, ◌==◌, if◌then◌else◌, ◌∷◌, ◌≡◌}
+use Rattle.std.specs.Prelude.{[], ℕ, ℤ, List, suc, ◌==◌, if◌then◌else◌, ◌∷◌, ◌≡◌}
 use Rattle.apply_options.specs.declared.reduction.Reduction.{Reduction}
 use Rattle.edge_fold.specs.declared.vector_accumulator.VectorAccumulator.{VectorAccumulator}
 use Rattle.edge_fold.specs.VectorAccumulators.{held_in_with, reduction_in, active}

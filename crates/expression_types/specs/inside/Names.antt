@@ -1,5 +1,5 @@
 -- Beside `Names`: definitions that no public contract cites.
-use Rattle.std.specs.Prelude.{ℕ, List, ◌∷◌}
+use Rattle.std.specs.Prelude.{[], ℕ, List, ◌∷◌}
 use Rattle.std.specs.Global.{Vec}
 
 -- the bytes of the names in place of their memory

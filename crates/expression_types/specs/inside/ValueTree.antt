@@ -1,5 +1,5 @@
 -- Beside `ValueTree`: definitions that no public contract cites.
-use Rattle.std.specs.Prelude.{Bool, false, ◌||◌, List, ◌∷◌}
+use Rattle.std.specs.Prelude.{[], Bool, false, ◌||◌, List, ◌∷◌}
 use Rattle.typed_tree.specs.declared.expression.Operand.{Operand}
 use Rattle.typed_tree.specs.IntExpressionTree.{int_expression_tree}
 use Rattle.typed_tree.specs.IntExpressionTree as integer

@@ -1,5 +1,5 @@
 -- Vertices with lists of their neighbours, in blocks.
-use Rattle.std.specs.Prelude.{ℕ, ℤ, ◌+◌, Option, List, ◌∷◌, ◌++◌, length}
+use Rattle.std.specs.Prelude.{[], ℕ, ℤ, ◌+◌, Option, List, ◌∷◌, ◌++◌, length}
 use Rattle.vertex_blocks.specs.Blocks.{Block, vertices_at, numbered, IsBlock}
 
 -- the vertices of blocks that stand one after another, by their numbers in the graph, where the first is block k

@@ -1,5 +1,5 @@
 -- What the steps of the reader say of the bytes at the front. No public contract cites these.
-use Rattle.std.specs.Prelude.{ℕ, ◌==◌, if◌then◌else◌, ◌≡◌, Bool, false, List, ◌∷◌, ◌≤◌, length, take, drop, ◌<◌, ◌≢◌, ◌++◌, Option, MatchOption}
+use Rattle.std.specs.Prelude.{[], ℕ, ◌==◌, if◌then◌else◌, ◌≡◌, Bool, false, List, ◌∷◌, ◌≤◌, length, take, drop, ◌<◌, ◌≢◌, ◌++◌, Option, MatchOption}
 use Rattle.std.specs.Char.{is_ascii_digit}
 use Rattle.lexer.specs.Spelling.{is_white, is_letter, Every, symbol_spelling}
 use Rattle.lexer.specs.Tokens.{PieceKind, IsLongest, IsSmall, Lexeme, IsGap, BeginsBadByte, BeginsUnfinishedText, BeginsLargeNumber}

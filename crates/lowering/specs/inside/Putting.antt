@@ -1,5 +1,5 @@
 -- Instructions that lowering puts after the ones that are there.
-use Rattle.std.specs.Prelude.{◌≡◌, List, ◌++◌, ℕ, ◌∷◌, length, slice_set}
+use Rattle.std.specs.Prelude.{[], ◌≡◌, List, ◌++◌, ℕ, ◌∷◌, length, slice_set}
 use Rattle.typed_tree.specs.ProgramTree.{ProgramTree}
 use Rattle.plans.specs.Instruction.{InstructionTree}
 use Rattle.plans.specs.declared.instruction.Instruction.{Instruction}

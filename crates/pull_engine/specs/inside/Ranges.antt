@@ -1,5 +1,5 @@
 -- Beside `Ranges`: definitions that no public contract cites.
-use Rattle.std.specs.Prelude.{ℕ, ℤ, List, ◌∷◌, ◌++◌, Bool, if◌then◌else◌, Option}
+use Rattle.std.specs.Prelude.{[], ℕ, ℤ, List, ◌∷◌, ◌++◌, Bool, if◌then◌else◌, Option}
 use Rattle.std.specs.Borrow.{Bor}
 use Rattle.apply_options.specs.declared.reduction.Reduction.{Reduction}
 use Rattle.weighted_edges.specs.Edge.{Edge}

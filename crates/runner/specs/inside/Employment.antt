@@ -1,5 +1,5 @@
 -- How many of a run's workers do an edge apply.
-use Rattle.std.specs.Prelude.{ℕ, ◌+◌, List, ◌∷◌, length, Option, Some, None, nat_lt, if◌then◌else◌, ◌/◌, min, Bool, ◌≡◌}
+use Rattle.std.specs.Prelude.{[], ℕ, ◌+◌, List, ◌∷◌, length, Option, Some, None, nat_lt, if◌then◌else◌, ◌/◌, min, Bool, ◌≡◌}
 use Rattle.apply_options.specs.declared.apply_schedule.Parallelization.{Parallelization}
 use Rattle.apply_options.specs.declared.apply_schedule.Parallelization.TheVariants.{Serial, StaticVertex, DynamicVertex, EdgeAwareDynamicVertex}
 use Rattle.weighted_edges.specs.Edge.{Edge}

@@ -1,5 +1,5 @@
 -- Beside `Joins`: definitions that no public contract cites.
-use Rattle.std.specs.Prelude.{◌≡◌, ℕ, ◌+◌, ◌≤◌, ◌∷◌, ◌++◌}
+use Rattle.std.specs.Prelude.{[], ◌≡◌, ℕ, ◌+◌, ◌≤◌, ◌∷◌, ◌++◌}
 use Rattle.shared_tree.specs.Balanced.{Balanced}
 
 -- front is t without its last entry (k, v), and is at most one less deep

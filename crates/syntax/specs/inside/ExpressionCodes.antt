@@ -1,5 +1,5 @@
 -- A code for the trees of expressions, which hold themselves.
-use Rattle.std.specs.Prelude.{ℕ, List, ◌∷◌, ◌≡◌, refl, ℤ, pos, negsuc, zero, suc, Bool, true, false}
+use Rattle.std.specs.Prelude.{[], ℕ, List, ◌∷◌, ◌≡◌, refl, ℤ, pos, negsuc, zero, suc, Bool, true, false}
 use base.Stored.{Gv, gnil, gnum, gcons, Coded}
 use Rattle.std.proofs.Common.{ap, sym, ◌∙◌}
 use Rattle.syntax.specs.Terminals.{Identifier}

@@ -1,5 +1,5 @@
 -- An expression is deeper than the expressions in it.
-use Rattle.std.specs.Prelude.{◌≤◌, List, ◌∷◌, ℕ, map, max, Option, Some, None}
+use Rattle.std.specs.Prelude.{[], ◌≤◌, List, ◌∷◌, ℕ, map, max, Option, Some, None}
 use Rattle.std.proofs.Common.{arith, ◌≡◌, refl}
 use denote.Param.Weighed.{most}
 use Rattle.std.specs.Global.{Box}

@@ -1,5 +1,5 @@
 -- Beside `Nesting`: definitions that no public contract cites.
-use Rattle.std.specs.Prelude.{ℕ, List, ◌∷◌}
+use Rattle.std.specs.Prelude.{[], ℕ, List, ◌∷◌}
 use Rattle.syntax.specs.Terminals.{Terminal}
 use Rattle.syntax.specs.Nesting.{nesting_after}
 

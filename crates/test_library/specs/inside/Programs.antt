@@ -1,5 +1,5 @@
 -- A program for tests of scripts.
-use Rattle.std.specs.Prelude.{None}
+use Rattle.std.specs.Prelude.{[], None}
 use Rattle.algorithm_meaning.specs.BlockTree.{Empty}
 use Rattle.algorithm_meaning.specs.ProgramTree.{ProgramTree}
 

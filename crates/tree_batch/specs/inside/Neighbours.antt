@@ -1,5 +1,5 @@
 -- Beside `Neighbours`: definitions that no public contract cites.
-use Rattle.std.specs.Prelude.{ℕ, ℤ, Option, List, Some, None}
+use Rattle.std.specs.Prelude.{[], ℕ, ℤ, Option, List, Some, None}
 use Rattle.weighted_edges.specs.Edge.{Edge}
 use Rattle.ascending_lists.specs.Maps.{lookup}
 use Rattle.pages.specs.Vertices.{neighbours_of}

@@ -1,5 +1,5 @@
 -- The updates of a batch, sorted, with their weights.
-use Rattle.std.specs.Prelude.{ℤ, List}
+use Rattle.std.specs.Prelude.{[], ℤ, List}
 use Rattle.edge_updates.specs.declared.edge_update.EdgeUpdate.{EdgeUpdate}
 use Rattle.edge_updates.specs.Weighted.{weighted}
 use Rattle.weighted_updates.specs.WeightedUpdates.{pairs_in}

@@ -1,5 +1,5 @@
 -- Beside `BoolExpressionTree`: definitions that no public contract cites.
-use Rattle.std.specs.Prelude.{List, ◌∷◌}
+use Rattle.std.specs.Prelude.{[], List, ◌∷◌}
 use Rattle.typed_tree.specs.declared.expression.Connective.{Connective}
 use Rattle.typed_tree.specs.declared.expression.BoolExpression.{BoolExpression}
 use Rattle.typed_tree.specs.BoolExpressionTree.{BoolExpressionTree, Connect, bool_expression_tree}

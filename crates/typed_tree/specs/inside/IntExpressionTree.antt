@@ -1,5 +1,5 @@
 -- Beside `IntExpressionTree`: definitions that no public contract cites.
-use Rattle.std.specs.Prelude.{List, ◌∷◌}
+use Rattle.std.specs.Prelude.{[], List, ◌∷◌}
 use Rattle.typed_tree.specs.declared.expression.Operand.{Operand}
 use Rattle.typed_tree.specs.IntExpressionTree.{IntExpressionTree, Arithmetic, int_expression_tree}
 

@@ -1,5 +1,5 @@
 -- Beside `Blocks`: definitions that no public contract cites.
-use Rattle.std.specs.Prelude.{ℕ, nat_lt, if◌then◌else◌, ◌∷◌}
+use Rattle.std.specs.Prelude.{[], ℕ, nat_lt, if◌then◌else◌, ◌∷◌}
 use Rattle.vertex_blocks.specs.Blocks.{Block}
 
 -- the vertices from a number on
