@@ -65,33 +65,33 @@ opening_entries g (beginning.Number n) = replicate g.vertices n
 opening_entries g beginning.OutDegrees = map (λ v. wrapped (pos (out_degree v g.edges))) (all_below g.vertices)
 
 -- a constant set has all vertices
-abbrev pub all_vertices : GraphValue → ℕ → SetBinding
-all_vertices g name = record { name = name; members = all_below g.vertices }
+abbrev pub full_set : GraphValue → ℕ → SetBinding
+full_set g name = record { name = name; members = all_below g.vertices }
 
 -- before the first statement
 abbrev pub opening : ProgramTree → GraphValue → ℕ → StateValue
 opening p g turns = record {
   vectors = map (λ v. opening_entries g v.beginning) p.vectors;
-  sets = map (all_vertices g) p.sets;
+  sets = map (full_set g) p.sets;
   scope = main_scope;
   text = [];
   turns = turns;
 }
 
 -- the name at an index
-abbrev pub name_at : List (List ℕ) → ℕ → List ℕ
-name_at names index = slice_index_or names index []
+abbrev pub shown_name_at : List (List ℕ) → ℕ → List ℕ
+shown_name_at names index = slice_index_or names index []
 
 -- each vector's name and entries, in declared order
 abbrev pub named_vectors : List (List ℕ) → List Vector → List (List ℤ) → List NamedVector
 named_vectors names [] entries = []
 named_vectors names (v ∷ vs) [] = []
 named_vectors names (v ∷ vs) (entries ∷ more) =
-    record { name = name_at names v.name; entries = entries } ∷ named_vectors names vs more
+    record { name = shown_name_at names v.name; entries = entries } ∷ named_vectors names vs more
 
 -- a set's name and members
 abbrev pub named_set : List (List ℕ) → SetBinding → NamedSet
-named_set names set = record { name = name_at names set.name; members = set.members }
+named_set names set = record { name = shown_name_at names set.name; members = set.members }
 
 -- what is shown of a state, when the bound of turns was this and the run ended so
 abbrev pub shown : ProgramTree → ℕ → StateValue → End → Outcome

@@ -7,34 +7,34 @@ use Rattle.std.proofs.lemmas.List.{append-nil, length-replicate}
 use Rattle.std.proofs.lemmas.Nat.{div-add-mod', mod_below, le-div}
 use Rattle.std.proofs.lemmas.Bool.Decides.{nat_tests}
 use Rattle.std.specs.Int.{div_ceil}
-use Rattle.crew.specs.Boundaries.{dynamic_ends, ends_from, rest_of, static_ends}
+use Rattle.crew.specs.Boundaries.{dynamic_ends, run_ends_from, rest_of, static_ends}
 use Rattle.crew.specs.Partition.{AreEnds}
 
 -- a run before others
 one_run_on : (s n r : ℕ) → (s + r) + n * r ≡ s + suc n * r
 one_run_on s n r = let e = suc-mul n r in omega (arith, e)
 
-pub ends_of_runs-append : (s n r : ℕ) (more : List ℕ) → ends_from s (replicate n r ++ more) ≡ ends_from s (replicate n r) ++ ends_from (s + n * r) more
-ends_of_runs-append s zero r more = ap (λ k. ends_from k more) (let e : s ≡ s + 0 * r = omega arith in e)
+pub ends_of_runs-append : (s n r : ℕ) (more : List ℕ) → run_ends_from s (replicate n r ++ more) ≡ run_ends_from s (replicate n r) ++ run_ends_from (s + n * r) more
+ends_of_runs-append s zero r more = ap (λ k. run_ends_from k more) (let e : s ≡ s + 0 * r = omega arith in e)
 ends_of_runs-append s (suc n) r more =
-    ap (λ es. (s + r) ∷ es) (ends_of_runs-append (s + r) n r more ∙ ap (λ k. ends_from (s + r) (replicate n r) ++ ends_from k more) (one_run_on s n r))
+    ap (λ es. (s + r) ∷ es) (ends_of_runs-append (s + r) n r more ∙ ap (λ k. run_ends_from (s + r) (replicate n r) ++ run_ends_from k more) (one_run_on s n r))
 
 -- one run more
-pub one_run_more : (s n r : ℕ) → ends_from s (replicate (n + 1) r) ≡ ends_from s (replicate n r) ++ (s + n * r + r) ∷ []
-one_run_more s n r = ap (ends_from s) (replicate_next n r) ∙ ends_of_runs-append s n r (r ∷ [])
+pub one_run_more : (s n r : ℕ) → run_ends_from s (replicate (n + 1) r) ≡ run_ends_from s (replicate n r) ++ (s + n * r + r) ∷ []
+one_run_more s n r = ap (run_ends_from s) (replicate_next n r) ∙ ends_of_runs-append s n r (r ∷ [])
 
 -- runs with a vertex each, before others
-pub runs_are_ends : (s n r l : ℕ) (es : List ℕ) → 0 < r → AreEnds (s + n * r) l es → AreEnds s l (ends_from s (replicate n r) ++ es)
+pub runs_are_ends : (s n r l : ℕ) (es : List ℕ) → 0 < r → AreEnds (s + n * r) l es → AreEnds s l (run_ends_from s (replicate n r) ++ es)
 runs_are_ends s zero r l es some are = let e : s + 0 * r ≡ s = omega arith in subst (λ k. AreEnds k l es) e are
 runs_are_ends s (suc n) r l es some are =
     (omega (arith, some), runs_are_ends (s + r) n r l es some (subst (λ k. AreEnds k l es) (sym (one_run_on s n r)) are))
 
 -- what is left over
-rest_is_end : (s n l : ℕ) (b : Bool) → (n == 0) ≡ b → s + n ≡ l → AreEnds s l (ends_from s (cond b [] (n ∷ [])))
+rest_is_end : (s n l : ℕ) (b : Bool) → (n == 0) ≡ b → s + n ≡ l → AreEnds s l (run_ends_from s (cond b [] (n ∷ [])))
 rest_is_end s n l true none whole = grind (arith, nat_tests)
 rest_is_end s n l false some whole = (grind (arith, nat_tests), whole)
 
-pub rest_are_ends : (s n l : ℕ) → s + n ≡ l → AreEnds s l (ends_from s (rest_of n))
+pub rest_are_ends : (s n l : ℕ) → s + n ≡ l → AreEnds s l (run_ends_from s (rest_of n))
 rest_are_ends s n l whole = rest_is_end s n l (n == 0) refl whole
 
 -- runs of two lengths, of which the first are one longer
@@ -51,7 +51,7 @@ two_lengths p a r c few whole =
 
 -- one piece for each worker
 shared_ends : (pieces count : ℕ) → List ℕ
-shared_ends pieces count = ends_from 0 (replicate (count % pieces) (count / pieces + 1) ++ replicate (pieces - count % pieces) (count / pieces))
+shared_ends pieces count = run_ends_from 0 (replicate (count % pieces) (count / pieces + 1) ++ replicate (pieces - count % pieces) (count / pieces))
 
 some_each : (p c : ℕ) → 0 < p → p ≤ c → 0 < c / p
 some_each p c some few = le-div 1 c p some (let e = one-mul p in omega (arith, e, few))
@@ -64,10 +64,10 @@ shared_are_ends p c some few =
     let middle = 0 + a * (r + 1) in
     let below : a < p = mod_below c p some in
     let whole : middle + (p - a) * r ≡ c = two_lengths p a r c (omega (arith, below)) (div-add-mod' c p) in
-    let second : AreEnds middle c (ends_from middle (replicate (p - a) r)) =
-    subst (AreEnds middle c) (append-nil (ends_from middle (replicate (p - a) r))) (runs_are_ends middle (p - a) r c [] (some_each p c some few) whole) in
+    let second : AreEnds middle c (run_ends_from middle (replicate (p - a) r)) =
+    subst (AreEnds middle c) (append-nil (run_ends_from middle (replicate (p - a) r))) (runs_are_ends middle (p - a) r c [] (some_each p c some few) whole) in
     subst (AreEnds 0 c) (sym (ends_of_runs-append 0 a (r + 1) (replicate (p - a) r)))
-    (runs_are_ends 0 a (r + 1) c (ends_from middle (replicate (p - a) r)) (omega arith) second)
+    (runs_are_ends 0 a (r + 1) c (run_ends_from middle (replicate (p - a) r)) (omega arith) second)
 
 shared_none : shared_ends 0 0 ≡ []
 unfolding shared_ends
@@ -85,7 +85,7 @@ static_are_ends w zero some = subst (AreEnds 0 0) (sym (static_none w)) refl
 static_are_ends w (suc c) some = subst (AreEnds 0 (suc c)) (sym (static_is w (suc c))) (shared_are_ends (min w (suc c)) (suc c) (omega (arith, some)) (omega arith))
 
 -- how many pieces
-length-ends_from : (s : ℕ) (ns : List ℕ) → length (ends_from s ns) ≡ length ns
+length-ends_from : (s : ℕ) (ns : List ℕ) → length (run_ends_from s ns) ≡ length ns
 length-ends_from s [] = refl
 length-ends_from s (n ∷ ns) = ap suc (length-ends_from (s + n) ns)
 
@@ -107,7 +107,7 @@ length-static_ends w (suc c) some = ap length (static_is w (suc c)) ∙ length-s
 
 -- runs of one length
 equal_ends : (run count : ℕ) → List ℕ
-equal_ends run count = ends_from 0 (replicate (count / run) run ++ rest_of (count % run))
+equal_ends run count = run_ends_from 0 (replicate (count / run) run ++ rest_of (count % run))
 
 equal_are_ends : (r c : ℕ) → 0 < r → AreEnds 0 c (equal_ends r c)
 unfolding equal_ends
@@ -116,7 +116,7 @@ equal_are_ends r c some =
     let last = 0 + q * r in
     let whole : last + c % r ≡ c = (let e = div-add-mod' c r in omega (arith, e)) in
     subst (AreEnds 0 c) (sym (ends_of_runs-append 0 q r (rest_of (c % r))))
-    (runs_are_ends 0 q r c (ends_from last (rest_of (c % r))) some (rest_are_ends last (c % r) c whole))
+    (runs_are_ends 0 q r c (run_ends_from last (rest_of (c % r))) some (rest_are_ends last (c % r) c whole))
 
 equal_none : equal_ends 0 0 ≡ []
 unfolding equal_ends
@@ -148,31 +148,31 @@ dynamic_are_ends w (suc c) some =
 parts_after : (before first second both part after : List ℕ) → part ≡ before ++ first → after ≡ part ++ second → first ++ second ≡ both → after ≡ before ++ both
 parts_after before first second both part after d e f = e ∙ ap (λ es. es ++ second) d ∙ append_assoc before first second ∙ ap (λ es. before ++ es) f
 
-shared_is : (p c : ℕ) → ends_from 0 (replicate (c % p) (c / p + 1) ++ replicate (p - c % p) (c / p)) ≡ shared_ends p c
+shared_is : (p c : ℕ) → run_ends_from 0 (replicate (c % p) (c / p + 1) ++ replicate (p - c % p) (c / p)) ≡ shared_ends p c
 unfolding shared_ends
 shared_is p c = refl
 
 pub static_in_parts : (w c p middle : ℕ) (before part after : List ℕ) → p ≡ min w c → middle ≡ 0 + c % p * (c / p + 1)
-    → part ≡ before ++ ends_from 0 (replicate (c % p) (c / p + 1)) → after ≡ part ++ ends_from middle (replicate (p - c % p) (c / p)) → after ≡ before ++ static_ends w c
+    → part ≡ before ++ run_ends_from 0 (replicate (c % p) (c / p + 1)) → after ≡ part ++ run_ends_from middle (replicate (p - c % p) (c / p)) → after ≡ before ++ static_ends w c
 static_in_parts w c p middle before part after least at d e =
     let a = c % p in
     let r = c / p in
-    parts_after before (ends_from 0 (replicate a (r + 1))) (ends_from middle (replicate (p - a) r)) (static_ends w c) part after d e
-    (ap (λ k. ends_from 0 (replicate a (r + 1)) ++ ends_from k (replicate (p - a) r)) at
+    parts_after before (run_ends_from 0 (replicate a (r + 1))) (run_ends_from middle (replicate (p - a) r)) (static_ends w c) part after d e
+    (ap (λ k. run_ends_from 0 (replicate a (r + 1)) ++ run_ends_from k (replicate (p - a) r)) at
     ∙ sym (ends_of_runs-append 0 a (r + 1) (replicate (p - a) r))
     ∙ shared_is p c
     ∙ ap (λ k. shared_ends k c) least
     ∙ sym (static_is w c))
 
-equal_is : (r c : ℕ) → ends_from 0 (replicate (c / r) r ++ rest_of (c % r)) ≡ equal_ends r c
+equal_is : (r c : ℕ) → run_ends_from 0 (replicate (c / r) r ++ rest_of (c % r)) ≡ equal_ends r c
 unfolding equal_ends
 equal_is r c = refl
 
 pub dynamic_in_parts : (w c r last : ℕ) (before part after : List ℕ) → r ≡ div_ceil c (4 * w) → last ≡ 0 + c / r * r
-    → part ≡ before ++ ends_from 0 (replicate (c / r) r) → after ≡ part ++ ends_from last (rest_of (c % r)) → after ≡ before ++ dynamic_ends w c
+    → part ≡ before ++ run_ends_from 0 (replicate (c / r) r) → after ≡ part ++ run_ends_from last (rest_of (c % r)) → after ≡ before ++ dynamic_ends w c
 dynamic_in_parts w c r last before part after run at d e =
-    parts_after before (ends_from 0 (replicate (c / r) r)) (ends_from last (rest_of (c % r))) (dynamic_ends w c) part after d e
-    (ap (λ k. ends_from 0 (replicate (c / r) r) ++ ends_from k (rest_of (c % r))) at
+    parts_after before (run_ends_from 0 (replicate (c / r) r)) (run_ends_from last (rest_of (c % r))) (dynamic_ends w c) part after d e
+    (ap (λ k. run_ends_from 0 (replicate (c / r) r) ++ run_ends_from k (rest_of (c % r))) at
     ∙ sym (ends_of_runs-append 0 (c / r) r (rest_of (c % r)))
     ∙ equal_is r c
     ∙ ap (λ k. equal_ends k c) run

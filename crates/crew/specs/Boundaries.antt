@@ -6,9 +6,9 @@ use Rattle.apply_options.specs.declared.apply_schedule.Parallelization.TheVarian
 use Rattle.crew.specs.Limits.{limited_ends, weight}
 
 -- the ends of runs that have so many vertices each
-abbrev pub ends_from : (start : ℕ) → (lengths : List ℕ) → List ℕ
-ends_from start [] = []
-ends_from start (n ∷ ns) = (start + n) ∷ ends_from (start + n) ns
+abbrev pub run_ends_from : (start : ℕ) → (lengths : List ℕ) → List ℕ
+run_ends_from start [] = []
+run_ends_from start (n ∷ ns) = (start + n) ∷ run_ends_from (start + n) ns
 
 -- what is left over, where something is
 abbrev pub rest_of : ℕ → List ℕ
@@ -16,20 +16,20 @@ rest_of n = if n == 0 then [] else n ∷ []
 
 -- all in one piece
 abbrev pub serial_ends : (count : ℕ) → List ℕ
-serial_ends count = ends_from 0 (rest_of count)
+serial_ends count = run_ends_from 0 (rest_of count)
 
 -- a piece for each worker, where there is a vertex for each; the first ones have one vertex more than the others
 abbrev pub static_ends : (workers count : ℕ) → List ℕ
 static_ends workers count =
     let pieces = min workers count in
     let longer = count % pieces in
-    ends_from 0 (replicate longer (count / pieces + 1) ++ replicate (pieces - longer) (count / pieces))
+    run_ends_from 0 (replicate longer (count / pieces + 1) ++ replicate (pieces - longer) (count / pieces))
 
 -- so many vertices as make four pieces for each worker, and what is left over
 abbrev pub dynamic_ends : (workers count : ℕ) → List ℕ
 dynamic_ends workers count =
     let run = div_ceil count (4 * workers) in
-    ends_from 0 (replicate (count / run) run ++ rest_of (count % run))
+    run_ends_from 0 (replicate (count / run) run ++ rest_of (count % run))
 
 -- as many vertices as have with their edges a part of all that makes four for each worker
 abbrev pub edge_aware_ends : (workers : ℕ) → (degrees : List ℕ) → List ℕ

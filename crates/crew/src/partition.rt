@@ -1,7 +1,7 @@
 //! Partition: where the pieces of some work end.
 ghost use Rattle.std.specs.Prelude.{◌≡◌, ℕ, ◌+◌, ◌-◌, ◌*◌, ◌^◌, ◌<◌, ◌≤◌, [], ◌++◌, length, replicate, IfOk, OnOk};
 ghost use Rattle.apply_options.specs.declared.apply_schedule.Parallelization.TheVariants.{EdgeAwareDynamicVertex};
-ghost use Rattle.crew.specs.Boundaries.{dynamic_ends, boundaries, ends_from, rest_of, static_ends};
+ghost use Rattle.crew.specs.Boundaries.{dynamic_ends, boundaries, run_ends_from, rest_of, static_ends};
 ghost use Rattle.crew.specs.Partition.{AreEnds, end_of};
 
 use crate::degree_list::{DegreeList, ListedDegrees};
@@ -155,7 +155,7 @@ fn push_runs(
     run: usize,
 ) -> Result<usize, AllocError>
     requires { start + runs * run < 2 ^ 64 }
-    ensures ends { OnOk result (ends.new.items ≡ ends.old.items ++ ends_from start (replicate runs run)) }
+    ensures ends { OnOk result (ends.new.items ≡ ends.old.items ++ run_ends_from start (replicate runs run)) }
     ensures last { IfOk result (λ e. e ≡ start + runs * run) }
 {
     let mut end = start;
@@ -169,7 +169,7 @@ fn push_runs(
 /// Adds the end of what is left over, where something is.
 fn push_rest(ends: &mut Vec<usize>, start: usize, rest: usize) -> Result<(), AllocError>
     requires { start + rest < 2 ^ 64 }
-    ensures { OnOk result (ends.new.items ≡ ends.old.items ++ ends_from start (rest_of rest)) }
+    ensures { OnOk result (ends.new.items ≡ ends.old.items ++ run_ends_from start (rest_of rest)) }
 {
     if rest > 0 {
         ends.push(start + rest)?;

@@ -12,12 +12,12 @@ use Rattle.std.proofs.lemmas.Fmt.{digits_decimal, digits_value-decimal, decimal_
 use Rattle.std.proofs.lemmas.List.{drop_more, take-append-drop, take_more}
 use Rattle.std.proofs.lemmas.Nat.{pow-add}
 use Rattle.std.proofs.lemmas.Str.Parse.{IsNumeralModel, numerals_by_weight, tells_all_ascii_digits}
-use Rattle.decimal.specs.Numbers.{value_of, number_of, integer_of, IsReadBack}
+use Rattle.decimal.specs.Numbers.{digits_number, number_of, integer_of, IsReadBack}
 use Rattle.decimal.specs.Digits.{BeginsWithDigits, AreLeadingDigits}
 
 -- the words of this crate are std's words for digits and their value
-pub digits_model : IsNumeralModel (λ ds. all_ascii_digits ds ≡ true) value_of
-digits_model = numerals_by_weight _ tells_all_ascii_digits value_of (search rules)
+pub digits_model : IsNumeralModel (λ ds. all_ascii_digits ds ≡ true) digits_number
+digits_model = numerals_by_weight _ tells_all_ascii_digits digits_number (search rules)
 
 -- two words of digits make one
 pub all_ascii_digits-append : (xs ys : List ℕ) → all_ascii_digits (xs ++ ys) ≡ (all_ascii_digits xs && all_ascii_digits ys)
@@ -25,7 +25,7 @@ all_ascii_digits-append [] ys = refl
 all_ascii_digits-append (x ∷ xs) ys = grind (arith, all_ascii_digits-append xs ys)
 
 -- digits that follow others shift those by as many places
-pub value_of-append : (xs ys : List ℕ) → value_of (xs ++ ys) ≡ value_of xs * 10 ^ length ys + value_of ys
+pub value_of-append : (xs ys : List ℕ) → digits_number (xs ++ ys) ≡ digits_number xs * 10 ^ length ys + digits_number ys
 value_of-append [] ys = omega arith
 value_of-append (x ∷ xs) ys =
     let shift : 10 ^ (length xs + length ys) ≡ 10 ^ length xs * 10 ^ length ys = pow-add 10 (length xs) (length ys) in
@@ -37,25 +37,25 @@ pub digits_more : (bytes : List ℕ) (i : ℕ) → i < length bytes → all_asci
 digits_more bytes i within digits digit =
     rw (take_more bytes i 0 within, all_ascii_digits-append) (grind arith)
 
-pub value_more : (bytes : List ℕ) (i : ℕ) → i < length bytes → value_of (take (i + 1) bytes) ≡ value_of (take i bytes) * 10 + (get_or bytes i 0 - 48)
+pub value_more : (bytes : List ℕ) (i : ℕ) → i < length bytes → digits_number (take (i + 1) bytes) ≡ digits_number (take i bytes) * 10 + (get_or bytes i 0 - 48)
 value_more bytes i within =
-    ap value_of (take_more bytes i 0 within) ∙ value_of-append (take i bytes) (get_or bytes i 0 ∷ []) ∙ omega arith
+    ap digits_number (take_more bytes i 0 within) ∙ value_of-append (take i bytes) (get_or bytes i 0 ∷ []) ∙ omega arith
 
 -- zeros before a word change neither that it is digits nor their value
 all_ascii_digits-zeros : (n : ℕ) (word : List ℕ) → all_ascii_digits (replicate n 48 ++ word) ≡ all_ascii_digits word
 all_ascii_digits-zeros zero word = refl
 all_ascii_digits-zeros (suc n) word = all_ascii_digits-zeros n word
 
-value_of-zeros : (n : ℕ) (word : List ℕ) → value_of (replicate n 48 ++ word) ≡ value_of word
+value_of-zeros : (n : ℕ) (word : List ℕ) → digits_number (replicate n 48 ++ word) ≡ digits_number word
 value_of-zeros zero word = refl
 value_of-zeros (suc n) word = omega (arith, value_of-zeros n word)
 
 -- the number of a word whose bytes are known to be digits
-pub number_of-digits : (limit : ℕ) (word : List ℕ) → 0 < length word → all_ascii_digits word ≡ true → value_of word < limit → number_of limit word ≡ Some (value_of word)
+pub number_of-digits : (limit : ℕ) (word : List ℕ) → 0 < length word → all_ascii_digits word ≡ true → digits_number word < limit → number_of limit word ≡ Some (digits_number word)
 number_of-digits limit word some digits small = grind arith
 
 -- a word is no number where it stands for the limit or more, or has another byte than digits
-pub number_of-large : (limit : ℕ) (word : List ℕ) → limit ≤ value_of word → number_of limit word ≡ None
+pub number_of-large : (limit : ℕ) (word : List ℕ) → limit ≤ digits_number word → number_of limit word ≡ None
 number_of-large limit word large = grind arith
 
 pub number_of-other : (limit b : ℕ) (front rest : List ℕ) → is_ascii_digit b ≡ false → number_of limit (front ++ b ∷ rest) ≡ None
@@ -64,12 +64,13 @@ number_of-other limit b front rest other =
     grind arith
 
 -- more digits stand for no less
-pub value_of-longer : (limit : ℕ) (front rest : List ℕ) → limit ≤ value_of front → limit ≤ value_of (front ++ rest)
+pub value_of-longer : (limit : ℕ) (front rest : List ℕ) → limit ≤ digits_number front → limit ≤ digits_number (front ++ rest)
 value_of-longer limit front rest large =
-    omega (arith, value_of-append front rest, mul-le-mul_left (value_of front) (one-le-pow (length rest) 10 (omega arith)))
+    omega (arith, value_of-append front rest, mul-le-mul_left (digits_number front) (one-le-pow (length rest) 10 (omega arith)))
 
 -- a word of digits that stands for n is read as n, after any zeros
-number_of-zeros : (limit n : ℕ) (word : List ℕ) → n < limit → all_ascii_digits word ≡ true → value_of word ≡ n → 0 < length word → (zeros : ℕ) → number_of limit (replicate zeros 48 ++ word) ≡ Some n
+number_of-zeros : (limit n : ℕ) (word : List ℕ) → n < limit → all_ascii_digits word ≡ true → digits_number word ≡ n → 0 < length word → (zeros : ℕ)
+    → number_of limit (replicate zeros 48 ++ word) ≡ Some n
 number_of-zeros limit n word below digits value some zeros =
     number_of-digits limit (replicate zeros 48 ++ word)
     (omega (arith, length-append (replicate zeros 48) word))
@@ -83,7 +84,7 @@ decimal-IsReadBack limit n below wide =
     number_of-zeros limit n (decimal n) below (digits_decimal digits_model n wide) (digits_value-decimal digits_model n wide) (decimal_nonempty n wide)
 
 -- one digit more takes the number to 2 ^ 64 or past it
-pub too_large : (bytes : List ℕ) (i number : ℕ) → i < length bytes → BeginsWithDigits bytes i × (value_of (take i bytes) ≡ number) → is_ascii_digit (get_or bytes i 0) ≡ true
+pub too_large : (bytes : List ℕ) (i number : ℕ) → i < length bytes → BeginsWithDigits bytes i × (digits_number (take i bytes) ≡ number) → is_ascii_digit (get_or bytes i 0) ≡ true
     → 2 ^ 64 ≤ number * 10 + (get_or bytes i 0 - 48) → AreLeadingDigits bytes None
 too_large bytes i number within front digit large = (
   i + 1,
@@ -94,7 +95,7 @@ too_large bytes i number within front digit large = (
 -- a word that begins with digits for 2 ^ 64 or more is no number below it
 pub number_of-overflow : (word : List ℕ) → AreLeadingDigits word None → number_of (2 ^ 64) word ≡ None
 number_of-overflow word (len, begins, large) =
-    number_of-large (2 ^ 64) word (subst (λ bytes. 2 ^ 64 ≤ value_of bytes) (take-append-drop len word) (value_of-longer (2 ^ 64) (take len word) (drop len word) large))
+    number_of-large (2 ^ 64) word (subst (λ bytes. 2 ^ 64 ≤ digits_number bytes) (take-append-drop len word) (value_of-longer (2 ^ 64) (take len word) (drop len word) large))
 
 -- nor is one with another byte after its digits
 pub number_of-ended : (limit : ℕ) (word : List ℕ) (len : ℕ) → len < length word → is_ascii_digit (get_or word len 0) ≡ false → number_of limit word ≡ None

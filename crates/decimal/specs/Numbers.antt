@@ -5,15 +5,15 @@ use Rattle.std.specs.Option.{option_map}
 use Rattle.std.specs.Str.{all_ascii_digits}
 
 -- what digits stand for, the most significant first; the digit 0 is byte 48
-abbrev pub value_of : List ℕ → ℕ
-value_of [] = 0
-value_of (digit ∷ digits) = (digit - 48) * 10 ^ length digits + value_of digits
+abbrev pub digits_number : List ℕ → ℕ
+digits_number [] = 0
+digits_number (digit ∷ digits) = (digit - 48) * 10 ^ length digits + digits_number digits
 
 -- the number that one or more digits stand for, where it is below the limit
 abbrev pub number_of : ℕ → List ℕ → Option ℕ
 number_of limit word =
-    if nat_lt 0 (length word) && all_ascii_digits word && nat_lt (value_of word) limit
-    then Some (value_of word)
+    if nat_lt 0 (length word) && all_ascii_digits word && nat_lt (digits_number word) limit
+    then Some (digits_number word)
     else None
 
 -- the digits of n are read as n, whatever zeros stand before them

@@ -5,7 +5,7 @@ use Rattle.std.specs.declared.io.Error.{Error}
 use Rattle.algorithm_meaning.specs.ProgramTree.{ProgramTree}
 use Rattle.scripts.specs.Script.{Input, Written}
 use Rattle.races.specs.RaceScript.{Order, ReadsScript, order_of, MayOpen, RefusesRace}
-use Rattle.races.specs.Race.{IsRace, MayRun, has_faulted}
+use Rattle.races.specs.Race.{IsRace, MayRun, race_has_faulted}
 use Rattle.races.specs.RaceText.{TakesBeginning, race_text}
 use Rattle.races.specs.declared.error.RaceError.{RaceError}
 use Rattle.races.specs.declared.error.RaceScriptError.{RaceScriptError}
@@ -49,7 +49,7 @@ pub record TellsRace (holds : List ℕ → List ℕ → Type 0) (script : List �
   pub is_race : IsRaceOf holds script names workers turns race
   pub bytes_written : after.bytes_written ≡ before.bytes_written ++ race_text race
   pub quiet : after.failures ≡ before.failures
-  pub fault : faulted ≡ has_faulted race
+  pub fault : faulted ≡ race_has_faulted race
 
 -- memory ran out and the writer did not fail, or it failed in this call
 abbrev pub EndsWriting : Written → Written → ServeError → Type 0

@@ -21,15 +21,15 @@ use Rattle.driver.specs.declared.error.ServeError.{ServeError}
 use Rattle.driver.specs.declared.error.ServeError.TheVariants.{WriteFailed}
 
 -- the end of a script, with the errors of this crate
-abbrev pub end_of : Result Bool ScriptError → Result Bool ServeError
-end_of (Ok faulted) = Ok faulted
-end_of (Err e) = Err (of_script e)
+abbrev pub script_end_of : Result Bool ScriptError → Result Bool ServeError
+script_end_of (Ok faulted) = Ok faulted
+script_end_of (Err e) = Err (of_script e)
 
 -- the standard input was run as a script without programs, which ended so
 pub record RunsInput (old new : Input) (before after : Written) (ended : Result Bool ServeError) : Type 0 where
   pub script_ended : Result Bool ScriptError
   pub runs : RunsScript [] old new before after script_ended
-  pub ending : ended ≡ end_of script_ended
+  pub ending : ended ≡ script_end_of script_ended
 
 -- what is written of a program that compiles: `ok` and a line feed (10)
 abbrev pub ok_line : List ℕ
@@ -95,7 +95,7 @@ pub record RunsScriptOf (holds : List ℕ → List ℕ → Type 0) (script : Lis
   pub held : holds script text
   pub script_ended : Result Bool ScriptError
   pub runs : RunsText programs text before after script_ended
-  pub ending : ended ≡ end_of script_ended
+  pub ending : ended ≡ script_end_of script_ended
 
 -- no script was run, and nothing was written, since some file has no program, or that of the script cannot be read
 pub record RunsNone (holds : List ℕ → List ℕ → Type 0) (fails : List ℕ → Error → Type 0) (script : List ℕ) (names : List (List ℕ)) (before after : Written)
@@ -116,7 +116,7 @@ pub record RunsStreamOf (holds : List ℕ → List ℕ → Type 0) (names : List
   pub compiled : HoldPrograms holds names programs
   pub script_ended : Result Bool ScriptError
   pub runs : RunsScript programs old new before after script_ended
-  pub ending : ended ≡ end_of script_ended
+  pub ending : ended ≡ script_end_of script_ended
 
 -- nothing was read from the standard input or written, since some file has no program
 pub record RunsNoStream (holds : List ℕ → List ℕ → Type 0) (fails : List ℕ → Error → Type 0) (names : List (List ℕ)) (old new : Input) (before after : Written)

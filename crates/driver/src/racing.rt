@@ -1,7 +1,7 @@
 //! Races of programs in files, beside the commits of a script in a file.
 
 ghost use Rattle.std.specs.Prelude.{◌≡◌, IfOk, map};
-ghost use Rattle.scripts.specs.Script.{bytes_written_by};
+ghost use Rattle.scripts.specs.Script.{taken_by_writer};
 ghost use Rattle.driver.specs.Endings.{of_race, of_race_script};
 ghost use Rattle.driver.specs.Racing.{RacesFiles};
 ghost use Rattle.driver.specs.inside.Racing.{ReadsFile};
@@ -46,8 +46,8 @@ pub(crate) fn race_files<'a, T: Threads + Wait + Sync, F: Files, W: Drain>(
 ) -> Result<bool, ServeError<'a>>
     ensures { RacesFiles (F.may_hold files.now) (F.may_fail files.now) names.entry.script.now (map (λ p. p.now) names.entry.programs.names.now)
         bounds.workers bounds.turns
-        (bytes_written_by (W.bytes_written out.old) (W.failures out.old))
-        (bytes_written_by (W.bytes_written out.new) (W.failures out.new)) result }
+        (taken_by_writer (W.bytes_written out.old) (W.failures out.old))
+        (taken_by_writer (W.bytes_written out.new) (W.failures out.new)) result }
 {
     let compiled = compiled_files(alloc, names.programs.names, files)?;
     let order = read_script(alloc, names.script, files)?;

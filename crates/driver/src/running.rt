@@ -1,7 +1,7 @@
 //! A command line, done.
 
 ghost use Rattle.std.specs.Prelude.{◌≡◌, map};
-ghost use Rattle.scripts.specs.Script.{input as input_of, bytes_written_by};
+ghost use Rattle.scripts.specs.Script.{input as input_of, taken_by_writer};
 ghost use Rattle.driver.specs.Endings.{refusal_status_of};
 ghost use Rattle.driver.specs.Serving.{Runs};
 
@@ -31,8 +31,8 @@ pub fn run<T: AllocGlobal + Threads + Wait + Sync, F: Files, R: Feed, W: Drain, 
     ensures { Runs (F.may_hold files.now) (F.may_fail files.now) (map (λ w. w.now) words.entry.now)
         (input_of (R.bytes_read input.old) (R.ended input.old) (R.failures input.old))
         (input_of (R.bytes_read input.new) (R.ended input.new) (R.failures input.new))
-        (bytes_written_by (W.bytes_written out.old) (W.failures out.old))
-        (bytes_written_by (W.bytes_written out.new) (W.failures out.new)) result.0 }
+        (taken_by_writer (W.bytes_written out.old) (W.failures out.old))
+        (taken_by_writer (W.bytes_written out.new) (W.failures out.new)) result.0 }
 {
     let alloc = rt.alloc();
     match request(alloc, words) {

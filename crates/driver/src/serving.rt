@@ -3,9 +3,9 @@
 ghost use Rattle.std.specs.Prelude.{◌≡◌, map, IfOk};
 ghost use Rattle.crew.specs.Outcome.{AreWorkers};
 ghost use Rattle.driver.specs.inside.Programs.{ShowsMeaning};
-ghost use Rattle.scripts.specs.Script.{input as input_of, bytes_written_by, RunsScript};
+ghost use Rattle.scripts.specs.Script.{input as input_of, taken_by_writer, RunsScript};
 ghost use Rattle.driver.specs.inside.Reading.{CompilesFile, CompilesFiles};
-ghost use Rattle.driver.specs.Serving.{end_of, ChecksFile, PrintsPlan, RunsFiles, RunsInput, RunsStream, Serves};
+ghost use Rattle.driver.specs.Serving.{script_end_of, ChecksFile, PrintsPlan, RunsFiles, RunsInput, RunsStream, Serves};
 
 use crate::compiled_plan::CompiledPlan;
 use crate::error::ServeError;
@@ -53,8 +53,8 @@ pub fn serve<T: Threads + Wait + Sync, F: Files, R: Feed, W: Drain, E: Drain>(
     ensures { Serves (F.may_hold files.now) (F.may_fail files.now) request.now
         (input_of (R.bytes_read input.old) (R.ended input.old) (R.failures input.old))
         (input_of (R.bytes_read input.new) (R.ended input.new) (R.failures input.new))
-        (bytes_written_by (W.bytes_written out.old) (W.failures out.old))
-        (bytes_written_by (W.bytes_written out.new) (W.failures out.new)) result.0 }
+        (taken_by_writer (W.bytes_written out.old) (W.failures out.old))
+        (taken_by_writer (W.bytes_written out.new) (W.failures out.new)) result.0 }
 {
     let first_fault = &FirstFault::new();
     let refused = &RefusedLines::new();
@@ -120,8 +120,8 @@ fn run_input<'a, T: Threads + Sync, R: Feed, W: Drain>(
     ensures { RunsInput
         (input_of (R.bytes_read input.old) (R.ended input.old) (R.failures input.old))
         (input_of (R.bytes_read input.new) (R.ended input.new) (R.failures input.new))
-        (bytes_written_by (W.bytes_written out.old) (W.failures out.old))
-        (bytes_written_by (W.bytes_written out.new) (W.failures out.new)) result.0 }
+        (taken_by_writer (W.bytes_written out.old) (W.failures out.old))
+        (taken_by_writer (W.bytes_written out.new) (W.failures out.new)) result.0 }
 {
     let first_fault = &FirstFault::new();
     let refused = &RefusedLines::new();
@@ -139,7 +139,7 @@ fn run_input<'a, T: Threads + Sync, R: Feed, W: Drain>(
 
 // The end of a script, with the errors of requests.
 fn ended_as<'a>(ended: Result<bool, ScriptError>) -> Result<bool, ServeError<'a>>
-    ensures { result ≡ end_of ended }
+    ensures { result ≡ script_end_of ended }
 {
     match ended {
         Ok(faulted) => Ok(faulted),
@@ -155,8 +155,8 @@ fn check_file<'a, F: Files, W: Drain>(
     out: &mut W,
 ) -> Result<bool, ServeError<'a>>
     ensures { ChecksFile (F.may_hold files.now file.entry.now) (F.may_fail files.now file.entry.now) file.entry.now
-        (bytes_written_by (W.bytes_written out.old) (W.failures out.old))
-        (bytes_written_by (W.bytes_written out.new) (W.failures out.new)) result }
+        (taken_by_writer (W.bytes_written out.old) (W.failures out.old))
+        (taken_by_writer (W.bytes_written out.new) (W.failures out.new)) result }
 {
     drop(compiled_file(alloc, file, files)?);
     match write_all(out, OK_LINE) {
@@ -173,8 +173,8 @@ fn print_plan<'a, F: Files, W: Drain>(
     out: &mut W,
 ) -> Result<bool, ServeError<'a>>
     ensures { PrintsPlan (F.may_hold files.now file.entry.now) (F.may_fail files.now file.entry.now) file.entry.now
-        (bytes_written_by (W.bytes_written out.old) (W.failures out.old))
-        (bytes_written_by (W.bytes_written out.new) (W.failures out.new)) result }
+        (taken_by_writer (W.bytes_written out.old) (W.failures out.old))
+        (taken_by_writer (W.bytes_written out.new) (W.failures out.new)) result }
 {
     let plan = compiled_file(alloc, file, files)?;
     let text = lowering::write(alloc, &plan)?;
@@ -194,8 +194,8 @@ fn run_files<'a, T: Threads + Sync, F: Files, W: Drain>(
     out: &mut W,
 ) -> (Result<bool, ServeError<'a>>, Option<ScriptState>)
     ensures { RunsFiles (F.may_hold files.now) (F.may_fail files.now) script.entry.now (map (λ p. p.now) programs.entry.names.now)
-        (bytes_written_by (W.bytes_written out.old) (W.failures out.old))
-        (bytes_written_by (W.bytes_written out.new) (W.failures out.new)) result.0 }
+        (taken_by_writer (W.bytes_written out.old) (W.failures out.old))
+        (taken_by_writer (W.bytes_written out.new) (W.failures out.new)) result.0 }
 {
     let plans = match compiled_files(alloc, programs.names, files) {
         Ok(plans) => plans,
@@ -231,8 +231,8 @@ fn run_stream<'a, T: Threads + Sync, F: Files, R: Feed, W: Drain>(
     ensures { RunsStream (F.may_hold files.now) (F.may_fail files.now) (map (λ p. p.now) programs.entry.names.now)
         (input_of (R.bytes_read input.old) (R.ended input.old) (R.failures input.old))
         (input_of (R.bytes_read input.new) (R.ended input.new) (R.failures input.new))
-        (bytes_written_by (W.bytes_written out.old) (W.failures out.old))
-        (bytes_written_by (W.bytes_written out.new) (W.failures out.new)) result.0 }
+        (taken_by_writer (W.bytes_written out.old) (W.failures out.old))
+        (taken_by_writer (W.bytes_written out.new) (W.failures out.new)) result.0 }
 {
     let compiled = match compiled_files(alloc, programs.names, files) {
         Ok(compiled) => compiled,

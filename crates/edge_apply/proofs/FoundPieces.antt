@@ -8,7 +8,7 @@ use Rattle.kernels.specs.State.{StateValue}
 use Rattle.crew.specs.declared.piece_results.Found.{Found}
 use Rattle.crew.specs.Pieces.{pieces_of}
 use Rattle.edge_fold.specs.declared.gathered.Gathered.{Gathered}
-use Rattle.edge_fold.specs.Gathered.{AreAscending, AreGathered}
+use Rattle.edge_fold.specs.Gathered.{AllAreNonDescending, AreGathered}
 use Rattle.edge_apply.specs.Pieces.{EachAscending, EachGathered}
 
 -- what is found of one piece more
@@ -28,7 +28,7 @@ pub next_piece : (edges_of : ℕ → List Edge) (fs : List (Found Gathered)) (i 
 next_piece edges_of fs i f l is =
     sym (ap (λ gs. flat_map edges_of (pieces_of gs)) (take_more fs i f l ∙ ap (λ (g : Found Gathered). take i fs ++ g ∷ []) (sym is)) ∙ pieces_of-push edges_of (take i fs) f)
 
-pub ascending_at : (fs : List (Found Gathered)) (i : ℕ) (f : Found Gathered) → EachAscending fs → i < length fs → f ≡ get_or fs i f → AreAscending f.out.vectors.items
+pub ascending_at : (fs : List (Found Gathered)) (i : ℕ) (f : Found Gathered) → EachAscending fs → i < length fs → f ≡ get_or fs i f → AllAreNonDescending f.out.vectors.items
 ascending_at [] i f each l is = absurd (omega (arith, l))
-ascending_at (g ∷ fs) zero f each l is = subst (λ (h : Found Gathered). AreAscending h.out.vectors.items) (sym is) each.0
+ascending_at (g ∷ fs) zero f each l is = subst (λ (h : Found Gathered). AllAreNonDescending h.out.vectors.items) (sym is) each.0
 ascending_at (g ∷ fs) (suc i) f each l is = ascending_at fs i f each.1 (omega (arith, l)) is

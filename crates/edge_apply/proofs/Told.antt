@@ -12,7 +12,7 @@ use Rattle.kernels.specs.Value.{entry}
 use Rattle.vectors.specs.declared.changes.EntryChange.{EntryChange}
 use Rattle.crew.specs.Partition.{AreEnds, end_of}
 use Rattle.edge_fold.specs.Changed.{change_at, changed, changed_from}
-use Rattle.edge_fold.specs.Gathered.{is_between}
+use Rattle.edge_fold.specs.Gathered.{is_in_range}
 use Rattle.kernels.specs.EdgeApply.{after_edges}
 use Rattle.edge_fold.specs.Contributions.{all_given, given_on, reduced_at}
 use Rattle.edge_fold.proofs.Ascending.{within_test}
@@ -61,7 +61,7 @@ changed_alike old a b v (suc n) same =
     ap (λ (y : ℤ). change_at old (λ _. y) v ++ changed_from old a (v + 1) n) (same v (omega arith) (omega arith))
     ∙ ap (λ cs. change_at old b v ++ cs) (changed_alike old a b (v + 1) n (λ u l k. same u (omega (arith, l)) (omega (arith, k))))
 
-outside_test : (low high v : ℕ) → (v < low) ⊎ (high ≤ v) → is_between low high v ≡ false
+outside_test : (low high v : ℕ) → (v < low) ⊎ (high ≤ v) → is_in_range low high v ≡ false
 outside_test low high v out = grind (arith, nat_tests)
 
 three_ranges : (old new : ℕ → ℤ) (low high n : ℕ) → low ≤ high → high ≤ n
@@ -77,7 +77,7 @@ three_ranges old new low high n l k =
     ∙ ap (λ s. changed_from old new low (high - low) ++ changed_from old new s (n - high)) second)
 
 -- where the entries stay but in a range, the changes are those of the range
-pub only_range : (old part new : ℕ → ℤ) (low high n : ℕ) → low ≤ high → high ≤ n → ((v : ℕ) → v < n → part v ≡ cond (is_between low high v) (new v) (old v))
+pub only_range : (old part new : ℕ → ℤ) (low high n : ℕ) → low ≤ high → high ≤ n → ((v : ℕ) → v < n → part v ≡ cond (is_in_range low high v) (new v) (old v))
     → changed n old part ≡ changed_from old new low (high - low)
 only_range old part new low high n l k is =
     let out = λ (v : ℕ) (b : v < n) (o : (v < low) ⊎ (high ≤ v)). is v b ∙ ap (λ (c : Bool). cond c (new v) (old v)) (outside_test low high v o) in
@@ -91,7 +91,7 @@ only_range old part new low high n l k is =
 -- an apply to the edges to the vertices of a range changes what one to all edges changes there
 pub changed_between : (n low high x : ℕ) (r : Reduction) (m : StateValue) (steps : List FunctionStatementsTree) (es : List Edge) → IsGivenBy r x steps m.sets m.vectors
     → n ≤ length (slice_index_or m.vectors x []) → low ≤ high → high ≤ n
-    → changed n (entry m.vectors x) (entry (after_edges steps m.sets m.vectors (filter (λ e. is_between low high e.1) es) m.vectors) x)
+    → changed n (entry m.vectors x) (entry (after_edges steps m.sets m.vectors (filter (λ e. is_in_range low high e.1) es) m.vectors) x)
     ≡ changed_from (entry m.vectors x) (entry (after_edges steps m.sets m.vectors es m.vectors) x) low (high - low)
 changed_between n low high x r m steps es by long l k =
     let old = entry m.vectors x in
@@ -99,8 +99,8 @@ changed_between n low high x r m steps es by long l k =
     let reached = λ (v : ℕ). reduced_at r v (old v) (given_on x (all_given m steps) es) in
     let all = λ (v : ℕ) (b : v < n). entries_after r x v m steps (λ _. true) es by (omega (arith, b, long))
     ∙ ap (λ (fs : List Edge). entry (after_edges steps m.sets m.vectors fs m.vectors) x v) (filter_all (λ _. true) es (λ e. refl)) in
-    only_range old (entry (after_edges steps m.sets m.vectors (filter (λ e. is_between low high e.1) es) m.vectors) x) new low high n l k
-    (λ v b. sym (entries_after r x v m steps (is_between low high) es by (omega (arith, b, long))) ∙ ap (λ (y : ℤ). cond (is_between low high v) y (old v)) (all v b))
+    only_range old (entry (after_edges steps m.sets m.vectors (filter (λ e. is_in_range low high e.1) es) m.vectors) x) new low high n l k
+    (λ v b. sym (entries_after r x v m steps (is_in_range low high) es by (omega (arith, b, long))) ∙ ap (λ (y : ℤ). cond (is_in_range low high v) y (old v)) (all v b))
 
 -- an apply to edges that give vertices the same
 pub changed_by_alike : (n x : ℕ) (r : Reduction) (m : StateValue) (steps : List FunctionStatementsTree) (es fs : List Edge) → IsGivenBy r x steps m.sets m.vectors

@@ -5,7 +5,7 @@ use Rattle.kernels.specs.FunctionStatementTree.{FunctionStatementsTree}
 use Rattle.kernels.specs.State.{StateValue}
 use Rattle.crew.specs.declared.piece_results.Found.{Found}
 use Rattle.edge_fold.specs.declared.gathered.Gathered.{Gathered}
-use Rattle.edge_fold.specs.Gathered.{AreAscending, AreGathered}
+use Rattle.edge_fold.specs.Gathered.{AllAreNonDescending, AreGathered}
 
 -- what is found of pieces is what these edges give
 abbrev pub EachGathered : (vertices : ℕ) → StateValue → List FunctionStatementsTree → (edges_of : ℕ → List Edge) → List (Found Gathered) → Type 0
@@ -15,4 +15,4 @@ EachGathered n m steps edges_of (f ∷ fs) = AreGathered n m steps (edges_of f.p
 -- the numbers that each piece gave stand by ascending vertices
 abbrev pub EachAscending : List (Found Gathered) → Type 0
 EachAscending [] = Unit {0}
-EachAscending (f ∷ fs) = AreAscending f.out.vectors.items × EachAscending fs
+EachAscending (f ∷ fs) = AllAreNonDescending f.out.vectors.items × EachAscending fs

@@ -6,7 +6,7 @@ ghost use Rattle.crew.specs.Pieces.{pieces_of};
 ghost use Rattle.kernels.specs.FunctionStatementTree.{FunctionStatementsTree};
 ghost use Rattle.kernels.specs.State.{StateValue};
 ghost use Rattle.edge_fold.specs.Folded.{IsContextOf, HasFolded};
-ghost use Rattle.edge_fold.specs.Gathered.{is_between};
+ghost use Rattle.edge_fold.specs.Gathered.{is_in_range};
 ghost use Rattle.edge_apply.specs.Pieces.{EachAscending, EachGathered};
 
 use crew::Found;
@@ -51,7 +51,7 @@ pub(crate) fn join_between(
     ensures { OnOk result ((m : StateValue) (steps : List FunctionStatementsTree) (edges_of : ℕ → List Edge) → EachAscending found.now
         → EachGathered context.entry.vertices m steps edges_of found.now
         → HasFolded context.entry m steps [] scratch.old → HasFolded context.entry m steps
-        (filter (λ e. is_between low high e.1) (flat_map edges_of (pieces_of found.now))) scratch.new) }
+        (filter (λ e. is_in_range low high e.1) (flat_map edges_of (pieces_of found.now))) scratch.new) }
 {
     'found: for one in found {
         let part = one.out.between(alloc, low, high)?;

@@ -1,7 +1,7 @@
 //! Tests of vertices in the bits of a set, where each vertex has a weight.
 ghost use Rattle.std.specs.Prelude.{◌≡◌, ◌≤◌, length, take};
 ghost use Rattle.std.specs.List.{filter};
-ghost use Rattle.edge_fold.specs.Contributions.{entries_of};
+ghost use Rattle.edge_fold.specs.Contributions.{weighted_entries};
 ghost use Rattle.edge_apply.specs.Words.{is_set, passes_words};
 
 use crate::members::is_set;
@@ -20,8 +20,8 @@ pub fn keep_members_weighted(
     ensures few { result ≤ count }
     ensures room { length block.new ≡ length block.old }
     ensures weights_room { length weights.new ≡ length weights.old }
-    ensures kept { entries_of (take result block.new) (take result weights.new)
-        ≡ filter (λ e. passes_words words.entry e.0) (entries_of (take count block.old) (take count weights.old)) }
+    ensures kept { weighted_entries (take result block.new) (take result weights.new)
+        ≡ filter (λ e. passes_words words.entry e.0) (weighted_entries (take count block.old) (take count weights.old)) }
 {
     match words {
         None => count,
@@ -37,8 +37,8 @@ fn keep_set_weighted(words: &[u64], block: &mut [u32], weights: &mut [i64], coun
     ensures few { result ≤ count }
     ensures room { length block.new ≡ length block.old }
     ensures weights_room { length weights.new ≡ length weights.old }
-    ensures kept { entries_of (take result block.new) (take result weights.new)
-        ≡ filter (λ e. is_set words.now e.0) (entries_of (take count block.old) (take count weights.old)) }
+    ensures kept { weighted_entries (take result block.new) (take result weights.new)
+        ≡ filter (λ e. is_set words.now e.0) (weighted_entries (take count block.old) (take count weights.old)) }
 {
     let mut kept = 0usize;
     'positions: for position in 0..count {

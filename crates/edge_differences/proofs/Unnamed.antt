@@ -6,7 +6,7 @@ use Rattle.std.proofs.lemmas.List.Folds.{list_any-append}
 use Rattle.std.specs.List.{filter}
 use Rattle.weighted_edges.specs.Edge.{Edge}
 use Rattle.tree_batch.specs.declared.batch.Entry.{Entry}
-use Rattle.tree_batch.specs.Edge.{Ends, IsAscending, Rises, all_ends, ends_eq, ends_of, index, weight_in, NoneNames, is_between, misfits, named_by, vertices_after, weight_after}
+use Rattle.tree_batch.specs.Edge.{Ends, IsAscending, EdgesRise, all_ends, ends_eq, ends_of, index, weight_in, NoneNames, is_between, misfits, named_by, vertices_after, weight_after}
 use Rattle.tree_batch.specs.Digraph.{Digraph, IsDigraph, graph_after, graph_through}
 use Rattle.tree_batch.proofs.AllEdges.{after_within, are_among, digraph_after, few_vertices, in_all, rises_all, weight_in-weighed}
 use Rattle.tree_batch.proofs.Deciding.{count_after, none_decides}
@@ -74,12 +74,12 @@ weights_stay g (batch ∷ batches) p ok fit off =
 abbrev unlisted : List Ends → Edge → Bool
 unlisted listed e = not (is_listed listed e.0 e.1)
 
-rises_kept : (listed : List Ends) (low high : ℕ) (e : Edge) (es : List Edge) (b : Bool) → low ≤ index (ends_of e) → e.1 < 2 ^ 32 → Rises (index (ends_of e) + 1) high es
-    → Rises low high (cond b (e ∷ es) es)
+rises_kept : (listed : List Ends) (low high : ℕ) (e : Edge) (es : List Edge) (b : Bool) → low ≤ index (ends_of e) → e.1 < 2 ^ 32 → EdgesRise (index (ends_of e) + 1) high es
+    → EdgesRise low high (cond b (e ∷ es) es)
 rises_kept listed low high e es true from small up = (from, small, up)
 rises_kept listed low high e es false from small up = rises_from (index (ends_of e) + 1) low high es (omega (arith, from)) up
 
-rises_unlisted : (listed : List Ends) (low high : ℕ) (es : List Edge) → Rises low high es → Rises low high (filter (unlisted listed) es)
+rises_unlisted : (listed : List Ends) (low high : ℕ) (es : List Edge) → EdgesRise low high es → EdgesRise low high (filter (unlisted listed) es)
 rises_unlisted listed low high [] up = up
 rises_unlisted listed low high (e ∷ es) up =
     rises_kept listed low high e (filter (unlisted listed) es) (unlisted listed e) up.0 up.1

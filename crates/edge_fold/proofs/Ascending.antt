@@ -13,7 +13,7 @@ use Rattle.vectors.specs.declared.changes.EntryChange.{EntryChange}
 use Rattle.vertex_marks.specs.Marks.{is_marked}
 use Rattle.edge_fold.specs.declared.accumulator.Accumulator.{Accumulator}
 use Rattle.edge_fold.specs.declared.gathered.GatheredIn.{GatheredIn}
-use Rattle.edge_fold.specs.Gathered.{AreAscending, IsAscending, gathered_for, is_between, numbers_of}
+use Rattle.edge_fold.specs.Gathered.{AllAreNonDescending, IsNonDescending, gathered_for, is_in_range, given_numbers}
 use Rattle.edge_fold.specs.inside.Gathered.{number_at}
 use Rattle.edge_fold.specs.Contributions.{reduced_at}
 use Rattle.edge_fold.proofs.Folds.{reduced_at-append}
@@ -21,7 +21,7 @@ use Rattle.edge_fold.proofs.Gathering.{gathered_for-push, numbers_of-append}
 
 -- the vertices do not fall, and the last is below one
 pub record AscendBelow (next : ℕ) (cs : List EntryChange) : Type 0 where
-  pub ascending : IsAscending cs
+  pub ascending : IsNonDescending cs
   pub below : (d : EntryChange) → 0 < length cs → (get_or cs (length cs - 1) d).vertex < next
 
 pub no_numbers : (next : ℕ) (cs : List EntryChange) → cs ≡ [] → AscendBelow next cs
@@ -49,11 +49,11 @@ pub ascends_more : (a : Accumulator) (next v : ℕ) (cs ds : List EntryChange) �
 ascends_more a next v cs ds l e was =
     subst (λ es. AscendBelow (v + 1) es) (sym e) (ascends_at (is_marked a.marks v) next v (get_or a.values.items v (pos 0)) cs l was)
 
-pub ascending_push : (gs : List GatheredIn) (g : GatheredIn) → AreAscending gs → IsAscending g.numbers.items → AreAscending (gs ++ g ∷ [])
+pub ascending_push : (gs : List GatheredIn) (g : GatheredIn) → AllAreNonDescending gs → IsNonDescending g.numbers.items → AllAreNonDescending (gs ++ g ∷ [])
 ascending_push [] g all own = (own, tt)
 ascending_push (f ∷ fs) g all own = (all.0, ascending_push fs g all.1 own)
 
-pub ascending_at : (gs : List GatheredIn) (i : ℕ) (d : GatheredIn) → AreAscending gs → i < length gs → IsAscending (get_or gs i d).numbers.items
+pub ascending_at : (gs : List GatheredIn) (i : ℕ) (d : GatheredIn) → AllAreNonDescending gs → i < length gs → IsNonDescending (get_or gs i d).numbers.items
 ascending_at [] i d all l = absurd (omega (arith, l))
 ascending_at (g ∷ gs) zero d all l = all.0
 ascending_at (g ∷ gs) (suc i) d all l = ascending_at gs i d all.1 (omega (arith, l))
@@ -62,37 +62,37 @@ ascending_at (g ∷ gs) (suc i) d all l = ascending_at gs i d all.1 (omega (arit
 apart_test : (m n : ℕ) → m ≢ n → (m == n) ≡ false
 apart_test m n other = grind (arith, nat_tests)
 
-skipped : (r : Reduction) (v : ℕ) (h : ℤ) (cs : List EntryChange) → ((i : ℕ) (d : EntryChange) → i < length cs → (get_or cs i d).vertex ≢ v) → reduced_at r v h (numbers_of cs) ≡ h
+skipped : (r : Reduction) (v : ℕ) (h : ℤ) (cs : List EntryChange) → ((i : ℕ) (d : EntryChange) → i < length cs → (get_or cs i d).vertex ≢ v) → reduced_at r v h (given_numbers cs) ≡ h
 skipped r v h [] other = refl
 skipped r v h (c ∷ cs) other =
-    ap (λ (b : Bool). reduced_at r v (cond b (reduced r h c.number) h) (numbers_of cs)) (apart_test c.vertex v (other 0 c (omega arith)))
+    ap (λ (b : Bool). reduced_at r v (cond b (reduced r h c.number) h) (given_numbers cs)) (apart_test c.vertex v (other 0 c (omega arith)))
     ∙ skipped r v h cs (λ i d l. other (suc i) d (omega (arith, l)))
 
-inside_test : (low high v : ℕ) → is_between low high v ≡ true → (low ≤ v) × (v < high)
+inside_test : (low high v : ℕ) → is_in_range low high v ≡ true → (low ≤ v) × (v < high)
 inside_test low high v is = (grind (arith, nat_tests), grind (arith, nat_tests))
 
-pub within_test : (low high k : ℕ) → low ≤ k → k < high → is_between low high k ≡ true
+pub within_test : (low high k : ℕ) → low ≤ k → k < high → is_in_range low high k ≡ true
 within_test low high k l b = grind (arith, nat_tests)
 
 -- those of a range are between those before it and those after it
 abbrev Stand : (P : ℕ → Type 0) → List EntryChange → Type 0
 Stand P cs = (i : ℕ) (d : EntryChange) → i < length cs → P (get_or cs i d).vertex
 
-between_at : (r : Reduction) (low high v : ℕ) (h : ℤ) (front part back : List EntryChange) (b : Bool) → is_between low high v ≡ b
+between_at : (r : Reduction) (low high v : ℕ) (h : ℤ) (front part back : List EntryChange) (b : Bool) → is_in_range low high v ≡ b
     → Stand (λ k. k < low) front → Stand (λ k. low ≤ k) part → Stand (λ k. k < high) part → Stand (λ k. high ≤ k) back
-    → reduced_at r v h (numbers_of part) ≡ cond b (reduced_at r v h (numbers_of (front ++ (part ++ back)))) h
+    → reduced_at r v h (given_numbers part) ≡ cond b (reduced_at r v h (given_numbers (front ++ (part ++ back)))) h
 between_at r low high v h front part back true is before from to behind =
     let inside = inside_test low high v is in
     let under = inside.0 in
     let over = inside.1 in
     sym (ap (λ gs. reduced_at r v h gs) (numbers_of-append front (part ++ back))
-    ∙ reduced_at-append r v h (numbers_of front) (numbers_of (part ++ back))
-    ∙ ap (λ (n : ℤ). reduced_at r v n (numbers_of (part ++ back))) (skipped r v h front (λ i d l e. let less = before i d l in omega (arith, less, under, e)))
+    ∙ reduced_at-append r v h (given_numbers front) (given_numbers (part ++ back))
+    ∙ ap (λ (n : ℤ). reduced_at r v n (given_numbers (part ++ back))) (skipped r v h front (λ i d l e. let less = before i d l in omega (arith, less, under, e)))
     ∙ ap (λ gs. reduced_at r v h gs) (numbers_of-append part back)
-    ∙ reduced_at-append r v h (numbers_of part) (numbers_of back)
-    ∙ skipped r v (reduced_at r v h (numbers_of part)) back (λ i d l e. let more = behind i d l in omega (arith, more, over, e)))
+    ∙ reduced_at-append r v h (given_numbers part) (given_numbers back)
+    ∙ skipped r v (reduced_at r v h (given_numbers part)) back (λ i d l e. let more = behind i d l in omega (arith, more, over, e)))
 between_at r low high v h front part back false is before from to behind =
-    skipped r v h part (λ i d l e. false≢true (sym is ∙ ap (is_between low high) (sym e) ∙ within_test low high (get_or part i d).vertex (from i d l) (to i d l)))
+    skipped r v h part (λ i d l e. false≢true (sym is ∙ ap (is_in_range low high) (sym e) ∙ within_test low high (get_or part i d).vertex (from i d l) (to i d l)))
 
 front_stands : (P : ℕ → Type 0) (cs : List EntryChange) (n : ℕ) → ((k : ℕ) (d : EntryChange) → 0 ≤ k → k < n → P (get_or cs k d).vertex) → Stand P (take n cs)
 front_stands P cs n all i d l =
@@ -112,7 +112,7 @@ back_stands P cs n all i d l =
 
 pub range_of_numbers : (r : Reduction) (low high v : ℕ) (h : ℤ) (cs : List EntryChange) (i j : ℕ) → IsPartitionPoint (λ c. c.vertex < low) (λ c. low ≤ c.vertex) cs i
     → IsPartitionPoint (λ c. c.vertex < high) (λ c. high ≤ c.vertex) (drop i cs) j
-    → reduced_at r v h (numbers_of (take j (drop i cs))) ≡ cond (is_between low high v) (reduced_at r v h (numbers_of cs)) h
+    → reduced_at r v h (given_numbers (take j (drop i cs))) ≡ cond (is_in_range low high v) (reduced_at r v h (given_numbers cs)) h
 range_of_numbers r low high v h cs i j first second =
     let front = take i cs in
     let rest = drop i cs in
@@ -120,12 +120,12 @@ range_of_numbers r low high v h cs i j first second =
     let back = drop j rest in
     let from = back_stands (λ k. low ≤ k) cs i first.1 in
     let whole : front ++ (part ++ back) ≡ cs = ap (λ ds. front ++ ds) (take-append-drop j rest) ∙ take-append-drop i cs in
-    between_at r low high v h front part back (is_between low high v) refl
+    between_at r low high v h front part back (is_in_range low high v) refl
     (front_stands (λ k. k < low) cs i first.0)
     (front_of (λ k. low ≤ k) rest j from)
     (front_stands (λ k. k < high) rest j second.0)
     (back_stands (λ k. high ≤ k) rest j second.1)
-    ∙ ap (λ ds. cond (is_between low high v) (reduced_at r v h (numbers_of ds)) h) whole
+    ∙ ap (λ ds. cond (is_in_range low high v) (reduced_at r v h (given_numbers ds)) h) whole
 
 -- one vector more, of which the range is taken
 part_at : (r : Reduction) (v : ℕ) (h y z : ℤ) (ns ms : List (ℕ × ℤ)) (b q : Bool) → y ≡ cond b z h → ((n : ℤ) → reduced_at r v n ns ≡ cond b (reduced_at r v n ms) n)
@@ -136,11 +136,11 @@ part_at r v h y z ns ms b false was part = was
 
 pub part_more : (r : Reduction) (x v : ℕ) (h : ℤ) (b : Bool) (fs gs : List GatheredIn) (f g : GatheredIn) → f.vector ≡ g.vector
     → reduced_at r v h (gathered_for x fs) ≡ cond b (reduced_at r v h (gathered_for x gs)) h
-    → ((n : ℤ) → reduced_at r v n (numbers_of f.numbers.items) ≡ cond b (reduced_at r v n (numbers_of g.numbers.items)) n)
+    → ((n : ℤ) → reduced_at r v n (given_numbers f.numbers.items) ≡ cond b (reduced_at r v n (given_numbers g.numbers.items)) n)
     → reduced_at r v h (gathered_for x (fs ++ f ∷ [])) ≡ cond b (reduced_at r v h (gathered_for x (gs ++ g ∷ []))) h
 part_more r x v h b fs gs f g own was part =
-    let ns = numbers_of f.numbers.items in
-    let ms = numbers_of g.numbers.items in
+    let ns = given_numbers f.numbers.items in
+    let ms = given_numbers g.numbers.items in
     let y = reduced_at r v h (gathered_for x fs) in
     let z = reduced_at r v h (gathered_for x gs) in
     ap (λ hs. reduced_at r v h hs) (gathered_for-push x fs f)

@@ -10,7 +10,7 @@ use Rattle.algorithm_meaning.specs.Arithmetic.{reduced}
 use Rattle.algorithm_meaning.proofs.Reductions.{reductions}
 use Rattle.edge_fold.specs.declared.apply_context.SourceContribution.{SourceContribution}
 use Rattle.edge_fold.specs.Between.{firsts}
-use Rattle.edge_fold.specs.Contributions.{column, entries_of, for_vector, given_on, pairs, reduced_at}
+use Rattle.edge_fold.specs.Contributions.{column, weighted_entries, numbers_for_vector, given_on, pairs, reduced_at}
 use Rattle.edge_fold.specs.inside.Contributions.{each_given}
 use Rattle.edge_fold.specs.inside.ReducedContributions.{IsReducedTo, IsReducedContribution, numbers_given}
 use Rattle.edge_fold.specs.ReducedContributions.{reduced_with}
@@ -47,7 +47,7 @@ given_by_column : (x y d : ℕ) (r : Reduction) (number : ℕ → ℤ) (g : Edge
     → given_on x g (column d es) ≡ cond (y == x) (numbers_given number d (firsts es)) []
 given_by_column x y d r number g same [] = nothing_either (y == x) [] refl
 given_by_column x y d r number g same (e ∷ es) =
-    ap (λ (gs : List (ℕ × Reduction × ℤ)). for_vector x d gs ++ given_on x g (column d es)) (same e.0 d e.1)
+    ap (λ (gs : List (ℕ × Reduction × ℤ)). numbers_for_vector x d gs ++ given_on x g (column d es)) (same e.0 d e.1)
     ∙ one_for y x d (number e.0) (y == x) (numbers_given number d (firsts es)) (given_on x g (column d es)) (given_by_column x y d r number g same es)
 
 pub equal : (m n : ℕ) → (m == n) ≡ true → m ≡ n
@@ -74,14 +74,14 @@ column_parts d first rest all es whole =
     append_assoc es (column d first) (column d rest)
     ∙ ap (λ fs. es ++ fs) (sym (map-append (λ e. (e.0, d, e.1)) first rest) ∙ ap (column d) whole)
 
-pairs-column : (d : ℕ) (ss : List ℕ) (ws : List ℤ) → pairs ss (replicate (length ss) d) ws ≡ column d (entries_of ss ws)
+pairs-column : (d : ℕ) (ss : List ℕ) (ws : List ℤ) → pairs ss (replicate (length ss) d) ws ≡ column d (weighted_entries ss ws)
 pairs-column d [] ws = refl
 pairs-column d (s ∷ ss) [] = ap (λ es. (s, d, unit_weight) ∷ es) (pairs-column d ss [])
 pairs-column d (s ∷ ss) (w ∷ ws) = ap (λ es. (s, d, w) ∷ es) (pairs-column d ss ws)
 
 -- the first indices of lists after more were written after them
 pub waiting_into : (d n k : ℕ) (ss ts ys zs us : List ℕ) → n ≤ length ss → n ≤ length ts → length zs ≡ length us → zs ≡ replicate (length us) d → ys ≡ us
-    → pairs (take (n + length us) (put_mid n k ss ys)) (take (n + length us) (put_mid n k ts zs)) [] ≡ pairs (take n ss) (take n ts) [] ++ column d (entries_of us [])
+    → pairs (take (n + length us) (put_mid n k ss ys)) (take (n + length us) (put_mid n k ts zs)) [] ≡ pairs (take n ss) (take n ts) [] ++ column d (weighted_entries us [])
 waiting_into d n k ss ts ys zs us l m long filled copied =
     let even : length ys ≡ length us = ap length copied in
     let sources = take-put_mid n k ss ys (n + length us) (omega (arith, even)) l ∙ ap (λ xs. take n ss ++ xs) copied in
@@ -93,7 +93,7 @@ waiting_into d n k ss ts ys zs us l m long filled copied =
 pub weighted_into : (d n k : ℕ) (ss ts ys zs us : List ℕ) (qs vs ws : List ℤ) → n ≤ length ss → n ≤ length ts → n ≤ length qs → length ws ≡ length us → length zs ≡ length us
     → zs ≡ replicate (length us) d → ys ≡ us → vs ≡ ws
     → pairs (take (n + length us) (put_mid n k ss ys)) (take (n + length us) (put_mid n k ts zs)) (take (n + length us) (put_mid n k qs vs)) ≡ pairs (take n ss) (take n ts) (take n qs)
-    ++ column d (entries_of us ws)
+    ++ column d (weighted_entries us ws)
 weighted_into d n k ss ts ys zs us qs vs ws l m o same long filled copied weighed =
     let even : length ys ≡ length us = ap length copied in
     let level : length vs ≡ length us = ap length weighed ∙ same in

@@ -13,7 +13,7 @@ use Rattle.kernels.specs.Kernels.{IsEdgeKernel}
 use Rattle.edge_fold.specs.Between.{firsts}
 use Rattle.edge_fold.specs.Folded.{AreKernels}
 use Rattle.edge_fold.specs.inside.Contributions.{each_given, given_from}
-use Rattle.edge_fold.specs.Contributions.{entries_of, for_vector, given_on, pairs, reduced_at, row}
+use Rattle.edge_fold.specs.Contributions.{weighted_entries, numbers_for_vector, given_on, pairs, reduced_at, row}
 use Rattle.edge_fold.proofs.Folds.{for_vector-append, given_on-append, reduced_at-append, reduced_at-swap}
 
 -- what a block's pairs are given, by the pairs
@@ -29,25 +29,26 @@ paired x gives g k [] [] ws same at = refl
 paired x gives g k [] (d ∷ ds) ws same at = absurd (omega (arith, same))
 paired x gives g k (s ∷ ss) [] ws same at = absurd (omega (arith, same))
 paired x gives g k (s ∷ ss) (d ∷ ds) [] same at =
-    ap (λ (gs : List (ℕ × Reduction × ℤ)). for_vector x d gs ++ given_from x gives (k + 1) ds) (ap gives (sym (first_index k)) ∙ at 0 (omega arith))
-    ∙ ap (λ (gs : List (ℕ × ℤ)). for_vector x d (g (s, d, unit_weight)) ++ gs)
+    ap (λ (gs : List (ℕ × Reduction × ℤ)). numbers_for_vector x d gs ++ given_from x gives (k + 1) ds) (ap gives (sym (first_index k)) ∙ at 0 (omega arith))
+    ∙ ap (λ (gs : List (ℕ × ℤ)). numbers_for_vector x d (g (s, d, unit_weight)) ++ gs)
     (paired x gives g (k + 1) ss ds [] (omega (arith, same)) (λ i l. ap gives (next_index k i) ∙ at (suc i) (omega (arith, l))))
 paired x gives g k (s ∷ ss) (d ∷ ds) (w ∷ ws) same at =
-    ap (λ (gs : List (ℕ × Reduction × ℤ)). for_vector x d gs ++ given_from x gives (k + 1) ds) (ap gives (sym (first_index k)) ∙ at 0 (omega arith))
-    ∙ ap (λ (gs : List (ℕ × ℤ)). for_vector x d (g (s, d, w)) ++ gs) (paired x gives g (k + 1) ss ds ws (omega (arith, same)) (λ i l. ap gives (next_index k i) ∙ at (suc i) (omega (arith, l))))
+    ap (λ (gs : List (ℕ × Reduction × ℤ)). numbers_for_vector x d gs ++ given_from x gives (k + 1) ds) (ap gives (sym (first_index k)) ∙ at 0 (omega arith))
+    ∙ ap (λ (gs : List (ℕ × ℤ)). numbers_for_vector x d (g (s, d, w)) ++ gs) (paired x gives g (k + 1) ss ds ws (omega (arith, same))
+    (λ i l. ap gives (next_index k i) ∙ at (suc i) (omega (arith, l))))
 
 -- what two functions give may be given in two rounds
 pub on_in_rounds : (r : Reduction) (v x : ℕ) (n : ℤ) (a b : Edge → List (ℕ × Reduction × ℤ)) (es : List Edge)
     → reduced_at r v n (given_on x (λ e. a e ++ b e) es) ≡ reduced_at r v (reduced_at r v n (given_on x a es)) (given_on x b es)
 on_in_rounds r v x n a b [] = refl
 on_in_rounds r v x n a b (e ∷ es) =
-    let A = for_vector x e.1 (a e) in
-    let B = for_vector x e.1 (b e) in
+    let A = numbers_for_vector x e.1 (a e) in
+    let B = numbers_for_vector x e.1 (b e) in
     let more_a = given_on x a es in
     let more_b = given_on x b es in
     let more = given_on x (λ k. a k ++ b k) es in
     let m = reduced_at r v n A in
-    reduced_at-append r v n (for_vector x e.1 (a e ++ b e)) more
+    reduced_at-append r v n (numbers_for_vector x e.1 (a e ++ b e)) more
     ∙ ap (λ (gs : List (ℕ × ℤ)). reduced_at r v (reduced_at r v n gs) more) (for_vector-append x e.1 (a e) (b e))
     ∙ ap (λ (y : ℤ). reduced_at r v y more) (reduced_at-append r v n A B)
     ∙ on_in_rounds r v x (reduced_at r v m B) a b es
@@ -58,8 +59,8 @@ on_in_rounds r v x n a b (e ∷ es) =
 pub on_same : (x : ℕ) (a b : Edge → List (ℕ × Reduction × ℤ)) → ((e : Edge) → a e ≡ b e) → (es : List Edge) → given_on x a es ≡ given_on x b es
 on_same x a b same [] = refl
 on_same x a b same (e ∷ es) =
-    ap (λ (gs : List (ℕ × Reduction × ℤ)). for_vector x e.1 gs ++ given_on x a es) (same e)
-    ∙ ap (λ (gs : List (ℕ × ℤ)). for_vector x e.1 (b e) ++ gs) (on_same x a b same es)
+    ap (λ (gs : List (ℕ × Reduction × ℤ)). numbers_for_vector x e.1 gs ++ given_on x a es) (same e)
+    ∙ ap (λ (gs : List (ℕ × ℤ)). numbers_for_vector x e.1 (b e) ++ gs) (on_same x a b same es)
 
 -- edges that come after
 pub fold_more : (r : Reduction) (v x : ℕ) (h o : ℤ) (g : Edge → List (ℕ × Reduction × ℤ)) (ws es more : List Edge)
@@ -95,7 +96,7 @@ pub contribution_row : (x y source : ℕ) (r : Reduction) (n : ℤ) (g : Edge �
     → given_on x g (row source es) ≡ cond (y == x) (each_given n (firsts es)) []
 contribution_row x y source r n g same [] = nothing_either n (y == x)
 contribution_row x y source r n g same (e ∷ es) =
-    ap (λ (gs : List (ℕ × Reduction × ℤ)). for_vector x e.0 gs ++ given_on x g (row source es)) (same e.0 e.1)
+    ap (λ (gs : List (ℕ × Reduction × ℤ)). numbers_for_vector x e.0 gs ++ given_on x g (row source es)) (same e.0 e.1)
     ∙ one_for x y r n e.0 (firsts es) (y == x) (given_on x g (row source es)) (contribution_row x y source r n g same es)
 
 -- one function, or two
@@ -145,7 +146,7 @@ pairs-append (k ∷ ks) [] ws cs ds vs e f = absurd (omega (arith, e))
 pairs-append (k ∷ ks) (l ∷ ls) [] cs ds vs e f = absurd (omega (arith, f))
 pairs-append (k ∷ ks) (l ∷ ls) (w ∷ ws) cs ds vs e f = ap (λ es. (k, l, w) ∷ es) (pairs-append ks ls ws cs ds vs (omega (arith, e)) (omega (arith, f)))
 
-pub pairs-replicate : (s : ℕ) (ds : List ℕ) (ws : List ℤ) → pairs (replicate (length ds) s) ds ws ≡ row s (entries_of ds ws)
+pub pairs-replicate : (s : ℕ) (ds : List ℕ) (ws : List ℤ) → pairs (replicate (length ds) s) ds ws ≡ row s (weighted_entries ds ws)
 pairs-replicate s [] ws = refl
 pairs-replicate s (d ∷ ds) [] = ap (λ es. (s, d, unit_weight) ∷ es) (pairs-replicate s ds [])
 pairs-replicate s (d ∷ ds) (w ∷ ws) = ap (λ es. (s, d, w) ∷ es) (pairs-replicate s ds ws)
@@ -158,7 +159,7 @@ row_parts s first rest all es whole =
 
 -- the first indices of lists after more were written after them
 pub waiting_more : (s n k : ℕ) (ss ts ys zs ds : List ℕ) → n ≤ length ss → n ≤ length ts → length ys ≡ length ds → ys ≡ replicate (length ds) s → zs ≡ ds
-    → pairs (take (n + length ds) (put_mid n k ss ys)) (take (n + length ds) (put_mid n k ts zs)) [] ≡ pairs (take n ss) (take n ts) [] ++ row s (entries_of ds [])
+    → pairs (take (n + length ds) (put_mid n k ss ys)) (take (n + length ds) (put_mid n k ts zs)) [] ≡ pairs (take n ss) (take n ts) [] ++ row s (weighted_entries ds [])
 waiting_more s n k ss ts ys zs ds l m long filled copied =
     let even : length zs ≡ length ds = ap length copied in
     let sources = take-put_mid n k ss ys (n + length ds) (omega (arith, long)) l ∙ ap (λ xs. take n ss ++ xs) filled in
@@ -170,7 +171,7 @@ waiting_more s n k ss ts ys zs ds l m long filled copied =
 pub weighted_more : (s n k : ℕ) (ss ts ys zs ds : List ℕ) (qs vs ws : List ℤ) → n ≤ length ss → n ≤ length ts → n ≤ length qs → length ws ≡ length ds → length ys ≡ length ds
     → ys ≡ replicate (length ds) s → zs ≡ ds → vs ≡ ws
     → pairs (take (n + length ds) (put_mid n k ss ys)) (take (n + length ds) (put_mid n k ts zs)) (take (n + length ds) (put_mid n k qs vs)) ≡ pairs (take n ss) (take n ts) (take n qs)
-    ++ row s (entries_of ds ws)
+    ++ row s (weighted_entries ds ws)
 weighted_more s n k ss ts ys zs ds qs vs ws l m o same long filled copied weighed =
     let even : length zs ≡ length ds = ap length copied in
     let level : length vs ≡ length ds = ap length weighed ∙ same in

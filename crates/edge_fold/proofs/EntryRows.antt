@@ -7,7 +7,7 @@ use Rattle.algorithm_meaning.specs.Arithmetic.{reduced}
 use Rattle.edge_fold.specs.declared.apply_context.SourceContribution.{SourceContribution}
 use Rattle.edge_fold.specs.inside.EntryNumbers.{IsEntryContribution, IsReducedOver, each_weighed, entry_numbers_given}
 use Rattle.edge_fold.specs.EntryNumbers.{reduced_over}
-use Rattle.edge_fold.specs.Contributions.{column, entries_of, for_vector, given_on, reduced_at, row}
+use Rattle.edge_fold.specs.Contributions.{column, weighted_entries, numbers_for_vector, given_on, reduced_at, row}
 use Rattle.edge_fold.specs.inside.Contributions.{each_given}
 use Rattle.edge_fold.proofs.Columns.{equal, grouped, joined_at, nothing_either, one_for}
 
@@ -28,7 +28,7 @@ pub weighed_row : (x y source : ℕ) (r : Reduction) (number : ℤ → ℤ) (g :
     → given_on x g (row source es) ≡ cond (y == x) (each_weighed number es) []
 weighed_row x y source r number g same [] = nothing_either (y == x) [] refl
 weighed_row x y source r number g same (e ∷ es) =
-    ap (λ (gs : List (ℕ × Reduction × ℤ)). for_vector x e.0 gs ++ given_on x g (row source es)) (same e.0 e.1)
+    ap (λ (gs : List (ℕ × Reduction × ℤ)). numbers_for_vector x e.0 gs ++ given_on x g (row source es)) (same e.0 e.1)
     ∙ one_for y x e.0 (number e.1) (y == x) (each_weighed number es) (given_on x g (row source es)) (weighed_row x y source r number g same es)
 
 -- a column's numbers, reduced to one before they are joined
@@ -39,19 +39,19 @@ over_first r f d v h n (e ∷ es) =
     ∙ ap (λ (y : ℤ). reduced_at r v y (entry_numbers_given f d es)) (grouped r h n (f e.0 e.1) (d == v))
 
 pub is_reduced_over : (r : Reduction) (f : ℕ → ℤ → ℤ) (s : ℕ) (w : ℤ) (all ss : List ℕ) (weights ws : List ℤ) (n first : ℤ) → all ≡ s ∷ ss → weights ≡ w ∷ ws → first ≡ f s w
-    → n ≡ reduced_over r f first (entries_of ss ws)
-    → IsReducedOver r f (entries_of all weights) n
+    → n ≡ reduced_over r f first (weighted_entries ss ws)
+    → IsReducedOver r f (weighted_entries all weights) n
 is_reduced_over r f s w all ss weights ws n first whole weighed begins is d v h =
-    ap (λ (y : ℤ). reduced_at r v h ((d, y) ∷ [])) (is ∙ ap (λ (y : ℤ). reduced_over r f y (entries_of ss ws)) begins)
-    ∙ over_first r f d v h (f s w) (entries_of ss ws)
-    ∙ sym (ap (λ (us : List ℕ). reduced_at r v h (entry_numbers_given f d (entries_of us weights))) whole
-    ∙ ap (λ (qs : List ℤ). reduced_at r v h (entry_numbers_given f d (entries_of (s ∷ ss) qs))) weighed)
+    ap (λ (y : ℤ). reduced_at r v h ((d, y) ∷ [])) (is ∙ ap (λ (y : ℤ). reduced_over r f y (weighted_entries ss ws)) begins)
+    ∙ over_first r f d v h (f s w) (weighted_entries ss ws)
+    ∙ sym (ap (λ (us : List ℕ). reduced_at r v h (entry_numbers_given f d (weighted_entries us weights))) whole
+    ∙ ap (λ (qs : List ℤ). reduced_at r v h (entry_numbers_given f d (weighted_entries (s ∷ ss) qs))) weighed)
 
 weighed_column : (x y d : ℕ) (r : Reduction) (number : ℕ → ℤ → ℤ) (g : Edge → List (ℕ × Reduction × ℤ)) → ((s d : ℕ) (w : ℤ) → g (s, d, w) ≡ (y, r, number s w) ∷ []) → (es : List (ℕ × ℤ))
     → given_on x g (column d es) ≡ cond (y == x) (entry_numbers_given number d es) []
 weighed_column x y d r number g same [] = nothing_either (y == x) [] refl
 weighed_column x y d r number g same (e ∷ es) =
-    ap (λ (gs : List (ℕ × Reduction × ℤ)). for_vector x d gs ++ given_on x g (column d es)) (same e.0 d e.1)
+    ap (λ (gs : List (ℕ × Reduction × ℤ)). numbers_for_vector x d gs ++ given_on x g (column d es)) (same e.0 d e.1)
     ∙ one_for y x d (number e.0 e.1) (y == x) (entry_numbers_given number d es) (given_on x g (column d es)) (weighed_column x y d r number g same es)
 
 -- to join what is sent is to join what the edges of a column give

@@ -8,7 +8,7 @@ use Rattle.algorithm_meaning.specs.Arithmetic.{reduced}
 use Rattle.edge_fold.specs.declared.apply_context.FoldStart.{FoldStart}
 use Rattle.edge_fold.specs.inside.Contributions.{each_given}
 use Rattle.edge_fold.specs.Contributions.{reduced_at}
-use Rattle.edge_fold.specs.FoldStarts.{combined}
+use Rattle.edge_fold.specs.FoldStarts.{combined_with_seed}
 use Rattle.edge_fold.proofs.Entries.{joined_again}
 use Rattle.edge_fold.proofs.JoinedSlots.{combined_more}
 
@@ -39,11 +39,12 @@ given_first r n ds k u v now next more at is =
     ap (λ (y : ℤ). reduced_at r v y (each_given n (drop (k + 1) ds))) is ∙ sym (ap (λ (gs : List (ℕ × ℤ)). reduced_at r v now gs) (given_more n ds k u more at))
 
 -- to combine with a number and reduce with all that is given, in either order
-combined_once : (s : FoldStart) (r : Reduction) (h y n : ℤ) (b : Bool) → cond b (reduced r (combined s r h y) n) (combined s r h y) ≡ combined s r h (cond b (reduced r y n) y)
+combined_once : (s : FoldStart) (r : Reduction) (h y n : ℤ) (b : Bool) → cond b (reduced r (combined_with_seed s r h y) n) (combined_with_seed s r h y) ≡ combined_with_seed s r h
+    (cond b (reduced r y n) y)
 combined_once s r h y n true = sym (combined_more s r h y n)
 combined_once s r h y n false = refl
 
-combined_all : (s : FoldStart) (r : Reduction) (v : ℕ) (h y : ℤ) (gs : List (ℕ × ℤ)) → reduced_at r v (combined s r h y) gs ≡ combined s r h (reduced_at r v y gs)
+combined_all : (s : FoldStart) (r : Reduction) (v : ℕ) (h y : ℤ) (gs : List (ℕ × ℤ)) → reduced_at r v (combined_with_seed s r h y) gs ≡ combined_with_seed s r h (reduced_at r v y gs)
 combined_all s r v h y [] = refl
 combined_all s r v h y (g ∷ gs) =
     ap (λ (z : ℤ). reduced_at r v z gs) (combined_once s r h y g.1 (g.0 == v)) ∙ combined_all s r v h (cond (g.0 == v) (reduced r y g.1) y) gs
@@ -51,8 +52,8 @@ combined_all s r v h y (g ∷ gs) =
 -- the entry at a vertex, whether it is marked or not
 pub joined_either : (s : FoldStart) (r : Reduction) (v : ℕ) (o x y : ℤ) (some all : List (ℕ × ℤ)) (b : Bool) → reduced_at r v x some ≡ reduced_at r v y all
     → (b ≡ false → reduced_at r v o some ≡ reduced_at r v o all)
-    → reduced_at r v (if b then combined s r o x else o) some ≡ reduced_at r v (if b then combined s r o y else o) all
-joined_either s r v o x y some all true here off = combined_all s r v o x some ∙ ap (combined s r o) here ∙ sym (combined_all s r v o y all)
+    → reduced_at r v (if b then combined_with_seed s r o x else o) some ≡ reduced_at r v (if b then combined_with_seed s r o y else o) all
+joined_either s r v o x y some all true here off = combined_all s r v o x some ∙ ap (combined_with_seed s r o) here ∙ sym (combined_all s r v o y all)
 joined_either s r v o x y some all false here off = off refl
 
 -- an accumulator without an entry has no mark

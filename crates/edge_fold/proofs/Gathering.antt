@@ -12,11 +12,11 @@ use Rattle.edge_fold.specs.declared.accumulator.Accumulator.{Accumulator}
 use Rattle.edge_fold.specs.declared.apply_context.FoldStart.TheVariants as start
 use Rattle.edge_fold.specs.declared.gathered.GatheredIn.{GatheredIn}
 use Rattle.edge_fold.specs.declared.vector_accumulator.VectorAccumulator.{VectorAccumulator}
-use Rattle.edge_fold.specs.Gathered.{IsGatheredBy, gathered_for, numbers_of}
+use Rattle.edge_fold.specs.Gathered.{IsGatheredBy, gathered_for, given_numbers}
 use Rattle.edge_fold.specs.inside.Gathered.{number_at}
 use Rattle.edge_fold.specs.Contributions.{reduced_at}
 use Rattle.edge_fold.specs.Held.{held_with}
-use Rattle.edge_fold.specs.FoldStarts.{combined}
+use Rattle.edge_fold.specs.FoldStarts.{combined_with_seed}
 use Rattle.edge_fold.specs.VectorAccumulators.{held_in_with, of_slot, reduction_in}
 use Rattle.edge_fold.specs.inside.VectorAccumulators.{index_in}
 use Rattle.edge_fold.proofs.Folds.{reduced_at-append}
@@ -27,9 +27,9 @@ same m n h = grind (arith, nat_tests)
 
 -- a number combined with what an accumulator has at a vertex
 abbrev pub onto : Reduction → Accumulator → ℕ → ℤ → ℤ
-onto r a v h = held_with (combined start.Unit r) a v h
+onto r a v h = held_with (combined_with_seed start.Unit r) a v h
 
-pub numbers_of-append : (cs ds : List EntryChange) → numbers_of (cs ++ ds) ≡ numbers_of cs ++ numbers_of ds
+pub numbers_of-append : (cs ds : List EntryChange) → given_numbers (cs ++ ds) ≡ given_numbers cs ++ given_numbers ds
 numbers_of-append [] ds = refl
 numbers_of-append (c ∷ cs) ds = ap (λ (gs : List (ℕ × ℤ)). (c.vertex, c.number) ∷ gs) (numbers_of-append cs ds)
 
@@ -38,7 +38,7 @@ either_way : (q : Bool) (n : ℤ) → n ≡ cond q n n
 either_way true n = refl
 either_way false n = refl
 
-number_there : (r : Reduction) (v k : ℕ) (n y : ℤ) (b q : Bool) → (k == v) ≡ q → reduced_at r v n (numbers_of (cond b (record { vertex = k; number = y } ∷ []) [])) ≡ cond q
+number_there : (r : Reduction) (v k : ℕ) (n y : ℤ) (b q : Bool) → (k == v) ≡ q → reduced_at r v n (given_numbers (cond b (record { vertex = k; number = y } ∷ []) [])) ≡ cond q
     (cond b (reduced r n y) n) n
 number_there r v k n y true q e = ap (λ (c : Bool). cond c (reduced r n y) n) e
 number_there r v k n y false q e = either_way q n
@@ -48,12 +48,12 @@ own_vertex r a v k n true e = ap (λ (u : ℕ). onto r a u n) (same k v e)
 own_vertex r a v k n false e = refl
 
 pub one_number_more : (r : Reduction) (a : Accumulator) (v k : ℕ) (h : ℤ) (cs ds : List EntryChange) → ds ≡ cs ++ number_at a k
-    → reduced_at r v h (numbers_of ds) ≡ cond (k == v) (onto r a v (reduced_at r v h (numbers_of cs))) (reduced_at r v h (numbers_of cs))
+    → reduced_at r v h (given_numbers ds) ≡ cond (k == v) (onto r a v (reduced_at r v h (given_numbers cs))) (reduced_at r v h (given_numbers cs))
 one_number_more r a v k h cs ds e =
-    let n = reduced_at r v h (numbers_of cs) in
-    ap (λ (es : List EntryChange). reduced_at r v h (numbers_of es)) e
+    let n = reduced_at r v h (given_numbers cs) in
+    ap (λ (es : List EntryChange). reduced_at r v h (given_numbers es)) e
     ∙ ap (λ (gs : List (ℕ × ℤ)). reduced_at r v h gs) (numbers_of-append cs (number_at a k))
-    ∙ reduced_at-append r v h (numbers_of cs) (numbers_of (number_at a k))
+    ∙ reduced_at-append r v h (given_numbers cs) (given_numbers (number_at a k))
     ∙ number_there r v k n (get_or a.values.items k (pos 0)) (is_marked a.marks k) (k == v) refl
     ∙ own_vertex r a v k n (k == v) refl
 
@@ -84,11 +84,11 @@ pub all_found : (y a h : ℤ) (v next : ℕ) → (v < next → y ≡ a) → (nex
 all_found y a h v next done left there = all_at y a h v next (nat_lt v next) refl done left there
 
 -- what is gathered from one slot more
-pub gathered_for-push : (x : ℕ) (gs : List GatheredIn) (g : GatheredIn) → gathered_for x (gs ++ g ∷ []) ≡ gathered_for x gs ++ cond (g.vector == x) (numbers_of g.numbers.items) []
-gathered_for-push x [] g = append-nil (cond (g.vector == x) (numbers_of g.numbers.items) [])
+pub gathered_for-push : (x : ℕ) (gs : List GatheredIn) (g : GatheredIn) → gathered_for x (gs ++ g ∷ []) ≡ gathered_for x gs ++ cond (g.vector == x) (given_numbers g.numbers.items) []
+gathered_for-push x [] g = append-nil (cond (g.vector == x) (given_numbers g.numbers.items) [])
 gathered_for-push x (f ∷ fs) g =
-    let first = cond (f.vector == x) (numbers_of f.numbers.items) [] in
-    ap (λ hs. first ++ hs) (gathered_for-push x fs g) ∙ sym (append_assoc first (gathered_for x fs) (cond (g.vector == x) (numbers_of g.numbers.items) []))
+    let first = cond (f.vector == x) (given_numbers f.numbers.items) [] in
+    ap (λ hs. first ++ hs) (gathered_for-push x fs g) ∙ sym (append_assoc first (gathered_for x fs) (cond (g.vector == x) (given_numbers g.numbers.items) []))
 
 pub is_gathered_by-push : (r : Reduction) (x : ℕ) (gs : List GatheredIn) (g : GatheredIn) → IsGatheredBy r x gs → (g.vector ≡ x → g.reduction ≡ r) → IsGatheredBy r x (gs ++ g ∷ [])
 is_gathered_by-push r x [] g all own = (own, tt)
@@ -116,9 +116,9 @@ alike false h = refl
 
 gathered_at : (r : Reduction) (x v : ℕ) (h y : ℤ) (t : Bool) (ss : List VectorAccumulator) (s : VectorAccumulator) (ns : List (ℕ × ℤ)) (q : Bool) → (s.vector == x) ≡ q
     → length ss ≤ index_in s.vector ss
-    → y ≡ cond t (held_in_with (combined start.Unit r) ss x v h) h
+    → y ≡ cond t (held_in_with (combined_with_seed start.Unit r) ss x v h) h
     → ((n : ℤ) → reduced_at r v n ns ≡ cond t (onto r s.entries v n) n)
-    → reduced_at r v y (cond q ns []) ≡ cond t (cond q (onto r s.entries v h) (held_in_with (combined start.Unit r) ss x v h)) h
+    → reduced_at r v y (cond q ns []) ≡ cond t (cond q (onto r s.entries v h) (held_in_with (combined_with_seed start.Unit r) ss x v h)) h
 gathered_at r x v h y t ss s ns true e l was numbers =
     let own = same s.vector x e in
     let none = of_slot-none (λ (s : VectorAccumulator). onto r s.entries v h) ss x h (subst (λ (k : ℕ). length ss ≤ index_in k ss) own l) in
@@ -127,12 +127,12 @@ gathered_at r x v h y t ss s ns false e l was numbers = was
 
 pub gathered_more : (r : Reduction) (x v : ℕ) (h : ℤ) (t : Bool) (ss : List VectorAccumulator) (s : VectorAccumulator) (gs : List GatheredIn) (g : GatheredIn) → g.vector ≡ s.vector
     → length ss ≤ index_in s.vector ss
-    → reduced_at r v h (gathered_for x gs) ≡ cond t (held_in_with (combined start.Unit r) ss x v h) h
-    → ((n : ℤ) → reduced_at r v n (numbers_of g.numbers.items) ≡ cond t (onto r s.entries v n) n)
-    → reduced_at r v h (gathered_for x (gs ++ g ∷ [])) ≡ cond t (held_in_with (combined start.Unit r) (ss ++ s ∷ []) x v h) h
+    → reduced_at r v h (gathered_for x gs) ≡ cond t (held_in_with (combined_with_seed start.Unit r) ss x v h) h
+    → ((n : ℤ) → reduced_at r v n (given_numbers g.numbers.items) ≡ cond t (onto r s.entries v n) n)
+    → reduced_at r v h (gathered_for x (gs ++ g ∷ [])) ≡ cond t (held_in_with (combined_with_seed start.Unit r) (ss ++ s ∷ []) x v h) h
 gathered_more r x v h t ss s gs g own l was numbers =
     let of = λ (s : VectorAccumulator). onto r s.entries v h in
-    let ns = numbers_of g.numbers.items in
+    let ns = given_numbers g.numbers.items in
     ap (λ (hs : List (ℕ × ℤ)). reduced_at r v h hs) (gathered_for-push x gs g)
     ∙ reduced_at-append r v h (gathered_for x gs) (cond (g.vector == x) ns [])
     ∙ ap (λ (k : ℕ). reduced_at r v (reduced_at r v h (gathered_for x gs)) (cond (k == x) ns [])) own
@@ -165,6 +165,6 @@ is_gathered_at r x (g ∷ gs) zero d all l = all.0
 is_gathered_at r x (g ∷ gs) (suc i) d all l = is_gathered_at r x gs i d all.1 (omega (arith, l))
 
 pub gathered_for_next : (x : ℕ) (gs : List GatheredIn) (i : ℕ) (g : GatheredIn) → i < length gs → g ≡ get_or gs i g
-    → gathered_for x (take i gs) ++ cond (g.vector == x) (numbers_of g.numbers.items) [] ≡ gathered_for x (take (i + 1) gs)
+    → gathered_for x (take i gs) ++ cond (g.vector == x) (given_numbers g.numbers.items) [] ≡ gathered_for x (take (i + 1) gs)
 gathered_for_next x gs i g l e =
     sym (ap (gathered_for x) (take_more gs i g l ∙ ap (λ (f : GatheredIn). take i gs ++ f ∷ []) (sym e)) ∙ gathered_for-push x (take i gs) g)

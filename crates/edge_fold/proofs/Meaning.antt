@@ -16,7 +16,7 @@ use Rattle.algorithm_meaning.specs.Value.{entry}
 use Rattle.algorithm_meaning.proofs.EdgeApplies.{entry_after_edges}
 use Rattle.algorithm_meaning.proofs.Reductions.{reduced_all-append}
 use Rattle.kernels.specs.Meaning.{each}
-use Rattle.edge_fold.specs.Contributions.{IsBy, IsReducedBy, all_given, for_vector, given_on, reduced_at}
+use Rattle.edge_fold.specs.Contributions.{IsBy, IsReducedBy, all_given, numbers_for_vector, given_on, reduced_at}
 use Rattle.edge_fold.proofs.Folds.{reduced_at-append}
 
 same : (m n : ℕ) → (m == n) ≡ true → m ≡ n
@@ -71,10 +71,10 @@ nothing_given_here true n = refl
 nothing_given_here false n = refl
 
 edge_numbers : (r : Reduction) (x v d : ℕ) (n : ℤ) (cs : List Contribution) → All (λ c. c.reduction ≡ r) (for_one x cs)
-    → reduced_all n (cond (d == v) (for_one x cs) []) ≡ reduced_at r v n (for_vector x d (each cs triple))
+    → reduced_all n (cond (d == v) (for_one x cs) []) ≡ reduced_at r v n (numbers_for_vector x d (each cs triple))
 edge_numbers r x v d n [] all = nothing_given_here (d == v) n
 edge_numbers r x v d n (c ∷ cs) all =
-    one_number r v d n c (for_one x cs) (for_vector x d (each cs triple)) (c.vector == x) (d == v) refl
+    one_number r v d n c (for_one x cs) (numbers_for_vector x d (each cs triple)) (c.vector == x) (d == v) refl
     (λ is. by_head r x c (for_one x cs) (c.vector == x) refl all (same c.vector x is))
     (λ k. edge_numbers r x v d k cs (by_tail r c (for_one x cs) (c.vector == x) all))
 
@@ -90,25 +90,25 @@ edges_numbers r x v m steps by n (e ∷ es) =
     reduced_all-append n here more
     ∙ edges_numbers r x v m steps by (reduced_all n here) es
     ∙ ap (λ (k : ℤ). reduced_at r v k (given_on x g es)) (edge_numbers r x v e.1 n cs (by e)
-    ∙ ap (λ (gs : List (ℕ × Reduction × ℤ)). reduced_at r v n (for_vector x e.1 gs)) (sym (all_given_is m steps e)))
-    ∙ sym (reduced_at-append r v n (for_vector x e.1 (g e)) (given_on x g es))
+    ∙ ap (λ (gs : List (ℕ × Reduction × ℤ)). reduced_at r v n (numbers_for_vector x e.1 gs)) (sym (all_given_is m steps e)))
+    ∙ sym (reduced_at-append r v n (numbers_for_vector x e.1 (g e)) (given_on x g es))
 
 -- the edges to another vertex do not matter
-elsewhere_at : (r : Reduction) (x v d : ℕ) (n : ℤ) (g : ℕ × Reduction × ℤ) (gs : List (ℕ × Reduction × ℤ)) (b : Bool) → (d == v) ≡ false → ((k : ℤ) → reduced_at r v k (for_vector x d gs) ≡ k)
-    → reduced_at r v n (cond b ((d, g.2) ∷ for_vector x d gs) (for_vector x d gs)) ≡ n
-elsewhere_at r x v d n g gs true off more = ap (λ (b : Bool). reduced_at r v (cond b (reduced r n g.2) n) (for_vector x d gs)) off ∙ more n
+elsewhere_at : (r : Reduction) (x v d : ℕ) (n : ℤ) (g : ℕ × Reduction × ℤ) (gs : List (ℕ × Reduction × ℤ)) (b : Bool) → (d == v) ≡ false → ((k : ℤ) → reduced_at r v k (numbers_for_vector x d gs) ≡ k)
+    → reduced_at r v n (cond b ((d, g.2) ∷ numbers_for_vector x d gs) (numbers_for_vector x d gs)) ≡ n
+elsewhere_at r x v d n g gs true off more = ap (λ (b : Bool). reduced_at r v (cond b (reduced r n g.2) n) (numbers_for_vector x d gs)) off ∙ more n
 elsewhere_at r x v d n g gs false off more = more n
 
-elsewhere : (r : Reduction) (x v d : ℕ) (n : ℤ) (gs : List (ℕ × Reduction × ℤ)) → (d == v) ≡ false → reduced_at r v n (for_vector x d gs) ≡ n
+elsewhere : (r : Reduction) (x v d : ℕ) (n : ℤ) (gs : List (ℕ × Reduction × ℤ)) → (d == v) ≡ false → reduced_at r v n (numbers_for_vector x d gs) ≡ n
 elsewhere r x v d n [] off = refl
 elsewhere r x v d n (g ∷ gs) off = elsewhere_at r x v d n g gs (g.0 == x) off (λ k. elsewhere r x v d k gs off)
 
 -- an edge whose destination passes, or not
 filtered_edge : (r : Reduction) (x v : ℕ) (n : ℤ) (test : ℕ → Bool) (g : Edge → List (ℕ × Reduction × ℤ)) (e : Edge) (es : List Edge) (p q : Bool) → test e.1 ≡ p → (e.1 == v) ≡ q
     → ((k : ℤ) → reduced_at r v k (given_on x g (filter (λ e. test e.1) es)) ≡ cond (test v) (reduced_at r v k (given_on x g es)) k)
-    → reduced_at r v n (given_on x g (cond p (e ∷ filter (λ e. test e.1) es) (filter (λ e. test e.1) es))) ≡ cond (test v) (reduced_at r v n (for_vector x e.1 (g e) ++ given_on x g es)) n
+    → reduced_at r v n (given_on x g (cond p (e ∷ filter (λ e. test e.1) es) (filter (λ e. test e.1) es))) ≡ cond (test v) (reduced_at r v n (numbers_for_vector x e.1 (g e) ++ given_on x g es)) n
 filtered_edge r x v n test g e es true true is at more =
-    let here = for_vector x e.1 (g e) in
+    let here = numbers_for_vector x e.1 (g e) in
     let on : test v ≡ true = ap test (sym (same e.1 v at)) ∙ is in
     reduced_at-append r v n here (given_on x g (filter (λ e. test e.1) es))
     ∙ more (reduced_at r v n here)
@@ -116,7 +116,7 @@ filtered_edge r x v n test g e es true true is at more =
     ∙ sym (reduced_at-append r v n here (given_on x g es))
     ∙ sym (ap (λ (b : Bool). cond b (reduced_at r v n (here ++ given_on x g es)) n) on)
 filtered_edge r x v n test g e es true false is at more =
-    let here = for_vector x e.1 (g e) in
+    let here = numbers_for_vector x e.1 (g e) in
     let still = elsewhere r x v e.1 n (g e) at in
     reduced_at-append r v n here (given_on x g (filter (λ e. test e.1) es))
     ∙ ap (λ (k : ℤ). reduced_at r v k (given_on x g (filter (λ e. test e.1) es))) still
@@ -124,9 +124,9 @@ filtered_edge r x v n test g e es true false is at more =
     ∙ ap (λ (k : ℤ). cond (test v) k n) (sym (reduced_at-append r v n here (given_on x g es) ∙ ap (λ (k : ℤ). reduced_at r v k (given_on x g es)) still))
 filtered_edge r x v n test g e es false true is at more =
     let off : test v ≡ false = ap test (sym (same e.1 v at)) ∙ is in
-    more n ∙ ap (λ (b : Bool). cond b (reduced_at r v n (given_on x g es)) n) off ∙ sym (ap (λ (b : Bool). cond b (reduced_at r v n (for_vector x e.1 (g e) ++ given_on x g es)) n) off)
+    more n ∙ ap (λ (b : Bool). cond b (reduced_at r v n (given_on x g es)) n) off ∙ sym (ap (λ (b : Bool). cond b (reduced_at r v n (numbers_for_vector x e.1 (g e) ++ given_on x g es)) n) off)
 filtered_edge r x v n test g e es false false is at more =
-    let here = for_vector x e.1 (g e) in
+    let here = numbers_for_vector x e.1 (g e) in
     let still = elsewhere r x v e.1 n (g e) at in
     more n ∙ ap (λ (k : ℤ). cond (test v) k n) (sym (reduced_at-append r v n here (given_on x g es) ∙ ap (λ (k : ℤ). reduced_at r v k (given_on x g es)) still))
 

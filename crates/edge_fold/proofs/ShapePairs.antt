@@ -21,7 +21,7 @@ use Rattle.edge_fold.specs.declared.scratch.Scratch.{Scratch}
 use Rattle.edge_fold.specs.declared.statements.ContributionPair.{ContributionPair}
 use Rattle.edge_fold.specs.declared.vector_accumulator.VectorAccumulators.{VectorAccumulators}
 use Rattle.edge_fold.specs.Between.{firsts}
-use Rattle.edge_fold.specs.Contributions.{IsBy, all_given, column, entries_of, given_on, reduced_at, row}
+use Rattle.edge_fold.specs.Contributions.{IsBy, all_given, column, weighted_entries, given_on, reduced_at, row}
 use Rattle.edge_fold.specs.inside.Contributions.{each_given}
 use Rattle.edge_fold.specs.inside.EntryNumbers.{IsEntryContribution, each_weighed, entry_numbers_given}
 use Rattle.edge_fold.specs.Folded.{HasFolded, IsContextOf, waiting}
@@ -127,13 +127,13 @@ folded_pair_into f m steps p d es edges a b between same are one other has x r b
     (has x r by)
 
 -- numbers of sources with any weights
-any_weights : (number : ℕ → ℤ) (d : ℕ) (ss : List ℕ) (ws : List ℤ) → entry_numbers_given (λ s w. number s) d (entries_of ss ws) ≡ numbers_given number d ss
+any_weights : (number : ℕ → ℤ) (d : ℕ) (ss : List ℕ) (ws : List ℤ) → entry_numbers_given (λ s w. number s) d (weighted_entries ss ws) ≡ numbers_given number d ss
 any_weights number d [] ws = refl
 any_weights number d (s ∷ ss) [] = ap (λ (gs : List (ℕ × ℤ)). (d, number s) ∷ gs) (any_weights number d ss [])
 any_weights number d (s ∷ ss) (w ∷ ws) = ap (λ (gs : List (ℕ × ℤ)). (d, number s) ∷ gs) (any_weights number d ss ws)
 
 pub of_sources : (contribution : SourceContribution) (gives : Edge → List (ℕ × Reduction × ℤ)) (ss : List ℕ) (ws : List ℤ) → IsReducedContribution contribution gives ss
-    → IsEntryContribution contribution gives (entries_of ss ws)
+    → IsEntryContribution contribution gives (weighted_entries ss ws)
 of_sources contribution gives ss ws is = record {
   number = λ s w. is.number s;
   each = is.each;

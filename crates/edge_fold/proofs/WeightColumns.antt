@@ -8,9 +8,9 @@ use Rattle.algorithm_meaning.specs.State.{StateValue}
 use Rattle.kernels.specs.Meaning.{given_in}
 use Rattle.edge_fold.specs.Between.{firsts}
 use Rattle.edge_fold.specs.Folded.{AreWeightless}
-use Rattle.edge_fold.specs.Contributions.{all_given, column, entries_of, for_vector, given_on, row}
+use Rattle.edge_fold.specs.Contributions.{all_given, column, weighted_entries, numbers_for_vector, given_on, row}
 
-pub firsts_of : (ks : List ℕ) (ws : List ℤ) → firsts (entries_of ks ws) ≡ ks
+pub firsts_of : (ks : List ℕ) (ws : List ℤ) → firsts (weighted_entries ks ws) ≡ ks
 firsts_of [] ws = refl
 firsts_of (k ∷ ks) [] = ap (λ us. k ∷ us) (firsts_of ks [])
 firsts_of (k ∷ ks) (w ∷ ws) = ap (λ us. k ∷ us) (firsts_of ks ws)
@@ -25,12 +25,12 @@ firsts-filter test [] = refl
 firsts-filter test (e ∷ es) = firsts_kept (test e.0) e (filter (λ e. test e.0) es) (filter test (firsts es)) (firsts-filter test es)
 
 -- entries in two parts
-pub unit_parts : (n : ℕ) (ks : List ℕ) → entries_of (take n ks) [] ++ entries_of (drop n ks) [] ≡ entries_of ks []
+pub unit_parts : (n : ℕ) (ks : List ℕ) → weighted_entries (take n ks) [] ++ weighted_entries (drop n ks) [] ≡ weighted_entries ks []
 unit_parts zero ks = refl
 unit_parts (suc n) [] = refl
 unit_parts (suc n) (k ∷ ks) = ap (λ es. (k, unit_weight) ∷ es) (unit_parts n ks)
 
-pub entries_parts : (n : ℕ) (ks : List ℕ) (ws : List ℤ) → length ws ≡ length ks → entries_of (take n ks) (take n ws) ++ entries_of (drop n ks) (drop n ws) ≡ entries_of ks ws
+pub entries_parts : (n : ℕ) (ks : List ℕ) (ws : List ℤ) → length ws ≡ length ks → weighted_entries (take n ks) (take n ws) ++ weighted_entries (drop n ks) (drop n ws) ≡ weighted_entries ks ws
 entries_parts zero ks ws same = refl
 entries_parts (suc n) [] [] same = refl
 entries_parts (suc n) [] (w ∷ ws) same = absurd (omega (arith, same))
@@ -38,19 +38,19 @@ entries_parts (suc n) (k ∷ ks) [] same = absurd (omega (arith, same))
 entries_parts (suc n) (k ∷ ks) (w ∷ ws) same = ap (λ es. (k, w) ∷ es) (entries_parts n ks ws (omega (arith, same)))
 
 -- the entries of two columns, index by index
-pub entries-length : (ks : List ℕ) (ws : List ℤ) → length (entries_of ks ws) ≡ length ks
+pub entries-length : (ks : List ℕ) (ws : List ℤ) → length (weighted_entries ks ws) ≡ length ks
 entries-length [] ws = refl
 entries-length (k ∷ ks) [] = ap suc (entries-length ks [])
 entries-length (k ∷ ks) (w ∷ ws) = ap suc (entries-length ks ws)
 
-pub entries-at : (i : ℕ) (ks : List ℕ) (ws : List ℤ) (d : ℕ) (e : ℤ) (f : ℕ × ℤ) → length ws ≡ length ks → i < length ks → (get_or ks i d, get_or ws i e) ≡ get_or (entries_of ks ws) i f
+pub entries-at : (i : ℕ) (ks : List ℕ) (ws : List ℤ) (d : ℕ) (e : ℤ) (f : ℕ × ℤ) → length ws ≡ length ks → i < length ks → (get_or ks i d, get_or ws i e) ≡ get_or (weighted_entries ks ws) i f
 entries-at i [] ws d e f same l = absurd (omega (arith, l))
 entries-at i (k ∷ ks) [] d e f same l = absurd (omega (arith, same))
 entries-at zero (k ∷ ks) (w ∷ ws) d e f same l = refl
 entries-at (suc i) (k ∷ ks) (w ∷ ws) d e f same l = entries-at i ks ws d e f (omega (arith, same)) (omega (arith, l))
 
 -- those of a column alone, each with weight 1
-pub unit_at : (i : ℕ) (ks : List ℕ) (d : ℕ) (f : ℕ × ℤ) → i < length ks → (get_or ks i d, unit_weight) ≡ get_or (entries_of ks []) i f
+pub unit_at : (i : ℕ) (ks : List ℕ) (d : ℕ) (f : ℕ × ℤ) → i < length ks → (get_or ks i d, unit_weight) ≡ get_or (weighted_entries ks []) i f
 unit_at i [] d f l = absurd (omega (arith, l))
 unit_at zero (k ∷ ks) d f l = refl
 unit_at (suc i) (k ∷ ks) d f l = unit_at i ks d f (omega (arith, l))
@@ -74,25 +74,25 @@ all_weightless m (s ∷ ss) are e =
 
 -- so it is on the edges of a row, and on those of a column
 unit_row : (x s : ℕ) (g : Edge → List (ℕ × Reduction × ℤ)) → ((e : Edge) → g e ≡ g (unit_edge (e.0, e.1))) → (es : List (ℕ × ℤ))
-    → given_on x g (row s (entries_of (firsts es) [])) ≡ given_on x g (row s es)
+    → given_on x g (row s (weighted_entries (firsts es) [])) ≡ given_on x g (row s es)
 unit_row x s g same [] = refl
 unit_row x s g same (e ∷ es) =
-    ap (λ (gs : List (ℕ × Reduction × ℤ)). for_vector x e.0 gs ++ given_on x g (row s (entries_of (firsts es) []))) (sym (same (s, e.0, e.1)))
-    ∙ ap (λ (gs : List (ℕ × ℤ)). for_vector x e.0 (g (s, e.0, e.1)) ++ gs) (unit_row x s g same es)
+    ap (λ (gs : List (ℕ × Reduction × ℤ)). numbers_for_vector x e.0 gs ++ given_on x g (row s (weighted_entries (firsts es) []))) (sym (same (s, e.0, e.1)))
+    ∙ ap (λ (gs : List (ℕ × ℤ)). numbers_for_vector x e.0 (g (s, e.0, e.1)) ++ gs) (unit_row x s g same es)
 
 pub weightless_row : (x s : ℕ) (m : StateValue) (steps : List FunctionStatementsTree) (ds : List ℕ) (es : List (ℕ × ℤ)) → AreWeightless m steps → firsts es ≡ ds
-    → given_on x (all_given m steps) (row s (entries_of ds [])) ≡ given_on x (all_given m steps) (row s es)
+    → given_on x (all_given m steps) (row s (weighted_entries ds [])) ≡ given_on x (all_given m steps) (row s es)
 weightless_row x s m steps ds es are keys =
-    ap (λ (us : List ℕ). given_on x (all_given m steps) (row s (entries_of us []))) (sym keys) ∙ unit_row x s (all_given m steps) (all_weightless m steps are) es
+    ap (λ (us : List ℕ). given_on x (all_given m steps) (row s (weighted_entries us []))) (sym keys) ∙ unit_row x s (all_given m steps) (all_weightless m steps are) es
 
 unit_column : (x d : ℕ) (g : Edge → List (ℕ × Reduction × ℤ)) → ((e : Edge) → g e ≡ g (unit_edge (e.0, e.1))) → (es : List (ℕ × ℤ))
-    → given_on x g (column d (entries_of (firsts es) [])) ≡ given_on x g (column d es)
+    → given_on x g (column d (weighted_entries (firsts es) [])) ≡ given_on x g (column d es)
 unit_column x d g same [] = refl
 unit_column x d g same (e ∷ es) =
-    ap (λ (gs : List (ℕ × Reduction × ℤ)). for_vector x d gs ++ given_on x g (column d (entries_of (firsts es) []))) (sym (same (e.0, d, e.1)))
-    ∙ ap (λ (gs : List (ℕ × ℤ)). for_vector x d (g (e.0, d, e.1)) ++ gs) (unit_column x d g same es)
+    ap (λ (gs : List (ℕ × Reduction × ℤ)). numbers_for_vector x d gs ++ given_on x g (column d (weighted_entries (firsts es) []))) (sym (same (e.0, d, e.1)))
+    ∙ ap (λ (gs : List (ℕ × ℤ)). numbers_for_vector x d (g (e.0, d, e.1)) ++ gs) (unit_column x d g same es)
 
 pub weightless_column : (x d : ℕ) (m : StateValue) (steps : List FunctionStatementsTree) (ss : List ℕ) (es : List (ℕ × ℤ)) → AreWeightless m steps → firsts es ≡ ss
-    → given_on x (all_given m steps) (column d (entries_of ss [])) ≡ given_on x (all_given m steps) (column d es)
+    → given_on x (all_given m steps) (column d (weighted_entries ss [])) ≡ given_on x (all_given m steps) (column d es)
 weightless_column x d m steps ss es are keys =
-    ap (λ (us : List ℕ). given_on x (all_given m steps) (column d (entries_of us []))) (sym keys) ∙ unit_column x d (all_given m steps) (all_weightless m steps are) es
+    ap (λ (us : List ℕ). given_on x (all_given m steps) (column d (weighted_entries us []))) (sym keys) ∙ unit_column x d (all_given m steps) (all_weightless m steps are) es

@@ -13,14 +13,14 @@ reduced_at r v x [] = x
 reduced_at r v x (g ∷ gs) = reduced_at r v (if g.0 == v then reduced r x g.1 else x) gs
 
 -- of what a vertex is given, a vector, a reduction and a number each, that for one vector
-abbrev pub for_vector : (vector : ℕ) → (vertex : ℕ) → List (ℕ × Reduction × ℤ) → List (ℕ × ℤ)
-for_vector x d [] = []
-for_vector x d (g ∷ gs) = if g.0 == x then (d, g.2) ∷ for_vector x d gs else for_vector x d gs
+abbrev pub numbers_for_vector : (vector : ℕ) → (vertex : ℕ) → List (ℕ × Reduction × ℤ) → List (ℕ × ℤ)
+numbers_for_vector x d [] = []
+numbers_for_vector x d (g ∷ gs) = if g.0 == x then (d, g.2) ∷ numbers_for_vector x d gs else numbers_for_vector x d gs
 
 -- what is given for a vector on these edges
 abbrev pub given_on : (vector : ℕ) → (Edge → List (ℕ × Reduction × ℤ)) → List Edge → List (ℕ × ℤ)
 given_on x gives [] = []
-given_on x gives (edge ∷ edges) = for_vector x edge.1 (gives edge) ++ given_on x gives edges
+given_on x gives (edge ∷ edges) = numbers_for_vector x edge.1 (gives edge) ++ given_on x gives edges
 
 -- the edges from a source to neighbours; an entry is a neighbour and a weight
 abbrev pub row : ℕ → List (ℕ × ℤ) → List Edge
@@ -31,10 +31,10 @@ abbrev pub column : ℕ → List (ℕ × ℤ) → List Edge
 column destination entries = map (λ e. (e.0, destination, e.1)) entries
 
 -- the entries of neighbours with the weights of the first of them; that of each other one is 1
-abbrev pub entries_of : (neighbours : List ℕ) → (weights : List ℤ) → List (ℕ × ℤ)
-entries_of [] ws = []
-entries_of (k ∷ ks) [] = (k, unit_weight) ∷ entries_of ks []
-entries_of (k ∷ ks) (w ∷ ws) = (k, w) ∷ entries_of ks ws
+abbrev pub weighted_entries : (neighbours : List ℕ) → (weights : List ℤ) → List (ℕ × ℤ)
+weighted_entries [] ws = []
+weighted_entries (k ∷ ks) [] = (k, unit_weight) ∷ weighted_entries ks []
+weighted_entries (k ∷ ks) (w ∷ ws) = (k, w) ∷ weighted_entries ks ws
 
 -- what several functions give on an edge, over the vectors of a state
 abbrev pub all_given : StateValue → List FunctionStatementsTree → Edge → List (ℕ × Reduction × ℤ)

@@ -13,9 +13,9 @@ seed start.OldEntry old h = old
 seed start.Unit old h = h
 
 -- a seed combined with what was folded: a fold from the old entry has it already
-abbrev pub combined : FoldStart → Reduction → ℤ → ℤ → ℤ
-combined start.OldEntry r h y = y
-combined start.Unit r h y = reduced r h y
+abbrev pub combined_with_seed : FoldStart → Reduction → ℤ → ℤ → ℤ
+combined_with_seed start.OldEntry r h y = y
+combined_with_seed start.Unit r h y = reduced r h y
 
 -- the seed at a vertex, for a vector that functions write
 abbrev pub first_entry : ApplyContext → (vector v : ℕ) → ℤ → ℤ

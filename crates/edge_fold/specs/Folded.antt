@@ -12,7 +12,7 @@ use Rattle.edge_fold.specs.declared.apply_context.ApplyContext.{ApplyContext}
 use Rattle.edge_fold.specs.declared.pairs.Pairs.{Pairs}
 use Rattle.edge_fold.specs.declared.scratch.Scratch.{Scratch}
 use Rattle.edge_fold.specs.Contributions.{IsReducedBy, all_given, given_on, pairs, reduced_at}
-use Rattle.edge_fold.specs.FoldStarts.{combined, first_entry}
+use Rattle.edge_fold.specs.FoldStarts.{combined_with_seed, first_entry}
 use Rattle.edge_fold.specs.VectorAccumulators.{active, held_in_with, reduction_in}
 
 -- the kernels are those of these functions, in order
@@ -48,7 +48,7 @@ waiting weighted p = pairs (take p.count p.sources) (take p.count p.destinations
 pub record HasFoldedFor (f : ApplyContext) (m : StateValue) (steps : List FunctionStatementsTree) (edges : List Edge) (s : Scratch) (x : ℕ)
     (r : Reduction) : Type 0 where
   pub entries : (v : ℕ) (h : ℤ) → v < f.vertices
-      → reduced_at r v (held_in_with (combined f.start r) (active s.slots) x v (first_entry f x v h))
+      → reduced_at r v (held_in_with (combined_with_seed f.start r) (active s.slots) x v (first_entry f x v h))
       (given_on x (all_given m steps) (waiting f.weighted s.pairs))
       ≡ reduced_at r v (first_entry f x v h) (given_on x (all_given m steps) edges)
   pub reduction : reduction_in (active s.slots) x r ≡ r

@@ -11,14 +11,14 @@ use Rattle.edge_fold.specs.declared.gathered.GatheredIn.{GatheredIn}
 use Rattle.edge_fold.specs.Contributions.{IsReducedBy, all_given, given_on, reduced_at}
 
 -- the numbers, each given to its vertex
-abbrev pub numbers_of : List EntryChange → List (ℕ × ℤ)
-numbers_of [] = []
-numbers_of (c ∷ cs) = (c.vertex, c.number) ∷ numbers_of cs
+abbrev pub given_numbers : List EntryChange → List (ℕ × ℤ)
+given_numbers [] = []
+given_numbers (c ∷ cs) = (c.vertex, c.number) ∷ given_numbers cs
 
 -- what is gathered for a vector
 abbrev pub gathered_for : (vector : ℕ) → List GatheredIn → List (ℕ × ℤ)
 gathered_for x [] = []
-gathered_for x (g ∷ gs) = (if g.vector == x then numbers_of g.numbers.items else []) ++ gathered_for x gs
+gathered_for x (g ∷ gs) = (if g.vector == x then given_numbers g.numbers.items else []) ++ gathered_for x gs
 
 -- what is gathered for the vector is by this reduction
 abbrev pub IsGatheredBy : Reduction → (vector : ℕ) → List GatheredIn → Type 0
@@ -37,14 +37,14 @@ abbrev pub AreGathered : (vertices : ℕ) → StateValue → List FunctionStatem
 AreGathered vertices m steps edges g = (x : ℕ) (r : Reduction) → IsReducedBy r x m steps → AreGatheredFor vertices m steps edges g x r
 
 -- the vertices of the numbers do not fall
-abbrev pub IsAscending : List EntryChange → Type 0
-IsAscending cs = IsNonDecreasingBy (λ c. c.vertex) cs
+abbrev pub IsNonDescending : List EntryChange → Type 0
+IsNonDescending cs = IsNonDecreasingBy (λ c. c.vertex) cs
 
 -- so it is for each vector
-abbrev pub AreAscending : List GatheredIn → Type 0
-AreAscending [] = Unit {0}
-AreAscending (g ∷ gs) = IsAscending g.numbers.items × AreAscending gs
+abbrev pub AllAreNonDescending : List GatheredIn → Type 0
+AllAreNonDescending [] = Unit {0}
+AllAreNonDescending (g ∷ gs) = IsNonDescending g.numbers.items × AllAreNonDescending gs
 
 -- a vertex is one from a number on up to another
-abbrev pub is_between : (low high : ℕ) → ℕ → Bool
-is_between low high v = nat_le low v && nat_lt v high
+abbrev pub is_in_range : (low high : ℕ) → ℕ → Bool
+is_in_range low high v = nat_le low v && nat_lt v high

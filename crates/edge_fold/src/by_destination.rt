@@ -5,7 +5,7 @@ ghost use Rattle.algorithm_meaning.specs.State.{StateValue};
 ghost use Rattle.edge_fold.specs.Folded.{IsContextOf, HasFolded};
 ghost use Rattle.weighted_edges.specs.Edge.{Edge};
 ghost use Rattle.edge_fold.specs.Between.{firsts};
-ghost use Rattle.edge_fold.specs.Contributions.{column, entries_of};
+ghost use Rattle.edge_fold.specs.Contributions.{column, weighted_entries};
 ghost use Rattle.kernels.specs.declared.columns.TheConstants.{PAIRS};
 
 use crate::apply_context::ApplyContext;
@@ -56,7 +56,7 @@ impl Scratch {
         requires unweighted { context.weighted ≡ false }
         ensures { OnOk result ((m : StateValue) (steps : List FunctionStatementsTree) (edges : List Edge) → IsContextOf context.entry m steps
             → HasFolded context.entry m steps edges self.old
-            → HasFolded context.entry m steps (edges ++ column destination (entries_of sources.now [])) self.new) }
+            → HasFolded context.entry m steps (edges ++ column destination (weighted_entries sources.now [])) self.new) }
     {
         let room = self.pairs.room();
         if sources.len() <= room {

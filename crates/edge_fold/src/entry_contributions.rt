@@ -6,7 +6,7 @@ ghost use Rattle.typed_tree.specs.FunctionStatementTree.{FunctionStatementsTree}
 ghost use Rattle.algorithm_meaning.specs.State.{StateValue};
 ghost use Rattle.kernels.specs.ShapePairs.{shape_given};
 ghost use Rattle.edge_fold.specs.Folded.{IsContextOf};
-ghost use Rattle.edge_fold.specs.Contributions.{all_given, entries_of};
+ghost use Rattle.edge_fold.specs.Contributions.{all_given, weighted_entries};
 ghost use Rattle.edge_fold.specs.inside.EntryNumbers.{IsEntryContribution};
 ghost use Rattle.edge_fold.specs.inside.Statements.{IsEntryOf};
 
@@ -38,7 +38,7 @@ impl ApplyContext<'_> {
     ) -> Option<SourceContribution>
         requires { length weights.now ≡ length sources.now }
         ensures { IfSome result (λ s. (m : StateValue) (steps : List FunctionStatementsTree) → IsContextOf self.entry m steps
-            → IsEntryContribution s (all_given m steps) (entries_of sources.now weights.now)) }
+            → IsEntryContribution s (all_given m steps) (weighted_entries sources.now weights.now)) }
     {
         let given = self.entry_contribution()?;
         self.weighed_by(given, sources, weights)
@@ -54,7 +54,7 @@ impl ApplyContext<'_> {
     ) -> Option<SourceContribution>
         requires { length weights.now ≡ length sources.now }
         ensures { IfSome result (λ s. (m : StateValue) (gives : Edge → List (ℕ × Reduction × ℤ)) → self.entry.vectors.now.vectors ≡ m.vectors
-            → IsEntryOf m given gives → IsEntryContribution s gives (entries_of sources.now weights.now)) }
+            → IsEntryOf m given gives → IsEntryContribution s gives (weighted_entries sources.now weights.now)) }
     {
         let numbers = EntryWith {
             lane: self.vectors.lane(given.from),

@@ -1,6 +1,6 @@
 //! Numbers that depend on the source of an edge and on its weight.
 ghost use Rattle.std.specs.Prelude.{◌≡◌, ◌<◌, ℕ, ℤ, pos, List, IfSome, length, get_or};
-ghost use Rattle.edge_fold.specs.Contributions.{entries_of};
+ghost use Rattle.edge_fold.specs.Contributions.{weighted_entries};
 ghost use Rattle.edge_fold.specs.inside.EntryNumbers.{IsReducedOver, number_with};
 ghost use Rattle.edge_fold.specs.EntryNumbers.{entry_with, reduced_over};
 
@@ -69,7 +69,7 @@ pub fn reduce_columns(
     weights: &[i64],
 ) -> i64
     requires { length weights.now ≡ length sources.now }
-    ensures { result ≡ reduced_over reduction (entry_with numbers.entry) number (entries_of sources.now weights.now) }
+    ensures { result ≡ reduced_over reduction (entry_with numbers.entry) number (weighted_entries sources.now weights.now) }
 {
     let columns = WeightedColumns {
         neighbours: sources,
@@ -86,7 +86,7 @@ pub(crate) fn reduce_all_entries(
     weights: &[i64],
 ) -> Option<i64>
     requires { length weights.now ≡ length sources.now }
-    ensures { IfSome result (λ n. IsReducedOver reduction (entry_with numbers.entry) (entries_of sources.now weights.now) n) }
+    ensures { IfSome result (λ n. IsReducedOver reduction (entry_with numbers.entry) (weighted_entries sources.now weights.now) n) }
 {
     let (first, rest) = sources.split_first()?;
     let (weight, weights_of_rest) = weights.split_first()?;

@@ -10,11 +10,11 @@ ghost use Rattle.kernels.specs.Registers.{HasSizes};
 ghost use Rattle.edge_fold.specs.declared.apply_context.FoldStart.TheVariants.{Unit as FromUnit};
 ghost use Rattle.edge_fold.specs.Ends.{IsEndTest};
 ghost use Rattle.edge_fold.specs.Folded.{IsContextOf, HasFolded};
-ghost use Rattle.edge_fold.specs.Gathered.{AreAscending, AreGathered, IsAscending, IsGatheredBy, gathered_for, numbers_of};
+ghost use Rattle.edge_fold.specs.Gathered.{AllAreNonDescending, AreGathered, IsNonDescending, IsGatheredBy, gathered_for, given_numbers};
 ghost use Rattle.edge_fold.specs.inside.Gathered.{number_at};
 ghost use Rattle.edge_fold.specs.Contributions.{reduced_at};
 ghost use Rattle.edge_fold.specs.Held.{held_with};
-ghost use Rattle.edge_fold.specs.FoldStarts.{combined};
+ghost use Rattle.edge_fold.specs.FoldStarts.{combined_with_seed};
 ghost use Rattle.edge_fold.specs.VectorAccumulators.{active, held_in_with, reduction_in};
 
 use crate::accumulator::Accumulator;
@@ -58,7 +58,7 @@ impl Scratch {
         context: ApplyContext<'_>,
         to: Option<EndpointFilter<'_>>,
     ) -> Result<Gathered, AllocError>
-        ensures ascending { IfOk result (λ g. AreAscending g.vectors.items) }
+        ensures ascending { IfOk result (λ g. AllAreNonDescending g.vectors.items) }
         ensures given { IfOk result (λ g. (m : StateValue) (steps : List FunctionStatementsTree) (edges : List Edge) (test : ℕ → Bool)
             → IsContextOf context.entry m steps → IsEndTest to.entry m test
             → HasFolded context.entry m steps edges self.old → context.entry.start ≡ FromUnit
@@ -93,12 +93,12 @@ fn gathered_in_slots(
     slots: &VectorAccumulators,
     block: &mut Block,
 ) -> Result<Gathered, AllocError>
-    ensures ascending { IfOk result (λ g. AreAscending g.vectors.items) }
+    ensures ascending { IfOk result (λ g. AllAreNonDescending g.vectors.items) }
     ensures reduction { IfOk result (λ g. (x : ℕ) (r : Reduction) → reduction_in (active slots.now) x r ≡ r → IsGatheredBy r x g.vectors.items) }
     ensures numbers { IfOk result (λ g. (m : StateValue) (test : ℕ → Bool) → context.entry.vectors.now.vectors ≡ m.vectors
         → HasSizes context.entry.sizes.now m → IsEndTest to.entry m test
         → (x v : ℕ) (r : Reduction) (h : ℤ) → v < context.entry.vertices → reduced_at r v h (gathered_for x g.vectors.items)
-        ≡ (if test v then held_in_with (combined FromUnit r) (active slots.now) x v h else h)) }
+        ≡ (if test v then held_in_with (combined_with_seed FromUnit r) (active slots.now) x v h else h)) }
 {
     let mut vectors = Vec::new(alloc);
     'slots: for position in 0..slots.used {
@@ -124,11 +124,11 @@ fn numbers_in_slot(
     slot: &VectorAccumulator,
     block: &mut Block,
 ) -> Result<Vec<EntryChange>, AllocError>
-    ensures ascending { IfOk result (λ cs. IsAscending cs.items) }
+    ensures ascending { IfOk result (λ cs. IsNonDescending cs.items) }
     ensures given { IfOk result (λ cs. (m : StateValue) (test : ℕ → Bool) → context.entry.vectors.now.vectors ≡ m.vectors
         → HasSizes context.entry.sizes.now m → IsEndTest to.entry m test
         → (r : Reduction) (v : ℕ) (h : ℤ) → v < context.entry.vertices
-        → reduced_at r v h (numbers_of cs.items) ≡ (if test v then held_with (combined FromUnit r) slot.now.entries v h else h)) }
+        → reduced_at r v h (given_numbers cs.items) ≡ (if test v then held_with (combined_with_seed FromUnit r) slot.now.entries v h else h)) }
 {
     let marked = slot.entries.marked(alloc)?;
     match to {
@@ -155,11 +155,11 @@ impl Accumulator {
         kept: &[u32],
         vertices: u32,
     ) -> Result<Vec<EntryChange>, AllocError>
-        ensures ascending { IfOk result (λ cs. IsAscending cs.items) }
+        ensures ascending { IfOk result (λ cs. IsNonDescending cs.items) }
         ensures given { IsNonDecreasing kept.now → (r : Reduction) (h : ℤ) (new : ℕ → ℤ)
-            → ((v : ℕ) → Contains kept.now v → new v ≡ held_with (combined FromUnit r) self.now v h)
+            → ((v : ℕ) → Contains kept.now v → new v ≡ held_with (combined_with_seed FromUnit r) self.now v h)
             → ((v : ℕ) → v < vertices → ¬ Contains kept.now v → new v ≡ h)
-            → IfOk result (λ cs. (v : ℕ) → v < vertices → reduced_at r v h (numbers_of cs.items) ≡ new v) }
+            → IfOk result (λ cs. (v : ℕ) → v < vertices → reduced_at r v h (given_numbers cs.items) ≡ new v) }
     {
         let mut numbers = Vec::with_capacity(alloc, kept.len())?;
         let mut next = 0u32;

@@ -1,12 +1,12 @@
 //! Joins: contributions reduced into the entries of an accumulator.
 ghost use Rattle.std.specs.Prelude.{◌≡◌, ℕ, ℤ, pos, ◌^◌, ◌∷◌, [], ◌<◌, ◌≤◌, true, false, Contains, drop, length, slice_index_or, vec_len, IfOk, OnOk};
 ghost use Rattle.std.specs.List.Sorted.{IsNonDecreasing};
-ghost use Rattle.edge_fold.specs.Gathered.{numbers_of};
+ghost use Rattle.edge_fold.specs.Gathered.{given_numbers};
 ghost use Rattle.edge_fold.specs.inside.EntryNumbers.{each_weighed, number_with};
 ghost use Rattle.edge_fold.specs.Between.{firsts};
 ghost use Rattle.edge_fold.specs.inside.Contributions.{each_given, given_from};
-ghost use Rattle.edge_fold.specs.Contributions.{for_vector, reduced_at};
-ghost use Rattle.edge_fold.specs.FoldStarts.{combined};
+ghost use Rattle.edge_fold.specs.Contributions.{numbers_for_vector, reduced_at};
+ghost use Rattle.edge_fold.specs.FoldStarts.{combined_with_seed};
 ghost use Rattle.edge_fold.specs.inside.FoldStarts.{opening_seed, start_of};
 ghost use Rattle.edge_fold.specs.declared.initial_entries.InitialEntries.{InitialEntries};
 ghost use Rattle.edge_fold.specs.inside.Held.{AreJoined, AreMarked, held, room};
@@ -109,7 +109,7 @@ impl Accumulator {
     ) -> Result<(), AllocError>
         requires { index < length contribution.numbers.now }
         ensures { OnOk result (AreJoined opening.entry reduction self.old self.new
-            (for_vector contribution.entry.vector vertex (contribution_at contribution.entry index))) }
+            (numbers_for_vector contribution.entry.vector vertex (contribution_at contribution.entry index))) }
     {
         if is_given(contribution, index) {
             self.join(reduction, opening, vertex, contribution.numbers[index])?;
@@ -163,8 +163,8 @@ impl Accumulator {
     ) -> usize
         ensures inside { result ≤ length (E.entries destinations.now) }
         ensures joined { (o : InitialEntries) (v : ℕ) (h : ℤ)
-            → reduced_at reduction v (held_with (combined (start_of o) reduction) self.new v (opening_seed o v h)) (each_given number (drop result (firsts (E.entries destinations.now))))
-            ≡ reduced_at reduction v (held_with (combined (start_of o) reduction) self.old v (opening_seed o v h)) (each_given number (firsts (E.entries destinations.now))) }
+            → reduced_at reduction v (held_with (combined_with_seed (start_of o) reduction) self.new v (opening_seed o v h)) (each_given number (drop result (firsts (E.entries destinations.now))))
+            ≡ reduced_at reduction v (held_with (combined_with_seed (start_of o) reduction) self.old v (opening_seed o v h)) (each_given number (firsts (E.entries destinations.now))) }
     {
         let filled = self.filled;
         reduce_filled(
@@ -269,7 +269,7 @@ impl Accumulator {
         opening: InitialEntries<'_>,
         numbers: &[EntryChange],
     ) -> Result<(), AllocError>
-        ensures { OnOk result (AreJoined opening.entry reduction self.old self.new (numbers_of numbers.now)) }
+        ensures { OnOk result (AreJoined opening.entry reduction self.old self.new (given_numbers numbers.now)) }
     {
         'numbers: for change in numbers {
             self.join(reduction, opening, change.vertex(), change.number())?;

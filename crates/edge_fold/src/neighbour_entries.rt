@@ -1,6 +1,6 @@
 //! Neighbours with the weights of their edges, read by index.
 ghost use Rattle.std.specs.Prelude.{◌≡◌, ◌<◌, ℕ, ℤ, pos, [], List, length, get_or};
-ghost use Rattle.edge_fold.specs.Contributions.{entries_of};
+ghost use Rattle.edge_fold.specs.Contributions.{weighted_entries};
 
 /// Neighbours with the weights of their edges, each at an index.
 pub trait NeighbourEntries {
@@ -36,7 +36,7 @@ pub(crate) struct UnitColumn<'a> {
 }
 
 impl NeighbourEntries for WeightedColumns<'_> {
-    ghost entries = { λ c. entries_of c.neighbours.now c.weights.now };
+    ghost entries = { λ c. weighted_entries c.neighbours.now c.weights.now };
 
     #[inline(always)]
     fn len(&self) -> usize {
@@ -55,7 +55,7 @@ impl NeighbourEntries for WeightedColumns<'_> {
 }
 
 impl NeighbourEntries for UnitColumn<'_> {
-    ghost entries = { λ c. entries_of c.neighbours.now [] };
+    ghost entries = { λ c. weighted_entries c.neighbours.now [] };
 
     #[inline(always)]
     fn len(&self) -> usize {

@@ -29,7 +29,7 @@ pub(crate) struct PairColumns<'a> {
 impl Pairs {
     ghost use Rattle.edge_fold.specs.inside.Folded.{edges_in};
     ghost use Rattle.edge_fold.specs.Folded.{waiting};
-    ghost use Rattle.edge_fold.specs.Contributions.{column, entries_of, row};
+    ghost use Rattle.edge_fold.specs.Contributions.{column, weighted_entries, row};
 
     /// None.
     pub(crate) fn new() -> Pairs
@@ -76,7 +76,7 @@ impl Pairs {
     /// Adds the edges from a source to destinations, where no weight counts.
     pub(crate) fn add(&mut self, source: u32, destinations: &[u32])
         requires { self.old.count + length destinations.now ≤ PAIRS }
-        ensures waiting { waiting false self.new ≡ waiting false self.old ++ row source (entries_of destinations.now []) }
+        ensures waiting { waiting false self.new ≡ waiting false self.old ++ row source (weighted_entries destinations.now []) }
         ensures count { self.new.count ≡ self.old.count + length destinations.now }
     {
         let end = self.count + destinations.len();
@@ -88,7 +88,7 @@ impl Pairs {
     /// Adds the edges from sources to a destination, where no weight counts.
     pub(crate) fn add_into(&mut self, sources: &[u32], destination: u32)
         requires { self.old.count + length sources.now ≤ PAIRS }
-        ensures waiting { waiting false self.new ≡ waiting false self.old ++ column destination (entries_of sources.now []) }
+        ensures waiting { waiting false self.new ≡ waiting false self.old ++ column destination (weighted_entries sources.now []) }
         ensures count { self.new.count ≡ self.old.count + length sources.now }
     {
         let end = self.count + sources.len();

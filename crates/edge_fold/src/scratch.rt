@@ -34,7 +34,7 @@ impl Scratch {
     ghost use Rattle.edge_fold.specs.Folded.{IsContextOf, HasFolded};
     ghost use Rattle.weighted_edges.specs.Edge.{Edge};
     ghost use Rattle.edge_fold.specs.Between.{firsts};
-    ghost use Rattle.edge_fold.specs.Contributions.{entries_of, row};
+    ghost use Rattle.edge_fold.specs.Contributions.{weighted_entries, row};
 
     /// Memory for applies, of which none is taken yet.
     pub fn new(alloc: Global) -> Scratch
@@ -121,7 +121,7 @@ impl Scratch {
         requires unweighted { context.weighted ≡ false }
         ensures { OnOk result ((m : StateValue) (steps : List FunctionStatementsTree) (edges : List Edge) → IsContextOf context.entry m steps
             → HasFolded context.entry m steps edges self.old
-            → HasFolded context.entry m steps (edges ++ row source (entries_of destinations.now [])) self.new) }
+            → HasFolded context.entry m steps (edges ++ row source (weighted_entries destinations.now [])) self.new) }
     {
         let room = self.pairs.room();
         if destinations.len() <= room {

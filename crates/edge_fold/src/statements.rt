@@ -5,7 +5,7 @@ ghost use Rattle.typed_tree.specs.FunctionStatementTree.{FunctionStatementsTree}
 ghost use Rattle.algorithm_meaning.specs.State.{StateValue};
 ghost use Rattle.kernels.specs.ShapePairs.{shape_given};
 ghost use Rattle.edge_fold.specs.Folded.{IsContextOf, HasFolded};
-ghost use Rattle.edge_fold.specs.Contributions.{all_given, column, entries_of};
+ghost use Rattle.edge_fold.specs.Contributions.{all_given, column, weighted_entries};
 ghost use Rattle.edge_fold.specs.inside.EntryNumbers.{IsEntryContribution};
 ghost use Rattle.edge_fold.specs.inside.Statements.{ArePairContributions, IsPairOf};
 
@@ -44,7 +44,7 @@ impl ApplyContext<'_> {
     /// of its own source, and there is a source.
     fn reduced_pair(self, sources: &[u32], weights: &[i64]) -> Option<ContributionPair>
         ensures { IfSome result (λ p. (m : StateValue) (steps : List FunctionStatementsTree) → IsContextOf self.entry m steps
-            → ArePairContributions p (all_given m steps) (entries_of sources.now weights.now)) }
+            → ArePairContributions p (all_given m steps) (weighted_entries sources.now weights.now)) }
     {
         let pair = self.shape_pair()?;
         let first = self.reduced_statement(pair.first, sources, weights)?;
@@ -60,7 +60,7 @@ impl ApplyContext<'_> {
         weights: &[i64],
     ) -> Option<SourceContribution>
         ensures { IfSome result (λ s. (m : StateValue) → self.entry.vectors.now.vectors ≡ m.vectors
-            → IsEntryContribution s (shape_given shape m) (entries_of sources.now weights.now)) }
+            → IsEntryContribution s (shape_given shape m) (weighted_entries sources.now weights.now)) }
     {
         if let Some(contribution) = self.reduced_contribution_by(shape, sources) {
             return Some(contribution);
@@ -87,7 +87,7 @@ impl Scratch {
     ) -> Result<bool, AllocError>
         ensures folded { IfOk result (λ done. done ≡ true → (m : StateValue) (steps : List FunctionStatementsTree) (edges : List Edge)
             → IsContextOf context.entry m steps → HasFolded context.entry m steps edges self.old
-            → HasFolded context.entry m steps (edges ++ column destination (entries_of sources.now weights.now)) self.new) }
+            → HasFolded context.entry m steps (edges ++ column destination (weighted_entries sources.now weights.now)) self.new) }
         ensures unchanged { IfOk result (λ done. done ≡ false → self.new ≡ self.old) }
     {
         if sources.len() < FEW_NEIGHBOURS {

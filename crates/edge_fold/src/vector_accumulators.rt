@@ -1,6 +1,6 @@
 //! The vectors that an apply writes, found by their indices.
 ghost use Rattle.std.specs.Prelude.{◌≡◌, ℕ, ℤ, ◌==◌, if◌then◌else◌, ◌<◌, ◌≤◌, [], length, vec_len, IfOk, OnOk};
-ghost use Rattle.edge_fold.specs.Gathered.{IsGatheredBy, gathered_for, numbers_of};
+ghost use Rattle.edge_fold.specs.Gathered.{IsGatheredBy, gathered_for, given_numbers};
 ghost use Rattle.algorithm_meaning.specs.Arithmetic.{arithmetic};
 ghost use Rattle.algorithm_meaning.specs.Value.{entry};
 ghost use Rattle.edge_fold.specs.inside.EntryNumbers.{each_weighed};
@@ -236,7 +236,7 @@ impl VectorAccumulators {
         of_vector: &GatheredIn,
     ) -> Result<(), AllocError>
         ensures { OnOk result ((x : ℕ) (r : Reduction) → (of_vector.now.vector ≡ x → of_vector.now.reduction ≡ r)
-            → HaveJoined context.entry x r self.old self.new (if of_vector.now.vector == x then numbers_of of_vector.now.numbers.items else [])) }
+            → HaveJoined context.entry x r self.old self.new (if of_vector.now.vector == x then given_numbers of_vector.now.numbers.items else [])) }
     {
         let vector = of_vector.vector;
         let reduction = of_vector.reduction;

@@ -4,7 +4,7 @@ ghost use Rattle.typed_tree.specs.FunctionStatementTree.{FunctionStatementsTree}
 ghost use Rattle.algorithm_meaning.specs.State.{StateValue};
 ghost use Rattle.weighted_edges.specs.Edge.{Edge};
 ghost use Rattle.edge_fold.specs.Folded.{IsContextOf, HasFolded};
-ghost use Rattle.edge_fold.specs.Contributions.{column, entries_of, row};
+ghost use Rattle.edge_fold.specs.Contributions.{column, weighted_entries, row};
 ghost use Rattle.kernels.specs.declared.columns.TheConstants.{PAIRS};
 
 use crate::apply_context::ApplyContext;
@@ -20,7 +20,7 @@ impl Pairs {
     pub(crate) fn add_weighted(&mut self, source: u32, destinations: &[u32], weights: &[i64])
         requires few { self.old.count + length destinations.now ≤ PAIRS }
         requires same { length weights.now ≡ length destinations.now }
-        ensures waiting { waiting true self.new ≡ waiting true self.old ++ row source (entries_of destinations.now weights.now) }
+        ensures waiting { waiting true self.new ≡ waiting true self.old ++ row source (weighted_entries destinations.now weights.now) }
         ensures count { self.new.count ≡ self.old.count + length destinations.now }
     {
         let end = self.count + destinations.len();
@@ -34,7 +34,7 @@ impl Pairs {
     pub(crate) fn add_into_weighted(&mut self, sources: &[u32], weights: &[i64], destination: u32)
         requires few { self.old.count + length sources.now ≤ PAIRS }
         requires same { length weights.now ≡ length sources.now }
-        ensures waiting { waiting true self.new ≡ waiting true self.old ++ column destination (entries_of sources.now weights.now) }
+        ensures waiting { waiting true self.new ≡ waiting true self.old ++ column destination (weighted_entries sources.now weights.now) }
         ensures count { self.new.count ≡ self.old.count + length sources.now }
     {
         let end = self.count + sources.len();
@@ -61,7 +61,7 @@ impl Scratch {
         requires weighted { context.weighted ≡ true }
         ensures { OnOk result ((m : StateValue) (steps : List FunctionStatementsTree) (edges : List Edge) → IsContextOf context.entry m steps
             → HasFolded context.entry m steps edges self.old
-            → HasFolded context.entry m steps (edges ++ row source (entries_of destinations.now weights.now)) self.new) }
+            → HasFolded context.entry m steps (edges ++ row source (weighted_entries destinations.now weights.now)) self.new) }
     {
         let columns = WeightedColumns {
             neighbours: destinations,
@@ -88,7 +88,7 @@ impl Scratch {
         requires weighted { context.weighted ≡ true }
         ensures { OnOk result ((m : StateValue) (steps : List FunctionStatementsTree) (edges : List Edge) → IsContextOf context.entry m steps
             → HasFolded context.entry m steps edges self.old
-            → HasFolded context.entry m steps (edges ++ row source (entries_of destinations.now weights.now)) self.new) }
+            → HasFolded context.entry m steps (edges ++ row source (weighted_entries destinations.now weights.now)) self.new) }
     {
         let room = self.pairs.room();
         if destinations.len() <= room {
@@ -118,7 +118,7 @@ impl Scratch {
         requires weighted { context.weighted ≡ true }
         ensures { OnOk result ((m : StateValue) (steps : List FunctionStatementsTree) (edges : List Edge) → IsContextOf context.entry m steps
             → HasFolded context.entry m steps edges self.old
-            → HasFolded context.entry m steps (edges ++ column destination (entries_of sources.now weights.now)) self.new) }
+            → HasFolded context.entry m steps (edges ++ column destination (weighted_entries sources.now weights.now)) self.new) }
     {
         if let Some(contribution) = context.reduced_entries(sources, weights) {
             let column = UnitColumn {
@@ -149,7 +149,7 @@ impl Scratch {
         requires weighted { context.weighted ≡ true }
         ensures { OnOk result ((m : StateValue) (steps : List FunctionStatementsTree) (edges : List Edge) → IsContextOf context.entry m steps
             → HasFolded context.entry m steps edges self.old
-            → HasFolded context.entry m steps (edges ++ column destination (entries_of sources.now weights.now)) self.new) }
+            → HasFolded context.entry m steps (edges ++ column destination (weighted_entries sources.now weights.now)) self.new) }
     {
         let room = self.pairs.room();
         if sources.len() <= room {

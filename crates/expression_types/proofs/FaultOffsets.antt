@@ -20,13 +20,13 @@ use Rattle.expression_types.specs.declared.scope.Entity.TheVariants as entity
 use Rattle.expression_types.specs.declared.scope.Inside.{Inside}
 use Rattle.expression_types.specs.declared.scope.Inside.TheVariants as inside
 use Rattle.expression_types.specs.Expression.{as_size, as_vector, comparison_value, conjunction_value, conjuncts, disjuncts, entry_of, factors, index_as, index_lacks_value, index_value, name_value}
-use Rattle.expression_types.specs.Expression.{no_vertex, primary_value, size_of, size_value, sum_value, summands, term_value, unary_value, used, used_as, value_of, vector_at, vector_index}
+use Rattle.expression_types.specs.Expression.{no_vertex, primary_value, size_of, size_value, sum_value, summands, term_value, unary_value, used_name, used_as, value_of, vector_at, vector_index}
 use Rattle.expression_types.specs.ScopeTree.{found, ScopeTree, declared, declared_over}
 use Rattle.expression_types.specs.Faults.{WithFaults, fault_at, sure}
 use Rattle.expression_types.specs.Operators.{IntegersTree, Integers, MixedIntegers, ErrorIntegers, ConditionsTree, Conditions, MixedConditions, ErrorConditions, condition_index, entry_value}
-use Rattle.expression_types.specs.Operators.{first_condition, first_integer, function_entry, given, grouped_conditions, grouped_integers, integer_index, main_entry, related_value, signed_value}
-use Rattle.expression_types.specs.Operators.{unless_faulty}
-use Rattle.expression_types.specs.ValueTree.{ValueTree, Integer, Condition, Vertex, Set, ErrorValue, condition_reads_entry, is_error, named_set, named_value, named_vector, reads_entry}
+use Rattle.expression_types.specs.Operators.{first_condition, first_integer, function_entry, given_or_fault, grouped_conditions, grouped_integers, integer_index, main_entry, related_value}
+use Rattle.expression_types.specs.Operators.{signed_value, unless_faulty}
+use Rattle.expression_types.specs.ValueTree.{ValueTree, Integer, Condition, Vertex, Set, ErrorValue, condition_reads_entry, is_error, entity_set, named_value, named_vector, reads_entry}
 
 -- P holds of the offset of each fault
 abbrev pub FaultsStand : {A : Type 0} → (ℕ → Type 0) → WithFaults A → Type 0
@@ -44,7 +44,7 @@ used_as_stands : (P : ℕ → Type 0) (name : Identifier) (o : Option Entity) �
 used_as_stands P name None there = (there, tt)
 used_as_stands P name (Some e) there = tt
 
-pub used_stands : (P : ℕ → Type 0) (scope : ScopeTree) (name : Identifier) → P name.at → FaultsStand P (used scope name)
+pub used_stands : (P : ℕ → Type 0) (scope : ScopeTree) (name : Identifier) → P name.at → FaultsStand P (used_name scope name)
 used_stands P scope name there = used_as_stands P name (found name.bytes scope.visible) there
 
 declared_over_stands : (P : ℕ → Type 0) (o : Option Entity) (name : Identifier) (e : Entity) (scope : ScopeTree) → P name.at → FaultsStand P (declared_over o name e scope)
@@ -55,7 +55,7 @@ pub declared_stands : (P : ℕ → Type 0) (name : Identifier) (e : Entity) (sco
 declared_stands P name e scope there = declared_over_stands P (found name.bytes scope.visible) name e scope there
 
 -- values
-given_stands : (P : ℕ → Type 0) (at : ℕ) (rule : TypeRule) (o : Option ValueTree) → P at → FaultsStand P (given at rule o)
+given_stands : (P : ℕ → Type 0) (at : ℕ) (rule : TypeRule) (o : Option ValueTree) → P at → FaultsStand P (given_or_fault at rule o)
 given_stands P at rule None here = (here, tt)
 given_stands P at rule (Some v) here = tt
 
@@ -71,7 +71,7 @@ conditions_stand P at ErrorConditions here = tt
 
 name_stands : (P : ℕ → Type 0) (scope : ScopeTree) (at : ℕ) (name : Identifier) → P at → P name.at → FaultsStand P (name_value scope at name)
 name_stands P scope at name here there =
-    let e = used scope name in both_stand P e.faults _ (used_stands P scope name there) (given_stands P at rule.WrongType (named_value e.value) here)
+    let e = used_name scope name in both_stand P e.faults _ (used_stands P scope name there) (given_stands P at rule.WrongType (named_value e.value) here)
 
 vector_at_stands : (P : ℕ → Type 0) (at : ℕ) (o : Option ℕ) → P at → FaultsStand P (vector_at at o)
 vector_at_stands P at None here = (here, tt)
@@ -83,7 +83,7 @@ as_vector_stands P at e here = vector_at_stands P at (named_vector e) here
 
 pub vector_stands : (P : ℕ → Type 0) (scope : ScopeTree) (at : ℕ) (name : Identifier) → P at → P name.at → FaultsStand P (vector_index scope at name)
 vector_stands P scope at name here there =
-    let e = used scope name in both_stand P e.faults _ (used_stands P scope name there) (as_vector_stands P at e.value here)
+    let e = used_name scope name in both_stand P e.faults _ (used_stands P scope name there) (as_vector_stands P at e.value here)
 
 size_of_stands : (P : ℕ → Type 0) (at : ℕ) (o : Option VarRef) → P at → FaultsStand P (size_of at o)
 size_of_stands P at None here = (here, tt)
@@ -91,11 +91,11 @@ size_of_stands P at (Some slot) here = tt
 
 as_size_stands : (P : ℕ → Type 0) (at : ℕ) (e : Entity) → P at → FaultsStand P (as_size at e)
 as_size_stands P at entity.Error here = tt
-as_size_stands P at e here = size_of_stands P at (named_set e) here
+as_size_stands P at e here = size_of_stands P at (entity_set e) here
 
 size_stands : (P : ℕ → Type 0) (scope : ScopeTree) (at : ℕ) (name : Identifier) → P at → P name.at → FaultsStand P (size_value scope at name)
 size_stands P scope at name here there =
-    let e = used scope name in both_stand P e.faults _ (used_stands P scope name there) (as_size_stands P at e.value here)
+    let e = used_name scope name in both_stand P e.faults _ (used_stands P scope name there) (as_size_stands P at e.value here)
 
 -- entries
 integer_index_stands : (P : ℕ → Type 0) (at vector : ℕ) (e : IntExpressionTree) → P at → FaultsStand P (integer_index at vector e)
@@ -242,7 +242,7 @@ mutual
   primary_stands P scope at (tree.Truth b) here all = tt
   primary_stands P scope at (tree.Variable name) here all = name_stands P scope at name here all.0
   primary_stands P scope at (tree.Entry name index) here all =
-      let e = used scope name in
+      let e = used_name scope name in
       let v = index_value scope at index in
       both_stand P e.faults _ (used_stands P scope name all.0)
       (both_stand P v.faults _ (index_stands P scope index (value_of scope at index) (value_stands P scope at index here (before P (expression_terminals index) _ _ all.1.1)))

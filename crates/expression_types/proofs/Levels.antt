@@ -14,23 +14,25 @@ use Rattle.typed_tree.specs.declared.expression.Connective.TheVariants as connec
 use Rattle.expression_types.specs.declared.fault.Fault.{Fault}
 use Rattle.expression_types.specs.Expression.{value_of, disjuncts, conjunction_value, conjuncts, comparison_value, sum_value, summands, term_value, factors, unary_value}
 use Rattle.expression_types.specs.Faults.{WithFaults, sure, outcome, ◌>>=◌}
-use Rattle.expression_types.specs.Operators.{added, multiplied, IntegersTree, ConditionsTree, first_integer, first_condition, beside_integer, beside_condition, grouped_integers, grouped_conditions}
+use Rattle.expression_types.specs.Operators.{addition_operator, multiplied, IntegersTree, ConditionsTree, first_integer, first_condition, beside_integer, beside_condition, grouped_integers}
+use Rattle.expression_types.specs.Operators.{grouped_conditions}
 use Rattle.expression_types.specs.ScopeTree.{ScopeTree}
 use Rattle.expression_types.specs.ValueTree.{ValueTree}
 use Rattle.expression_types.proofs.Steps.{row, row_first, outcome_then}
 
 -- one operand more of a level
 abbrev pub sum_step : ScopeTree → ℕ → IntegersTree → Addition × Term → WithFaults IntegersTree
-sum_step scope at left m = term_value scope at (term_of m.1) >>= λ v. sure (beside_integer (added m.0) left (first_integer v))
+sum_step scope at left m = term_value scope at (term_of m.1) >>= λ v. sure (beside_integer (addition_operator m.0) left (first_integer v))
 
 summands_row : (scope : ScopeTree) (at : ℕ) (left : IntegersTree) (o : Addition) (first : TermTree) (more : List (Addition × Term))
     → summands scope at left o (sum_from first (map (λ m. (m.0, term_of m.1)) more))
-    ≡ (term_value scope at first >>= λ v. row (sum_step scope at) (beside_integer (added o) left (first_integer v)) more)
+    ≡ (term_value scope at first >>= λ v. row (sum_step scope at) (beside_integer (addition_operator o) left (first_integer v)) more)
 summands_row scope at left o first [] = refl
 summands_row scope at left o first (m ∷ more) =
     λ i. term_value scope at first >>= λ v.
-    (summands_row scope at (beside_integer (added o) left (first_integer v)) m.0 (term_of m.1) more
-    ∙ row_first (term_value scope at (term_of m.1)) (λ w. beside_integer (added m.0) (beside_integer (added o) left (first_integer v)) (first_integer w)) (sum_step scope at) more) i
+    (summands_row scope at (beside_integer (addition_operator o) left (first_integer v)) m.0 (term_of m.1) more
+    ∙ row_first (term_value scope at (term_of m.1)) (λ w. beside_integer (addition_operator m.0) (beside_integer (addition_operator o) left (first_integer v)) (first_integer w))
+    (sum_step scope at) more) i
 
 -- a level with operators goes on after its first operand
 pub sum_begins : (scope : ScopeTree) (at : ℕ) (first : TermTree) (more : List (Addition × Term)) (old new : Option Fault) (v : ValueTree)
@@ -41,7 +43,7 @@ sum_begins scope at first [] old new v some is = absurd (true≢false some)
 sum_begins scope at first (m ∷ more) old new v some is =
     outcome_then old new (term_value scope at first) v (λ v. summands scope at (first_integer v) m.0 (sum_from (term_of m.1) (map (λ m. (m.0, term_of m.1)) more)) >>= grouped_integers at) is
     ∙ ap (λ n. outcome new (n >>= grouped_integers at)) (summands_row scope at (first_integer v) m.0 (term_of m.1) more
-    ∙ row_first (term_value scope at (term_of m.1)) (λ w. beside_integer (added m.0) (first_integer v) (first_integer w)) (sum_step scope at) more)
+    ∙ row_first (term_value scope at (term_of m.1)) (λ w. beside_integer (addition_operator m.0) (first_integer v) (first_integer w)) (sum_step scope at) more)
 
 -- one operand more of a level
 abbrev pub term_step : ScopeTree → ℕ → IntegersTree → Multiplication × Unary → WithFaults IntegersTree

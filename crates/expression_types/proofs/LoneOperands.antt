@@ -8,12 +8,12 @@ use Rattle.syntax.specs.declared.expression.Term.{Term}
 use Rattle.syntax.specs.declared.expression.Comparison.{Comparison}
 use Rattle.syntax.specs.declared.expression.Conjunction.{Conjunction}
 use Rattle.syntax.specs.ExpressionDepth.{expression_depth, unary_depth}
-use Rattle.syntax.specs.ExpressionViews.{behind, unary_of, term_from, sum_from, conjunction_from, expression_from}
+use Rattle.syntax.specs.ExpressionViews.{signed_operand, unary_of, term_from, sum_from, conjunction_from, expression_from}
 use Rattle.syntax.specs.inside.ExpressionViews.{term_of, comparison_of, conjunction_of}
 use Rattle.syntax.specs.SourceTrees.{ExpressionTree, ConjunctionTree, ComparisonTree, TermTree, UnaryTree, PrimaryTree, LastConjunction, ConjunctionThen, LastComparison, ComparisonThen, OneSum}
 use Rattle.syntax.specs.SourceTrees.{TwoSums, LastTerm, TermThen, LastUnary, UnaryThen, Bare}
 use Rattle.syntax.specs.Terminals.{Identifier}
-use Rattle.expression_types.specs.BareNames.{bare_name, only_unary, only_term, only_comparison, only_operand, unary_name}
+use Rattle.expression_types.specs.BareNames.{lone_name, only_unary, only_term, only_comparison, only_operand, unary_name}
 
 pub several_units : (first : UnaryTree) (more : List (Multiplication × Unary)) → 0 < length more
     → None ≡ only_unary (term_from first (map (λ m. (m.0, unary_of m.1)) more))
@@ -36,7 +36,7 @@ several_conjunctions first [] some = absurd (omega (arith, some))
 several_conjunctions first (m ∷ more) some = refl
 
 -- after signs nothing is a bare name
-pub signed_name : (signs : List Prefix) (p : PrimaryTree) → 0 < length signs → None ≡ unary_name (behind signs (Bare p))
+pub signed_name : (signs : List Prefix) (p : PrimaryTree) → 0 < length signs → None ≡ unary_name (signed_operand signs (Bare p))
 signed_name [] p some = absurd (omega (arith, some))
 signed_name (s ∷ signs) p some = refl
 
@@ -44,7 +44,7 @@ abbrev pub operand_name : Option UnaryTree → Option Identifier
 operand_name None = None
 operand_name (Some u) = unary_name u
 
-pub bare_name-operand : (e : ExpressionTree) → operand_name (only_operand e) ≡ bare_name e
+pub bare_name-operand : (e : ExpressionTree) → operand_name (only_operand e) ≡ lone_name e
 bare_name-operand (ConjunctionThen c others) = refl
 bare_name-operand (LastConjunction (ComparisonThen c others)) = refl
 bare_name-operand (LastConjunction (LastComparison (TwoSums left relation right))) = refl

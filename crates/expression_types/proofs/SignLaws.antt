@@ -4,7 +4,7 @@ use Rattle.std.proofs.lemmas.Bool.{false≢true}
 use Rattle.syntax.specs.declared.operators.Prefix.{Prefix}
 use Rattle.syntax.specs.declared.operators.Prefix.TheVariants as prefix
 use Rattle.syntax.specs.SourceTrees.{PrimaryTree, Bare}
-use Rattle.syntax.specs.ExpressionViews.{behind}
+use Rattle.syntax.specs.ExpressionViews.{signed_operand}
 use Rattle.typed_tree.specs.declared.expression.Endpoint.{Endpoint}
 use Rattle.typed_tree.specs.declared.expression.VarRef.{VarRef}
 use Rattle.typed_tree.specs.BoolExpressionTree.{BoolExpressionTree, turned}
@@ -12,7 +12,7 @@ use Rattle.typed_tree.specs.IntExpressionTree.{IntExpressionTree, Parameter, neg
 use Rattle.expression_types.specs.declared.fault.Fault.{Fault}
 use Rattle.expression_types.specs.declared.fault.TypeRule.TheVariants as rule
 use Rattle.expression_types.specs.Faults.{earlier, WithFaults, sure, fault_at, outcome, ◌>>=◌}
-use Rattle.expression_types.specs.Operators.{given, signed_value}
+use Rattle.expression_types.specs.Operators.{given_or_fault, signed_value}
 use Rattle.expression_types.specs.Expression.{unary_value, primary_value}
 use Rattle.expression_types.specs.ScopeTree.{ScopeTree}
 use Rattle.expression_types.proofs.Steps.{bind-sure, bind-bind}
@@ -21,7 +21,7 @@ use Rattle.expression_types.specs.ValueTree.{ValueTree, Integer, Condition, Vert
 
 -- one sign more
 abbrev signed : ℕ → Prefix → WithFaults ValueTree → WithFaults ValueTree
-signed at sign m = m >>= λ v. given at rule.WrongType (signed_value sign v)
+signed at sign m = m >>= λ v. given_or_fault at rule.WrongType (signed_value sign v)
 
 nots : (at : ℕ) (signs : List Prefix) (c : BoolExpressionTree) → all_not signs ≡ true → signs_value at signs (Condition c) ≡ sure (Condition (turned (length signs) c))
 nots at [] c all = refl
@@ -143,8 +143,8 @@ not_empty is none = true≢false (sym (ap (λ (signs : List Prefix). length sign
 
 -- signs and then a primary
 pub unary_value-behind : (scope : ScopeTree) (at : ℕ) (signs : List Prefix) (p : PrimaryTree)
-    → unary_value scope at (behind signs (Bare p)) ≡ (primary_value scope at p >>= signs_value at signs)
+    → unary_value scope at (signed_operand signs (Bare p)) ≡ (primary_value scope at p >>= signs_value at signs)
 unary_value-behind scope at [] p = sym (bind-sure (primary_value scope at p))
 unary_value-behind scope at (s ∷ signs) p =
     ap (signed at s) (unary_value-behind scope at signs p)
-    ∙ bind-bind (primary_value scope at p) (signs_value at signs) (λ v. given at rule.WrongType (signed_value s v))
+    ∙ bind-bind (primary_value scope at p) (signs_value at signs) (λ v. given_or_fault at rule.WrongType (signed_value s v))

@@ -27,9 +27,9 @@ only_operand (ConjunctionThen c others) = None
 
 abbrev mutual
   -- the name that an expression is, alone or in parentheses
-  pub bare_name : ExpressionTree → Option Identifier
-  bare_name (LastConjunction c) = conjunction_name c
-  bare_name (ConjunctionThen c others) = None
+  pub lone_name : ExpressionTree → Option Identifier
+  lone_name (LastConjunction c) = conjunction_name c
+  lone_name (ConjunctionThen c others) = None
 
   pub conjunction_name : ConjunctionTree → Option Identifier
   conjunction_name (LastComparison c) = comparison_name c
@@ -57,4 +57,4 @@ abbrev mutual
   primary_name (Variable name) = Some name
   primary_name (Entry vector index) = None
   primary_name (Size set) = None
-  primary_name (Parentheses inside) = bare_name inside
+  primary_name (Parentheses inside) = lone_name inside

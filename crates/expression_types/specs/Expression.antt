@@ -16,24 +16,25 @@ use Rattle.expression_types.specs.declared.scope.Entity.{Entity}
 use Rattle.expression_types.specs.declared.scope.Entity.TheVariants as entity
 use Rattle.expression_types.specs.declared.scope.Inside.{Inside}
 use Rattle.expression_types.specs.declared.scope.Inside.TheVariants as inside
-use Rattle.expression_types.specs.BareNames.{bare_name}
+use Rattle.expression_types.specs.BareNames.{lone_name}
 use Rattle.expression_types.specs.ScopeTree.{found, ScopeTree}
 use Rattle.expression_types.specs.Faults.{WithFaults, sure, fault_at, ◌>>=◌}
-use Rattle.expression_types.specs.ValueTree.{ValueTree, Integer, Condition, ErrorValue, is_error, named_value, named_vector, named_set}
-use Rattle.expression_types.specs.Operators.{added, multiplied, given, unless_faulty, IntegersTree, ConditionsTree, first_integer, first_condition}
-use Rattle.expression_types.specs.Operators.{beside_integer, beside_condition, grouped_integers, grouped_conditions, related_value, signed_value, entry_value}
+use Rattle.expression_types.specs.ValueTree.{ValueTree, Integer, Condition, ErrorValue, is_error, named_value, named_vector, entity_set}
+use Rattle.expression_types.specs.Operators.{addition_operator, multiplied, given_or_fault, unless_faulty, IntegersTree, ConditionsTree, first_integer}
+use Rattle.expression_types.specs.Operators.{first_condition, beside_integer, beside_condition, grouped_integers, grouped_conditions, related_value}
+use Rattle.expression_types.specs.Operators.{signed_value, entry_value}
 
 -- what a used name is: it has to be visible
 abbrev pub used_as : Identifier → Option Entity → WithFaults Entity
 used_as name None = fault_at name.at rule.UnknownName entity.Error
 used_as name (Some e) = sure e
 
-abbrev pub used : ScopeTree → Identifier → WithFaults Entity
-used scope name = used_as name (found name.bytes scope.visible)
+abbrev pub used_name : ScopeTree → Identifier → WithFaults Entity
+used_name scope name = used_as name (found name.bytes scope.visible)
 
 -- the value of a name
 abbrev pub name_value : ScopeTree → ℕ → Identifier → WithFaults ValueTree
-name_value scope at name = used scope name >>= λ e. given at rule.WrongType (named_value e)
+name_value scope at name = used_name scope name >>= λ e. given_or_fault at rule.WrongType (named_value e)
 
 -- the index of a vector, none where the name is faulty or no vector
 abbrev pub vector_at : ℕ → Option ℕ → WithFaults (Option ℕ)
@@ -45,7 +46,7 @@ as_vector at entity.Error = sure None
 as_vector at e = vector_at at (named_vector e)
 
 abbrev pub vector_index : ScopeTree → ℕ → Identifier → WithFaults (Option ℕ)
-vector_index scope at name = used scope name >>= as_vector at
+vector_index scope at name = used_name scope name >>= as_vector at
 
 -- The entry of what a name is at an index. If the index is faulty, it is no fault that the name is no vector.
 abbrev pub entry_of : Inside → ℕ → Entity → ValueTree → WithFaults ValueTree
@@ -58,10 +59,10 @@ size_of at (Some slot) = sure (Integer (integer.SetSize slot))
 
 abbrev pub as_size : ℕ → Entity → WithFaults ValueTree
 as_size at entity.Error = sure ErrorValue
-as_size at e = size_of at (named_set e)
+as_size at e = size_of at (entity_set e)
 
 abbrev pub size_value : ScopeTree → ℕ → Identifier → WithFaults ValueTree
-size_value scope at name = used scope name >>= as_size at
+size_value scope at name = used_name scope name >>= as_size at
 
 -- What an index of a function may be the name of and has no value: the edges, a vector or a function. It is no vertex.
 abbrev pub lacks_value : Option Entity → Bool
@@ -74,9 +75,9 @@ name_lacks_value scope (Some name) = lacks_value (found name.bytes scope.visible
 
 abbrev pub index_lacks_value : Inside → ScopeTree → ExpressionTree → Bool
 index_lacks_value inside.Main scope index = false
-index_lacks_value inside.EdgeFunction scope index = name_lacks_value scope (bare_name index)
-index_lacks_value inside.VertexFunction scope index = name_lacks_value scope (bare_name index)
-index_lacks_value inside.Filter scope index = name_lacks_value scope (bare_name index)
+index_lacks_value inside.EdgeFunction scope index = name_lacks_value scope (lone_name index)
+index_lacks_value inside.VertexFunction scope index = name_lacks_value scope (lone_name index)
+index_lacks_value inside.Filter scope index = name_lacks_value scope (lone_name index)
 
 abbrev pub no_vertex : ValueTree
 no_vertex = Condition (condition.Literal false)
@@ -112,7 +113,7 @@ abbrev mutual
   pub comparison_value : ScopeTree → ℕ → ComparisonTree → WithFaults ValueTree
   comparison_value scope at (OneSum s) = sum_value scope at s
   comparison_value scope at (TwoSums left relation right) =
-      sum_value scope at left >>= λ a. sum_value scope at right >>= λ b. given at rule.WrongType (related_value relation a b)
+      sum_value scope at left >>= λ a. sum_value scope at right >>= λ b. given_or_fault at rule.WrongType (related_value relation a b)
 
   pub sum_value : ScopeTree → ℕ → SumTree → WithFaults ValueTree
   sum_value scope at (LastTerm t) = term_value scope at t
@@ -122,9 +123,9 @@ abbrev mutual
   -- the terms after the first operator, after what stands on its left
   pub summands : ScopeTree → ℕ → IntegersTree → Addition → SumTree → WithFaults IntegersTree
   summands scope at left o (LastTerm t) =
-      term_value scope at t >>= λ v. sure (beside_integer (added o) left (first_integer v))
+      term_value scope at t >>= λ v. sure (beside_integer (addition_operator o) left (first_integer v))
   summands scope at left o (TermThen t p others) =
-      term_value scope at t >>= λ v. summands scope at (beside_integer (added o) left (first_integer v)) p others
+      term_value scope at t >>= λ v. summands scope at (beside_integer (addition_operator o) left (first_integer v)) p others
 
   pub term_value : ScopeTree → ℕ → TermTree → WithFaults ValueTree
   term_value scope at (LastUnary u) = unary_value scope at u
@@ -139,14 +140,14 @@ abbrev mutual
 
   pub unary_value : ScopeTree → ℕ → UnaryTree → WithFaults ValueTree
   unary_value scope at (Bare p) = primary_value scope at p
-  unary_value scope at (Signed sign u) = unary_value scope at u >>= λ v. given at rule.WrongType (signed_value sign v)
+  unary_value scope at (Signed sign u) = unary_value scope at u >>= λ v. given_or_fault at rule.WrongType (signed_value sign v)
 
   pub primary_value : ScopeTree → ℕ → PrimaryTree → WithFaults ValueTree
   primary_value scope at (Literal n) = sure (Integer (integer.Number n))
   primary_value scope at (Truth b) = sure (Condition (condition.Literal b))
   primary_value scope at (Variable name) = name_value scope at name
   primary_value scope at (Entry name index) =
-      used scope name >>= λ e. index_as scope index (value_of scope at index) >>= λ v. entry_of scope.inside at e v
+      used_name scope name >>= λ e. index_as scope index (value_of scope at index) >>= λ v. entry_of scope.inside at e v
   primary_value scope at (Size name) = size_value scope at name
   primary_value scope at (Parentheses inside) = value_of scope at inside
 

@@ -25,9 +25,9 @@ use Rattle.expression_types.specs.declared.scope.Inside.TheVariants as inside
 use Rattle.expression_types.specs.Faults.{WithFaults, sure, fault_at, ◌>>=◌}
 use Rattle.expression_types.specs.ValueTree.{ValueTree, Integer, Condition, Vertex, Set, ErrorValue, reads_entry, condition_reads_entry}
 
-abbrev pub added : Addition → Operator
-added addition.Plus = operator.Add
-added addition.Minus = operator.Subtract
+abbrev pub addition_operator : Addition → Operator
+addition_operator addition.Plus = operator.Add
+addition_operator addition.Minus = operator.Subtract
 
 abbrev pub multiplied : Multiplication → Operator
 multiplied multiplication.Times = operator.Multiply
@@ -35,9 +35,9 @@ multiplied multiplication.Divide = operator.Divide
 multiplied multiplication.Remainder = operator.Remainder
 
 -- a value where there is one, else a fault
-abbrev pub given : ℕ → TypeRule → Option ValueTree → WithFaults ValueTree
-given at rule None = fault_at at rule ErrorValue
-given at rule (Some v) = sure v
+abbrev pub given_or_fault : ℕ → TypeRule → Option ValueTree → WithFaults ValueTree
+given_or_fault at rule None = fault_at at rule ErrorValue
+given_or_fault at rule (Some v) = sure v
 
 -- a value with its faults, or without them if another part of the expression is faulty
 abbrev pub unless_faulty : {A : Type 0} → Bool → WithFaults A → WithFaults A

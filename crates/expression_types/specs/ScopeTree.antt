@@ -117,8 +117,8 @@ left mark scope = record {
 }
 
 -- all names that were visible still are, before those that became so
-abbrev pub Keeps : ScopeTree → ScopeTree → Type 0
-Keeps old new = take (length old.visible) new.visible ≡ old.visible
+abbrev pub KeepsNames : ScopeTree → ScopeTree → Type 0
+KeepsNames old new = take (length old.visible) new.visible ≡ old.visible
 
 -- what a name stands for, none where it is not there
 abbrev pub found : {T : Type 0} → List ℕ → List (List ℕ × T) → Option T

@@ -96,23 +96,23 @@ named_vector entity.Main = None
 named_vector entity.Error = None
 
 -- the vertex set that a name is
-abbrev pub named_set : Entity → Option VarRef
-named_set (entity.Edges weights) = None
-named_set (entity.Vector index) = None
-named_set (entity.ConstantSet slot) = Some slot
-named_set (entity.IntegerConstant name n) = None
-named_set (entity.ConditionConstant name b) = None
-named_set (entity.IntegerVariable slot) = None
-named_set (entity.ConditionVariable slot) = None
-named_set (entity.SetVariable slot) = Some slot
-named_set (entity.LoopVariable slot) = None
-named_set (entity.Parameter at) = None
-named_set entity.Weight = None
-named_set (entity.EdgeFunction index weighted) = None
-named_set (entity.VertexFunction index) = None
-named_set (entity.Filter index) = None
-named_set entity.Main = None
-named_set entity.Error = None
+abbrev pub entity_set : Entity → Option VarRef
+entity_set (entity.Edges weights) = None
+entity_set (entity.Vector index) = None
+entity_set (entity.ConstantSet slot) = Some slot
+entity_set (entity.IntegerConstant name n) = None
+entity_set (entity.ConditionConstant name b) = None
+entity_set (entity.IntegerVariable slot) = None
+entity_set (entity.ConditionVariable slot) = None
+entity_set (entity.SetVariable slot) = Some slot
+entity_set (entity.LoopVariable slot) = None
+entity_set (entity.Parameter at) = None
+entity_set entity.Weight = None
+entity_set (entity.EdgeFunction index weighted) = None
+entity_set (entity.VertexFunction index) = None
+entity_set (entity.Filter index) = None
+entity_set entity.Main = None
+entity_set entity.Error = None
 
 -- the integer that a value reads as: a vertex reads as its number
 abbrev pub as_integer : ValueTree → Option IntExpressionTree

@@ -2,7 +2,7 @@
 ghost use Rattle.std.specs.Prelude.{◌≡◌, option_map};
 ghost use Rattle.syntax.specs.inside.ExpressionViews.{comparison_of, conjunction_of, sum_of, term_of};
 ghost use Rattle.syntax.specs.ExpressionViews.{unary_of};
-ghost use Rattle.expression_types.specs.BareNames.{bare_name as name_alone, only_comparison, only_operand, only_sum, only_term, only_unary};
+ghost use Rattle.expression_types.specs.BareNames.{lone_name as name_alone, only_comparison, only_operand, only_sum, only_term, only_unary};
 
 use syntax::{Comparison, Conjunction, Expression, Name, Primary, Sum, Term, Unary};
 

@@ -2,7 +2,7 @@
 ghost use Rattle.std.specs.Prelude.{◌≡◌};
 ghost use Rattle.syntax.specs.inside.ExpressionViews.{comparison_of, conjunction_of, sum_of, term_of};
 ghost use Rattle.syntax.specs.ExpressionViews.{primary_of, unary_of};
-ghost use Rattle.expression_types.specs.Expression.{as_size, as_vector, comparison_value, conjunction_value, index_lacks_value, index_value, lacks_value, name_value, no_vertex, primary_value, size_value, sum_value, term_value, unary_value, used, value_of, vector_index};
+ghost use Rattle.expression_types.specs.Expression.{as_size, as_vector, comparison_value, conjunction_value, index_lacks_value, index_value, lacks_value, name_value, no_vertex, primary_value, size_value, sum_value, term_value, unary_value, used_name, value_of, vector_index};
 ghost use Rattle.expression_types.specs.Faults.{ReportsFaults, outcome};
 ghost use Rattle.expression_types.specs.ValueTree.{value_tree};
 
@@ -223,7 +223,7 @@ fn other_index() -> Value
 
 /// What a used name is. Where it is not visible the fault is noted, and then it is `Error`.
 pub fn entity(scope: &Scope, name: &Name, first_fault: &mut Option<Fault>) -> Entity
-    ensures { outcome first_fault.old (used scope.now name.now) ≡ (result, first_fault.new) }
+    ensures { outcome first_fault.old (used_name scope.now name.now) ≡ (result, first_fault.new) }
 {
     match scope.look_up(name.bytes()) {
         Some(entity) => entity,

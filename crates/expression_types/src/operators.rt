@@ -3,7 +3,7 @@ ghost use Rattle.std.specs.Prelude.{◌≡◌, Some, false, IfOk, IsTrue};
 ghost use Rattle.std.specs.Option.{option_map};
 ghost use Rattle.expression_types.specs.Faults.{ReportsFaults, outcome, earlier};
 ghost use Rattle.expression_types.specs.Expression.{as_vector, entry_of};
-ghost use Rattle.expression_types.specs.Operators.{added, compared_value, entry_value, equated_value, function_entry, given, main_entry, multiplied, related_value};
+ghost use Rattle.expression_types.specs.Operators.{addition_operator, compared_value, entry_value, equated_value, function_entry, given_or_fault, main_entry, multiplied, related_value};
 ghost use Rattle.expression_types.specs.inside.Signs.{all_minus, all_not, signs_value};
 ghost use Rattle.expression_types.specs.ValueTree.{ErrorValue, is_condition, is_error, value_tree};
 
@@ -17,7 +17,7 @@ use typed_tree::{BoolExpression, ComparisonOperator, Connective, IntExpression, 
 
 /// The operator that stands between the terms of a sum.
 pub(crate) fn addition(operator: Addition) -> Operator
-    ensures { result ≡ added operator }
+    ensures { result ≡ addition_operator operator }
 {
     match operator {
         Addition::Plus => Operator::Add,
@@ -83,7 +83,7 @@ pub(crate) fn relate(
     first_fault: &mut Option<Fault>,
 ) -> Result<Value, AllocError>
     ensures { ReportsFaults value_tree first_fault.old first_fault.new result
-        (given at TypeRule.WrongType (related_value operator (value_tree left) (value_tree right))) }
+        (given_or_fault at TypeRule.WrongType (related_value operator (value_tree left) (value_tree right))) }
 {
     match relation(alloc, operator, left, right)? {
         Some(value) => Ok(value),

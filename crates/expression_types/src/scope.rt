@@ -1,6 +1,6 @@
 //! Scopes: which names are visible at a point of a source, and what each is.
 ghost use Rattle.std.specs.Prelude.{◌≡◌, ◌≤◌, ◌+◌, ◌*◌, ◌^◌, OnErr, length};
-ghost use Rattle.expression_types.specs.ScopeTree.{found, Keeps, conditions_of, declared, empty_scope, entered, integers_of, left, mark_of, sets_of};
+ghost use Rattle.expression_types.specs.ScopeTree.{found, KeepsNames, conditions_of, declared, empty_scope, entered, integers_of, left, mark_of, sets_of};
 ghost use Rattle.expression_types.specs.Faults.{ReportsFaults};
 
 use crate::fault::{Fault, TypeRule, note};
@@ -201,7 +201,7 @@ impl Scope {
         first_fault: &mut Option<Fault>,
     ) -> Result<(), AllocError>
         ensures declared { ReportsFaults (λ _. self.new) first_fault.old first_fault.new result (declared name.now entity self.old) }
-        ensures kept { Keeps self.old self.new }
+        ensures kept { KeepsNames self.old self.new }
         ensures err { OnErr result (self.new ≡ self.old) }
     {
         if self.names.get(name.bytes()).is_some() {

@@ -3,7 +3,7 @@ ghost use Rattle.std.specs.Prelude.{◌≡◌, is_some};
 ghost use Rattle.std.specs.Option.{option_map};
 ghost use Rattle.typed_tree.specs.BoolExpressionTree.{bool_expression_tree};
 ghost use Rattle.typed_tree.specs.IntExpressionTree.{int_expression_tree};
-ghost use Rattle.expression_types.specs.ValueTree.{as_condition, as_integer, as_set, as_vertex, is_condition as condition, is_error as error, named_set, named_value, named_vector, reads_entry as entry_is_read, value_tree};
+ghost use Rattle.expression_types.specs.ValueTree.{as_condition, as_integer, as_set, as_vertex, is_condition as condition, is_error as error, entity_set, named_value, named_vector, reads_entry as entry_is_read, value_tree};
 ghost use Rattle.expression_types.specs.inside.ValueTree.{operands_read_entry};
 
 use crate::scope::Entity;
@@ -141,7 +141,7 @@ pub fn vector_named(entity: Entity) -> Option<usize>
 
 /// The vertex set that a name is, or `None` where it is none.
 pub fn set_named(entity: Entity) -> Option<VarRef>
-    ensures { result ≡ named_set entity }
+    ensures { result ≡ entity_set entity }
 {
     match entity {
         Entity::ConstantSet(slot) | Entity::SetVariable(slot) => Some(slot),

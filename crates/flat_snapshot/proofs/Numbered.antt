@@ -5,24 +5,24 @@ use Rattle.std.proofs.lemmas.List.{append_assoc, append-nil}
 use Rattle.ascending_lists.specs.Maps.{Rises}
 use Rattle.ascending_lists.proofs.MapOrder.{rises_append, rises_to, rises_room}
 use Rattle.pages.specs.Vertices.{neighbours_of}
-use Rattle.vertex_blocks.specs.Blocks.{Block, IsBlock, AreNeighbourLists, vertices_at, numbered}
+use Rattle.vertex_blocks.specs.Blocks.{Block, IsBlock, AreNeighbourLists, vertices_at, numbered_vertices}
 use Rattle.tree_batch.specs.VertexBlocks.{HaveFew}
 use Rattle.flat_snapshot.specs.inside.Lists.{lists_in, AreBlocks}
 
 -- the vertices of a block rise
-pub numbered_rises : (k low high : ℕ) (es : Block) → Rises low high es → Rises (64 * k + low) (64 * k + high) (numbered k es)
+pub numbered_rises : (k low high : ℕ) (es : Block) → Rises low high es → Rises (64 * k + low) (64 * k + high) (numbered_vertices k es)
 numbered_rises k low high [] s = omega (arith, s)
 numbered_rises k low high (e ∷ es) s =
-    (omega (arith, s.0), subst (λ a. Rises a (64 * k + high) (numbered k es)) (omega arith) (numbered_rises k (e.0 + 1) high es s.1))
+    (omega (arith, s.0), subst (λ a. Rises a (64 * k + high) (numbered_vertices k es)) (omega arith) (numbered_rises k (e.0 + 1) high es s.1))
 
 -- the vertices of blocks in places rise
 pub rises_in : (k : ℕ) (bs : List (Option Block)) → AreBlocks bs → Rises (64 * k) (64 * (k + length bs)) (lists_in k bs)
 rises_in k [] are = omega arith
 rises_in k (b ∷ bs) are =
-    let front = subst (λ a. Rises a (64 * k + 64) (numbered k (vertices_at b))) (omega arith) (numbered_rises k 0 64 (vertices_at b) are.0.map) in
+    let front = subst (λ a. Rises a (64 * k + 64) (numbered_vertices k (vertices_at b))) (omega arith) (numbered_rises k 0 64 (vertices_at b) are.0.map) in
     let back = rises_in (k + 1) bs are.1 in
     rises_to (64 * k) (64 * (k + 1 + length bs)) (64 * (k + length (b ∷ bs))) (lists_in k (b ∷ bs))
-    (rises_append (64 * k) (64 * k + 64) (64 * (k + 1 + length bs)) (numbered k (vertices_at b)) (lists_in (k + 1) bs) front
+    (rises_append (64 * k) (64 * k + 64) (64 * (k + 1 + length bs)) (numbered_vertices k (vertices_at b)) (lists_in (k + 1) bs) front
     (subst (λ a. Rises a (64 * (k + 1 + length bs)) (lists_in (k + 1) bs)) (omega arith) back))
     (omega arith)
 
@@ -48,7 +48,7 @@ below_all u a h (e ∷ l) r s le =
     rw (ne_eqb e.0 u other) (below_all u (e.0 + 1) h l r s.1 le)
 
 -- the list of a vertex of a block
-numbered_list : (k u : ℕ) (es : Block) → neighbours_of (64 * k + u) (numbered k es) ≡ neighbours_of u es
+numbered_list : (k u : ℕ) (es : Block) → neighbours_of (64 * k + u) (numbered_vertices k es) ≡ neighbours_of u es
 numbered_list k u [] = refl
 numbered_list k u (e ∷ es) = elim (cases_eq e.0 u) [
   | inl at ↦ rw (eq-eqb e.0 u at, eq-eqb (64 * k + e.0) (64 * k + u) (omega arith)) refl
@@ -63,11 +63,11 @@ pub list_in : (v k i : ℕ) (bs : List (Option Block)) (d : Option Block) → Ar
 list_in v k i [] d are at lt = absurd (omega (arith, lt))
 list_in v k zero (b ∷ bs) d are at lt =
     let is : 64 * k + v % 64 ≡ v = omega arith in
-    above_all v (64 * (k + 1)) (64 * (k + 1 + length bs)) (numbered k (vertices_at b)) (lists_in (k + 1) bs) (rises_in (k + 1) bs are.1) (omega arith)
-    ∙ ap (λ u. neighbours_of u (numbered k (vertices_at b))) (sym is) ∙ numbered_list k (v % 64) (vertices_at b)
+    above_all v (64 * (k + 1)) (64 * (k + 1 + length bs)) (numbered_vertices k (vertices_at b)) (lists_in (k + 1) bs) (rises_in (k + 1) bs are.1) (omega arith)
+    ∙ ap (λ u. neighbours_of u (numbered_vertices k (vertices_at b))) (sym is) ∙ numbered_list k (v % 64) (vertices_at b)
 list_in v k (suc i) (b ∷ bs) d are at lt =
-    let front = subst (λ a. Rises a (64 * k + 64) (numbered k (vertices_at b))) (omega arith) (numbered_rises k 0 64 (vertices_at b) are.0.map) in
-    below_all v (64 * k) (64 * k + 64) (numbered k (vertices_at b)) (lists_in (k + 1) bs) front (omega arith)
+    let front = subst (λ a. Rises a (64 * k + 64) (numbered_vertices k (vertices_at b))) (omega arith) (numbered_rises k 0 64 (vertices_at b) are.0.map) in
+    below_all v (64 * k) (64 * k + 64) (numbered_vertices k (vertices_at b)) (lists_in (k + 1) bs) front (omega arith)
     ∙ list_in v (k + 1) i bs d are.1 (omega (arith, at)) (omega (arith, lt))
 
 -- a vertex after all blocks has none
@@ -78,21 +78,21 @@ none_above u a h (e ∷ es) s le =
     rw (ne_eqb e.0 u other) (none_above u (e.0 + 1) h es s.1 le)
 
 -- one more block after the others
-pub lists_more : (k : ℕ) (bs : List (Option Block)) (b : Option Block) → lists_in k (bs ++ b ∷ []) ≡ lists_in k bs ++ numbered (k + length bs) (vertices_at b)
-lists_more k [] b = nil_after ∙ ap (λ j. numbered j (vertices_at b)) (omega arith)
+pub lists_more : (k : ℕ) (bs : List (Option Block)) (b : Option Block) → lists_in k (bs ++ b ∷ []) ≡ lists_in k bs ++ numbered_vertices (k + length bs) (vertices_at b)
+lists_more k [] b = nil_after ∙ ap (λ j. numbered_vertices j (vertices_at b)) (omega arith)
   where
-    nil_after : numbered k (vertices_at b) ++ [] ≡ numbered k (vertices_at b)
-    nil_after = append-nil (numbered k (vertices_at b))
+    nil_after : numbered_vertices k (vertices_at b) ++ [] ≡ numbered_vertices k (vertices_at b)
+    nil_after = append-nil (numbered_vertices k (vertices_at b))
 lists_more k (x ∷ bs) b =
-    ap (λ r. numbered k (vertices_at x) ++ r) (lists_more (k + 1) bs b ∙ ap (λ j. lists_in (k + 1) bs ++ numbered j (vertices_at b)) (omega arith))
-    ∙ sym (append_assoc (numbered k (vertices_at x)) (lists_in (k + 1) bs) (numbered (k + length (x ∷ bs)) (vertices_at b)))
+    ap (λ r. numbered_vertices k (vertices_at x) ++ r) (lists_more (k + 1) bs b ∙ ap (λ j. lists_in (k + 1) bs ++ numbered_vertices j (vertices_at b)) (omega arith))
+    ∙ sym (append_assoc (numbered_vertices k (vertices_at x)) (lists_in (k + 1) bs) (numbered_vertices (k + length (x ∷ bs)) (vertices_at b)))
 
 pub blocks_more : (bs : List (Option Block)) (b : Option Block) → AreBlocks bs → IsBlock (vertices_at b) → AreBlocks (bs ++ b ∷ [])
 blocks_more [] b are is = (is, tt)
 blocks_more (x ∷ bs) b are is = (are.0, blocks_more bs b are.1 is)
 
 -- each vertex of blocks has neighbours
-pub numbered_lists : (k : ℕ) (es : Block) (rest : List (ℕ × List (ℕ × ℤ))) → AreNeighbourLists es → AreNeighbourLists rest → AreNeighbourLists (numbered k es ++ rest)
+pub numbered_lists : (k : ℕ) (es : Block) (rest : List (ℕ × List (ℕ × ℤ))) → AreNeighbourLists es → AreNeighbourLists rest → AreNeighbourLists (numbered_vertices k es ++ rest)
 numbered_lists k [] rest are more = more
 numbered_lists k (e ∷ es) rest are more = (are.0, numbered_lists k es rest are.1 more)
 

@@ -9,7 +9,7 @@ use Rattle.tree_batch.specs.Digraph.{Digraph, IsDigraph}
 use Rattle.tree_batch.specs.inside.Digraph.{digraph}
 use Rattle.tree_batch.specs.Neighbours.{destinations_of, sources_of, edges_of}
 use Rattle.tree_batch.specs.VertexBlocks.{AreBlocksOf}
-use Rattle.vertex_blocks.specs.Blocks.{Block, AreNeighbourLists, AreBlocks, numbered, lists_of}
+use Rattle.vertex_blocks.specs.Blocks.{Block, AreNeighbourLists, AreBlocks, numbered_vertices, lists_of}
 use Rattle.flat_snapshot.specs.inside.Lists.{degrees_of}
 use Rattle.flat_snapshot.specs.FlatEdges.{AreDegreesOf}
 use Rattle.flat_snapshot.specs.inside.FlatEdges.{IsFlat}
@@ -23,10 +23,10 @@ rises_degrees a h (e ∷ es) s = (s.0, rises_degrees (e.0 + 1) h es s.1)
 pub rises_lists : (a h : ℕ) (bs : List (ℕ × Block)) → Rises a h bs → AreBlocks bs → Rises (64 * a) (64 * h) (lists_of bs)
 rises_lists a h [] s are = omega (arith, s)
 rises_lists a h (b ∷ bs) s are =
-    let front = subst (λ l. Rises l (64 * b.0 + 64) (numbered b.0 b.1)) (omega arith) (numbered_rises b.0 0 64 b.1 are.0.map) in
+    let front = subst (λ l. Rises l (64 * b.0 + 64) (numbered_vertices b.0 b.1)) (omega arith) (numbered_rises b.0 0 64 b.1 are.0.map) in
     let back = subst (λ l. Rises l (64 * h) (lists_of bs)) (omega arith) (rises_lists (b.0 + 1) h bs s.1 are.2) in
     rises_from (64 * a) (64 * b.0) (64 * h) (lists_of (b ∷ bs)) (omega (arith, s.0))
-    (rises_append (64 * b.0) (64 * b.0 + 64) (64 * h) (numbered b.0 b.1) (lists_of bs) front back)
+    (rises_append (64 * b.0) (64 * b.0 + 64) (64 * h) (numbered_vertices b.0 b.1) (lists_of bs) front back)
 
 degrees_lengths : (u : ℕ) (es : List (ℕ × List (ℕ × ℤ))) → unwrap_or (lookup u (degrees_of es)) 0 ≡ length (neighbours_of u es)
 degrees_lengths u [] = refl

@@ -30,5 +30,5 @@ abbrev pub IsSpent : (now was : Apply) → Differences → (budget : ℕ) → Ty
 IsSpent now was d budget = (budget < marking_work now d) ⊎ ((work : ℕ) × IsPullWork now was d work × (budget < work))
 
 -- the budget is enough for the former, and for the latter
-abbrev pub IsWithin : (now was : Apply) → Differences → (budget : ℕ) → Type 0
-IsWithin now was d budget = (marking_work now d ≤ budget) × ((work : ℕ) × IsPullWork now was d work × (work ≤ budget))
+abbrev pub IsWithinBudget : (now was : Apply) → Differences → (budget : ℕ) → Type 0
+IsWithinBudget now was d budget = (marking_work now d ≤ budget) × ((work : ℕ) × IsPullWork now was d work × (work ≤ budget))

@@ -5,7 +5,7 @@ ghost use Rattle.vertex_marks.specs.Marks.{is_marked};
 ghost use Rattle.follow_engine.specs.Following.{CanFollow};
 ghost use Rattle.follow_engine.specs.Reached.{is_reached};
 ghost use Rattle.follow_engine.specs.Reduced.{AreChangesReduced};
-ghost use Rattle.follow_engine.specs.Spent.{IsSpent, IsWithin};
+ghost use Rattle.follow_engine.specs.Spent.{IsSpent, IsWithinBudget};
 
 use crate::among::{chosen, fits_budget, pull_among, read_sizes};
 use crate::differences::Followed;
@@ -39,7 +39,7 @@ pub fn follow(
     ensures changes { IfOk result (λ found. IfSome found (λ c. AreChangesReduced apply.now c.vectors.items)) }
     ensures marked { IfOk result (λ found. IfSome found (λ _. (v : ℕ) → v < apply.now.flat.now.vertices
         → is_marked marks.new v ≡ is_reached apply.now followed.now.former.apply followed.now.differences v)) }
-    ensures within { IfOk result (λ found. IfSome found (λ _. IsWithin apply.now followed.now.former.apply followed.now.differences followed.now.budget)) }
+    ensures within { IfOk result (λ found. IfSome found (λ _. IsWithinBudget apply.now followed.now.former.apply followed.now.differences followed.now.budget)) }
     ensures spent { IfOk result (λ found. found ≡ None → IsSpent apply.now followed.now.former.apply followed.now.differences followed.now.budget) }
 {
     let former = &followed.former;

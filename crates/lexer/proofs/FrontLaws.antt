@@ -6,7 +6,7 @@ use Rattle.std.specs.Str.{all_ascii_digits}
 use Rattle.std.proofs.lemmas.Bool.{cases_lt, false≢true}
 use Rattle.std.proofs.Math.Seq.{take-append_seam, drop-append_seam}
 use Rattle.std.proofs.lemmas.List.{take-append-drop, length-take}
-use Rattle.decimal.specs.Numbers.{value_of}
+use Rattle.decimal.specs.Numbers.{digits_number}
 use Rattle.decimal.proofs.NumberLaws.{value_of-longer, all_ascii_digits-append}
 use Rattle.lexer.specs.declared.symbol.Symbol.{Symbol}
 use Rattle.lexer.specs.declared.token.TokenKind.TheVariants as kind
@@ -99,13 +99,13 @@ digits_end (b ∷ bytes) =
       | false ↦ λ other. ([], b ∷ bytes, refl, refl, other)
     ] refl
 
-pub large_number : (bytes digits rest : List ℕ) → bytes ≡ digits ++ rest → all_ascii_digits digits ≡ true → EndsRun is_ascii_digit rest → 9223372036854775807 < value_of digits
+pub large_number : (bytes digits rest : List ℕ) → bytes ≡ digits ++ rest → all_ascii_digits digits ≡ true → EndsRun is_ascii_digit rest → 9223372036854775807 < digits_number digits
     → BeginsLargeNumber bytes
 large_number bytes [] rest whole all ends large = absurd (omega arith)
 large_number bytes (d ∷ digits) rest whole all ends large =
     (d ∷ digits, rest, whole, number_longest (d ∷ digits) rest (omega arith) all ends, large)
 
-pub large_prefix : (bytes : List ℕ) (len : ℕ) → all_ascii_digits (take len bytes) ≡ true → 9223372036854775807 < value_of (take len bytes) → BeginsLargeNumber bytes
+pub large_prefix : (bytes : List ℕ) (len : ℕ) → all_ascii_digits (take len bytes) ≡ true → 9223372036854775807 < digits_number (take len bytes) → BeginsLargeNumber bytes
 large_prefix bytes len digits large =
     let behind = digits_end (drop len bytes) in
     let whole : bytes ≡ (take len bytes ++ behind.0) ++ behind.1 =
@@ -220,12 +220,12 @@ digits_some bytes (suc len) some digit ends = omega arith
 
 -- the first piece is a number, as far as its size allows
 pub number_first : (bytes : List ℕ) (len : ℕ) → 0 < length bytes → is_ascii_digit (get_or bytes 0 0) ≡ true → len ≤ length bytes → all_ascii_digits (take len bytes) ≡ true
-    → (len < length bytes → is_ascii_digit (get_or bytes len 0) ≡ false) → IsSmall (Lexeme (kind.Number (pos (value_of (take len bytes)))))
-    → IsFirst (Lexeme (kind.Number (pos (value_of (take len bytes))))) bytes len
+    → (len < length bytes → is_ascii_digit (get_or bytes len 0) ≡ false) → IsSmall (Lexeme (kind.Number (pos (digits_number (take len bytes)))))
+    → IsFirst (Lexeme (kind.Number (pos (digits_number (take len bytes))))) bytes len
 number_first bytes len some digit within digits ends small =
     let long : len ≡ length (take len bytes) = cut_length len bytes _ within refl in
     let any : 0 < len = digits_some bytes len some digit ends in
-    first_of (Lexeme (kind.Number (pos (value_of (take len bytes))))) bytes (take len bytes) (drop len bytes) len (sym (take-append-drop len bytes)) long any
+    first_of (Lexeme (kind.Number (pos (digits_number (take len bytes))))) bytes (take len bytes) (drop len bytes) len (sym (take-append-drop len bytes)) long any
     (number_longest (take len bytes) (drop len bytes) (omega arith) digits (digits_ends bytes len within ends)) small
 
 -- two slashes, the second right after the first

@@ -3,7 +3,7 @@ use Rattle.std.proofs.Common.{◌≡◌, ◌≢◌, ℕ, pos, ◌<◌, ◌≤◌
 use Rattle.std.specs.Char.{is_ascii_digit}
 use Rattle.std.specs.Str.{all_ascii_digits}
 use Rattle.std.proofs.lemmas.Bool.{and_parts, false≢true}
-use Rattle.decimal.specs.Numbers.{value_of}
+use Rattle.decimal.specs.Numbers.{digits_number}
 use Rattle.lexer.specs.declared.symbol.Symbol.{Symbol}
 use Rattle.lexer.specs.declared.symbol.Symbol.TheVariants as symbol
 use Rattle.lexer.specs.declared.token.TokenKind.TheVariants as kind
@@ -62,7 +62,7 @@ every_digit (b ∷ text) digits =
     (parts.0, every_digit text parts.1)
 
 pub number_longest : (text rest : List ℕ) → 0 < length text → all_ascii_digits text ≡ true → EndsRun is_ascii_digit rest
-    → IsLongest (record { kind = Lexeme (kind.Number (pos (value_of text))); text = text }) rest
+    → IsLongest (record { kind = Lexeme (kind.Number (pos (digits_number text))); text = text }) rest
 number_longest [] rest some all ends = absurd (omega arith)
 number_longest (b ∷ text) rest some all ends = record {
   is = (some, all, refl);

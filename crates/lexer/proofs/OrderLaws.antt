@@ -3,7 +3,7 @@ use Rattle.std.proofs.Common.{◌≡◌, ℕ, ◌+◌, ◌-◌, List, [], ◌∷
 use Rattle.std.specs.List.{AllByRecursion}
 use Rattle.std.proofs.Math.Seq.{drop-append_seam, take-append_seam}
 use Rattle.lexer.specs.declared.token.Token.{Token}
-use Rattle.lexer.specs.Tokens.{PieceKind, White, Comment, Lexeme, IsGap, IsPiece, IsToken, Piece, bytes_of, AreLongest, tokens_from, HasTokens, slice_of, AreGaps, AreInOrder}
+use Rattle.lexer.specs.Tokens.{PieceKind, White, Comment, Lexeme, IsGap, IsPiece, IsToken, Piece, bytes_of, AreLongest, tokens_from, HasTokens, slice_of, AreGaps, AreTokensFrom}
 
 -- one more gap
 bytes_of-append : (ps qs : List Piece) → bytes_of (ps ++ qs) ≡ bytes_of ps ++ bytes_of qs
@@ -34,10 +34,10 @@ slice_between a b c from to at_from at_to =
 -- the pieces, after a front and some gaps, are in order
 abbrev InOrder : List ℕ → List Piece → Type 0
 InOrder text pieces = (front gap : List ℕ) (from at : ℕ) → AreGaps gap → text ≡ front ++ (gap ++ bytes_of pieces) → from ≡ length front → at ≡ from + length gap
-    → AreInOrder text from (tokens_from at pieces)
+    → AreTokensFrom text from (tokens_from at pieces)
 
 in_order_piece : (kind : PieceKind) (bytes : List ℕ) (pieces : List Piece) (text front gap : List ℕ) (from at : ℕ) → IsPiece kind bytes → InOrder text pieces → AreGaps gap
-    → text ≡ front ++ (gap ++ (bytes ++ bytes_of pieces)) → from ≡ length front → at ≡ from + length gap → AreInOrder text from (tokens_from at (record { kind = kind; text = bytes } ∷ pieces))
+    → text ≡ front ++ (gap ++ (bytes ++ bytes_of pieces)) → from ≡ length front → at ≡ from + length gap → AreTokensFrom text from (tokens_from at (record { kind = kind; text = bytes } ∷ pieces))
 in_order_piece (Lexeme kind) bytes pieces text front gap from at is go gaps whole at_from at_at =
     let between : slice_of text (record { start = from; end = at }) ≡ gap =
     ap (λ t. slice_of t (record { start = from; end = at })) whole ∙ slice_between front gap (bytes ++ bytes_of pieces) from at at_from (omega arith) in
@@ -67,6 +67,6 @@ in_order [] text longest front gap from at gaps whole at_from at_at =
 in_order (piece ∷ pieces) text longest front gap from at gaps whole at_from at_at =
     in_order_piece piece.kind piece.text pieces text front gap from at longest.0.is (in_order pieces text longest.1) gaps whole at_from at_at
 
-pub HasTokens-AreInOrder : (text : List ℕ) (tokens : List Token) → HasTokens text tokens → AreInOrder text 0 tokens
+pub HasTokens-AreInOrder : (text : List ℕ) (tokens : List Token) → HasTokens text tokens → AreTokensFrom text 0 tokens
 HasTokens-AreInOrder text tokens (pieces, read, are) =
-    subst (AreInOrder text 0) (sym are) (in_order pieces text read.longest [] [] 0 0 ([], tt, refl) (read.whole ∙ append-nil (bytes_of pieces)) refl refl)
+    subst (AreTokensFrom text 0) (sym are) (in_order pieces text read.longest [] [] 0 0 ([], tt, refl) (read.whole ∙ append-nil (bytes_of pieces)) refl refl)

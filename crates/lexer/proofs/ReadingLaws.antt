@@ -3,7 +3,7 @@ use Rattle.std.proofs.Common.{◌≡◌, ℕ, pos, ◌+◌, ◌≤◌, ◌⊎◌
 use Rattle.std.proofs.Common.{length-drop, append-nil}
 use Rattle.std.proofs.lemmas.Int.{ints}
 use Rattle.std.proofs.lemmas.List.{take-append-drop, length-take, drop-drop, drop_all}
-use Rattle.decimal.specs.Numbers.{value_of}
+use Rattle.decimal.specs.Numbers.{digits_number}
 use Rattle.lexer.specs.declared.error.LexError.{LexError}
 use Rattle.lexer.specs.declared.error.LexError.TheVariants.{BadByte, NumberTooLarge, UnfinishedText, NoMemory}
 use Rattle.lexer.specs.declared.token.Token.{Token}
@@ -156,9 +156,9 @@ stuck_without_piece rest none piece more same longest small = none piece.kind pi
 
 stuck_at_large : (rest : List ℕ) → BeginsLargeNumber rest → IsStuck rest
 stuck_at_large rest (digits, after, whole, longest, large) piece more same of_piece small =
-    let number : Piece = record { kind = Lexeme (kind.Number (pos (value_of digits))); text = digits } in
+    let number : Piece = record { kind = Lexeme (kind.Number (pos (digits_number digits))); text = digits } in
     let one : number ≡ piece = (first_unique number piece after more longest of_piece (sym whole ∙ same)).0 in
-    let too_small : IsSmall (Lexeme (kind.Number (pos (value_of digits)))) = subst IsSmall (sym (ap (λ p. p.kind) one)) small in
+    let too_small : IsSmall (Lexeme (kind.Number (pos (digits_number digits)))) = subst IsSmall (sym (ap (λ p. p.kind) one)) small in
     omega (arith, ints, too_small, large)
 
 stuck_at_bad : (rest : List ℕ) → BeginsBadByte rest → IsStuck rest
@@ -217,7 +217,7 @@ stopped text (Err NoMemory) reads = absurd reads
 
 -- a rest has one fault at most
 bad_or_large : (rest : List ℕ) → BeginsNoPiece rest → BeginsLargeNumber rest → ⊥
-bad_or_large rest none (digits, after, whole, longest, large) = none (Lexeme (kind.Number (pos (value_of digits)))) digits after whole longest.is
+bad_or_large rest none (digits, after, whole, longest, large) = none (Lexeme (kind.Number (pos (digits_number digits)))) digits after whole longest.is
 
 without_piece : (rest : List ℕ) → BeginsBadByte rest → BeginsNoPiece rest
 without_piece [] bad = absurd bad

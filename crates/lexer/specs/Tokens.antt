@@ -2,7 +2,7 @@
 use Rattle.std.specs.Prelude.{◌≡◌, ◌≢◌, ℕ, pos, ◌+◌, ◌-◌, ◌<◌, ◌≤◌, ◌≤ℤ◌, true, List, [], ◌∷◌, ◌++◌, length, take, drop, Result, Ok, Err}
 use Rattle.std.specs.Str.{all_ascii_digits}
 use Rattle.std.specs.List.{AllByRecursion}
-use Rattle.decimal.specs.Numbers.{value_of}
+use Rattle.decimal.specs.Numbers.{digits_number}
 use Rattle.lexer.specs.declared.keyword.Keyword.{Keyword}
 use Rattle.lexer.specs.declared.token.Span.{Span}
 use Rattle.lexer.specs.declared.token.Token.{Token}
@@ -24,7 +24,7 @@ IsName text = IsWord text × ((word : Keyword) → text ≢ keyword_spelling wor
 -- The text is a token of this kind, of a number of any size. The quote is byte 34, and # is byte 35.
 abbrev pub IsToken : TokenKind → List ℕ → Type 0
 IsToken kind.Name text = IsName text
-IsToken (kind.Number n) text = (0 < length text) × (all_ascii_digits text ≡ true) × (n ≡ pos (value_of text))
+IsToken (kind.Number n) text = (0 < length text) × (all_ascii_digits text ≡ true) × (n ≡ pos (digits_number text))
 IsToken kind.Label text = (name : List ℕ) × IsName name × (text ≡ 35 ∷ name ++ 35 ∷ [])
 IsToken kind.Text text = (inside : List ℕ) × Every is_quotable inside × (text ≡ 34 ∷ inside ++ 34 ∷ [])
 IsToken (kind.Keyword word) text = text ≡ keyword_spelling word
@@ -115,8 +115,8 @@ BeginsUnfinishedText (b ∷ bytes) = (b ≡ 34) × BeginsNoPiece (b ∷ bytes)
 -- digits, as many as stand there, for a number that is too large
 abbrev pub BeginsLargeNumber : List ℕ → Type 0
 BeginsLargeNumber text = (digits : List ℕ) × (rest : List ℕ) × (text ≡ digits ++ rest)
-    × IsLongest (record { kind = Lexeme (kind.Number (pos (value_of digits))); text = digits }) rest
-    × (9223372036854775807 < value_of digits)
+    × IsLongest (record { kind = Lexeme (kind.Number (pos (digits_number digits))); text = digits }) rest
+    × (9223372036854775807 < digits_number digits)
 
 -- after pieces, each the longest at its place, the fault stands at this offset
 abbrev pub FaultsAt : (List ℕ → Type 0) → List ℕ → ℕ → Type 0
@@ -132,8 +132,8 @@ Reads text (Err (UnfinishedText at)) = FaultsAt BeginsUnfinishedText text at
 Reads text (Err NoMemory) = ⊥
 
 -- the span is one of the text
-abbrev pub IsWithin : List ℕ → Span → Type 0
-IsWithin text span = (span.start ≤ span.end) × (span.end ≤ length text)
+abbrev pub IsSpanWithin : List ℕ → Span → Type 0
+IsSpanWithin text span = (span.start ≤ span.end) × (span.end ≤ length text)
 
 -- the bytes at a span
 abbrev pub slice_of : List ℕ → Span → List ℕ
@@ -145,10 +145,10 @@ AreGaps text = (gaps : List Piece) × AllByRecursion (λ gap. IsGap gap.kind × 
 
 -- From an offset on the tokens stand in the text one after the other, each with its own bytes at its span, and nothing
 -- but gaps before, between and after them.
-abbrev pub AreInOrder : List ℕ → ℕ → List Token → Type 0
-AreInOrder text from [] = AreGaps (drop from text)
-AreInOrder text from (token ∷ tokens) =
-    (from ≤ token.span.start) × IsWithin text token.span
+abbrev pub AreTokensFrom : List ℕ → ℕ → List Token → Type 0
+AreTokensFrom text from [] = AreGaps (drop from text)
+AreTokensFrom text from (token ∷ tokens) =
+    (from ≤ token.span.start) × IsSpanWithin text token.span
     × AreGaps (slice_of text (record { start = from; end = token.span.start }))
     × IsToken token.kind (slice_of text token.span)
-    × AreInOrder text token.span.end tokens
+    × AreTokensFrom text token.span.end tokens

@@ -2,7 +2,7 @@
 ghost use Rattle.std.specs.Prelude.{◌≡◌, ℕ, List, Result};
 ghost use Rattle.lexer.specs.declared.error.LexError.{LexError};
 ghost use Rattle.lexer.specs.declared.token.Token.{Token};
-ghost use Rattle.lexer.specs.Tokens.{HasTokens, Reads, AreInOrder};
+ghost use Rattle.lexer.specs.Tokens.{HasTokens, Reads, AreTokensFrom};
 ghost use Rattle.lexer.specs.Outcome.{Answers, tokens_or_error};
 
 use crate::error::LexError;
@@ -52,5 +52,5 @@ pub fn one_reading()
 /// spans do not overlap, and only white bytes and comments stand before, between and after them. The
 /// call does nothing.
 pub fn tokens_in_order()
-    ensures { (text : List ℕ) (tokens : List Token) → HasTokens text tokens → AreInOrder text 0 tokens }
+    ensures { (text : List ℕ) (tokens : List Token) → HasTokens text tokens → AreTokensFrom text 0 tokens }
 {}

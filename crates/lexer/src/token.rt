@@ -1,6 +1,6 @@
 //! Tokens, and where they stand in their text.
 ghost use Rattle.std.specs.Prelude.{◌≡◌, ◌+◌, ◌-◌, ◌≤◌, length, take, drop, MatchOption};
-ghost use Rattle.lexer.specs.Tokens.{slice_of, IsWithin};
+ghost use Rattle.lexer.specs.Tokens.{slice_of, IsSpanWithin};
 
 use crate::keyword::Keyword;
 use crate::symbol::Symbol;

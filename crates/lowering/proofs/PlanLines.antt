@@ -4,7 +4,7 @@ use Rattle.std.proofs.lemmas.List.{drop_all, drop_more}
 use Rattle.typed_tree.specs.ProgramTree.{ProgramTree}
 use Rattle.algorithm_meaning.specs.declared.state.Depth.{Depth}
 use Rattle.plans.specs.Instruction.{OperationTree, InstructionTree}
-use Rattle.plan_text.specs.Expressions.{joined, spaced}
+use Rattle.plan_text.specs.Expressions.{spaced_words, spaced}
 use Rattle.plan_text.proofs.Spaces.{absurd_cons, spaced_append}
 use Rattle.plans.specs.declared.instruction.Instruction.{Instruction}
 use Rattle.plans.specs.declared.operation.PlanOperation.{PlanOperation}
@@ -67,7 +67,7 @@ words_of_line p index i t old a b d e written number space words target =
 -- that line is written when it is ended
 pub line_written : (p : ProgramTree) (index : ℕ) (i : Instruction) (t : InstructionTree) (old a b d e new : List ℕ) → IsWritten p i t
     → a ≡ old ++ decimal index → b ≡ a ++ 32 ∷ [] → d ≡ b ++ i.words.items → e ≡ d ++ spaced (indices_of i.operation)
-    → ((before : List ℕ) (ws : List (List ℕ)) → ws ≢ [] → e ≡ before ++ spaced ws → new ≡ before ++ (joined ws ++ 10 ∷ []))
+    → ((before : List ℕ) (ws : List (List ℕ)) → ws ≢ [] → e ≡ before ++ spaced ws → new ≡ before ++ (spaced_words ws ++ 10 ∷ []))
     → new ≡ old ++ instruction_line p index t
 line_written p index i t old a b d e new written number space words target ends =
     ends old (decimal index ∷ (operation_words p t.apply_schedule t.operation ++ target_words t.operation)) (absurd_cons _ _)

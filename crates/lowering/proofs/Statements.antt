@@ -9,7 +9,7 @@ use Rattle.apply_options.specs.ScheduleTree.{ScheduleTree}
 use Rattle.algorithm_meaning.specs.declared.state.Depth.{Depth}
 use Rattle.plans.specs.Instruction.{InstructionTree, Do, Unless, Enter, UnlessBelow, Advance, Turn, Jump, End}
 use Rattle.plans.specs.Fusing.{fusion_role_of, takes_next}
-use Rattle.plans.specs.Plan.{behind, behind_all, in_loop, main_depth, plan_of, with_integer, plain, loop_step, plan_in, size_in, size, size_all, plan, plan_all}
+use Rattle.plans.specs.Plan.{depth_after, depth_after_all, depth_in_loop, main_depth, plan_of, depth_with_integer, plain, loop_step, plan_in, size_in, size, size_all, plan, plan_all}
 use Rattle.plans.proofs.Indices.{length_in, length-plan, length-plan_all}
 use Rattle.plans.specs.declared.instruction.Instruction.{Instruction}
 use Rattle.plans.proofs.Pairwise.{pairwise_append}
@@ -27,7 +27,7 @@ module _ (p : ProgramTree) (s : ScheduleTree) where
   pub has_put_next : (whole : List InstructionTree) (a b c : List Instruction) (d : Depth) (is_done : Bool) (number : ℕ) (label : Option ℕ) (action : StatementKindTree) (rest : BlockTree)
       → HasPut whole a b d is_done (Then number label action rest)
       → Puts p b c (plan_in (fusion_role_of p s d is_done label action rest) s number label d (plan p s (length b) d number label action))
-      → HasPut whole a c (behind action d) (takes_next (fusion_role_of p s d is_done label action rest)) rest
+      → HasPut whole a c (depth_after action d) (takes_next (fusion_role_of p s d is_done label action rest)) rest
   has_put_next whole a b c d is_done number label action rest before puts =
       let company = fusion_role_of p s d is_done label action rest in
       let own = plan_in company s number label d (plan p s (length b) d number label action) in
@@ -37,8 +37,8 @@ module _ (p : ProgramTree) (s : ScheduleTree) where
       record {
         done = before.done ++ own;
         puts = puts_both p a b c before.done own before.puts puts;
-        is = before.is ∙ sym (append_assoc before.done own (plan_all p s (length b + size_in company (size p s d action)) (behind action d) (takes_next company) rest))
-            ∙ ap (λ n. (before.done ++ own) ++ plan_all p s n (behind action d) (takes_next company) rest) (sym to);
+        is = before.is ∙ sym (append_assoc before.done own (plan_all p s (length b + size_in company (size p s d action)) (depth_after action d) (takes_next company) rest))
+            ∙ ap (λ n. (before.done ++ own) ++ plan_all p s n (depth_after action d) (takes_next company) rest) (sym to);
       }
 
   -- none of them is put yet, and all are
@@ -57,9 +57,9 @@ module _ (p : ProgramTree) (s : ScheduleTree) where
   pub puts_if : (a b c e : List Instruction) (n to : ℕ) (d : Depth) (number : ℕ) (label : Option ℕ) (t : BoolExpressionTree) (body : BlockTree)
       → KeepsIndex a b n → Puts p b c (plan_all p s (length b) d false body) → to ≡ length c → Fills p c e n (plain number d (Unless t to))
       → Puts p a e (plan p s (length a) d number label (If t body))
-  puts_if a b c e n to d number label t body keeps puts behind fills =
+  puts_if a b c e n to d number label t body keeps puts depth_after fills =
       let one = index_length a b n keeps in
-      let index : to ≡ length a + 1 + size_all p s d false body = behind ∙ ends_at b c d body puts ∙ ap (λ m. m + size_all p s d false body) one in
+      let index : to ≡ length a + 1 + size_all p s d false body = depth_after ∙ ends_at b c d body puts ∙ ap (λ m. m + size_all p s d false body) one in
       puts_filled p a b c e n _ _ keeps (subst (λ m. Puts p b c (plan_all p s m d false body)) one puts) (subst (λ m. Fills p c e n (plain number d (Unless t m))) index fills)
 
   pub puts_apply_schedule : (a b c e k g h : List Instruction) (n to m : ℕ) (d : Depth) (number : ℕ) (label : Option ℕ) (t : BoolExpressionTree) (body other : BlockTree)
@@ -81,10 +81,10 @@ module _ (p : ProgramTree) (s : ScheduleTree) where
       → BeginsLoop p a b n (loop_step number d d Turn) → Puts p b c (plan_all p s (length b) d false body)
       → Puts p c g (loop_step number d d (Jump n) ∷ []) → to ≡ length g → Fills p g e n (plain number d (Unless t to))
       → Puts p a e (plan p s (length a) d number label (While t body))
-  puts_while a b c g e n to d number label t body begins puts jump behind fills =
+  puts_while a b c g e n to d number label t body begins puts jump depth_after fills =
       let one = index_length a begins.test n begins.keeps in
       let two : length b ≡ length a + 2 = puts_length p begins.test b _ begins.turns ∙ omega (arith, one) in
-      let index : to ≡ length a + 2 + size_all p s d false body + 1 = behind ∙ puts_length p c g _ jump ∙ omega (arith, ends_at b c d body puts, two) in
+      let index : to ≡ length a + 2 + size_all p s d false body + 1 = depth_after ∙ puts_length p c g _ jump ∙ omega (arith, ends_at b c d body puts, two) in
       puts_filled p a begins.test g e n _ _ begins.keeps
       (puts_both p begins.test b g _ _ begins.turns
       (puts_both p b c g _ _ (subst (λ q. Puts p b c (plan_all p s q d false body)) two puts)
@@ -92,34 +92,34 @@ module _ (p : ProgramTree) (s : ScheduleTree) where
       (subst (λ q. Fills p g e n (plain number d (Unless t q))) index fills)
 
   pub puts_for : (a f b c g e : List Instruction) (n : ℕ) (d : Depth) (number : ℕ) (label : Option ℕ) (name : ℕ) (first end : IntExpressionTree) (body : BlockTree)
-      → Puts p a f (plain number d (Do (DeclareInteger name first)) ∷ loop_step number (with_integer d) d (Enter name end) ∷ [])
-      → BeginsLoop p f b n (loop_step number (in_loop d) d Turn) → Puts p b c (plan_all p s (length b) (in_loop d) false body)
-      → Puts p c g (plain number d (Advance name) ∷ loop_step number (in_loop d) d (Jump n) ∷ []) → Fills p g e n (loop_step number (in_loop d) d (UnlessBelow name (length g)))
+      → Puts p a f (plain number d (Do (DeclareInteger name first)) ∷ loop_step number (depth_with_integer d) d (Enter name end) ∷ [])
+      → BeginsLoop p f b n (loop_step number (depth_in_loop d) d Turn) → Puts p b c (plan_all p s (length b) (depth_in_loop d) false body)
+      → Puts p c g (plain number d (Advance name) ∷ loop_step number (depth_in_loop d) d (Jump n) ∷ []) → Fills p g e n (loop_step number (depth_in_loop d) d (UnlessBelow name (length g)))
       → Puts p a e (plan p s (length a) d number label (For name first end body))
   puts_for a f b c g e n d number label name first end body bounds begins puts back fills =
       let head : length f ≡ length a + 2 = puts_length p a f _ bounds in
       let one = index_length f begins.test n begins.keeps in
       let two : length b ≡ length a + 4 = puts_length p begins.test b _ begins.turns ∙ omega (arith, one, head) in
-      let to : length g ≡ length a + 4 + size_all p s (in_loop d) false body + 2 = puts_length p c g _ back ∙ omega (arith, ends_at b c (in_loop d) body puts, two) in
+      let to : length g ≡ length a + 4 + size_all p s (depth_in_loop d) false body + 2 = puts_length p c g _ back ∙ omega (arith, ends_at b c (depth_in_loop d) body puts, two) in
       let index : n ≡ length a + 2 = begins.keeps.at ∙ head in
       puts_both p a f e _ _ bounds
       (puts_filled p f begins.test g e n _ _ begins.keeps
       (puts_both p begins.test b g _ _ begins.turns
-      (puts_both p b c g _ _ (subst (λ q. Puts p b c (plan_all p s q (in_loop d) false body)) two puts)
-      (subst (λ q. Puts p c g (plain number d (Advance name) ∷ loop_step number (in_loop d) d (Jump q) ∷ [])) index back)))
-      (subst (λ q. Fills p g e n (loop_step number (in_loop d) d (UnlessBelow name q))) to fills))
+      (puts_both p b c g _ _ (subst (λ q. Puts p b c (plan_all p s q (depth_in_loop d) false body)) two puts)
+      (subst (λ q. Puts p c g (plain number d (Advance name) ∷ loop_step number (depth_in_loop d) d (Jump q) ∷ [])) index back)))
+      (subst (λ q. Fills p g e n (loop_step number (depth_in_loop d) d (UnlessBelow name q))) to fills))
 
 -- nothing is declared where no statement is left
-pub after_none : (left : List MainStatement) (d : Depth) → length left ≡ 0 → behind_all (block_tree left) d ≡ d
+pub after_none : (left : List MainStatement) (d : Depth) → length left ≡ 0 → depth_after_all (block_tree left) d ≡ d
 after_none [] d none = refl
 after_none (first ∷ left) d none = absurd (omega (arith, none))
 
 -- main, and the end
 pub whole_plan : (p : ProgramTree) (s : ScheduleTree) (a b k : List Instruction) (d : Depth) (i : Instruction)
-    → a ≡ [] → d ≡ main_depth p → Puts p a b (plan_all p s (length a) d false p.main) → k ≡ b ++ i ∷ [] → IsWritten p i (plain 0 (behind_all p.main (main_depth p)) End)
+    → a ≡ [] → d ≡ main_depth p → Puts p a b (plan_all p s (length a) d false p.main) → k ≡ b ++ i ∷ [] → IsWritten p i (plain 0 (depth_after_all p.main (main_depth p)) End)
     → AreWritten p k (plan_of p s)
 whole_plan p s a b k d i empty at puts pushed end =
     let main : Puts p [] b (plan_all p s 0 (main_depth p) false p.main) =
     subst (λ x. Puts p [] b (plan_all p s 0 x false p.main)) at (subst (λ xs. Puts p xs b (plan_all p s (length xs) d false p.main)) empty puts) in
     subst (λ xs. AreWritten p xs (plan_of p s)) (sym (pushed ∙ ap (λ xs. xs ++ i ∷ []) main.is))
-    (pairwise_append (IsWritten p) main.more (plan_all p s 0 (main_depth p) false p.main) (i ∷ []) (plain 0 (behind_all p.main (main_depth p)) End ∷ []) main.are (end, tt))
+    (pairwise_append (IsWritten p) main.more (plan_all p s 0 (main_depth p) false p.main) (i ∷ []) (plain 0 (depth_after_all p.main (main_depth p)) End ∷ []) main.are (end, tt))

@@ -9,7 +9,7 @@ use Rattle.plans.specs.Plan.{plan_of}
 use Rattle.plan_text.specs.declared.applied_function.ChangedSet.{ChangedSet}
 use Rattle.plan_text.specs.declared.applied_function.AppliedFunction.{AppliedFunction}
 use Rattle.plan_text.specs.Lines.{advance_words, below_words, bound_words, edges_words, group_words, statement_words, unless_words, vertices_words}
-use Rattle.plan_text.specs.Expressions.{joined, spaced}
+use Rattle.plan_text.specs.Expressions.{spaced_words, spaced}
 use Rattle.plans.specs.declared.instruction.Instruction.{Instruction}
 use Rattle.plans.specs.declared.plan.Plan.{Plan}
 use Rattle.plans.specs.Operation.{ArePairwise, IsInstruction}
@@ -51,7 +51,7 @@ target_words End = []
 
 -- words as a line, which a line feed (10) ends
 abbrev pub line_of : List (List ℕ) → List ℕ
-line_of ws = joined ws ++ 10 ∷ []
+line_of ws = spaced_words ws ++ 10 ∷ []
 
 -- an instruction with its number; those from this number on
 abbrev pub instruction_line : ProgramTree → (index : ℕ) → InstructionTree → List ℕ

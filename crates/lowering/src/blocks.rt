@@ -5,7 +5,7 @@ ghost use Rattle.typed_tree.specs.BoolExpressionTree.{bool_expression_tree};
 ghost use Rattle.typed_tree.specs.IntExpressionTree.{int_expression_tree};
 ghost use Rattle.typed_tree.specs.ProgramTree.{program_tree};
 ghost use Rattle.plans.specs.Fusing.{fusion_role_of, takes_next};
-ghost use Rattle.plans.specs.Plan.{behind, behind_all, plan, plan_all, plan_in};
+ghost use Rattle.plans.specs.Plan.{depth_after, depth_after_all, plan, plan_all, plan_in};
 ghost use Rattle.lowering.specs.inside.Putting.{Puts};
 ghost use Rattle.lowering.specs.inside.Visible.{depth_of};
 
@@ -44,7 +44,7 @@ impl Lowering<'_> {
         ensures code { OnOk result (Puts (program_tree self.entry.program.now) code.old.items code.new.items
             (plan_all (program_tree self.entry.program.now) self.entry.schedule.now (length code.old.items) (depth_of visible.old) false
             (block_tree statements.now))) }
-        ensures visible { OnOk result (depth_of visible.new ≡ behind_all (block_tree statements.now) (depth_of visible.old)) }
+        ensures visible { OnOk result (depth_of visible.new ≡ depth_after_all (block_tree statements.now) (depth_of visible.old)) }
     {
         let mut left = statements;
         let mut is_done = false;
@@ -75,7 +75,7 @@ impl Lowering<'_> {
             self.entry.schedule.now statement.now.number statement.now.label (depth_of visible.old)
             (plan (program_tree self.entry.program.now) self.entry.schedule.now (length code.old.items) (depth_of visible.old) statement.now.number
             statement.now.label (statement_kind_tree statement.now.action)))) }
-        ensures visible { OnOk result (depth_of visible.new ≡ behind (statement_kind_tree statement.now.action) (depth_of visible.old)) }
+        ensures visible { OnOk result (depth_of visible.new ≡ depth_after (statement_kind_tree statement.now.action) (depth_of visible.old)) }
     {
         if is_done {
             visible.declare(&statement.action)?;
@@ -111,7 +111,7 @@ impl Lowering<'_> {
         ensures code { OnOk result (Puts (program_tree self.entry.program.now) code.old.items code.new.items
             (plan (program_tree self.entry.program.now) self.entry.schedule.now (length code.old.items) (depth_of visible.old) statement.now.number
             statement.now.label (statement_kind_tree statement.now.action))) }
-        ensures visible { OnOk result (depth_of visible.new ≡ behind (statement_kind_tree statement.now.action) (depth_of visible.old)) }
+        ensures visible { OnOk result (depth_of visible.new ≡ depth_after (statement_kind_tree statement.now.action) (depth_of visible.old)) }
     {
         let number = statement.number;
         match &statement.action {

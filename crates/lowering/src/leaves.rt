@@ -6,7 +6,7 @@ ghost use Rattle.typed_tree.specs.IntExpressionTree.{int_expression_tree};
 ghost use Rattle.typed_tree.specs.ProgramTree.{program_tree};
 ghost use Rattle.apply_options.specs.ScheduleTree.{no_apply_schedule};
 ghost use Rattle.plans.specs.Instruction.{Advance, Do, Enter, Jump, Turn, Unless, UnlessBelow};
-ghost use Rattle.plans.specs.Plan.{chosen, in_loop, loop_step, plain as plain_tree, with_integer};
+ghost use Rattle.plans.specs.Plan.{chosen, depth_in_loop, loop_step, plain as plain_tree, depth_with_integer};
 ghost use Rattle.plan_text.specs.Expressions.{spaced};
 ghost use Rattle.plans.specs.Operation.{part_tree, IsOperation};
 ghost use Rattle.plans.specs.inside.Parts.{fused_pair_tree};
@@ -352,8 +352,8 @@ impl Lowering<'_> {
     ) -> Result<(), AllocError>
         ensures code { OnOk result (Puts (program_tree self.entry.program.now) code.old.items code.new.items
             (plain_tree number (depth_of visible.old) (Do (DeclareInteger range.entry.name (int_expression_tree range.entry.first.now)))
-            ∷ loop_step number (with_integer (depth_of visible.old)) (depth_of visible.old) (Enter range.entry.name (int_expression_tree range.entry.end.now)) ∷ [])) }
-        ensures visible { OnOk result (depth_of visible.new ≡ in_loop (depth_of visible.old)) }
+            ∷ loop_step number (depth_with_integer (depth_of visible.old)) (depth_of visible.old) (Enter range.entry.name (int_expression_tree range.entry.end.now)) ∷ [])) }
+        ensures visible { OnOk result (depth_of visible.new ≡ depth_in_loop (depth_of visible.old)) }
     {
         let ForRange { name, first, end } = range;
         let depth = visible.depth();

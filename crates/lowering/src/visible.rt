@@ -2,7 +2,7 @@
 ghost use Rattle.std.specs.Prelude.{◌≡◌, IfOk, OnOk, length};
 ghost use Rattle.typed_tree.specs.BlockTree.{statement_kind_tree};
 ghost use Rattle.plans.specs.inside.Plan.{IsWithin};
-ghost use Rattle.plans.specs.Plan.{behind, with_integer};
+ghost use Rattle.plans.specs.Plan.{depth_after, depth_with_integer};
 ghost use Rattle.lowering.specs.inside.Visible.{depth_of};
 
 use algorithm_meaning::Depth;
@@ -44,7 +44,7 @@ impl Visible {
 
     /// With what a statement declares after it.
     pub(crate) fn declare(&mut self, action: &StatementKind) -> Result<(), AllocError>
-        ensures { OnOk result (depth_of self.new ≡ behind (statement_kind_tree action.now) (depth_of self.old)) }
+        ensures { OnOk result (depth_of self.new ≡ depth_after (statement_kind_tree action.now) (depth_of self.old)) }
     {
         match action {
             StatementKind::DeclareInteger(name, _) => self.integers.push(*name)?,
@@ -57,7 +57,7 @@ impl Visible {
 
     /// With one more integer: a `for`'s name, or its bound.
     pub(crate) fn declare_integer(&mut self, name: usize) -> Result<(), AllocError>
-        ensures { OnOk result (depth_of self.new ≡ with_integer (depth_of self.old)) }
+        ensures { OnOk result (depth_of self.new ≡ depth_with_integer (depth_of self.old)) }
     {
         self.integers.push(name)?;
         Ok(())

@@ -20,7 +20,7 @@ use Rattle.algorithm_meaning.specs.Function.{lets_through}
 use Rattle.algorithm_meaning.specs.Statements.{condition_line, integer_line}
 use Rattle.algorithm_meaning.specs.VertexSets.{inserted, members_for, set_members}
 use Rattle.algorithm_meaning.specs.Loop.{bounds_in, depth_of, for_body, for_test, leave, loop, next_of, take_turn, while_body, while_test}
-use Rattle.algorithm_meaning.specs.Meaning.{after, after_all, all_vertices, opening, meaning, named_set, outcome_of}
+use Rattle.algorithm_meaning.specs.Meaning.{after, after_all, full_set, opening, meaning, named_set, outcome_of}
 use Rattle.meaning_laws.specs.Members.{AreVertices}
 use Rattle.meaning_laws.specs.Printing.{IsPrinted, IsPrintedLine}
 use Rattle.meaning_laws.proofs.Ascending.{inserted_vertices, no_vertices}
@@ -175,7 +175,7 @@ module _ (p : ProgramTree) (g : GraphValue) where
     block_sound Empty s is = is
     block_sound (Then number label a rest) s is = then_sound g.vertices (after p g number a s) (after_all p g rest) (action_sound a number s is) (λ t sound. block_sound rest t sound)
 
-  first_constants : (names : List ℕ) → AreSets g.vertices (map (all_vertices g) names)
+  first_constants : (names : List ℕ) → AreSets g.vertices (map (full_set g) names)
   first_constants [] = tt
   first_constants (name ∷ names) = (whole_vertices g.vertices, first_constants names)
 

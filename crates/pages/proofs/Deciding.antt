@@ -9,7 +9,7 @@ use Rattle.ascending_lists.specs.Ascending.{AscendsFrom}
 use Rattle.ascending_lists.specs.Maps.{lookup}
 use Rattle.ascending_lists.specs.MapOperations.{entries_below, entries_above}
 use Rattle.ascending_lists.proofs.MapCuts.{lookup_append, value_under, nothing_below, value_over}
-use Rattle.pages.specs.Updates.{added, updated, decided, NeighboursAscend}
+use Rattle.pages.specs.Updates.{added, updated, weight_decided, NeighboursAscend}
 use Rattle.pages.proofs.Merging.{entries_above_from, added_ascends, updated_ascends}
 
 -- no weight is below what a list ascends from
@@ -22,7 +22,7 @@ or_none None = refl
 or_none (Some w) = refl
 
 -- updates of greater neighbours do not decide
-not_decided : (v low : ℕ) (us : List (EdgeUpdate × ℤ)) (was : Option ℤ) → v < low → NeighboursAscend low us → decided v us was ≡ was
+not_decided : (v low : ℕ) (us : List (EdgeUpdate × ℤ)) (was : Option ℤ) → v < low → NeighboursAscend low us → weight_decided v us was ≡ was
 not_decided v low [] was lt s = refl
 not_decided v low (u ∷ us) was lt s = rw (ne_eqb (neighbour_of u.0) v (omega (arith, s.0))) (not_decided v (neighbour_of u.0 + 1) us was (omega (arith, s.0)) s.1)
 
@@ -39,7 +39,8 @@ added_other v u ys other = elim (cases_Bool (adds u.0)) [
   | inr not ↦ rw not refl
 ]
 
-pub updated_weight : (low v : ℕ) (xs : List (ℕ × ℤ)) (us : List (EdgeUpdate × ℤ)) → AscendsFrom low (keys_of xs) → NeighboursAscend low us → lookup v (updated xs us) ≡ decided v us (lookup v xs)
+pub updated_weight : (low v : ℕ) (xs : List (ℕ × ℤ)) (us : List (EdgeUpdate × ℤ)) → AscendsFrom low (keys_of xs) → NeighboursAscend low us
+    → lookup v (updated xs us) ≡ weight_decided v us (lookup v xs)
 updated_weight low v xs [] s t = refl
 updated_weight low v xs (u ∷ us) s t =
     let n : ℕ = neighbour_of u.0 in
@@ -62,6 +63,6 @@ updated_weight low v xs (u ∷ us) s t =
             let different : n ≢ v = omega arith in
             rw (ne_eqb n v different)
             (parts ∙ ap (λ o. option_or o (lookup v (added u rest))) (nothing_below v n xs (omega arith)) ∙ added_other v u rest different
-            ∙ updated_weight (n + 1) v over us (entries_above_from n low xs s) t.1 ∙ ap (decided v us) (value_over v n xs gt))
+            ∙ updated_weight (n + 1) v over us (entries_above_from n low xs s) t.1 ∙ ap (weight_decided v us) (value_over v n xs gt))
       ]
     ]

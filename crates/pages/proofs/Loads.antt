@@ -7,7 +7,7 @@ use Rattle.edge_updates.specs.Weighted.{weighted}
 use Rattle.edge_updates.proofs.Weighted.{take_weighted, drop_weighted}
 use Rattle.ascending_lists.specs.Ascending.{AscendsFrom}
 use Rattle.ascending_lists.specs.Maps.{Rises}
-use Rattle.pages.specs.Keys.{AreKeysOf, keys_from, edges_of}
+use Rattle.pages.specs.Keys.{AreKeysOf, keys_from, page_edges}
 use Rattle.ascending_lists.proofs.MapOrder.{rises_to, rises_append}
 
 -- A page has the keys in front, and those that are left are of greater vertices.
@@ -16,7 +16,7 @@ pub record IsLoading (block : ℕ) (keys : List ℕ) (weights : List ℤ) (page 
   pub within : next ≤ 64
   pub map : Rises 0 next page
   pub coming : AreKeysOf block ((64 * block + next) * 2 ^ 32) rest
-  pub whole : edges_of block page ++ weighted rest others ≡ weighted keys weights
+  pub whole : page_edges block page ++ weighted rest others ≡ weighted keys weights
   pub few : (s : ℕ) → length (keys_from s rest) ≤ 256
 
 keys_lower : (block a b : ℕ) (ks : List ℕ) → a ≤ b → AreKeysOf block b ks → AreKeysOf block a ks
@@ -30,11 +30,11 @@ nothing_loaded block keys weights s few = record { next = 0; within = omega arit
     start [] s = tt
     start (k ∷ ks) s = (omega (arith, s.1), s.1, s.2, s.3)
 
-edges_append : (block : ℕ) (p q : List (ℕ × List (ℕ × ℤ))) → edges_of block (p ++ q) ≡ edges_of block p ++ edges_of block q
+edges_append : (block : ℕ) (p q : List (ℕ × List (ℕ × ℤ))) → page_edges block (p ++ q) ≡ page_edges block p ++ page_edges block q
 edges_append block [] q = refl
 edges_append block (e ∷ p) q =
     ap (λ ks. map (λ n. ((64 * block + e.0) * 2 ^ 32 + n.0, n.1)) e.1 ++ ks) (edges_append block p q)
-    ∙ sym (append_assoc (map (λ n. ((64 * block + e.0) * 2 ^ 32 + n.0, n.1)) e.1) (edges_of block p) (edges_of block q))
+    ∙ sym (append_assoc (map (λ n. ((64 * block + e.0) * 2 ^ 32 + n.0, n.1)) e.1) (page_edges block p) (page_edges block q))
 
 -- they are their neighbours after the source
 rebuilt : (s : ℕ) (ks : List ℕ) (ws : List ℤ) → ((i : ℕ) → i < length ks → get_or ks i 0 / 2 ^ 32 ≡ s) → map (λ n. (s * 2 ^ 32 + n.0, n.1)) (weighted (map (λ k. k % 2 ^ 32) ks) ws) ≡ weighted ks ws
@@ -140,13 +140,13 @@ module _ (block : ℕ) (keys : List ℕ) (weights : List ℤ) (page : List (ℕ 
         map = rises_append 0 u (u + 1) page ((u, xs) ∷ []) page_below (omega arith, omega arith);
         coming = subst (λ low. AreKeysOf block low (drop n rest)) next (keys_behind block s (s * 2 ^ 32) n rest from_source (omega arith) within run ends);
         whole =
-            ap (λ es. es ++ weighted (drop n rest) (drop n ws)) (edges_append block page ((u, xs) ∷ []) ∙ ap (λ es. edges_of block page ++ es) these)
-            ∙ ap (λ es. (edges_of block page ++ take n (weighted rest ws)) ++ es) (sym (drop_weighted n rest ws))
-            ∙ append_assoc (edges_of block page) (take n (weighted rest ws)) (drop n (weighted rest ws)) ∙ ap (λ es. edges_of block page ++ es) (take-append-drop n (weighted rest ws)) ∙ is.whole;
+            ap (λ es. es ++ weighted (drop n rest) (drop n ws)) (edges_append block page ((u, xs) ∷ []) ∙ ap (λ es. page_edges block page ++ es) these)
+            ∙ ap (λ es. (page_edges block page ++ take n (weighted rest ws)) ++ es) (sym (drop_weighted n rest ws))
+            ∙ append_assoc (page_edges block page) (take n (weighted rest ws)) (drop n (weighted rest ws)) ∙ ap (λ es. page_edges block page ++ es) (take-append-drop n (weighted rest ws)) ∙ is.whole;
         few = λ t. omega (arith, fewer t n rest, is.few t);
       }
 
 -- at the end the page has all edges
 pub all_loaded : (block : ℕ) (keys : List ℕ) (weights : List ℤ) (page : List (ℕ × List (ℕ × ℤ))) (rest : List ℕ) (others : List ℤ) → IsLoading block keys weights page rest others → rest ≡ []
-    → edges_of block page ≡ weighted keys weights
-all_loaded block keys weights page rest others is none = sym (append-nil (edges_of block page)) ∙ ap (λ ks. edges_of block page ++ weighted ks others) (sym none) ∙ is.whole
+    → page_edges block page ≡ weighted keys weights
+all_loaded block keys weights page rest others is none = sym (append-nil (page_edges block page)) ∙ ap (λ ks. page_edges block page ++ weighted ks others) (sym none) ∙ is.whole

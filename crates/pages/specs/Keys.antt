@@ -12,6 +12,6 @@ keys_from s [] = []
 keys_from s (k ∷ ks) = if k / 2 ^ 32 == s then k ∷ keys_from s ks else keys_from s ks
 
 -- the edges of a block's page, ascending: each by its key, with its weight
-abbrev pub edges_of : ℕ → List (ℕ × List (ℕ × ℤ)) → List (ℕ × ℤ)
-edges_of block [] = []
-edges_of block (e ∷ es) = map (λ n. ((64 * block + e.0) * 2 ^ 32 + n.0, n.1)) e.1 ++ edges_of block es
+abbrev pub page_edges : ℕ → List (ℕ × List (ℕ × ℤ)) → List (ℕ × ℤ)
+page_edges block [] = []
+page_edges block (e ∷ es) = map (λ n. ((64 * block + e.0) * 2 ^ 32 + n.0, n.1)) e.1 ++ page_edges block es

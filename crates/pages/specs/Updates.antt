@@ -44,6 +44,6 @@ EdgesAscend low (u ∷ us) = (low ≤ key_in_page u.0) × EdgesAscend (key_in_pa
 
 -- the weight of a neighbour after updates, or None where it is not there: the update of it decides, and
 -- where none is of it, it is what it was
-abbrev pub decided : ℕ → List (EdgeUpdate × ℤ) → Option ℤ → Option ℤ
-decided v [] was = was
-decided v (u ∷ us) was = if neighbour_of u.0 == v then (if adds u.0 then Some u.1 else None) else decided v us was
+abbrev pub weight_decided : ℕ → List (EdgeUpdate × ℤ) → Option ℤ → Option ℤ
+weight_decided v [] was = was
+weight_decided v (u ∷ us) was = if neighbour_of u.0 == v then (if adds u.0 then Some u.1 else None) else weight_decided v us was

@@ -7,7 +7,7 @@ ghost use Rattle.edge_updates.specs.Updates.{Ascend};
 ghost use Rattle.ascending_lists.specs.Ascending.{AscendsFrom};
 ghost use Rattle.ascending_lists.specs.Maps.{lookup};
 ghost use Rattle.pages.specs.Vertices.{neighbours_of, IsPage};
-ghost use Rattle.pages.specs.Updates.{updated, decided, AreOfBlock, NeighboursAscend, EdgesAscend};
+ghost use Rattle.pages.specs.Updates.{updated, weight_decided, AreOfBlock, NeighboursAscend, EdgesAscend};
 
 /// The law of updates: what they make of a list ascends, and a neighbour that some update names is
 /// there exactly where that update adds it, with the update's weight, and another one exactly where it
@@ -18,7 +18,7 @@ pub fn changes_decide()
         → AscendsFrom 0 (keys_of (updated xs updates)) }
     ensures weights { (xs : List (ℕ × ℤ)) (updates : List (EdgeUpdate × ℤ)) (v : ℕ)
         → AscendsFrom 0 (keys_of xs) → NeighboursAscend 0 updates
-        → lookup v (updated xs updates) ≡ decided v updates (lookup v xs) }
+        → lookup v (updated xs updates) ≡ weight_decided v updates (lookup v xs) }
 {}
 
 /// The law of blocks: updates of the 64 vertices of one block that ascend by edge, as `edge_updates`

@@ -2,7 +2,7 @@
 
 ghost use Rattle.std.specs.Prelude.{◌≡◌, ◌≢◌, ℕ, ◌+◌, ◌*◌, ◌/◌, ◌%◌, ◌^◌, ◌<◌, ◌≤◌, length, slice_index, map, take, drop, IfOk};
 ghost use Rattle.edge_updates.specs.Weighted.{weighted};
-ghost use Rattle.pages.specs.Keys.{AreKeysOf, keys_from, edges_of};
+ghost use Rattle.pages.specs.Keys.{AreKeysOf, keys_from, page_edges};
 
 use crate::page::{MAX_PACKED, Page};
 use crate::weights::weight_width_of;
@@ -26,7 +26,7 @@ impl Page {
     ) -> Result<Page, AllocError>
         requires keys { AreKeysOf block 0 keys.now }
         requires few { (source : ℕ) → length (keys_from source keys.now) ≤ MAX_PACKED }
-        ensures { IfOk result (λ p. edges_of block p ≡ weighted keys.now weights.now) }
+        ensures { IfOk result (λ p. page_edges block p ≡ weighted keys.now weights.now) }
     {
         let (vertices, size) = room_for(keys, weights);
         let mut page = Page::with_capacity(alloc, vertices, size)?;

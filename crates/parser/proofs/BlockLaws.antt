@@ -17,8 +17,8 @@ use Rattle.syntax.specs.declared.statement.Action.TheViews.{the_lemmas}
 use Rattle.syntax.proofs.Loops.{Goes, goes_end, goes_fails}
 use Rattle.syntax.specs.SourceViews.{statement_kind_tree, rows_tree, block_tree}
 use Rattle.syntax.specs.inside.SourceViews.{statement_of}
-use Rattle.syntax.specs.SourceReading.{expression, name_at, after_terminal, after_terminals, closed, else_by, action_by, block_by, block_at, block_from, next_statement, statement_by, begins_statement}
-use Rattle.syntax.specs.SourceReading.{where_begins}
+use Rattle.syntax.specs.SourceReading.{expression, name_reader, after_terminal, after_terminals, closed_by, else_by, action_by, block_by, block_at, block_from, next_statement, statement_by}
+use Rattle.syntax.specs.SourceReading.{begins_statement, where_begins}
 use Rattle.parser.proofs.Steps.{bind_bind, bind_same}
 use Rattle.parser.specs.declared.block.Opening.{Opening as Begun}
 use Rattle.parser.specs.declared.block.Opening.TheVariants as opening
@@ -65,7 +65,7 @@ module _ (depth : ℕ) {start : List Terminal} {front : List (Option Identifier 
 
 -- `end` after a block, and the statement of the block
 closed_is : (block : Reader BlockTree) (ws : List Terminal) (action : BlockTree → StatementKindTree)
-    → (to_end_by block ws >>= λ b. Some (action b.0, b.1)) ≡ (block ws >>= λ b. closed (OfKeyword keyword.End ∷ []) (action b.0, b.1))
+    → (to_end_by block ws >>= λ b. Some (action b.0, b.1)) ≡ (block ws >>= λ b. closed_by (OfKeyword keyword.End ∷ []) (action b.0, b.1))
 closed_is block ws action =
     bind_bind (block ws) _ _ _ (λ b. bind_bind (after_terminals (OfKeyword keyword.End ∷ []) b.1) _ _ _ (λ rest. refl))
 
@@ -84,7 +84,7 @@ if_is block at ws =
 
 for_is : (block : Reader BlockTree) (at : ℕ) (ws : List Terminal) → action_by block (Opening keyword.For at ∷ ws) ≡ opened_by block opening.For at ws
 for_is block at ws =
-    sym (bind_bind (name_at ws) _ _ _ (λ n.
+    sym (bind_bind (name_reader ws) _ _ _ (λ n.
     bind_bind (after_terminal (OfKeyword keyword.In) n.1) _ _ _ (λ a.
     bind_bind (expression a) _ _ _ (λ e.
     bind_bind (after_terminal (OfSymbol symbol.Colon) e.1) _ _ _ (λ c.

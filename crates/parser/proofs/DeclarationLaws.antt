@@ -7,7 +7,7 @@ use Rattle.lexer.specs.declared.keyword.Keyword.TheVariants as keyword
 use Rattle.lexer.specs.declared.symbol.Symbol.TheVariants as symbol
 use Rattle.syntax.specs.Terminals.{Terminal, Opening, OfSymbol, keyword_terminal}
 use Rattle.syntax.specs.SourceTrees.{DeclarationTree}
-use Rattle.syntax.specs.SourceReading.{name_at, parameters_at, result_by, after_terminal, declaration_by, next_declaration, begins_declaration, where_begins}
+use Rattle.syntax.specs.SourceReading.{name_reader, parameters_at, result_by, after_terminal, declaration_by, next_declaration, begins_declaration, where_begins}
 use Rattle.parser.specs.declared.declaration.Beginning.{Beginning}
 use Rattle.parser.specs.declared.declaration.Beginning.TheVariants as beginning
 use Rattle.parser.specs.inside.Declarations.{beginning_of, declared_by, function_at}
@@ -27,7 +27,7 @@ next_none left begins = begins_is left false begins
 
 function_is : (at : ℕ) (ws : List Terminal) → declaration_by (Opening keyword.Func at ∷ ws) ≡ function_at at ws
 function_is at ws =
-    sym (bind_bind (name_at ws) _ _ _ (λ n.
+    sym (bind_bind (name_reader ws) _ _ _ (λ n.
     bind_bind (parameters_at n.1) _ _ _ (λ p.
     bind_bind (result_by p.1 (after_terminal (OfSymbol symbol.Arrow) p.1)) _ _ _ (λ r. refl))))
 

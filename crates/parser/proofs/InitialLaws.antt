@@ -8,7 +8,7 @@ use Rattle.syntax.specs.Terminals.{Terminal, Identifier, Name, OfKeyword, OfSymb
 use Rattle.syntax.specs.ExpressionReading.{Reader}
 use Rattle.syntax.specs.Nesting.{◌>>=◌}
 use Rattle.syntax.specs.SourceTrees.{EndsTree, InitialTree, ApplyModified}
-use Rattle.syntax.specs.SourceReading.{after_terminal, after_terminals, closed, name_at, ends_at, method_at, modified_at, initial_at, named_initial}
+use Rattle.syntax.specs.SourceReading.{after_terminal, after_terminals, closed_by, name_reader, ends_at, method_at, modified_at, initial_at, named_initial}
 use Rattle.syntax.proofs.TerminalLaws.{after_terminal-sound, after_terminals-sound}
 use Rattle.parser.specs.inside.Fronts.{is_called, called_terminal, begins_call, name_pair_at, modified_by, call_by}
 use Rattle.parser.proofs.Steps.{bind_bind, bind_same, after_terminals-append}
@@ -16,16 +16,16 @@ use Rattle.parser.proofs.Steps.{bind_bind, bind_same, after_terminals-append}
 -- the names after the parenthesis that `applyModified` opens
 abbrev names_by : Identifier → EndsTree → Reader InitialTree
 names_by name ends ws =
-    name_at ws >>= λ f. after_terminal (OfSymbol symbol.Comma) f.1 >>= λ b. name_at b >>= λ v.
-    closed (OfSymbol symbol.CloseParenthesis ∷ []) (ApplyModified name ends f.0 v.0, v.1)
+    name_reader ws >>= λ f. after_terminal (OfSymbol symbol.Comma) f.1 >>= λ b. name_reader b >>= λ v.
+    closed_by (OfSymbol symbol.CloseParenthesis ∷ []) (ApplyModified name ends f.0 v.0, v.1)
 
 names_are : (name : Identifier) (ends : EndsTree) (ws : List Terminal)
     → (name_pair_at ws >>= λ p. Some (ApplyModified name ends p.0.0 p.0.1, p.1)) ≡ (after_terminal (OfSymbol symbol.OpenParenthesis) ws >>= names_by name ends)
 names_are name ends ws =
     bind_bind (after_terminal (OfSymbol symbol.OpenParenthesis) ws) _ _ _ (λ a.
-    bind_bind (name_at a) _ _ _ (λ f.
+    bind_bind (name_reader a) _ _ _ (λ f.
     bind_bind (after_terminal (OfSymbol symbol.Comma) f.1) _ _ _ (λ b.
-    bind_bind (name_at b) _ _ _ (λ v.
+    bind_bind (name_reader b) _ _ _ (λ v.
     bind_bind (after_terminal (OfSymbol symbol.CloseParenthesis) v.1) _ _ (λ c. Some (ApplyModified name ends f.0 v.0, c)) (λ c. refl)
     ∙ sym (bind_bind (after_terminal (OfSymbol symbol.CloseParenthesis) v.1) _ _ (λ c. Some (ApplyModified name ends f.0 v.0, c)) (λ c. refl))))))
 
@@ -44,7 +44,7 @@ named_call name ws (Some keyword.To) is = modified_is name ws
 named_call name ws (Some keyword.ApplyModified) is = modified_is name ws
 named_call name ws _ is = absurd (false≢true is)
 
-pub call_is : (ws : List Terminal) (name : Identifier) (rest : List Terminal) → begins_call ws ≡ true → name_at ws ≡ Some (name, rest)
+pub call_is : (ws : List Terminal) (name : Identifier) (rest : List Terminal) → begins_call ws ≡ true → name_reader ws ≡ Some (name, rest)
     → initial_at ws ≡ call_by name rest (method_at rest)
 call_is (Name n ∷ ws) name rest begins is = named_call n ws (method_at ws) begins ∙ ap (λ x. call_by x.0 x.1 (method_at x.1)) (same_pair n name ws rest is)
   where

@@ -6,7 +6,7 @@ use Rattle.lexer.specs.declared.keyword.Keyword.TheVariants as keyword
 use Rattle.lexer.specs.declared.token.Token.{Token}
 use Rattle.lexer.specs.declared.token.TokenKind.{TokenKind}
 use Rattle.lexer.specs.declared.token.TokenKind.TheVariants as kind
-use Rattle.lexer.specs.Tokens.{AreInOrder, FaultsAt, bytes_of, slice_of}
+use Rattle.lexer.specs.Tokens.{AreTokensFrom, FaultsAt, bytes_of, slice_of}
 use Rattle.lexer.proofs.OrderLaws.{HasTokens-AreInOrder}
 use Rattle.syntax.specs.Nesting.{PassesAt, nesting_after}
 use Rattle.syntax.specs.Offsets.{StandWhere, StandsWhere}
@@ -22,13 +22,13 @@ fault_within : (BeginsFault : List ℕ → Type 0) (text : List ℕ) (at : ℕ) 
 fault_within BeginsFault text at (pieces, rest, read, begins, is) = omega (arith, is, ap length read.whole, length-append (bytes_of pieces) rest)
 
 -- a token begins in the text
-passes_within : (text : List ℕ) (n from : ℕ) (tokens : List Token) (at : ℕ) → AreInOrder text from tokens → PassesAt text n tokens at → at ≤ length text
+passes_within : (text : List ℕ) (n from : ℕ) (tokens : List Token) (at : ℕ) → AreTokensFrom text from tokens → PassesAt text n tokens at → at ≤ length text
 passes_within text n from [] at order passes = absurd passes
 passes_within text n from (token ∷ tokens) at (follows, within, gaps, is, order) (inl passes) = omega (arith, passes.1, within.0, within.1)
 passes_within text n from (token ∷ tokens) at (follows, within, gaps, is, order) (inr passes) =
     passes_within text (nesting_after (terminal_of token.kind (slice_of text token.span) token.span.start) n) token.span.end tokens at order passes.1
 
-beginning_within : (text : List ℕ) (from before : ℕ) (tokens : List Token) → AreInOrder text from tokens → beginning_of text (drop before tokens) ≤ length text
+beginning_within : (text : List ℕ) (from before : ℕ) (tokens : List Token) → AreTokensFrom text from tokens → beginning_of text (drop before tokens) ≤ length text
 beginning_within text from zero [] order = le_refl (length text)
 beginning_within text from (suc before) [] order = le_refl (length text)
 beginning_within text from zero (token ∷ tokens) (follows, within, gaps, is, order) = omega (arith, within.0, within.1)
@@ -67,7 +67,7 @@ terminal_within n kind.Text bytes at within = tt
 terminal_within n (kind.Keyword k) bytes at within = keyword_within n k at within
 terminal_within n (kind.Symbol symbol) bytes at within = tt
 
-tokens_within : (text : List ℕ) (from : ℕ) (tokens : List Token) → AreInOrder text from tokens → StandWhere (λ at. at ≤ length text) (terminals_of text tokens)
+tokens_within : (text : List ℕ) (from : ℕ) (tokens : List Token) → AreTokensFrom text from tokens → StandWhere (λ at. at ≤ length text) (terminals_of text tokens)
 tokens_within text from [] order = tt
 tokens_within text from (token ∷ tokens) (follows, within, gaps, is, order) = (
   terminal_within (length text) token.kind (slice_of text token.span) token.span.start (omega (arith, within.0, within.1)),

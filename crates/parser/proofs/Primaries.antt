@@ -10,7 +10,7 @@ use Rattle.syntax.specs.Terminals.{Terminal, Name, OfSymbol, Identifier, keyword
 use Rattle.syntax.specs.SourceTrees.{ExpressionTree}
 use Rattle.parser.specs.inside.Literals.{literal_at}
 use Rattle.parser.proofs.Fronts.{none_open_bracket}
-use Rattle.syntax.specs.ExpressionReading.{Reader, no_expression, primary_at, primary_by, expression_at, named_by, after_open_bracket, after_dot}
+use Rattle.syntax.specs.ExpressionReading.{Reader, no_expression, primary_at, primary_by, expression_at, name_begins, after_open_bracket, after_dot}
 use Rattle.syntax.specs.inside.ExpressionReading.{expression_in}
 
 pub primary_at-is : (depth : ℕ) (ws : List Terminal) → primary_at depth ws ≡ primary_by (expression_in depth) ws
@@ -21,7 +21,7 @@ pub in_deeper : (depth inside : ℕ) (ws : List Terminal) → depth ≡ suc insi
 in_deeper depth inside ws is = ap (λ d. expression_in d ws) is
 
 pub primary_name : (depth : ℕ) (ws : List Terminal) (name : Identifier) (rest : List Terminal) → ws ≡ Name name ∷ rest
-    → primary_at depth ws ≡ named_by (expression_in depth) name rest (after_open_bracket rest) (after_dot rest)
+    → primary_at depth ws ≡ name_begins (expression_in depth) name rest (after_open_bracket rest) (after_dot rest)
 primary_name depth ws name rest is = primary_at-is depth ws ∙ ap (primary_by (expression_in depth)) is
 
 no_symbol : (e : Reader ExpressionTree) (mark : Symbol) (rest : List Terminal) → mark ≢ symbol.OpenParenthesis → primary_by e (OfSymbol mark ∷ rest) ≡ None
@@ -51,12 +51,12 @@ pub primary_literal : (depth : ℕ) (ws : List Terminal) (k : TokenKind) (bytes 
 primary_literal depth ws k bytes at rest is no_name no_symbol =
     primary_at-is depth ws ∙ ap (primary_by (expression_in depth)) is ∙ literal_is (expression_in depth) k bytes at rest no_name no_symbol ∙ sym (ap literal_at is)
 
-unindexed_is : (e : Reader ExpressionTree) (name : Identifier) (ws : List Terminal) (dot : Option (List Terminal)) → named_by e name ws None dot ≡ named_by no_expression name ws None dot
+unindexed_is : (e : Reader ExpressionTree) (name : Identifier) (ws : List Terminal) (dot : Option (List Terminal)) → name_begins e name ws None dot ≡ name_begins no_expression name ws None dot
 unindexed_is e name ws None = refl
 unindexed_is e name ws (Some after) = refl
 
 -- a name after which no bracket is opened
 pub named_unindexed : (e : Reader ExpressionTree) (name : Identifier) (ws : List Terminal) → ((rest : List Terminal) → ws ≢ OfSymbol symbol.OpenBracket ∷ rest)
-    → named_by e name ws (after_open_bracket ws) (after_dot ws) ≡ named_by no_expression name ws None (after_dot ws)
+    → name_begins e name ws (after_open_bracket ws) (after_dot ws) ≡ name_begins no_expression name ws None (after_dot ws)
 named_unindexed e name ws other =
-    ap (λ bracket. named_by e name ws bracket (after_dot ws)) (none_open_bracket ws other) ∙ unindexed_is e name ws (after_dot ws)
+    ap (λ bracket. name_begins e name ws bracket (after_dot ws)) (none_open_bracket ws other) ∙ unindexed_is e name ws (after_dot ws)

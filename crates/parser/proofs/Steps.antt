@@ -2,7 +2,7 @@
 use Rattle.std.proofs.Common.{◌≡◌, refl, sym, ap, ◌∙◌, List, [], ◌∷◌, ◌++◌, Option, Some, None}
 use Rattle.syntax.specs.Terminals.{Terminal}
 use Rattle.syntax.specs.Nesting.{◌>>=◌}
-use Rattle.syntax.specs.SourceReading.{after_terminal, after_terminals, closed}
+use Rattle.syntax.specs.SourceReading.{after_terminal, after_terminals, closed_by}
 use Rattle.syntax.proofs.TerminalLaws.{bind_some}
 
 -- a step of two steps, and the next one
@@ -38,5 +38,5 @@ after_terminals-found (terminal ∷ front) back ws rest is =
     ap (λ r. r >>= after_terminals (front ++ back)) found.1 ∙ after_terminals-found front back found.0 rest found.2
 
 pub closed-found : {A : Type 0} (front back : List Terminal) (tree : A) (ws rest : List Terminal) → after_terminals front ws ≡ Some rest
-    → closed (front ++ back) (tree, ws) ≡ closed back (tree, rest)
+    → closed_by (front ++ back) (tree, ws) ≡ closed_by back (tree, rest)
 closed-found front back tree ws rest is = ap (λ r. r >>= λ behind. Some (tree, behind)) (after_terminals-found front back ws rest is)

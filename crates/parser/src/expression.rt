@@ -4,7 +4,7 @@ ghost use Rattle.parser.specs.inside.Readers.{terminals, Gives, Passes, AnswersB
 ghost use Rattle.syntax.specs.ExpressionViews.{primary_of, unary_of};
 ghost use Rattle.syntax.specs.inside.ExpressionViews.{term_of, sum_of, comparison_of, conjunction_of};
 ghost use Rattle.parser.specs.inside.Literals.{literal_at};
-ghost use Rattle.syntax.specs.ExpressionReading.{no_expression, primary_at, named_by, after_open_bracket, after_dot, after_size_call, truth_of as truth_of_terminal, unary_at, term_at, sum_at, comparison_at, conjunction_at, expression_at};
+ghost use Rattle.syntax.specs.ExpressionReading.{no_expression, primary_at, name_begins, after_open_bracket, after_dot, after_size_call, truth_of as truth_of_terminal, unary_at, term_at, sum_at, comparison_at, conjunction_at, expression_at};
 ghost use Rattle.syntax.specs.inside.ExpressionReading.{expression_in};
 
 use crate::cursor::Cursor;
@@ -208,7 +208,7 @@ fn named(
     depth: u32,
 ) -> Result<(Primary, Cursor<'_>), SyntaxError>
     ensures reads { Gives primary_of result
-        (named_by (expression_in depth) name (terminals rest.entry) (after_open_bracket (terminals rest.entry)) (after_dot (terminals rest.entry))) }
+        (name_begins (expression_in depth) name (terminals rest.entry) (after_open_bracket (terminals rest.entry)) (after_dot (terminals rest.entry))) }
     ensures shorter { IfOk result (λ x. length (terminals x.1) ≤ length (terminals rest.entry)) }
 {
     if let Some(after) = rest.after_symbol(Symbol::OpenBracket) {
@@ -221,7 +221,7 @@ fn named(
 
 /// What begins with a name after which no bracket is opened, from after the name.
 fn unindexed(name: Name, rest: Cursor<'_>) -> Result<(Primary, Cursor<'_>), SyntaxError>
-    ensures reads { Gives primary_of result (named_by no_expression name (terminals rest.entry) None (after_dot (terminals rest.entry))) }
+    ensures reads { Gives primary_of result (name_begins no_expression name (terminals rest.entry) None (after_dot (terminals rest.entry))) }
     ensures shorter { IfOk result (λ x. length (terminals x.1) ≤ length (terminals rest.entry)) }
 {
     if let Some(after) = rest.after_symbol(Symbol::Dot) {

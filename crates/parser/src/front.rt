@@ -3,7 +3,7 @@ ghost use Rattle.std.specs.Prelude.{◌≡◌, ◌<◌, ◌≤◌, ℕ, ◌∷�
 ghost use Rattle.std.specs.List.{list_all};
 ghost use Rattle.syntax.specs.Terminals.{OfKeyword, OfSymbol, keyword_terminal};
 ghost use Rattle.parser.specs.inside.Readers.{terminals, Gives, Passes};
-ghost use Rattle.syntax.specs.SourceReading.{after_terminals, name_at, number_at, text_at, label_at, argument_at, after_terminal, expression as expression_at_limit};
+ghost use Rattle.syntax.specs.SourceReading.{after_terminals, name_reader, number_at, text_at, label_at, argument_at, after_terminal, expression as expression_at_limit};
 ghost use Rattle.syntax.specs.SourceViews.{text_of};
 ghost use Rattle.parser.specs.inside.Plain.{is_plain, plain_terminal};
 
@@ -54,7 +54,7 @@ impl<'a> Cursor<'a> {
 
     /// The name at the front, and the place after it, or `Unexpected` at the next token, if that is no name.
     pub(crate) fn name(self, alloc: Global) -> Result<(Name, Cursor<'a>), SyntaxError>
-        ensures reads { Gives (λ n. n) result (name_at (terminals self.entry)) }
+        ensures reads { Gives (λ n. n) result (name_reader (terminals self.entry)) }
         ensures shorter { IfOk result (λ x. length (terminals x.1) < length (terminals self.entry)) }
     {
         let Some((token, after)) = self.next() else {

@@ -2,7 +2,7 @@
 ghost use Rattle.std.specs.Prelude.{◌≡◌, ◌≤◌, ℕ, List, [], ◌∷◌, length, IfOk};
 ghost use Rattle.syntax.specs.Terminals.{Terminal, OfKeyword, keyword_terminal};
 ghost use Rattle.parser.specs.inside.Readers.{terminals, Gives};
-ghost use Rattle.syntax.specs.SourceReading.{in_parentheses, closed, end_at, ends_at, method_at, initial_at, value_at, assigned_at};
+ghost use Rattle.syntax.specs.SourceReading.{in_parentheses, closed_by, end_at, ends_at, method_at, initial_at, initial_reader, assigned_at};
 ghost use Rattle.syntax.specs.SourceViews.{initial_tree, ends_tree};
 ghost use Rattle.parser.specs.inside.Fronts.{begins_call as begins_call_at, is_called, called_terminal, name_pair_at, modified_by, filter_at, call_by, new_set_at, load_at};
 
@@ -111,7 +111,7 @@ fn initial(alloc: Global, cursor: Cursor<'_>) -> Result<(Initial, Cursor<'_>), S
 
 /// An expression as an initial value.
 fn value(alloc: Global, cursor: Cursor<'_>) -> Result<(Initial, Cursor<'_>), SyntaxError>
-    ensures reads { Gives initial_tree result (value_at (terminals cursor.entry)) }
+    ensures reads { Gives initial_tree result (initial_reader (terminals cursor.entry)) }
     ensures shorter { IfOk result (λ x. length (terminals x.1) ≤ length (terminals cursor.entry)) }
 {
     let (value, behind) = cursor.expression(alloc)?;
@@ -207,7 +207,7 @@ fn without_arguments(
     call: Initial,
     cursor: Cursor<'_>,
 ) -> Result<(Initial, Cursor<'_>), SyntaxError>
-    ensures reads { Gives initial_tree result (closed (in_parentheses []) (initial_tree call, terminals cursor.entry)) }
+    ensures reads { Gives initial_tree result (closed_by (in_parentheses []) (initial_tree call, terminals cursor.entry)) }
     ensures shorter { IfOk result (λ x. length (terminals x.1) ≤ length (terminals cursor.entry)) }
 {
     let behind = cursor.expect_all(&NO_ARGUMENTS)?;

@@ -3,7 +3,7 @@ ghost use Rattle.std.specs.Prelude.{◌≤◌, [], ◌∷◌, length, IfOk, None
 ghost use Rattle.syntax.specs.Terminals.{OfKeyword, OfSymbol};
 ghost use Rattle.parser.specs.inside.Readers.{terminals, Gives};
 ghost use Rattle.parser.specs.inside.Fronts.{applied_by, applied_function_at};
-ghost use Rattle.syntax.specs.SourceReading.{reduction_at, ended_at, entry_at, entry_by, after_terminal, after_terminals, method_by, added_at, reduced_at, named_action};
+ghost use Rattle.syntax.specs.SourceReading.{reduction_at, ended_at, read_entry_at, entry_by, after_terminal, after_terminals, method_by, added_at, read_reduction_at, named_action};
 ghost use Rattle.syntax.specs.SourceViews.{statement_kind_tree};
 
 use crate::cursor::Cursor;
@@ -83,7 +83,7 @@ fn reduced(
     name: Name,
     cursor: Cursor<'_>,
 ) -> Result<(Action, Cursor<'_>), SyntaxError>
-    ensures reads { Gives statement_kind_tree result (reduced_at name (terminals cursor.entry)) }
+    ensures reads { Gives statement_kind_tree result (read_reduction_at name (terminals cursor.entry)) }
     ensures shorter { IfOk result (λ x. length (terminals x.1) ≤ length (terminals cursor.entry)) }
 {
     let (reduction, rest) = reduction(cursor)?;
@@ -102,7 +102,7 @@ fn entry(
     vector: Name,
     cursor: Cursor<'_>,
 ) -> Result<(Action, Cursor<'_>), SyntaxError>
-    ensures reads { Gives statement_kind_tree result (entry_at vector (terminals cursor.entry)) }
+    ensures reads { Gives statement_kind_tree result (read_entry_at vector (terminals cursor.entry)) }
     ensures shorter { IfOk result (λ x. length (terminals x.1) ≤ length (terminals cursor.entry)) }
 {
     let (index, close) = cursor.expression(alloc)?;

@@ -3,7 +3,7 @@ ghost use Rattle.std.specs.Prelude.{◌≡◌, pos, map, replicate, IfOk};
 ghost use Rattle.std.specs.List.{range_with_len};
 ghost use Rattle.typed_tree.specs.ProgramTree.{program_tree};
 ghost use Rattle.plain_run.specs.inside.Degrees.{counted, counted_once};
-ghost use Rattle.algorithm_meaning.specs.Meaning.{all_vertices, opening, opening_entries};
+ghost use Rattle.algorithm_meaning.specs.Meaning.{full_set, opening, opening_entries};
 ghost use Rattle.plain_run.specs.inside.Seen.{graph_of, state_of};
 
 use crate::state::{EdgeList, Environment, InterpreterState};
@@ -99,7 +99,7 @@ fn open_sets(
     names: &[usize],
     graph: &EdgeList,
 ) -> Result<Vec<SetBinding>, AllocError>
-    ensures { IfOk result (λ v. v.items ≡ map (all_vertices (graph_of graph.now)) names.now) }
+    ensures { IfOk result (λ v. v.items ≡ map (full_set (graph_of graph.now)) names.now) }
 {
     let mut opened = Vec::new(alloc);
     'sets: for name in names {

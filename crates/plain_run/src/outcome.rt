@@ -3,7 +3,7 @@ ghost use Rattle.std.specs.Prelude.{◌≡◌, IfOk, map, unwrap_or};
 ghost use Rattle.typed_tree.specs.ProgramTree.{program_tree};
 ghost use Rattle.algorithm_meaning.specs.declared.outcome.End.TheVariants.{Finished};
 ghost use Rattle.plain_run.specs.inside.Seen.{stand, state_of};
-ghost use Rattle.algorithm_meaning.specs.Meaning.{name_at, named_set, named_vectors, outcome_of};
+ghost use Rattle.algorithm_meaning.specs.Meaning.{shown_name_at, named_set, named_vectors, outcome_of};
 
 use crate::state::InterpreterState;
 use algorithm_meaning::{End, NamedSet, NamedVector, Outcome, SetBinding};
@@ -82,7 +82,7 @@ fn name_sets(
 
 /// A copy of the name at an index, the empty one where there is none.
 fn name_of(alloc: Global, names: &[Name], index: usize) -> Result<Name, AllocError>
-    ensures { IfOk result (λ name. name ≡ name_at names.now index) }
+    ensures { IfOk result (λ name. name ≡ shown_name_at names.now index) }
 {
     match names.get(index) {
         Some(name) => Ok(Sequence::new(Vec::from_slice(alloc, name.as_slice())?)),

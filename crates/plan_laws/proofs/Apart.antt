@@ -4,7 +4,7 @@ use Rattle.std.specs.List.{AllByRecursion, Contains, list_any}
 use Rattle.std.proofs.lemmas.Bool.{and_from, ne_eqb, not_from_false, or_from}
 use Rattle.std.proofs.lemmas.List.Elements.{Contains-append_right}
 use Rattle.typed_tree.specs.FunctionStatementTree.{FunctionTree}
-use Rattle.typed_tree.specs.Independence.{are_apart, is_none_of, are_independent, is_end}
+use Rattle.typed_tree.specs.Independence.{are_apart, is_none_of, are_independent, is_end_of_name}
 use Rattle.typed_tree.specs.inside.Access.{steps_use_where, steps_write_where}
 use Rattle.typed_tree.specs.ProgramTree.{ProgramTree}
 use Rattle.typed_tree.specs.declared.apply.StatementApply.{StatementApply}
@@ -48,7 +48,7 @@ writes_apart (Some f) others apart = writes_of_steps (λ v. is_none_of v others)
 -- two edge applies that share no vector are independent
 pub independent : (p : ProgramTree) (one other : StatementApply) → IsIndependent p one other → are_independent p one other ≡ true
 independent p (Edges a f r) (Edges b g s) is =
-    and_from _ _ (not_from_false (is_end p.names r b.from || is_end p.names r b.to) (or_from _ _ is.changes_of_sources is.changes_of_destinations))
+    and_from _ _ (not_from_false (is_end_of_name p.names r b.from || is_end_of_name p.names r b.to) (or_from _ _ is.changes_of_sources is.changes_of_destinations))
     (and_from _ _ (apart_from _ _ is.function) (and_from _ _ (apart_from _ _ is.sources) (apart_from _ _ is.destinations)))
 independent p (Edges a f r) (Vertices set g) is = refl
 independent p (Vertices set f) other is = refl

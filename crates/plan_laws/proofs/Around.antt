@@ -7,7 +7,7 @@ use Rattle.algorithm_meaning.specs.declared.state.Depth.{Depth}
 use Rattle.plans.specs.Instruction.{OperationTree, Do, ApplyEdgesTogether, ApplyVerticesTogether, Unless, Enter, UnlessBelow, Advance, Turn, Jump, End, InstructionTree}
 use Rattle.plans.specs.Fusing.{EdgeApplyTree, VertexApplyTree, edge_apply_of, vertex_apply_of, edges_fit, vertices_fit, fused_edges, fused_vertices, either, together, is_with, FusionRole, Alone}
 use Rattle.plans.specs.Fusing.{WithNext, WithPrevious, with_next, fusion_role_of, takes_next}
-use Rattle.plans.specs.Plan.{behind}
+use Rattle.plans.specs.Plan.{depth_after}
 use Rattle.plans.proofs.Proper.{HasNoBlock}
 use Rattle.type_laws.specs.LoopVariables.{KeepsInside}
 use Rattle.type_laws.proofs.LoopStatements.{AreBelow}
@@ -39,7 +39,7 @@ module _ (code : List InstructionTree) (table : List (List ℕ)) where
 
   -- what holds of an instruction inside these loops
   abbrev pub Local : (index : ℕ) → List ℕ → (keep shown : Depth) → OperationTree → Type 0
-  Local index is keep shown (Do a) = HasNoBlock a × KeepsInside keep.integers is a × Entry code table (index + 1) is (behind a keep).integers × AreBelow is keep.integers
+  Local index is keep shown (Do a) = HasNoBlock a × KeepsInside keep.integers is a × Entry code table (index + 1) is (depth_after a keep).integers × AreBelow is keep.integers
   Local index is keep shown (ApplyEdgesTogether ends a b) = Entry code table (index + 1) is keep.integers × AreBelow is keep.integers
   Local index is keep shown (ApplyVerticesTogether set a b) = Entry code table (index + 1) is keep.integers × AreBelow is keep.integers
   Local index is keep shown (Unless c to) = Entry code table (index + 1) is keep.integers × Entry code table to is keep.integers × AreBelow is keep.integers
@@ -107,7 +107,7 @@ IsForTwo _ = ⊥
 
 -- the statement declares no integer
 abbrev pub DeclaresNone : StatementKindTree → Type 0
-DeclaresNone a = (d : Depth) → (behind a d).integers ≡ d.integers
+DeclaresNone a = (d : Depth) → (depth_after a d).integers ≡ d.integers
 
 abbrev pub FirstDeclaresNone : BlockTree → Type 0
 FirstDeclaresNone Empty = Unit {0}

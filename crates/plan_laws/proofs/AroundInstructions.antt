@@ -9,7 +9,7 @@ use Rattle.apply_options.specs.ScheduleTree.{ScheduleTree}
 use Rattle.algorithm_meaning.specs.declared.state.Depth.{Depth}
 use Rattle.plans.specs.Instruction.{ApplyEdgesTogether, ApplyVerticesTogether, Unless, Enter, UnlessBelow, Advance, Turn, Jump, End, InstructionTree}
 use Rattle.plans.specs.Fusing.{FusionRole, Alone, WithNext, WithPrevious, fusion_role_of, takes_next}
-use Rattle.plans.specs.Plan.{behind, behind_all, in_loop, with_integer, main_depth, plan_of, plain, loop_step, size_in, plan_in, size, size_all, plan, plan_all}
+use Rattle.plans.specs.Plan.{depth_after, depth_after_all, depth_in_loop, depth_with_integer, main_depth, plan_of, plain, loop_step, size_in, plan_in, size, size_all, plan, plan_all}
 use Rattle.plans.proofs.Depths.{within_after, within_after_all}
 use Rattle.plans.proofs.Indices.{HasAt, has_front, has_behind, has_all, length_in, length-plan, length-plan_all}
 use Rattle.type_laws.specs.LoopVariables.{KeepsInside, KeepsLoops, KeepsLoopVariables, integers_behind}
@@ -22,7 +22,7 @@ around_in (WithNext operation) is own = is ∷ []
 around_in WithPrevious is own = []
 
 -- so many integers are visible after a statement
-integers_after : (a : StatementKindTree) (d : Depth) → integers_behind a d.integers ≡ (behind a d).integers
+integers_after : (a : StatementKindTree) (d : Depth) → integers_behind a d.integers ≡ (depth_after a d).integers
 integers_after (DeclareInteger name e) d = refl
 integers_after _ d = refl
 
@@ -35,7 +35,7 @@ module _ (p : ProgramTree) (s : ScheduleTree) where
     around d is (While c body) = is ∷ is ∷ (around_all d is false body ++ is ∷ [])
     around d is (For name first end body) =
         is ∷ is ∷ (d.integers ∷ is) ∷ (d.integers ∷ is)
-        ∷ (around_all (in_loop d) (d.integers ∷ is) false body ++ (d.integers ∷ is) ∷ (d.integers ∷ is) ∷ [])
+        ∷ (around_all (depth_in_loop d) (d.integers ∷ is) false body ++ (d.integers ∷ is) ∷ (d.integers ∷ is) ∷ [])
     around d is _ = is ∷ []
 
     -- and of a block
@@ -43,7 +43,7 @@ module _ (p : ProgramTree) (s : ScheduleTree) where
     around_all d is is_done Empty = []
     around_all d is is_done (Then number label action rest) =
         around_in (fusion_role_of p s d is_done label action rest) is (around d is action)
-        ++ around_all (behind action d) is (takes_next (fusion_role_of p s d is_done label action rest)) rest
+        ++ around_all (depth_after action d) is (takes_next (fusion_role_of p s d is_done label action rest)) rest
 
   pub length_around_in : (company : FusionRole) (is : List ℕ) (own : List (List ℕ)) (n : ℕ) → length own ≡ n → length (around_in company is own) ≡ size_in company n
   length_around_in Alone is own n e = e
@@ -58,7 +58,7 @@ module _ (p : ProgramTree) (s : ScheduleTree) where
     length-around (While c body) d is = omega (arith, length-around_all body d is false, length-append (around_all d is false body) (is ∷ []))
     length-around (For name first end body) d is =
         let more = d.integers ∷ is in
-        omega (arith, length-around_all body (in_loop d) more false, length-append (around_all (in_loop d) more false body) (more ∷ more ∷ []))
+        omega (arith, length-around_all body (depth_in_loop d) more false, length-append (around_all (depth_in_loop d) more false body) (more ∷ more ∷ []))
     length-around (DeclareInteger name e) d is = refl
     length-around (DeclareCondition name c) d is = refl
     length-around (SetInteger slot e) d is = refl
@@ -80,8 +80,8 @@ module _ (p : ProgramTree) (s : ScheduleTree) where
         let company = fusion_role_of p s d is_done label action rest in
         let first = around_in company is (around d is action) in
         let e = length_around_in company is (around d is action) (size p s d action) (length-around action d is) in
-        let others = length-around_all rest (behind action d) is (takes_next company) in
-        omega (arith, e, others, length-append first (around_all (behind action d) is (takes_next company) rest))
+        let others = length-around_all rest (depth_after action d) is (takes_next company) in
+        omega (arith, e, others, length-append first (around_all (depth_after action d) is (takes_next company) rest))
 
   module _ (code : List InstructionTree) (table : List (List ℕ)) where
     first_entry : (index : ℕ) (is : List ℕ) (d : Depth) (i : InstructionTree) → slice_get code index ≡ Some i → slice_get table index ≡ Some is → i.keep.integers ≡ d.integers
@@ -114,58 +114,58 @@ module _ (p : ProgramTree) (s : ScheduleTree) where
         → FitsCompany company action rest
         → HasAt code index (plan_in company s number label d own) → HasRows table index (around_in company is own_rows)
         → (HasAt code index own → HasRows table index own_rows → Entry code table index is d.integers)
-        → Entry code table (index + size_in company n) is (behind action d).integers → Entry code table index is d.integers
+        → Entry code table (index + size_in company n) is (depth_after action d).integers → Entry code table index is d.integers
     company_entry Alone action rest index number label d is own own_rows n fits at rows first next = first at rows
     company_entry (WithNext operation) action rest index number label d is own own_rows n fits at rows first next = first_entry index is d _ at.0 rows.0 refl
     company_entry WithPrevious action rest index number label d is own own_rows n fits at rows first next =
         let same : index + 0 ≡ index = omega arith in
-        let none : (behind action d).integers ≡ d.integers = fits d in
-        entry_more code table index is (behind action d).integers d.integers (omega (arith, none)) (entry_along code table (index + 0) index is (behind action d).integers same next)
+        let none : (depth_after action d).integers ≡ d.integers = fits d in
+        entry_more code table index is (depth_after action d).integers d.integers (omega (arith, none)) (entry_along code table (index + 0) index is (depth_after action d).integers same next)
 
     pub block_entry : (b : BlockTree) (is_done : Bool) (index : ℕ) (d : Depth) (is : List ℕ) → IsDone is_done b → HasAt code index (plan_all p s index d is_done b)
         → HasRows table index (around_all d is is_done b)
-        → Entry code table (index + size_all p s d is_done b) is (behind_all b d).integers → Entry code table index is d.integers
+        → Entry code table (index + size_all p s d is_done b) is (depth_after_all b d).integers → Entry code table index is d.integers
     block_entry Empty is_done index d is done at rows end = let same : index + 0 ≡ index = omega arith in entry_along code table (index + 0) index is d.integers same end
     block_entry (Then number label action rest) is_done index d is done at rows end =
         let company = fusion_role_of p s d is_done label action rest in
         let own = plan p s index d number label action in
         let n = size_in company (size p s d action) in
         let first = plan_in company s number label d own in
-        let others = plan_all p s (index + n) (behind action d) (takes_next company) rest in
+        let others = plan_all p s (index + n) (depth_after action d) (takes_next company) rest in
         let e : length first ≡ n = length_in company s number label d own (size p s d action) (length-plan p s action index d number label) in
         let own_rows = around d is action in
         let first_rows = around_in company is own_rows in
-        let other_rows = around_all (behind action d) is (takes_next company) rest in
+        let other_rows = around_all (depth_after action d) is (takes_next company) rest in
         let f : length first_rows ≡ n = length_around_in company is own_rows (size p s d action) (length-around action d is) in
         let fits = company_fits p s d is_done number label action rest done in
-        let m = size_all p s (behind action d) (takes_next company) rest in
+        let m = size_all p s (depth_after action d) (takes_next company) rest in
         let same : index + (n + m) ≡ index + n + m = omega arith in
         company_entry company action rest index number label d is own own_rows (size p s d action) fits (has_front code index first others at) (rows_front table index first_rows other_rows rows)
         (λ here there. action_entry action index number label d is here there)
-        (block_entry rest (takes_next company) (index + n) (behind action d) is (next_done company action rest fits) (has_behind code index n (index + n) first others e refl at)
+        (block_entry rest (takes_next company) (index + n) (depth_after action d) is (next_done company action rest fits) (has_behind code index n (index + n) first others e refl at)
         (rows_behind table index n (index + n) first_rows other_rows f refl rows)
-        (entry_along code table (index + (n + m)) (index + n + m) is (behind_all rest (behind action d)).integers same end))
+        (entry_along code table (index + (n + m)) (index + n + m) is (depth_after_all rest (depth_after action d)).integers same end))
 
     company_local : (company : FusionRole) (action : StatementKindTree) (rest : BlockTree) (index number : ℕ) (label : Option ℕ) (d : Depth) (is : List ℕ) (own : List InstructionTree)
         (own_rows : List (List ℕ)) (n : ℕ)
         → FitsCompany company action rest → AreBelow is d.integers
         → HasAt code index (plan_in company s number label d own) → HasRows table index (around_in company is own_rows)
-        → (HasAt code index own → HasRows table index own_rows → Entry code table (index + n) is (behind action d).integers → AllLocal code table index own own_rows)
-        → Entry code table (index + size_in company n) is (behind action d).integers
+        → (HasAt code index own → HasRows table index own_rows → Entry code table (index + n) is (depth_after action d).integers → AllLocal code table index own own_rows)
+        → Entry code table (index + size_in company n) is (depth_after action d).integers
         → AllLocal code table index (plan_in company s number label d own) (around_in company is own_rows)
     company_local Alone action rest index number label d is own own_rows n fits below at rows all next = all at rows next
     company_local (WithNext (ApplyEdgesTogether ends a b)) action rest index number label d is own own_rows n fits below at rows all next =
-        let none : (behind action d).integers ≡ d.integers = fits.1 d in
-        ((entry_more code table (index + 1) is (behind action d).integers d.integers (omega (arith, none)) next, below), tt)
+        let none : (depth_after action d).integers ≡ d.integers = fits.1 d in
+        ((entry_more code table (index + 1) is (depth_after action d).integers d.integers (omega (arith, none)) next, below), tt)
     company_local (WithNext (ApplyVerticesTogether set a b)) action rest index number label d is own own_rows n fits below at rows all next =
-        let none : (behind action d).integers ≡ d.integers = fits.1 d in
-        ((entry_more code table (index + 1) is (behind action d).integers d.integers (omega (arith, none)) next, below), tt)
+        let none : (depth_after action d).integers ≡ d.integers = fits.1 d in
+        ((entry_more code table (index + 1) is (depth_after action d).integers d.integers (omega (arith, none)) next, below), tt)
     company_local (WithNext operation) action rest index number label d is own own_rows n fits below at rows all next = absurd fits.0
     company_local WithPrevious action rest index number label d is own own_rows n fits below at rows all next = tt
 
     mutual
       action_local : (a : StatementKindTree) (index number : ℕ) (label : Option ℕ) (d : Depth) (is : List ℕ) → HasAt code index (plan p s index d number label a) → HasRows table index (around d is a)
-          → Entry code table (index + size p s d a) is (behind a d).integers → AreBelow is d.integers → KeepsInside d.integers is a
+          → Entry code table (index + size p s d a) is (depth_after a d).integers → AreBelow is d.integers → KeepsInside d.integers is a
           → AllLocal code table index (plan p s index d number label a) (around d is a)
       action_local (DeclareInteger name e) index number label d is at rows end below keeps = ((tt, keeps, end, below), tt)
       action_local (DeclareCondition name c) index number label d is at rows end below keeps = ((tt, keeps, end, below), tt)
@@ -186,7 +186,7 @@ module _ (p : ProgramTree) (s : ScheduleTree) where
           let to = index + 1 + n in
           let same : index + (1 + n) ≡ to = omega arith in
           let there = entry_along code table (index + (1 + n)) to is d.integers same end in
-          let deep = entry_more code table to is d.integers (behind_all body d).integers (within_after_all body d).integers there in (
+          let deep = entry_more code table to is d.integers (depth_after_all body d).integers (within_after_all body d).integers there in (
             (block_entry body false (index + 1) d is tt at.1 rows.1 deep, there, below),
             block_local body false (index + 1) d is tt at.1 rows.1 deep below keeps,
           )
@@ -208,8 +208,8 @@ module _ (p : ProgramTree) (s : ScheduleTree) where
           let at_back = has_behind code (index + 1) n back own (jump ∷ others) e refl at.1 in
           let rows_back = rows_behind table (index + 1) n back own_rows (is ∷ other_rows) f refl rows.1 in
           let at_jump = first_entry back is d jump at_back.0 rows_back.0 refl in
-          let body_end = entry_more code table back is d.integers (behind_all body d).integers (within_after_all body d).integers at_jump in
-          let other_end = entry_more code table to is d.integers (behind_all other d).integers (within_after_all other d).integers there in
+          let body_end = entry_more code table back is d.integers (depth_after_all body d).integers (within_after_all body d).integers at_jump in
+          let other_end = entry_more code table to is d.integers (depth_after_all other d).integers (within_after_all other d).integers there in
           let body_at = has_front code (index + 1) own (jump ∷ others) at.1 in
           let body_rows = rows_front table (index + 1) own_rows (is ∷ other_rows) rows.1 in (
             (block_entry body false (index + 1) d is tt body_at body_rows body_end, block_entry other false from d is tt at_back.1 rows_back.1 other_end, below),
@@ -230,7 +230,7 @@ module _ (p : ProgramTree) (s : ScheduleTree) where
           let at_back = has_behind code (index + 2) n back own (jump ∷ []) e refl inside in
           let rows_back = rows_behind table (index + 2) n back own_rows (is ∷ []) f refl inside_rows in
           let at_jump = first_entry back is d jump at_back.0 rows_back.0 refl in
-          let body_end = entry_more code table back is d.integers (behind_all body d).integers (within_after_all body d).integers at_jump in
+          let body_end = entry_more code table back is d.integers (depth_after_all body d).integers (within_after_all body d).integers at_jump in
           let body_at = has_front code (index + 2) own (jump ∷ []) inside in
           let body_rows = rows_front table (index + 2) own_rows (is ∷ []) inside_rows in
           let same : index + (2 + n + 1) ≡ back + 1 = omega arith in
@@ -242,7 +242,7 @@ module _ (p : ProgramTree) (s : ScheduleTree) where
           ((head, below), tt) in
           ((turn, there, below), ((start, below), subst (λ (x : ℕ). AllLocal code table x (own ++ jump ∷ []) (own_rows ++ is ∷ [])) (sym second) all))
       action_local (For name first end body) index number label d is at rows ending below keeps =
-          let deep = in_loop d in
+          let deep = depth_in_loop d in
           let more = d.integers ∷ is in
           let n = size_all p s deep false body in
           let back = index + 4 + n in
@@ -260,8 +260,8 @@ module _ (p : ProgramTree) (s : ScheduleTree) where
           let at_back = has_behind code (index + 4) n back own (advance ∷ jump ∷ []) e refl inside in
           let rows_back = rows_behind table (index + 4) n back own_rows (more ∷ more ∷ []) f refl inside_rows in
           let at_advance = first_entry back more d advance at_back.0 rows_back.0 refl in
-          let wide : d.integers ≤ (behind_all body deep).integers = (let l = (within_after_all body deep).integers in omega (arith, l)) in
-          let body_end = entry_more code table back more d.integers (behind_all body deep).integers wide at_advance in
+          let wide : d.integers ≤ (depth_after_all body deep).integers = (let l = (within_after_all body deep).integers in omega (arith, l)) in
+          let body_end = entry_more code table back more d.integers (depth_after_all body deep).integers wide at_advance in
           let body_at = has_front code (index + 4) own (advance ∷ jump ∷ []) inside in
           let body_rows = rows_front table (index + 4) own_rows (more ∷ more ∷ []) inside_rows in
           let same : index + (4 + n + 2) ≡ to = omega arith in
@@ -270,7 +270,7 @@ module _ (p : ProgramTree) (s : ScheduleTree) where
           let keeps_deep : KeepsLoops deep.integers more body = subst (λ (x : ℕ). KeepsLoops x more body) (omega arith) keeps in
           let below_deep : AreBelow more deep.integers = (omega arith, below_more is d.integers deep.integers (omega arith) below) in
           let at_enter : Entry code table (index + 1) is (d.integers + 1) = record {
-            instruction = loop_step number (with_integer d) d (Enter name end);
+            instruction = loop_step number (depth_with_integer d) d (Enter name end);
             stands = at.1.0;
             around = rows.1.0;
             keeps =
@@ -301,7 +301,7 @@ module _ (p : ProgramTree) (s : ScheduleTree) where
 
       pub block_local : (b : BlockTree) (is_done : Bool) (index : ℕ) (d : Depth) (is : List ℕ) → IsDone is_done b → HasAt code index (plan_all p s index d is_done b)
           → HasRows table index (around_all d is is_done b)
-          → Entry code table (index + size_all p s d is_done b) is (behind_all b d).integers → AreBelow is d.integers → KeepsLoops d.integers is b
+          → Entry code table (index + size_all p s d is_done b) is (depth_after_all b d).integers → AreBelow is d.integers → KeepsLoops d.integers is b
           → AllLocal code table index (plan_all p s index d is_done b) (around_all d is is_done b)
       block_local Empty is_done index d is done at rows end below keeps = tt
       block_local (Then number label action rest) is_done index d is done at rows end below keeps =
@@ -309,27 +309,27 @@ module _ (p : ProgramTree) (s : ScheduleTree) where
           let own = plan p s index d number label action in
           let n = size_in company (size p s d action) in
           let first = plan_in company s number label d own in
-          let others = plan_all p s (index + n) (behind action d) (takes_next company) rest in
+          let others = plan_all p s (index + n) (depth_after action d) (takes_next company) rest in
           let e : length first ≡ n = length_in company s number label d own (size p s d action) (length-plan p s action index d number label) in
           let own_rows = around d is action in
           let first_rows = around_in company is own_rows in
-          let other_rows = around_all (behind action d) is (takes_next company) rest in
+          let other_rows = around_all (depth_after action d) is (takes_next company) rest in
           let f : length first_rows ≡ n = length_around_in company is own_rows (size p s d action) (length-around action d is) in
           let fits = company_fits p s d is_done number label action rest done in
           let done_next = next_done company action rest fits in
           let keeps_rest = subst (λ (x : ℕ). KeepsLoops x is rest) (integers_after action d) keeps.1 in
-          let m = size_all p s (behind action d) (takes_next company) rest in
+          let m = size_all p s (depth_after action d) (takes_next company) rest in
           let same : index + (n + m) ≡ index + n + m = omega arith in
-          let end_rest = entry_along code table (index + (n + m)) (index + n + m) is (behind_all rest (behind action d)).integers same end in
+          let end_rest = entry_along code table (index + (n + m)) (index + n + m) is (depth_after_all rest (depth_after action d)).integers same end in
           let at_rest = has_behind code index n (index + n) first others e refl at in
           let rows_rest = rows_behind table index n (index + n) first_rows other_rows f refl rows in
-          let entry = block_entry rest (takes_next company) (index + n) (behind action d) is done_next at_rest rows_rest end_rest in
+          let entry = block_entry rest (takes_next company) (index + n) (depth_after action d) is done_next at_rest rows_rest end_rest in
           local_append code table index n first others first_rows other_rows e
           (company_local company action rest index number label d is own own_rows (size p s d action) fits below (has_front code index first others at)
           (rows_front table index first_rows other_rows rows)
           (λ here there next. action_local action index number label d is here there next below keeps.0) entry)
-          (block_local rest (takes_next company) (index + n) (behind action d) is done_next at_rest rows_rest end_rest
-          (below_more is d.integers (behind action d).integers (within_after action d).integers below) keeps_rest)
+          (block_local rest (takes_next company) (index + n) (depth_after action d) is done_next at_rest rows_rest end_rest
+          (below_more is d.integers (depth_after action d).integers (within_after action d).integers below) keeps_rest)
 
 pub rows_all : (ts pre : List (List ℕ)) → HasRows (pre ++ ts) (length pre) ts
 rows_all [] pre = tt
@@ -346,14 +346,14 @@ abbrev pub table_of : ProgramTree → ScheduleTree → List (List ℕ)
 table_of p s = around_all p s (main_depth p) [] false p.main ++ [] ∷ []
 
 module _ (p : ProgramTree) (s : ScheduleTree) (keeps : KeepsLoopVariables p) where
-  main_end : Entry (plan_of p s) (table_of p s) (0 + size_all p s (main_depth p) false p.main) [] (behind_all p.main (main_depth p)).integers
+  main_end : Entry (plan_of p s) (table_of p s) (0 + size_all p s (main_depth p) false p.main) [] (depth_after_all p.main (main_depth p)).integers
   main_end =
       let code = plan_of p s in
       let table = table_of p s in
       let d = main_depth p in
       let n = size_all p s d false p.main in
       let main = plan_all p s 0 d false p.main in
-      let last = plain 0 (behind_all p.main d) End in
+      let last = plain 0 (depth_after_all p.main d) End in
       let rows = around_all p s d [] false p.main in
       let at = has_behind code 0 n (0 + n) main (last ∷ []) (length-plan_all p s p.main 0 d false) refl (has_all code []) in
       let there = rows_behind table 0 n (0 + n) rows ([] ∷ []) (length-around_all p s p.main d [] false) refl (rows_all table []) in
@@ -372,5 +372,5 @@ module _ (p : ProgramTree) (s : ScheduleTree) (keeps : KeepsLoopVariables p) whe
       let d = main_depth p in
       let main = plan_all p s 0 d false p.main in
       let rows = around_all p s d [] false p.main in
-      local_append code table 0 (size_all p s d false p.main) main (plain 0 (behind_all p.main d) End ∷ []) rows ([] ∷ []) (length-plan_all p s p.main 0 d false)
+      local_append code table 0 (size_all p s d false p.main) main (plain 0 (depth_after_all p.main d) End ∷ []) rows ([] ∷ []) (length-plan_all p s p.main 0 d false)
       (block_local p s code table p.main false 0 d [] tt (has_front code 0 main _ (has_all code [])) (rows_front table 0 rows _ (rows_all table [])) main_end tt keeps) (tt, tt)

@@ -25,7 +25,7 @@ use Rattle.typed_tree.specs.IntExpressionTree.{IntExpressionTree}
 use Rattle.typed_tree.specs.BoolExpressionTree as condition
 use Rattle.typed_tree.specs.BoolExpressionTree.{BoolExpressionTree}
 use Rattle.typed_tree.specs.ProgramTree.{ProgramTree}
-use Rattle.plan_text.specs.Expressions.{comparison_word, condition_words, connective_word, entry_word, integer_words, name_at, name_of, operator_word, truth_word, vector_at}
+use Rattle.plan_text.specs.Expressions.{comparison_word, condition_words, connective_word, entry_word, integer_words, program_name_at, name_of, operator_word, truth_word, vector_name_at}
 use Rattle.plan_text.specs.Lines.{dense_word, direction_word, function_name, parallelization_word, reducing_word, reduction_word}
 use Rattle.plan_laws.specs.Lines.{HasBareNames, IsBare, is_bare}
 use Rattle.plan_laws.proofs.CutWords.{all_at, all_both}
@@ -75,14 +75,14 @@ integer_is_bare (pos n) = decimal_is_bare n
 integer_is_bare (negsuc n) = (refl, decimal_is_bare (suc n))
 
 -- names
-pub name_is_bare : (p : ProgramTree) (name : ℕ) → HasBareNames p → IsBare (name_at p name)
+pub name_is_bare : (p : ProgramTree) (name : ℕ) → HasBareNames p → IsBare (program_name_at p name)
 name_is_bare p name are = all_at IsBare p.names name [] are tt
 
 of_vector : (p : ProgramTree) (o : Option Vector) → HasBareNames p → IsBare (name_of p o)
 of_vector p None are = tt
 of_vector p (Some vector) are = name_is_bare p vector.name are
 
-pub vector_is_bare : (p : ProgramTree) (vector : ℕ) → HasBareNames p → IsBare (vector_at p vector)
+pub vector_is_bare : (p : ProgramTree) (vector : ℕ) → HasBareNames p → IsBare (vector_name_at p vector)
 vector_is_bare p vector are = of_vector p (slice_get p.vectors vector) are
 
 pub function_is_bare : (p : ProgramTree) (o : Option FunctionTree) → HasBareNames p → IsBare (function_name p o)
@@ -131,11 +131,11 @@ integer_bare p (integer.Constant name n) are = (name_is_bare p name are, tt)
 integer_bare p (integer.Variable slot) are = (name_is_bare p slot.name are, tt)
 integer_bare p (integer.Parameter at) are = (bare (codes "vertex") refl, tt)
 integer_bare p integer.Weight are = (bare (codes "weight") refl, tt)
-integer_bare p (integer.EntryAt vector at) are = (marked_is_bare (vector_at p vector) (codes "@") (vector_is_bare p vector are) (bare (codes "@") refl), tt)
+integer_bare p (integer.EntryAt vector at) are = (marked_is_bare (vector_name_at p vector) (codes "@") (vector_is_bare p vector are) (bare (codes "@") refl), tt)
 integer_bare p (integer.Entry vector index) are =
     bare_and (integer_words p index) (entry_word p vector) (integer_bare p index are)
-    (marked_is_bare (vector_at p vector) (codes "@") (vector_is_bare p vector are) (bare (codes "@") refl))
-integer_bare p (integer.SetSize slot) are = (marked_is_bare (name_at p slot.name) (codes "#") (name_is_bare p slot.name are) (bare (codes "#") refl), tt)
+    (marked_is_bare (vector_name_at p vector) (codes "@") (vector_is_bare p vector are) (bare (codes "@") refl))
+integer_bare p (integer.SetSize slot) are = (marked_is_bare (program_name_at p slot.name) (codes "#") (name_is_bare p slot.name are) (bare (codes "#") refl), tt)
 integer_bare p (integer.Negative e) are = bare_and (integer_words p e) (codes "neg") (integer_bare p e are) (bare (codes "neg") refl)
 integer_bare p (integer.Arithmetic o a b) are =
     bare_and (integer_words p a ++ integer_words p b) (operator_word o)

@@ -8,7 +8,7 @@ use Rattle.apply_options.specs.ScheduleTree.{ScheduleTree}
 use Rattle.algorithm_meaning.specs.declared.state.Depth.{Depth}
 use Rattle.plans.specs.Instruction.{InstructionTree, Advance, Jump}
 use Rattle.plans.specs.Fusing.{FusionRole, Alone, WithNext, WithPrevious, fusion_role_of, takes_next}
-use Rattle.plans.specs.Plan.{behind, in_loop, loop_step, plain, plan, plan_all, plan_in, size, size_all, size_in}
+use Rattle.plans.specs.Plan.{depth_after, depth_in_loop, loop_step, plain, plan, plan_all, plan_in, size, size_all, size_in}
 use Rattle.type_laws.specs.Numbers.{InOrder, inner_numbers, numbers}
 use Rattle.plan_laws.specs.Neighbours.{AreNeighbours, AreNeighboursInside, BeginsWith, StatementTree}
 use Rattle.plan_laws.specs.OneInstruction.{IsOfNeither}
@@ -73,7 +73,7 @@ module _ (p : ProgramTree) (s : ScheduleTree) (low high : ℕ) where
       (own, two_between low high (plan_all p s (index + 2) d false body) (plain number d (Jump index) ∷ []) (block_between body (index + 2) d false n order from to) (own, tt)),
     )
     action_between (For name start end body) index d number label n own order from to =
-        let deep = in_loop d in (
+        let deep = depth_in_loop d in (
           own,
           (
             own,
@@ -103,9 +103,9 @@ module _ (p : ProgramTree) (s : ScheduleTree) (low high : ℕ) where
         let first : length inner + suc n ≤ high = omega (arith, length-append inner (numbers rest)) in
         let second : length (numbers rest) + (length inner + suc n) ≤ high = omega (arith, length-append inner (numbers rest)) in
         let index_behind = index + size_in company (size p s d action) in
-        two_between low high (plan_in company s number label d own) (plan_all p s index_behind (behind action d) (takes_next company) rest)
+        two_between low high (plan_in company s number label d own) (plan_all p s index_behind (depth_after action d) (takes_next company) rest)
         (company_between company number label d own (here, below) (action_between action index d number label (suc n) (here, below) two.0 (omega arith) first))
-        (block_between rest index_behind (behind action d) (takes_next company) (length inner + suc n) two.1 (omega arith) second)
+        (block_between rest index_behind (depth_after action d) (takes_next company) (length inner + suc n) two.1 (omega arith) second)
 
 -- two neighbours have ascending numbers among those of their block
 pub record AreAscending (low high : ℕ) (one other : StatementTree) : Type 0 where

@@ -16,7 +16,7 @@ use Rattle.plans.specs.Instruction.{ResultTree, Dropped, Declared, Assigned, Edg
 use Rattle.plans.specs.Instruction.{Jump, End, InstructionTree}
 use Rattle.plans.specs.Machine.{Configuration, At, Ended, with_result, with_results, after_parts, go_on, after_unless, after_enter, after_unless_below, after_advance, after_turn, act, act_at, step}
 use Rattle.plans.specs.Machine.{steps}
-use Rattle.plans.specs.Plan.{behind}
+use Rattle.plans.specs.Plan.{depth_after}
 use Rattle.plans.proofs.Proper.{HasNoBlock}
 use Rattle.type_laws.specs.LoopVariables.{IsOutside, KeepsInside}
 use Rattle.plan_laws.specs.LoopCounters.{AreCounters, NamesInnermost, CountersAreVariables}
@@ -89,7 +89,7 @@ module _ (p : ProgramTree) (g : GraphValue) where
   -- a statement without a block that assigns no variable of a loop
   counters_after : (a : StatementKindTree) → HasNoBlock a → (d : Depth) (is : List ℕ) (rs : List LoopCounter) (number : ℕ) (s : StateValue) → KeepsInside d.integers is a
       → AreCounters is rs s.scope.integers
-      → d.integers ≤ length s.scope.integers → HasCounters is rs (behind a d).integers (after p g number a s)
+      → d.integers ≤ length s.scope.integers → HasCounters is rs (depth_after a d).integers (after p g number a s)
   counters_after (DeclareInteger name e) alone d is rs number s keeps are long =
       by_value (int_value_in g.vertices e s) number is rs (d.integers + 1) s _
       (λ n. (counters_joined is rs s.scope.integers (n ∷ []) are, omega (arith, long, length-append s.scope.integers (n ∷ []))))
@@ -218,7 +218,7 @@ module _ (p : ProgramTree) (g : GraphValue) (code : List InstructionTree) (table
       → keep.integers ≤ length s.scope.integers → AreCounters is loops s.scope.integers → Stays (act p g operation number shown index loops (forget_beyond keep s))
   act_stays (Do a) number index keep shown is loops s here long are =
       let count = length-take-le keep.integers s.scope.integers long in
-      after_go_on (after p g number a (forget_beyond keep s)) (index + 1) is (behind a keep).integers loops shown here.2
+      after_go_on (after p g number a (forget_beyond keep s)) (index + 1) is (depth_after a keep).integers loops shown here.2
       (counters_after p g a here.0 keep is loops number (forget_beyond keep s) here.1 (counters_taken is loops keep.integers s.scope.integers here.3 are) (omega (arith, count)))
   act_stays (ApplyEdgesTogether ends a b) number index keep shown is loops s here long are =
       let t = forget_beyond keep s in

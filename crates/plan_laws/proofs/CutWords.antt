@@ -23,7 +23,8 @@ use Rattle.typed_tree.specs.BoolExpressionTree.{BoolExpressionTree}
 use Rattle.typed_tree.specs.ProgramTree.{ProgramTree}
 use Rattle.algorithm_meaning.specs.State.{StateValue}
 use Rattle.algorithm_meaning.specs.Stand.{bool_value_in, int_value_in}
-use Rattle.plan_text.specs.Expressions.{comparison_word, condition_words, connective_word, entry_word, integer_words, name_at, name_of, operator_word, truth_word, vector_at, bracketed, joined}
+use Rattle.plan_text.specs.Expressions.{comparison_word, condition_words, connective_word, entry_word, integer_words, program_name_at, name_of, operator_word, truth_word, vector_name_at, bracketed}
+use Rattle.plan_text.specs.Expressions.{spaced_words}
 use Rattle.decimal.proofs.NumberLaws.{digits_model}
 use Rattle.plan_laws.specs.Machine.{Number, Truth, Names, last_byte, read_words}
 use Rattle.plan_laws.specs.Given.{ConditionIsGiven, IntegerIsGiven}
@@ -39,11 +40,11 @@ words_more : (word rest : List ℕ) → IsOneWord word → words_in (word ++ 32 
 words_more [] rest one = refl
 words_more (b ∷ word) rest one = rw (ne_eqb b 32 one.0) (ap (put_byte b) (words_more word rest one.1))
 
-words_back : (words : List (List ℕ)) → 0 < length words → AllByRecursion IsOneWord words → words_in (joined words) ≡ words
+words_back : (words : List (List ℕ)) → 0 < length words → AllByRecursion IsOneWord words → words_in (spaced_words words) ≡ words
 words_back [] some one = absurd (omega (arith, some))
 words_back (word ∷ []) some one = words_alone word one.0
 words_back (word ∷ next ∷ words) some one =
-    words_more word (joined (next ∷ words)) one.0 ∙ ap (λ (l : List (List ℕ)). word ∷ l) (words_back (next ∷ words) (omega arith) one.1)
+    words_more word (spaced_words (next ∷ words)) one.0 ∙ ap (λ (l : List (List ℕ)). word ∷ l) (words_back (next ∷ words) (omega arith) one.1)
 
 inside_back : (text : List ℕ) → inside_brackets (91 ∷ text ++ 93 ∷ []) ≡ Some text
 inside_back text = rw (eq-eqb (last_byte (text ++ 93 ∷ [])) 93 (last_of text 93)) (ap Some (before_of text 93))
@@ -51,7 +52,7 @@ inside_back text = rw (eq-eqb (last_byte (text ++ 93 ∷ [])) 93 (last_of text 9
 pub text_back : {A : Type 0} (f : List (List ℕ) → Option A) (words : List (List ℕ)) → 0 < length words → AllByRecursion IsOneWord words
     → option_and_then (λ bytes. f (words_in bytes)) (inside_brackets (bracketed words)) ≡ f words
 text_back f words some one =
-    ap (option_and_then (λ bytes. f (words_in bytes))) (inside_back (joined words)) ∙ ap f (words_back words some one)
+    ap (option_and_then (λ bytes. f (words_in bytes))) (inside_back (spaced_words words)) ∙ ap f (words_back words some one)
 
 -- names and operators are one word each
 pub all_both : {A : Type 0} (P : A → Type 0) (xs ys : List A) → AllByRecursion P xs → AllByRecursion P ys → AllByRecursion P (xs ++ ys)
@@ -63,7 +64,7 @@ all_at P [] i d all none = none
 all_at P (x ∷ xs) zero d all none = all.0
 all_at P (x ∷ xs) (suc i) d all none = all_at P xs i d all.1 none
 
-pub name_is_one : (p : ProgramTree) (name : ℕ) → HasNamesOfOneWord p → IsOneWord (name_at p name)
+pub name_is_one : (p : ProgramTree) (name : ℕ) → HasNamesOfOneWord p → IsOneWord (program_name_at p name)
 name_is_one p name one = all_at IsOneWord p.names name [] one tt
 
 vector_is_one : (p : ProgramTree) (o : Option Vector) → HasNamesOfOneWord p → IsOneWord (name_of p o)
@@ -132,9 +133,9 @@ integer_words_are p names s integer.Weight one given = absurd given
 integer_words_are p names s (integer.EntryAt vector at) one given = absurd given
 integer_words_are p names s (integer.Entry vector index) one given =
     words_and (integer_words p index) (entry_word p vector) (integer_words_are p names s index one given.1)
-    (all_both (λ (b : ℕ). b ≢ 32) (vector_at p vector) (codes "@") (vector_is_one p (slice_get p.vectors vector) one) (looked_at (codes "@") refl))
+    (all_both (λ (b : ℕ). b ≢ 32) (vector_name_at p vector) (codes "@") (vector_is_one p (slice_get p.vectors vector) one) (looked_at (codes "@") refl))
 integer_words_are p names s (integer.SetSize slot) one given =
-    (all_both (λ (b : ℕ). b ≢ 32) (name_at p slot.name) (codes "#") (name_is_one p slot.name one) (looked_at (codes "#") refl), tt)
+    (all_both (λ (b : ℕ). b ≢ 32) (program_name_at p slot.name) (codes "#") (name_is_one p slot.name one) (looked_at (codes "#") refl), tt)
 integer_words_are p names s (integer.Negative e) one given =
     words_and (integer_words p e) (codes "neg") (integer_words_are p names s e one given) (looked_at (codes "neg") refl)
 integer_words_are p names s (integer.Arithmetic o a b) one given =

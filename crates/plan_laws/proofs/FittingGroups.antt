@@ -16,7 +16,7 @@ use Rattle.algorithm_meaning.specs.VertexSets.{all_below}
 use Rattle.algorithm_meaning.specs.Arithmetic.{wrapped}
 use Rattle.algorithm_meaning.specs.Meaning.{opening, opening_entries, out_degree}
 use Rattle.schedule.specs.Calls.{grown, grown_by, schedule_of}
-use Rattle.schedule.specs.Schedule.{index_from, vector_index, vector_names, empty_schedule}
+use Rattle.schedule.specs.Schedule.{index_from, vector_by_name, vector_names, empty_schedule}
 use Rattle.schedule.proofs.CallSteps.{Step, GivesValue, Fuses, PutsGroup, kept_by_calls}
 use Rattle.schedule.proofs.Groups.{accepted_groups_are_distinct}
 use Rattle.schedule.proofs.Indices.{concat_last}
@@ -36,7 +36,7 @@ index_below at name [] v is = let bad : None ≡ Some v = is in cc
 index_below at name (n ∷ names) v is =
     either_index (bytes_eq name n) at v (length names) (index_from (suc at) name names) (λ e. index_below (suc at) name names v e) is
 
-vector_below : (p : ProgramTree) (name : List ℕ) (v : ℕ) → vector_index p name ≡ Some v → v < length p.vectors
+vector_below : (p : ProgramTree) (name : List ℕ) (v : ℕ) → vector_by_name p name ≡ Some v → v < length p.vectors
 vector_below p name v is =
     let l = index_below 0 name (vector_names p.names p.vectors) v is in
     let e = length-map p.vectors (λ (x : Vector). name_at p.names x.name) in
@@ -47,7 +47,7 @@ grown_below : (p : ProgramTree) (taken group end : List ℕ) (names : List (List
     → AllBelow (length p.vectors) end
 grown_below p taken group end [] all e = subst (AllBelow (length p.vectors)) (some_is _ _ _ refl e) all
 grown_below p taken group end (name ∷ names) all e =
-    at_index (vector_index p name) refl (λ more before. grown_below p taken more end names before) e
+    at_index (vector_by_name p name) refl (λ more before. grown_below p taken more end names before) e
   where
     untaken : (v : ℕ) (any : Bool) → v < length p.vectors
         → ((more : List ℕ) → AllBelow (length p.vectors) more → grown p taken more names ≡ Some end → AllBelow (length p.vectors) end)
@@ -55,7 +55,7 @@ grown_below p taken group end (name ∷ names) all e =
     untaken v true l others e = cc
     untaken v false l others e = others (group ++ v ∷ []) (below_joined (length p.vectors) group (v ∷ []) all (l, tt)) e
 
-    at_index : (index : Option ℕ) → vector_index p name ≡ index
+    at_index : (index : Option ℕ) → vector_by_name p name ≡ index
         → ((more : List ℕ) → AllBelow (length p.vectors) more → grown p taken more names ≡ Some end → AllBelow (length p.vectors) end)
         → grown_by taken group index (λ more. grown p taken more names) ≡ Some end → AllBelow (length p.vectors) end
     at_index None is others e = cc

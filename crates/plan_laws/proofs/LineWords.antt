@@ -20,9 +20,9 @@ use Rattle.plans.specs.Instruction.{InstructionTree, OperationTree}
 use Rattle.plans.specs.Plan.{plan_of}
 use Rattle.plan_text.specs.declared.applied_function.AppliedFunction.{AppliedFunction}
 use Rattle.plan_text.specs.declared.applied_function.ChangedSet.{ChangedSet}
-use Rattle.plan_text.specs.Expressions.{bracketed, joined, condition_words, integer_words, name_at, vector_at}
+use Rattle.plan_text.specs.Expressions.{bracketed, spaced_words, condition_words, integer_words, program_name_at, vector_name_at}
 use Rattle.plan_text.specs.Lines.{changed_words, dense_word, direction_word, edges_words, end_name, end_word, function_at, group_words, one_part, parallelization_word, part_words, put_words}
-use Rattle.plan_text.specs.Lines.{reducing_word, reduction_word, second_function_words, second_words, set_line, set_words, statement_words, vertices_words}
+use Rattle.plan_text.specs.Lines.{reducing_word, reduction_word, second_function_words, second_words, set_instruction_words, set_words, statement_words, vertices_words}
 use Rattle.lowering.specs.Text.{group_lines, instruction_lines, line_of, operation_words, shown_part, target_words, text_of}
 use Rattle.plan_laws.specs.Brackets.{put_byte}
 use Rattle.plan_laws.specs.Kinds.{instruction_words}
@@ -73,11 +73,11 @@ closed_bare : (word : List ℕ) → IsBare word → IsClosed word
 closed_bare [] is = tt
 closed_bare (b ∷ word) is = let no = bare_tests b is.0 in ((no.2, no.3), closed_bare word is.1)
 
-closed_joined : (words : List (List ℕ)) → AreBare words → IsClosed (joined words)
+closed_joined : (words : List (List ℕ)) → AreBare words → IsClosed (spaced_words words)
 closed_joined [] are = tt
 closed_joined (word ∷ []) are = closed_bare word are.0
 closed_joined (word ∷ next ∷ words) are =
-    all_both (λ b. (b == 91 ≡ false) × (b == 93 ≡ false)) word (32 ∷ joined (next ∷ words)) (closed_bare word are.0) ((refl, refl), closed_joined (next ∷ words) are.1)
+    all_both (λ b. (b == 91 ≡ false) × (b == 93 ≡ false)) word (32 ∷ spaced_words (next ∷ words)) (closed_bare word are.0) ((refl, refl), closed_joined (next ∷ words) are.1)
 
 no_cut : (x : Bool) → x && not true ≡ false
 no_cut true = refl
@@ -107,11 +107,11 @@ record IsLineWord (word : List ℕ) : Type 0 where
 abbrev AreLineWords : List (List ℕ) → Type 0
 AreLineWords words = AllByRecursion IsLineWord words
 
-no_feed_joined : (words : List (List ℕ)) → AreLineWords words → HasNoFeed (joined words)
+no_feed_joined : (words : List (List ℕ)) → AreLineWords words → HasNoFeed (spaced_words words)
 no_feed_joined [] are = tt
 no_feed_joined (word ∷ []) are = are.0.no_feed
 no_feed_joined (word ∷ next ∷ words) are =
-    all_both (λ b. b == 10 ≡ false) word (32 ∷ joined (next ∷ words)) are.0.no_feed (refl, no_feed_joined (next ∷ words) are.1)
+    all_both (λ b. b == 10 ≡ false) word (32 ∷ spaced_words (next ∷ words)) are.0.no_feed (refl, no_feed_joined (next ∷ words) are.1)
 
 plain_word : (word : List ℕ) → IsBare word → IsLineWord word
 plain_word word is = record { uncut = uncut_bare word is; no_feed = no_feed_bare word is }
@@ -122,8 +122,8 @@ plain_words (word ∷ words) are = (plain_word word are.0, plain_words words are
 
 in_brackets : (words : List (List ℕ)) → AreBare words → IsLineWord (bracketed words)
 in_brackets words are = record {
-  uncut = (refl, uncut_inside (joined words) (closed_joined words are));
-  no_feed = (refl, all_both (λ b. b == 10 ≡ false) (joined words) (93 ∷ []) (no_feed_joined words (plain_words words are)) (refl, tt));
+  uncut = (refl, uncut_inside (spaced_words words) (closed_joined words are));
+  no_feed = (refl, all_both (λ b. b == 10 ≡ false) (spaced_words words) (93 ∷ []) (no_feed_joined words (plain_words words are)) (refl, tt));
 }
 
 -- those of instructions
@@ -134,7 +134,7 @@ put_are : (p : ProgramTree) (vector : ℕ) (index : IntExpressionTree) (word : L
 put_are p vector index word value are is = (
   plain_word (codes "put") (bare (codes "put") refl),
   (
-    plain_word (vector_at p vector) (vector_is_bare p vector are),
+    plain_word (vector_name_at p vector) (vector_is_bare p vector are),
     (in_brackets (integer_words p index) (integer_bare p index are), (plain_word word is, (in_brackets (integer_words p value) (integer_bare p value are), tt))),
   ),
 )
@@ -184,13 +184,13 @@ vertices_are : (p : ProgramTree) (slot : VarRef) (first : ℕ) (second : Option 
 vertices_are p slot first second are = plain_words (vertices_words p slot first second)
     (bare (codes "vapply") refl, (name_is_bare p slot.name are, (function_is_bare p (slice_get p.vertex_functions first) are, vertex_function_bare p second are)))
 
-set_line_are : (p : ProgramTree) (name : ℕ) (value : SetValue) (apply_schedule : ApplySchedule) → HasBareNames p → AreLineWords (set_line p name value apply_schedule)
-set_line_are p name set.Empty apply_schedule are = plain_words (codes "newset" ∷ name_at p name ∷ []) (bare (codes "newset") refl, (name_is_bare p name are, tt))
-set_line_are p name set.All apply_schedule are = plain_words (codes "allset" ∷ name_at p name ∷ []) (bare (codes "allset") refl, (name_is_bare p name are, tt))
+set_line_are : (p : ProgramTree) (name : ℕ) (value : SetValue) (apply_schedule : ApplySchedule) → HasBareNames p → AreLineWords (set_instruction_words p name value apply_schedule)
+set_line_are p name set.Empty apply_schedule are = plain_words (codes "newset" ∷ program_name_at p name ∷ []) (bare (codes "newset") refl, (name_is_bare p name are, tt))
+set_line_are p name set.All apply_schedule are = plain_words (codes "allset" ∷ program_name_at p name ∷ []) (bare (codes "allset") refl, (name_is_bare p name are, tt))
 set_line_are p name (set.Copy slot) apply_schedule are =
-    plain_words (codes "copyset" ∷ name_at p name ∷ name_at p slot.name ∷ []) (bare (codes "copyset") refl, (name_is_bare p name are, (name_is_bare p slot.name are, tt)))
+    plain_words (codes "copyset" ∷ program_name_at p name ∷ program_name_at p slot.name ∷ []) (bare (codes "copyset") refl, (name_is_bare p name are, (name_is_bare p slot.name are, tt)))
 set_line_are p name (set.Filter slot function) apply_schedule are =
-    plain_words (codes "filter" ∷ name_at p name ∷ name_at p slot.name ∷ function_at p p.filters function ∷ [])
+    plain_words (codes "filter" ∷ program_name_at p name ∷ program_name_at p slot.name ∷ function_at p p.filters function ∷ [])
     (bare (codes "filter") refl, (name_is_bare p name are, (name_is_bare p slot.name are, (function_is_bare p (slice_get p.filters function) are, tt))))
 set_line_are p name (set.Modified ends function vector) apply_schedule are =
     edges_are p ends (one_part function (Some (record { name = name; vector = vector }))) None apply_schedule are
@@ -199,19 +199,19 @@ word_and_brackets : (word : List ℕ) (words : List (List ℕ)) → IsBare word 
 word_and_brackets word words is are = (plain_word word is, (in_brackets words are, tt))
 
 statement_are : (p : ProgramTree) (action : StatementKindTree) (apply_schedule : ApplySchedule) → HasBareNames p → AreLineWords (statement_words p action apply_schedule)
-statement_are p (action.DeclareInteger name e) apply_schedule are = set_are (name_at p name) (integer_words p e) (name_is_bare p name are) (integer_bare p e are)
-statement_are p (action.DeclareCondition name c) apply_schedule are = set_are (name_at p name) (condition_words p c) (name_is_bare p name are) (condition_bare p c are)
-statement_are p (action.SetInteger slot e) apply_schedule are = set_are (name_at p slot.name) (integer_words p e) (name_is_bare p slot.name are) (integer_bare p e are)
-statement_are p (action.SetCondition slot c) apply_schedule are = set_are (name_at p slot.name) (condition_words p c) (name_is_bare p slot.name are) (condition_bare p c are)
+statement_are p (action.DeclareInteger name e) apply_schedule are = set_are (program_name_at p name) (integer_words p e) (name_is_bare p name are) (integer_bare p e are)
+statement_are p (action.DeclareCondition name c) apply_schedule are = set_are (program_name_at p name) (condition_words p c) (name_is_bare p name are) (condition_bare p c are)
+statement_are p (action.SetInteger slot e) apply_schedule are = set_are (program_name_at p slot.name) (integer_words p e) (name_is_bare p slot.name are) (integer_bare p e are)
+statement_are p (action.SetCondition slot c) apply_schedule are = set_are (program_name_at p slot.name) (condition_words p c) (name_is_bare p slot.name are) (condition_bare p c are)
 statement_are p (action.ReduceInteger slot reduction e) apply_schedule are =
-    set_are (name_at p slot.name) (name_at p slot.name ∷ integer_words p e ++ reducing_word reduction ∷ []) (name_is_bare p slot.name are)
+    set_are (program_name_at p slot.name) (program_name_at p slot.name ∷ integer_words p e ++ reducing_word reduction ∷ []) (name_is_bare p slot.name are)
     (name_is_bare p slot.name are, bare_and (integer_words p e) (reducing_word reduction) (integer_bare p e are) (reducing_is_bare reduction))
 statement_are p (action.SetEntry vector index e) apply_schedule are = put_are p vector index (codes "=") e are (bare (codes "=") refl)
 statement_are p (action.ReduceEntry vector index reduction e) apply_schedule are = put_are p vector index (reduction_word reduction) e are (reduction_is_bare reduction)
 statement_are p (action.DeclareSet name value) apply_schedule are = set_line_are p name value apply_schedule are
 statement_are p (action.AssignSet slot value) apply_schedule are = set_line_are p slot.name value apply_schedule are
 statement_are p (action.AddVertex slot e) apply_schedule are =
-    (plain_word (codes "addvertex") (bare (codes "addvertex") refl), word_and_brackets (name_at p slot.name) (integer_words p e) (name_is_bare p slot.name are) (integer_bare p e are))
+    (plain_word (codes "addvertex") (bare (codes "addvertex") refl), word_and_brackets (program_name_at p slot.name) (integer_words p e) (name_is_bare p slot.name are) (integer_bare p e are))
 statement_are p (action.PrintInteger e) apply_schedule are = word_and_brackets (codes "print") (integer_words p e) (bare (codes "print") refl) (integer_bare p e are)
 statement_are p (action.PrintCondition c) apply_schedule are = word_and_brackets (codes "print") (condition_words p c) (bare (codes "print") refl) (condition_bare p c are)
 statement_are p (action.ApplyVertex slot function) apply_schedule are = vertices_are p slot function None are
@@ -222,7 +222,7 @@ statement_are p (action.While c body) apply_schedule are = tt
 statement_are p (action.For name first last body) apply_schedule are = tt
 
 end_name_bare : (p : ProgramTree) (name : ℕ) → HasBareNames p → IsBare (end_name p name)
-end_name_bare p name are = marked_is_bare (name_at p name) (codes ".end") (name_is_bare p name are) (bare (codes ".end") refl)
+end_name_bare p name are = marked_is_bare (program_name_at p name) (codes ".end") (name_is_bare p name are) (bare (codes ".end") refl)
 
 operation_are : (p : ProgramTree) (apply_schedule : ApplySchedule) (o : OperationTree) → HasBareNames p → AreLineWords (operation_words p apply_schedule o)
 operation_are p apply_schedule (operation.Do action) are = statement_are p action apply_schedule are
@@ -231,10 +231,10 @@ operation_are p apply_schedule (operation.ApplyVerticesTogether slot first secon
 operation_are p apply_schedule (operation.Unless c to) are = word_and_brackets (codes "unless") (condition_words p c) (bare (codes "unless") refl) (condition_bare p c are)
 operation_are p apply_schedule (operation.Enter name e) are = set_are (end_name p name) (integer_words p e) (end_name_bare p name are) (integer_bare p e are)
 operation_are p apply_schedule (operation.UnlessBelow name to) are =
-    word_and_brackets (codes "unless") (name_at p name ∷ end_name p name ∷ codes "<" ∷ []) (bare (codes "unless") refl)
+    word_and_brackets (codes "unless") (program_name_at p name ∷ end_name p name ∷ codes "<" ∷ []) (bare (codes "unless") refl)
     (name_is_bare p name are, (end_name_bare p name are, (bare (codes "<") refl, tt)))
 operation_are p apply_schedule (operation.Advance name) are =
-    set_are (name_at p name) (name_at p name ∷ codes "1" ∷ codes "+" ∷ []) (name_is_bare p name are)
+    set_are (program_name_at p name) (program_name_at p name ∷ codes "1" ∷ codes "+" ∷ []) (name_is_bare p name are)
     (name_is_bare p name are, (bare (codes "1") refl, (bare (codes "+") refl, tt)))
 operation_are p apply_schedule operation.Turn are = (plain_word (codes "turn") (bare (codes "turn") refl), tt)
 operation_are p apply_schedule (operation.Jump to) are = (plain_word (codes "jump") (bare (codes "jump") refl), tt)
@@ -260,14 +260,14 @@ instruction_are p number i are =
     (number_word number, all_both IsLineWord (operation_words p i.apply_schedule i.operation) (target_words i.operation) (operation_are p i.apply_schedule i.operation are) (target_are i.operation))
 
 -- a line
-cut_line : (words : List (List ℕ)) → 0 < length words → AreLineWords words → words_of_line false (joined words) ≡ words
+cut_line : (words : List (List ℕ)) → 0 < length words → AreLineWords words → words_of_line false (spaced_words words) ≡ words
 cut_line [] some are = absurd (omega (arith, some))
 cut_line (word ∷ []) some are = cut_alone word false are.0.uncut
 cut_line (word ∷ next ∷ words) some are =
-    cut_more word (joined (next ∷ words)) false are.0.uncut ∙ ap (λ (l : List (List ℕ)). word ∷ l) (cut_line (next ∷ words) (omega arith) are.1)
+    cut_more word (spaced_words (next ∷ words)) false are.0.uncut ∙ ap (λ (l : List (List ℕ)). word ∷ l) (cut_line (next ∷ words) (omega arith) are.1)
 
 pub line_is : (p : ProgramTree) (number : ℕ) (i : InstructionTree) → HasBareNames p
-    → words_of_line false (joined (decimal number ∷ instruction_words p i)) ≡ decimal number ∷ instruction_words p i
+    → words_of_line false (spaced_words (decimal number ∷ instruction_words p i)) ≡ decimal number ∷ instruction_words p i
 line_is p number i are = cut_line (decimal number ∷ instruction_words p i) (omega arith) (instruction_are p number i are)
 
 -- lines
@@ -277,8 +277,8 @@ feed_cuts (b ∷ line) rest none = rw (none.0) (ap (put_byte b) (feed_cuts line 
 
 line_first : (words : List (List ℕ)) (rest : List ℕ) → 0 < length words → AreLineWords words → words_of_lines (line_of words ++ rest) ≡ words ∷ words_of_lines rest
 line_first words rest some are =
-    ap words_of_lines (append_assoc (joined words) (10 ∷ []) rest)
-    ∙ ap (map (words_of_line false)) (feed_cuts (joined words) rest (no_feed_joined words are))
+    ap words_of_lines (append_assoc (spaced_words words) (10 ∷ []) rest)
+    ∙ ap (map (words_of_line false)) (feed_cuts (spaced_words words) rest (no_feed_joined words are))
     ∙ ap (λ (l : List (List ℕ)). l ∷ words_of_lines rest) (cut_line words some are)
 
 instructions_are : (p : ProgramTree) (number : ℕ) (is : List InstructionTree) → HasBareNames p → words_of_lines (instruction_lines p number is) ≡ numbered_words p number is
@@ -287,15 +287,15 @@ instructions_are p number (i ∷ is) are =
     line_first (decimal number ∷ instruction_words p i) (instruction_lines p (number + 1) is) (omega arith) (instruction_are p number i are)
     ∙ ap (λ (l : List (List (List ℕ))). (decimal number ∷ instruction_words p i) ∷ l) (instructions_are p (number + 1) is are)
 
-vectors_are : (p : ProgramTree) (vectors : List ℕ) → HasBareNames p → AreLineWords (map (vector_at p) vectors)
+vectors_are : (p : ProgramTree) (vectors : List ℕ) → HasBareNames p → AreLineWords (map (vector_name_at p) vectors)
 vectors_are p [] are = tt
-vectors_are p (vector ∷ vectors) are = (plain_word (vector_at p vector) (vector_is_bare p vector are), vectors_are p vectors are)
+vectors_are p (vector ∷ vectors) are = (plain_word (vector_name_at p vector) (vector_is_bare p vector are), vectors_are p vectors are)
 
 group_are : (p : ProgramTree) (group : List ℕ) → HasBareNames p → AreLineWords (group_words p group)
 group_are p group are = (plain_word (codes "fields") (bare (codes "fields") refl), vectors_are p group are)
 
 groups_are : (p : ProgramTree) (groups : List (List ℕ)) (rest : List ℕ) → HasBareNames p
-    → words_of_lines (group_lines p groups ++ rest) ≡ map (λ group. codes "fields" ∷ map (vector_at p) group) groups ++ words_of_lines rest
+    → words_of_lines (group_lines p groups ++ rest) ≡ map (λ group. codes "fields" ∷ map (vector_name_at p) group) groups ++ words_of_lines rest
 groups_are p [] rest are = refl
 groups_are p (group ∷ groups) rest are =
     ap words_of_lines (append_assoc (line_of (group_words p group)) (group_lines p groups) rest)
@@ -305,4 +305,4 @@ groups_are p (group ∷ groups) rest are =
 pub text_is : (p : ProgramTree) (s : ScheduleTree) → HasBareNames p → words_of_lines (text_of p s) ≡ words_of_plan p s
 text_is p s are =
     groups_are p s.groups (instruction_lines p 0 (plan_of p s)) are
-    ∙ ap (λ (l : List (List (List ℕ))). map (λ group. codes "fields" ∷ map (vector_at p) group) s.groups ++ l) (instructions_are p 0 (plan_of p s) are)
+    ∙ ap (λ (l : List (List (List ℕ))). map (λ group. codes "fields" ∷ map (vector_name_at p) group) s.groups ++ l) (instructions_are p 0 (plan_of p s) are)

@@ -26,7 +26,7 @@ use Rattle.algorithm_meaning.specs.Arithmetic.{arithmetic, compared, connected}
 use Rattle.algorithm_meaning.specs.State.{StateValue}
 use Rattle.algorithm_meaning.specs.Stand.{bool_value_in, int_value_in}
 use Rattle.algorithm_meaning.specs.Value.{condition_stays_inside, entry, entry_at, is_vertex, stays_inside, truth, value}
-use Rattle.plan_text.specs.Expressions.{comparison_word, condition_words, connective_word, entry_word, integer_words, name_at, operator_word, size_word, truth_word, vector_at}
+use Rattle.plan_text.specs.Expressions.{comparison_word, condition_words, connective_word, entry_word, integer_words, program_name_at, operator_word, size_word, truth_word, vector_name_at}
 use Rattle.decimal.specs.Numbers.{integer_of}
 use Rattle.decimal.proofs.NumberLaws.{digits_model, integer-read_back}
 use Rattle.plan_laws.specs.Machine.{StackValue, Number, Truth, Stack, Names, operators, last_byte, before_last, take_entry, operate, push_number, read_word, read_words}
@@ -200,10 +200,10 @@ has_number names s e = stays_inside names.vertices s.vectors s.sets s.scope e
 integer_read : (p : ProgramTree) (names : Names) (s : StateValue) (e : IntExpressionTree) (stack : List StackValue) → IntegerIsGiven p names s e
     → read_words names (integer_words p e) stack ≡ (if has_number names s e then Some (Number (number_of_tree s e) ∷ stack) else None)
 integer_read p names s (integer.Number n) stack given = alone names (signed_decimal n) stack (Number n ∷ stack) (read_literal names n stack given)
-integer_read p names s (integer.Constant name n) stack given = alone names (name_at p name) stack (Number n ∷ stack) (read_name names (name_at p name) (Number n) stack given)
+integer_read p names s (integer.Constant name n) stack given = alone names (program_name_at p name) stack (Number n ∷ stack) (read_name names (program_name_at p name) (Number n) stack given)
 integer_read p names s (integer.Variable slot) stack given =
     let top = Number (number_of_tree s (integer.Variable slot)) in
-    alone names (name_at p slot.name) stack (top ∷ stack) (read_name names (name_at p slot.name) top stack given)
+    alone names (program_name_at p slot.name) stack (top ∷ stack) (read_name names (program_name_at p slot.name) top stack given)
 integer_read p names s (integer.Parameter at) stack given = absurd given
 integer_read p names s integer.Weight stack given = absurd given
 integer_read p names s (integer.EntryAt vector at) stack given = absurd given
@@ -213,13 +213,13 @@ integer_read p names s (integer.Entry vector index) stack given =
     let inside = is_vertex names.vertices n in
     let word : read_words names (entry_word p vector ∷ []) (Number n ∷ stack) ≡ (if inside then Some top else None) =
     one_guard names (entry_word p vector) (Number n ∷ stack) top inside
-    (read_entry names (vector_at p vector) (Number n ∷ stack) ∙ entry_taken names (vector_at p vector) s.vectors vector stack given.0 n) in
+    (read_entry names (vector_name_at p vector) (Number n ∷ stack) ∙ entry_taken names (vector_name_at p vector) s.vectors vector stack given.0 n) in
     after_one names (integer_words p index) (entry_word p vector ∷ []) stack (Number n ∷ stack) (has_number names s index) (integer_read p names s index stack given.1)
     ∙ ap (λ (o : Stack). if has_number names s index then o else None) word
     ∙ both_guard (has_number names s index) inside (Some top)
 integer_read p names s (integer.SetSize slot) stack given =
     alone names (size_word p slot.name) stack (Number (number_of_tree s (integer.SetSize slot)) ∷ stack)
-    (read_size names (name_at p slot.name) stack ∙ ap (λ (n : ℤ). Some (Number n ∷ stack)) given)
+    (read_size names (program_name_at p slot.name) stack ∙ ap (λ (n : ℤ). Some (Number n ∷ stack)) given)
 integer_read p names s (integer.Negative e) stack given =
     after_one names (integer_words p e) (codes "neg" ∷ []) stack (Number (number_of_tree s e) ∷ stack) (has_number names s e) (integer_read p names s e stack given)
 integer_read p names s (integer.Arithmetic o a b) stack given =
@@ -244,10 +244,10 @@ has_truth names s c = condition_stays_inside names.vertices s.vectors s.sets s.s
 condition_read : (p : ProgramTree) (names : Names) (s : StateValue) (c : BoolExpressionTree) (stack : List StackValue) → ConditionIsGiven p names s c
     → read_words names (condition_words p c) stack ≡ (if has_truth names s c then Some (Truth (truth_of_tree s c) ∷ stack) else None)
 condition_read p names s (condition.Literal b) stack given = literal_read names b stack
-condition_read p names s (condition.Constant name b) stack given = alone names (name_at p name) stack (Truth b ∷ stack) (read_name names (name_at p name) (Truth b) stack given)
+condition_read p names s (condition.Constant name b) stack given = alone names (program_name_at p name) stack (Truth b ∷ stack) (read_name names (program_name_at p name) (Truth b) stack given)
 condition_read p names s (condition.Variable slot) stack given =
     let top = Truth (truth_of_tree s (condition.Variable slot)) in
-    alone names (name_at p slot.name) stack (top ∷ stack) (read_name names (name_at p slot.name) top stack given)
+    alone names (program_name_at p slot.name) stack (top ∷ stack) (read_name names (program_name_at p slot.name) top stack given)
 condition_read p names s (condition.Not c) stack given =
     after_one names (condition_words p c) (codes "not" ∷ []) stack (Truth (truth_of_tree s c) ∷ stack) (has_truth names s c) (condition_read p names s c stack given)
 condition_read p names s (condition.Compare o a b) stack given =

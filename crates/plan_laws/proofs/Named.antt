@@ -20,20 +20,20 @@ use Rattle.plans.specs.Instruction as operation
 use Rattle.plans.specs.Instruction.{EdgePartTree, InstructionTree, OperationTree, ResultTree, Assigned, Declared, Dropped}
 use Rattle.plan_text.specs.declared.applied_function.AppliedFunction.{AppliedFunction}
 use Rattle.plan_text.specs.declared.applied_function.ChangedSet.{ChangedSet}
-use Rattle.plan_text.specs.Expressions.{name_at, vector_at}
+use Rattle.plan_text.specs.Expressions.{program_name_at, vector_name_at}
 use Rattle.plan_text.specs.Lines.{changed_words, dense_word, direction_word, edges_words, end_word, function_at, function_name, one_part, parallelization_word, part_words, reduction_word}
-use Rattle.plan_text.specs.Lines.{second_words, set_line, statement_words}
+use Rattle.plan_text.specs.Lines.{second_words, set_instruction_words, statement_words}
 use Rattle.lowering.specs.Text.{changed_set, operation_words, shown_part, target_words}
-use Rattle.plan_laws.specs.Kinds.{InstructionKind, ApplyEdges, instruction_words, kind_of, kind_of_action, kind_of_set}
-use Rattle.plan_laws.specs.Names.{EdgeApplyNames, HasNoMarks, IsNoMark, PartNames, apply_names, changed_names, edges_behind, edges_in, edges_of, end_in, end_names, entry_reductions, names_after}
-use Rattle.plan_laws.specs.Names.{names_in, names_of, names_of_action, names_of_set, part_in, part_names, reduction_after, reduction_in, reduction_of, second_in}
+use Rattle.plan_laws.specs.Kinds.{InstructionKind, ApplyEdges, instruction_words, instruction_kind_of, kind_of_action, kind_of_set}
+use Rattle.plan_laws.specs.Names.{EdgeApplyNames, HasNoMarks, IsNoMark, PartNames, apply_names, changed_names, edges_behind, edges_in, edges_of, end_in, end_names, entry_reductions, names_of_kind}
+use Rattle.plan_laws.specs.Names.{names_in, names_of, names_of_action, names_of_set, part_in, part_names, reduction_after, reduction_named, reduction_of, second_in}
 use Rattle.plan_laws.proofs.CutWords.{all_at}
 use Rattle.plan_laws.proofs.Machine.{bytes_differ}
 use Rattle.plan_laws.proofs.Words.{kind_is}
 
 -- names by kind
 set_names : (p : ProgramTree) (name : ℕ) (value : SetValue) (apply_schedule : ApplySchedule)
-    → names_after (Some (kind_of_set value)) (set_line p name value apply_schedule ++ []) ≡ names_of_set p name value
+    → names_of_kind (Some (kind_of_set value)) (set_instruction_words p name value apply_schedule ++ []) ≡ names_of_set p name value
 set_names p name set.Empty apply_schedule = refl
 set_names p name set.All apply_schedule = refl
 set_names p name (set.Copy slot) apply_schedule = refl
@@ -41,7 +41,7 @@ set_names p name (set.Filter slot function) apply_schedule = refl
 set_names p name (set.Modified ends function vector) apply_schedule = refl
 
 action_names : (p : ProgramTree) (action : StatementKindTree) (apply_schedule : ApplySchedule)
-    → names_after (kind_of_action action) (statement_words p action apply_schedule ++ []) ≡ names_of_action p action
+    → names_of_kind (kind_of_action action) (statement_words p action apply_schedule ++ []) ≡ names_of_action p action
 action_names p (action.DeclareInteger name e) apply_schedule = refl
 action_names p (action.DeclareCondition name c) apply_schedule = refl
 action_names p (action.SetInteger slot e) apply_schedule = refl
@@ -61,7 +61,7 @@ action_names p (action.IfElse c body other) apply_schedule = refl
 action_names p (action.While c body) apply_schedule = refl
 action_names p (action.For name first last body) apply_schedule = refl
 
-names_at : (p : ProgramTree) (apply_schedule : ApplySchedule) (o : OperationTree) → names_after (kind_of o) (operation_words p apply_schedule o ++ target_words o) ≡ names_of p o
+names_at : (p : ProgramTree) (apply_schedule : ApplySchedule) (o : OperationTree) → names_of_kind (instruction_kind_of o) (operation_words p apply_schedule o ++ target_words o) ≡ names_of p o
 names_at p apply_schedule (operation.Do action) = action_names p action apply_schedule
 names_at p apply_schedule (operation.ApplyEdgesTogether ends first second) = refl
 names_at p apply_schedule (operation.ApplyVerticesTogether slot first second) = refl
@@ -74,7 +74,7 @@ names_at p apply_schedule (operation.Jump to) = refl
 names_at p apply_schedule operation.End = refl
 
 pub names_are : (p : ProgramTree) (i : InstructionTree) → names_in (instruction_words p i) ≡ names_of p i.operation
-names_are p i = ap (λ (k : Option InstructionKind). names_after k (instruction_words p i)) (kind_is p i) ∙ names_at p i.apply_schedule i.operation
+names_are p i = ap (λ (k : Option InstructionKind). names_of_kind k (instruction_words p i)) (kind_is p i) ∙ names_at p i.apply_schedule i.operation
 
 -- reductions of entries
 entry_reduction : (r : Reduction) → lookup (bytes_eq (reduction_word r)) entry_reductions ≡ Some (Some r)
@@ -98,8 +98,8 @@ action_reduction p (action.SetCondition slot c) apply_schedule = refl
 action_reduction p (action.ReduceInteger slot reduction e) apply_schedule = refl
 action_reduction p (action.SetEntry vector index e) apply_schedule = refl
 action_reduction p (action.ReduceEntry vector index reduction e) apply_schedule = entry_reduction reduction
-action_reduction p (action.DeclareSet name value) apply_schedule = no_reduction_of_set value (set_line p name value apply_schedule ++ [])
-action_reduction p (action.AssignSet slot value) apply_schedule = no_reduction_of_set value (set_line p slot.name value apply_schedule ++ [])
+action_reduction p (action.DeclareSet name value) apply_schedule = no_reduction_of_set value (set_instruction_words p name value apply_schedule ++ [])
+action_reduction p (action.AssignSet slot value) apply_schedule = no_reduction_of_set value (set_instruction_words p slot.name value apply_schedule ++ [])
 action_reduction p (action.AddVertex slot e) apply_schedule = refl
 action_reduction p (action.PrintInteger e) apply_schedule = refl
 action_reduction p (action.PrintCondition c) apply_schedule = refl
@@ -110,7 +110,7 @@ action_reduction p (action.IfElse c body other) apply_schedule = refl
 action_reduction p (action.While c body) apply_schedule = refl
 action_reduction p (action.For name first last body) apply_schedule = refl
 
-reduction_at : (p : ProgramTree) (apply_schedule : ApplySchedule) (o : OperationTree) → reduction_after (kind_of o) (operation_words p apply_schedule o ++ target_words o) ≡ reduction_of o
+reduction_at : (p : ProgramTree) (apply_schedule : ApplySchedule) (o : OperationTree) → reduction_after (instruction_kind_of o) (operation_words p apply_schedule o ++ target_words o) ≡ reduction_of o
 reduction_at p apply_schedule (operation.Do action) = action_reduction p action apply_schedule
 reduction_at p apply_schedule (operation.ApplyEdgesTogether ends first second) = refl
 reduction_at p apply_schedule (operation.ApplyVerticesTogether slot first second) = refl
@@ -122,14 +122,14 @@ reduction_at p apply_schedule operation.Turn = refl
 reduction_at p apply_schedule (operation.Jump to) = refl
 reduction_at p apply_schedule operation.End = refl
 
-pub reduction_is : (p : ProgramTree) (i : InstructionTree) → reduction_in (instruction_words p i) ≡ reduction_of i.operation
+pub reduction_is : (p : ProgramTree) (i : InstructionTree) → reduction_named (instruction_words p i) ≡ reduction_of i.operation
 reduction_is p i = ap (λ (k : Option InstructionKind). reduction_after k (instruction_words p i)) (kind_is p i) ∙ reduction_at p i.apply_schedule i.operation
 
 -- no name of an edge apply is one of its marks
 empty_is_no_mark : IsNoMark []
 empty_is_no_mark = record { end = λ same. absurd cc; arrow = λ same. absurd cc; colon = λ same. absurd cc }
 
-name_is_no_mark : (p : ProgramTree) (name : ℕ) → HasNoMarks p → IsNoMark (name_at p name)
+name_is_no_mark : (p : ProgramTree) (name : ℕ) → HasNoMarks p → IsNoMark (program_name_at p name)
 name_is_no_mark p name none = all_at IsNoMark p.names name [] none empty_is_no_mark
 
 function_is_no_mark : (p : ProgramTree) (o : Option FunctionTree) → HasNoMarks p → IsNoMark (function_name p o)
@@ -141,13 +141,13 @@ given_end word is = rw (bytes_differ word (codes "-") is.end) refl
 
 end_is : (p : ProgramTree) (o : Option VertexFilter) → HasNoMarks p → end_in (end_word p o) ≡ end_names p o
 end_is p None none = refl
-end_is p (Some (end.Members slot)) none = given_end (name_at p slot.name) (name_is_no_mark p slot.name none)
+end_is p (Some (end.Members slot)) none = given_end (program_name_at p slot.name) (name_is_no_mark p slot.name none)
 end_is p (Some (end.Function function)) none = given_end (function_at p p.filters function) (function_is_no_mark p (slice_get p.filters function) none)
 
 -- the names of a part
 abbrev named : ProgramTree → Option ChangedSet → Option (List ℕ × List ℕ)
 named p None = None
-named p (Some c) = Some (name_at p c.name, vector_at p c.vector)
+named p (Some c) = Some (program_name_at p c.name, vector_name_at p c.vector)
 
 one_in : (p : ProgramTree) (f : List ℕ) (changed : Option ChangedSet) (mark x y : List ℕ) (rest : List (List ℕ)) → mark ≢ codes "->"
     → part_in (f ∷ (changed_words p changed ++ mark ∷ x ∷ y ∷ rest)) ≡ (record { function = f; changed = named p changed }, mark ∷ x ∷ y ∷ rest)
@@ -172,7 +172,7 @@ before_second : (p : ProgramTree) (f g : List ℕ) (changed other : Option Chang
     → part_in (f ∷ (changed_words p changed ++ g ∷ (changed_words p other ++ codes ":" ∷ d ∷ q ∷ v ∷ [])))
     ≡ (record { function = f; changed = named p changed }, g ∷ (changed_words p other ++ codes ":" ∷ d ∷ q ∷ v ∷ []))
 before_second p f g changed None d q v apart = one_in p f changed g (codes ":") d (q ∷ v ∷ []) apart
-before_second p f g changed (Some c) d q v apart = one_in p f changed g (codes "->") (name_at p c.name) (vector_at p c.vector ∷ codes ":" ∷ d ∷ q ∷ v ∷ []) apart
+before_second p f g changed (Some c) d q v apart = one_in p f changed g (codes "->") (program_name_at p c.name) (vector_name_at p c.vector ∷ codes ":" ∷ d ∷ q ∷ v ∷ []) apart
 
 first_is : (p : ProgramTree) (f : List ℕ) (changed : Option ChangedSet) (second : Option AppliedFunction) (d q v : List ℕ) → HasNoMarks p
     → part_in (f ∷ (changed_words p changed ++ (second_words p second ++ codes ":" ∷ d ∷ q ∷ v ∷ [])))
@@ -216,8 +216,8 @@ named_is p (Declared name vector) = refl
 named_is p (Assigned slot vector) = refl
 
 set_edges : (p : ProgramTree) (name : ℕ) (value : SetValue) (make : (vector : ℕ) → ResultTree) (apply_schedule : ApplySchedule) → HasNoMarks p
-    → ((vector : ℕ) → changed_names p (make vector) ≡ Some (name_at p name, vector_at p vector))
-    → edges_behind (Some (kind_of_set value)) (set_line p name value apply_schedule ++ []) ≡ option_map (λ x. apply_names p x.ends x.part None) (modifying make value)
+    → ((vector : ℕ) → changed_names p (make vector) ≡ Some (program_name_at p name, vector_name_at p vector))
+    → edges_behind (Some (kind_of_set value)) (set_instruction_words p name value apply_schedule ++ []) ≡ option_map (λ x. apply_names p x.ends x.part None) (modifying make value)
 set_edges p name set.Empty make apply_schedule none same = refl
 set_edges p name set.All make apply_schedule none same = refl
 set_edges p name (set.Copy slot) make apply_schedule none same = refl
@@ -259,7 +259,8 @@ both_edges p ends first second =
     ap (λ (x : Option (List ℕ × List ℕ)). with_parts from to (record { function = f; changed = x }) (Some other)) (named_is p first.result)
     ∙ ap (λ (x : Option (List ℕ × List ℕ)). with_parts from to (part_names p first) (Some (record { function = g; changed = x }))) (named_is p second.result)
 
-edges_at : (p : ProgramTree) (apply_schedule : ApplySchedule) (o : OperationTree) → HasNoMarks p → edges_behind (kind_of o) (operation_words p apply_schedule o ++ target_words o) ≡ edges_of p o
+edges_at : (p : ProgramTree) (apply_schedule : ApplySchedule) (o : OperationTree) → HasNoMarks p
+    → edges_behind (instruction_kind_of o) (operation_words p apply_schedule o ++ target_words o) ≡ edges_of p o
 edges_at p apply_schedule (operation.Do action) none = action_edges p action apply_schedule none
 edges_at p apply_schedule (operation.ApplyEdgesTogether ends first second) none =
     edges_read p ends (shown_part first) (Some (shown_part second)) apply_schedule none ∙ both_edges p ends first second

@@ -10,7 +10,7 @@ use Rattle.typed_tree.specs.declared.statement.VertexFilter.{VertexFilter}
 use Rattle.typed_tree.specs.declared.statement.VertexFilter.TheVariants as filter
 use Rattle.typed_tree.specs.declared.apply.StatementApply.{StatementApply}
 use Rattle.typed_tree.specs.declared.apply.StatementApply.TheVariants.{Vertices}
-use Rattle.typed_tree.specs.Independence.{are_apart, function_uses, function_writes, are_same, are_same_ends, have_same_sets, is_end, name_at}
+use Rattle.typed_tree.specs.Independence.{are_apart, function_uses, function_writes, are_same, are_same_ends, have_same_sets, is_end_of_name, name_at}
 use Rattle.typed_tree.specs.BlockTree.{StatementKindTree}
 use Rattle.typed_tree.specs.ProgramTree.{ProgramTree}
 use Rattle.typed_tree.specs.Resolved.{VisibleTree, EndIsResolved, EndsAreResolved, IsResolved, after_action}
@@ -21,7 +21,7 @@ use Rattle.plans.specs.Instruction.{OperationTree, ApplyEdgesTogether, ApplyVert
 use Rattle.plans.specs.Fusing.{EdgeApplyTree, VertexApplyTree, apply_tree, edge_apply_of, edges_fit, fused_edges, either, end_sets, function_sizes, is_same_end, result_name, result_indices}
 use Rattle.plans.specs.Fusing.{result_vectors, sets_read, together, vertex_apply_of, vertices_fit, fused_vertices}
 use Rattle.type_laws.specs.EachStatement.{SetNames}
-use Rattle.type_laws.specs.VisibleSets.{AreApart, EndIsVisible, IsVisible}
+use Rattle.type_laws.specs.VisibleSets.{HaveDistinctNames, EndIsVisible, IsVisible}
 use Rattle.plan_laws.specs.OneInstruction.{AreTogether}
 use Rattle.plan_laws.proofs.Apart.{apart_from, apart_from_none, apart_from_one, independent, one_apart, writes_apart}
 use Rattle.plan_laws.proofs.Applies.{IsApply, IsEdgeApply, IsVertexApply, ResultIsWritten, ResultStands}
@@ -34,11 +34,11 @@ pub record OneDoes (p : ProgramTree) (d : Depth) (a b : StatementKindTree) : Typ
   pub does : AreTogether a b operation
 
 -- visible sets with the same name stand at the same index
-same_set : (p : ProgramTree) (names : SetNames) (a b : VarRef) → AreApart p names → IsVisible names a → IsVisible names b → are_same p.names a.name b.name ≡ true
+same_set : (p : ProgramTree) (names : SetNames) (a b : VarRef) → HaveDistinctNames p names → IsVisible names a → IsVisible names b → are_same p.names a.name b.name ≡ true
     → nat_eq a.index b.index ≡ true
 same_set p names a b apart first second same = eq-eqb a.index b.index (apart a.index b.index a.name b.name first second same)
 
-same_end : (p : ProgramTree) (names : SetNames) (a b : Option VertexFilter) → AreApart p names → EndIsVisible names a → EndIsVisible names b
+same_end : (p : ProgramTree) (names : SetNames) (a b : Option VertexFilter) → HaveDistinctNames p names → EndIsVisible names a → EndIsVisible names b
     → are_same_ends p.names a b ≡ true → is_same_end a b ≡ true
 same_end p names None None apart first second same = refl
 same_end p names None (Some b) apart first second same = cc
@@ -61,7 +61,7 @@ module _ (p : ProgramTree) (all : IsResolved p) where
 
   -- an end depends on no set at this index, where it is not the set of this name that stands there
   end_apart : (v : VisibleTree) (index name : ℕ) → slice_get v.sets index ≡ Some name → length p.sets ≤ index → (end : Option VertexFilter) → EndIsResolved p v end
-      → is_end p.names (Some name) end ≡ false → AllByRecursion (λ x. x ≢ index) (end_sets p.filters end)
+      → is_end_of_name p.names (Some name) end ≡ false → AllByRecursion (λ x. x ≢ index) (end_sets p.filters end)
   end_apart v index name at low None resolved other = tt
   end_apart v index name at low (Some (filter.Members slot)) resolved other = (
     λ same. both_ways (are_same p.names name slot.name) other
@@ -72,7 +72,7 @@ module _ (p : ProgramTree) (all : IsResolved p) where
       constants_below index (function_sizes p.filters function) low (filter_constant p all.filters function)
 
   reads_apart : (v : VisibleTree) (index name : ℕ) (y : EdgeApplyTree) → slice_get v.sets index ≡ Some name → length p.sets ≤ index → EndsAreResolved p v y.ends
-      → is_end p.names (Some name) y.ends.from ≡ false → is_end p.names (Some name) y.ends.to ≡ false → are_apart (sets_read p y) (index ∷ []) ≡ true
+      → is_end_of_name p.names (Some name) y.ends.from ≡ false → is_end_of_name p.names (Some name) y.ends.to ≡ false → are_apart (sets_read p y) (index ∷ []) ≡ true
   reads_apart v index name y at low resolved from to =
       let sizes = function_sizes p.edge_functions y.part.function in
       apart_from_one index (sets_read p y)
@@ -82,7 +82,7 @@ module _ (p : ProgramTree) (all : IsResolved p) where
 
   -- the second apply depends on no set that gets what the first changed
   result_apart : (v : VisibleTree) (d : Depth) (result : ResultTree) (y : EdgeApplyTree) → ResultStands p v d result → EndsAreResolved p v y.ends
-      → is_end p.names (result_name result) y.ends.from ≡ false → is_end p.names (result_name result) y.ends.to ≡ false
+      → is_end_of_name p.names (result_name result) y.ends.from ≡ false → is_end_of_name p.names (result_name result) y.ends.to ≡ false
       → are_apart (sets_read p y) (result_indices d result) ≡ true
   result_apart v d Dropped y stands resolved from to = apart_from_none (sets_read p y)
   result_apart v d (Declared name vector) y stands resolved from to = reads_apart v d.sets name y stands.0 stands.1 resolved from to
@@ -106,7 +106,7 @@ module _ (p : ProgramTree) (all : IsResolved p) where
     second_apart (Assigned slot vector) written = one_apart vector (function_writes p.edge_functions f) (written_not vector written)
 
   -- a statement that has what is known of the first, and one after it
-  module _ (v : VisibleTree) (names : SetNames) (d : Depth) (deep : d.sets ≡ length v.sets) (low : length p.sets ≤ d.sets) (apart : AreApart p names) (a b : StatementKindTree)
+  module _ (v : VisibleTree) (names : SetNames) (d : Depth) (deep : d.sets ≡ length v.sets) (low : length p.sets ≤ d.sets) (apart : HaveDistinctNames p names) (a b : StatementKindTree)
       (one other : StatementApply) where
     fused_edges_do_fit : (x : IsEdgeApply p v names a one) (y : IsEdgeApply p (after_action a v) names b other) → have_same_sets p.names (apply_tree x.apply) (apply_tree y.apply) ≡ true
         → IsIndependent p (apply_tree x.apply) (apply_tree y.apply) → edges_fit p d x.apply y.apply ≡ true

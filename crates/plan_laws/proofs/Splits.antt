@@ -17,7 +17,7 @@ use Rattle.algorithm_meaning.specs.declared.state.Depth.{Depth}
 use Rattle.plans.specs.Instruction.{OperationTree, InstructionTree, Jump, Advance}
 use Rattle.plans.specs.Fusing.{FusionRole, Alone, WithNext, EdgeApplyTree, VertexApplyTree, fusion_role_of, edge_apply_of, fused_edges, either, is_with, takes_next, together, vertex_apply_of}
 use Rattle.plans.specs.Fusing.{fused_vertices, with_next}
-use Rattle.plans.specs.Plan.{behind, chosen, in_loop, loop_step, plain, plan, plan_all, plan_in, size, size_all, size_in}
+use Rattle.plans.specs.Plan.{depth_after, chosen, depth_in_loop, loop_step, plain, plan, plan_all, plan_in, size, size_all, size_in}
 use Rattle.type_laws.specs.Numbers.{InOrder, inner_numbers, numbers}
 use Rattle.plan_laws.specs.Neighbours.{AreNeighbours, AreNeighboursInside, BeginsWith, StatementTree}
 use Rattle.plan_laws.specs.OneInstruction.{AreTogether, IsOfNeither}
@@ -178,11 +178,11 @@ module _ (p : ProgramTree) (s : ScheduleTree) (pairs : FusesInPairs s) where
       ∙ ap (λ l. if is_with (Some (With second)) l then with_next (Some o) else Alone) has
       ∙ taken (nat_eq second second) o (eq-eqb second second refl)
 
-  deep_after : (a : StatementKindTree) (d : Depth) (v : VisibleTree) → d.sets ≡ length v.sets → (behind a d).sets ≡ length (after_action a v).sets
+  deep_after : (a : StatementKindTree) (d : Depth) (v : VisibleTree) → d.sets ≡ length v.sets → (depth_after a d).sets ≡ length (after_action a v).sets
   deep_after (DeclareSet name value) d v deep = omega (arith, deep, length-append v.sets (name ∷ []))
   deep_after _ d v deep = deep
 
-  low_after : (a : StatementKindTree) (d : Depth) → length p.sets ≤ d.sets → length p.sets ≤ (behind a d).sets
+  low_after : (a : StatementKindTree) (d : Depth) → length p.sets ≤ d.sets → length p.sets ≤ (depth_after a d).sets
   low_after (DeclareSet name value) d low = omega (arith, low)
   low_after _ d low = low
 
@@ -199,10 +199,10 @@ module _ (p : ProgramTree) (s : ScheduleTree) (pairs : FusesInPairs s) where
 
     abbrev whole : FusionRole → List InstructionTree
     whole company =
-        plan_in company s number label d (plan p s index d number label a) ++ plan_all p s (index + size_in company (size p s d a)) (behind a d) (takes_next company) others
+        plan_in company s number label d (plan p s index d number label a) ++ plan_all p s (index + size_in company (size p s d a)) (depth_after a d) (takes_next company) others
 
     abbrev remaining : List InstructionTree
-    remaining = plan_all p s (index + 1 + 0) (behind b (behind a d)) false rest
+    remaining = plan_all p s (index + 1 + 0) (depth_after b (depth_after a d)) false rest
 
     with_operation : (o : OperationTree) → AreTogether a b o → number < other_number → AllByRecursion (IsOfNeither first_statement second_statement) remaining
         → Split s first_statement second_statement (whole (WithNext o))
@@ -233,7 +233,7 @@ module _ (p : ProgramTree) (s : ScheduleTree) (pairs : FusesInPairs s) where
         let less : number < other_number = omega arith in
         let above : other_number < m = omega arith in
         let neither = neither_above m (length (numbers rest) + m) first_statement second_statement remaining
-        (block_between p s m (length (numbers rest) + m) rest (index + 1 + 0) (behind b (behind a d)) false m three.1 (omega arith) (omega arith)) less above in
+        (block_between p s m (length (numbers rest) + m) rest (index + 1 + 0) (depth_after b (depth_after a d)) false m three.1 (omega arith) (omega arith)) less above in
         subst (λ t. Split s first_statement second_statement (plan_all p s index d t (Then number label a others))) (sym (not_second is_done number label a others pair.second fused done))
         (subst (λ company. Split s first_statement second_statement (whole company))
         (sym (takes d number other_number label other_label a b rest pair.second does.operation fused pair.second_has does.is))
@@ -302,7 +302,7 @@ module _ (p : ProgramTree) (s : ScheduleTree) (pairs : FusesInPairs s) where
           (split_before s one other (plan_all p s (index + 2) d false body) (plain number d (Jump index) ∷ []) (split_block body (index + 2) d v false n are deep low known.1 order tt)
           (neither_of (plain number d (Jump index)) first up.two, tt)))
       split_inside (For name start end body) index d v number label n are deep low known above order =
-          let inner = in_loop d in
+          let inner = depth_in_loop d in
           let up = neighbours_ascend body one other n order are in
           let first : number < one.number = omega (arith, up.from) in
           one_before _ _ first up.two (one_before _ _ first up.two (one_before _ _ first up.two (one_before _ _ first up.two
@@ -322,14 +322,14 @@ module _ (p : ProgramTree) (s : ScheduleTree) (pairs : FusesInPairs s) where
           let is : number ≡ n = order.0 in
           let company = fusion_role_of p s d is_done label a rest in
           let index_behind = index + size_in company (size p s d a) in
-          let last = plan_all p s index_behind (behind a d) (takes_next company) rest in
+          let last = plan_all p s index_behind (depth_after a d) (takes_next company) rest in
           let up = inside_ascend a one other (suc n) two.0 are in
           let below : other.number < m = up.to in
           split_before s one other (plan_in company s number label d (plan p s index d number label a)) last
           (subst (λ c. Splits (plan_in c s number label d (plan p s index d number label a))) (sym (inside_alone one other d is_done number label a rest are done))
           (split_inside a index d v number label (suc n) are deep low known.1 (omega arith) two.0))
           (neither_above m (length (numbers rest) + m) one other last
-          (block_between p s m (length (numbers rest) + m) rest index_behind (behind a d) (takes_next company) m two.1 (omega arith) (omega arith)) up.two below)
+          (block_between p s m (length (numbers rest) + m) rest index_behind (depth_after a d) (takes_next company) m two.1 (omega arith) (omega arith)) up.two below)
       split_block (Then number label a rest) index d v is_done n (inr (inr are)) deep low known order done =
           let two = in_two (suc n) (inner_numbers a) (numbers rest) order.1 in
           let m = length (inner_numbers a) + suc n in
@@ -340,7 +340,7 @@ module _ (p : ProgramTree) (s : ScheduleTree) (pairs : FusesInPairs s) where
           let up = neighbours_ascend rest one other m two.1 are in
           let from : m ≤ one.number = up.from in
           let here : (n ≤ number) × (number < m) = (omega arith, omega arith) in
-          split_after s one other (plan_in company s number label d own) (plan_all p s index_behind (behind a d) (takes_next company) rest)
+          split_after s one other (plan_in company s number label d own) (plan_all p s index_behind (depth_after a d) (takes_next company) rest)
           (neither_below n m one other (plan_in company s number label d own)
           (company_between p s n m company number label d own here (action_between p s n m a index d number label (suc n) here two.0 (omega arith) (omega arith))) from up.two)
-          (split_block rest index_behind (behind a d) (after_action a v) (takes_next company) m are (deep_after a d v deep) (low_after a d low) known.2 two.1 (rest_done d is_done label a rest))
+          (split_block rest index_behind (depth_after a d) (after_action a v) (takes_next company) m are (deep_after a d v deep) (low_after a d low) known.2 two.1 (rest_done d is_done label a rest))

@@ -19,13 +19,13 @@ use Rattle.algorithm_meaning.specs.State.{StateValue}
 use Rattle.algorithm_meaning.specs.Stand.{int_value_in}
 use Rattle.plans.specs.Instruction as operation
 use Rattle.plans.specs.Instruction.{InstructionTree, OperationTree}
-use Rattle.plan_text.specs.Expressions.{integer_words, name_at, bracketed}
-use Rattle.plan_text.specs.Lines.{end_name, reducing_word, set_line, statement_words}
+use Rattle.plan_text.specs.Expressions.{integer_words, program_name_at, bracketed}
+use Rattle.plan_text.specs.Lines.{end_name, reducing_word, set_instruction_words, statement_words}
 use Rattle.lowering.specs.Text.{operation_words, target_words}
 use Rattle.plan_laws.specs.Machine.{StackValue, Number, Truth, Stack, Names, read_word, read_words}
 use Rattle.plan_laws.specs.Given.{IntegerIsGiven, IsNamed}
 use Rattle.plan_laws.specs.Brackets.{HasNamesOfOneWord, IsOneWord, read_brackets, read_reduction, reduce_words}
-use Rattle.plan_laws.specs.Kinds.{InstructionKind, instruction_words, kind_of, kind_of_action, kind_of_set}
+use Rattle.plan_laws.specs.Kinds.{InstructionKind, instruction_words, instruction_kind_of, kind_of_action, kind_of_set}
 use Rattle.plan_laws.specs.Values.{ActionIsGiven, OperationIsGiven, bracket_indices, read_indices, values_in, values_of, values_of_action}
 use Rattle.plan_laws.proofs.Machine.{integer_is_read, read_name}
 use Rattle.plan_laws.proofs.CutWords.{all_both, condition_in_brackets, integer_in_brackets, integer_words_are, looked_at, name_is_one, text_back}
@@ -56,8 +56,8 @@ action_values p names s (action.SetEntry vector index e) apply_schedule one give
     two_values _ _ _ _ (integer_in_brackets p names s index one given.0) (integer_in_brackets p names s e one given.1)
 action_values p names s (action.ReduceEntry vector index reduction e) apply_schedule one given =
     two_values _ _ _ _ (integer_in_brackets p names s index one given.0) (integer_in_brackets p names s e one given.1)
-action_values p names s (action.DeclareSet name value) apply_schedule one given = no_values names (set_line p name value apply_schedule ++ []) value
-action_values p names s (action.AssignSet slot value) apply_schedule one given = no_values names (set_line p slot.name value apply_schedule ++ []) value
+action_values p names s (action.DeclareSet name value) apply_schedule one given = no_values names (set_instruction_words p name value apply_schedule ++ []) value
+action_values p names s (action.AssignSet slot value) apply_schedule one given = no_values names (set_instruction_words p slot.name value apply_schedule ++ []) value
 action_values p names s (action.AddVertex slot e) apply_schedule one given = one_value _ _ (integer_in_brackets p names s e one given)
 action_values p names s (action.PrintInteger e) apply_schedule one given = one_value _ _ (integer_in_brackets p names s e one given)
 action_values p names s (action.PrintCondition c) apply_schedule one given = one_value _ _ (condition_in_brackets p names s c one given)
@@ -70,25 +70,25 @@ action_values p names s (action.For name first last body) apply_schedule one giv
 
 -- the test and the next number of a `for`
 end_is_one : (p : ProgramTree) (name : ℕ) → HasNamesOfOneWord p → IsOneWord (end_name p name)
-end_is_one p name one = all_both (λ (b : ℕ). b ≢ 32) (name_at p name) (codes ".end") (name_is_one p name one) (looked_at (codes ".end") refl)
+end_is_one p name one = all_both (λ (b : ℕ). b ≢ 32) (program_name_at p name) (codes ".end") (name_is_one p name one) (looked_at (codes ".end") refl)
 
-below_read : (p : ProgramTree) (names : Names) (name : ℕ) (a b : ℤ) → HasNamesOfOneWord p → IsNamed names (name_at p name) (Number a) → IsNamed names (end_name p name) (Number b)
-    → read_brackets names (bracketed (name_at p name ∷ end_name p name ∷ codes "<" ∷ [])) ≡ Some (Truth (int_lt a b) ∷ [])
+below_read : (p : ProgramTree) (names : Names) (name : ℕ) (a b : ℤ) → HasNamesOfOneWord p → IsNamed names (program_name_at p name) (Number a) → IsNamed names (end_name p name) (Number b)
+    → read_brackets names (bracketed (program_name_at p name ∷ end_name p name ∷ codes "<" ∷ [])) ≡ Some (Truth (int_lt a b) ∷ [])
 below_read p names name a b one first second =
-    text_back (λ words. read_words names words []) (name_at p name ∷ end_name p name ∷ codes "<" ∷ []) (omega arith)
+    text_back (λ words. read_words names words []) (program_name_at p name ∷ end_name p name ∷ codes "<" ∷ []) (omega arith)
     (name_is_one p name one, (end_is_one p name one, (looked_at (codes "<") refl, tt)))
-    ∙ ap (option_and_then (read_words names (end_name p name ∷ codes "<" ∷ []))) (read_name names (name_at p name) (Number a) [] first)
+    ∙ ap (option_and_then (read_words names (end_name p name ∷ codes "<" ∷ []))) (read_name names (program_name_at p name) (Number a) [] first)
     ∙ ap (option_and_then (read_words names (codes "<" ∷ []))) (read_name names (end_name p name) (Number b) (Number a ∷ []) second)
 
-next_read : (p : ProgramTree) (names : Names) (name : ℕ) (r : LoopCounter) → HasNamesOfOneWord p → IsNamed names (name_at p name) (Number r.next)
-    → read_brackets names (bracketed (name_at p name ∷ codes "1" ∷ codes "+" ∷ [])) ≡ Some (Number (next_of r).next ∷ [])
+next_read : (p : ProgramTree) (names : Names) (name : ℕ) (r : LoopCounter) → HasNamesOfOneWord p → IsNamed names (program_name_at p name) (Number r.next)
+    → read_brackets names (bracketed (program_name_at p name ∷ codes "1" ∷ codes "+" ∷ [])) ≡ Some (Number (next_of r).next ∷ [])
 next_read p names name r one first =
-    text_back (λ words. read_words names words []) (name_at p name ∷ codes "1" ∷ codes "+" ∷ []) (omega arith)
+    text_back (λ words. read_words names words []) (program_name_at p name ∷ codes "1" ∷ codes "+" ∷ []) (omega arith)
     (name_is_one p name one, (looked_at (codes "1") refl, (looked_at (codes "+") refl, tt)))
-    ∙ ap (option_and_then (read_words names (codes "1" ∷ codes "+" ∷ []))) (read_name names (name_at p name) (Number r.next) [] first)
+    ∙ ap (option_and_then (read_words names (codes "1" ∷ codes "+" ∷ []))) (read_name names (program_name_at p name) (Number r.next) [] first)
 
 operation_values : (p : ProgramTree) (names : Names) (r : LoopCounter) (s : StateValue) (apply_schedule : ApplySchedule) (o : OperationTree) → HasNamesOfOneWord p → OperationIsGiven p names r s o
-    → read_indices names (operation_words p apply_schedule o ++ target_words o) (bracket_indices (kind_of o)) ≡ values_of names.vertices r s o
+    → read_indices names (operation_words p apply_schedule o ++ target_words o) (bracket_indices (instruction_kind_of o)) ≡ values_of names.vertices r s o
 operation_values p names r s apply_schedule (operation.Do action) one given = action_values p names s action apply_schedule one given
 operation_values p names r s apply_schedule (operation.ApplyEdgesTogether ends first second) one given = refl
 operation_values p names r s apply_schedule (operation.ApplyVerticesTogether slot first second) one given = refl
@@ -135,16 +135,16 @@ reduce_value names r a None = refl
 reduce_value names r a (Some n) = reduce_is names r a n
 
 pub reduction_is_read : (p : ProgramTree) (names : Names) (s : StateValue) (x : VarRef) (r : Reduction) (e : IntExpressionTree) (apply_schedule : ApplySchedule) → HasNamesOfOneWord p
-    → IsNamed names (name_at p x.name) (Number (slice_index_or s.scope.integers x.index (pos 0))) → IntegerIsGiven p names s e
+    → IsNamed names (program_name_at p x.name) (Number (slice_index_or s.scope.integers x.index (pos 0))) → IntegerIsGiven p names s e
     → read_reduction names (slice_index_or (statement_words p (action.ReduceInteger x r e) apply_schedule) 2 [])
     ≡ option_map (λ n. reduced r (slice_index_or s.scope.integers x.index (pos 0)) n) (int_value_in names.vertices e s)
 reduction_is_read p names s x r e apply_schedule one named given =
     let a = slice_index_or s.scope.integers x.index (pos 0) in
-    let words = name_at p x.name ∷ integer_words p e in
-    let all : AllByRecursion IsOneWord (name_at p x.name ∷ integer_words p e ++ reducing_word r ∷ []) =
+    let words = program_name_at p x.name ∷ integer_words p e in
+    let all : AllByRecursion IsOneWord (program_name_at p x.name ∷ integer_words p e ++ reducing_word r ∷ []) =
     (name_is_one p x.name one, all_both IsOneWord (integer_words p e) (reducing_word r ∷ []) (integer_words_are p names s e one given) (reducing_is_one r, tt)) in
     let read : read_words names words [] ≡ option_map (λ n. Number n ∷ Number a ∷ []) (int_value_in names.vertices e s) =
-    ap (option_and_then (read_words names (integer_words p e))) (read_name names (name_at p x.name) (Number a) [] named) ∙ integer_is_read p names s e (Number a ∷ []) given in
+    ap (option_and_then (read_words names (integer_words p e))) (read_name names (program_name_at p x.name) (Number a) [] named) ∙ integer_is_read p names s e (Number a ∷ []) given in
     text_back (λ ws. reduce_words names ws []) (words ++ reducing_word r ∷ []) (omega arith) all
     ∙ reduce_last names words (reducing_word r) []
     ∙ ap (option_and_then (reduce_words names (reducing_word r ∷ []))) read

@@ -11,7 +11,7 @@ use Rattle.schedule.specs.Laws.{IsFusedWell}
 use Rattle.schedule.proofs.FusedOnce.{accepted_fuses_in_pairs}
 use Rattle.schedule.proofs.FusedPairs.{accepted_fuses_well}
 use Rattle.plans.specs.Instruction.{End}
-use Rattle.plans.specs.Plan.{behind_all, main_depth, plain, plan_all}
+use Rattle.plans.specs.Plan.{depth_after_all, main_depth, plain, plan_all}
 use Rattle.type_laws.specs.AskedVectors.{AskForWritten, AsksForWritten}
 use Rattle.type_laws.specs.EachStatement.{HoldsInside, HoldsOfEach, SetNames, names_before, names_after}
 use Rattle.type_laws.specs.LabelIndices.{LabelsAreInOrder}
@@ -84,7 +84,7 @@ module _ (p : ProgramTree) (s : ScheduleTree) (all : IsResolved p) (named : Name
       let up = neighbours_ascend p.main both.one both.other 1 order both.neighbours in
       let from : 1 ≤ both.one.number = up.from in
       let less : both.one.number < both.other.number = up.two in
-      let end = plain 0 (behind_all p.main (main_depth p)) End in
+      let end = plain 0 (depth_after_all p.main (main_depth p)) End in
       let y = split_before s both.one both.other (plan_all p s 0 (main_depth p) false p.main) (end ∷ []) x (((λ same. absurd (omega (arith, same))), (λ same. absurd (omega (arith, same)))), tt) in
       record {
         first = both.one;

@@ -20,15 +20,15 @@ use Rattle.typed_tree.specs.ProgramTree.{ProgramTree}
 use Rattle.plans.specs.Instruction as operation
 use Rattle.plans.specs.Instruction.{OperationTree, InstructionTree}
 use Rattle.plan_text.specs.declared.applied_function.AppliedFunction.{AppliedFunction}
-use Rattle.plan_text.specs.Lines.{dense_word, direction_word, edges_words, end_word, one_part, parallelization_word, part_words, second_words, set_line, statement_words}
+use Rattle.plan_text.specs.Lines.{dense_word, direction_word, edges_words, end_word, one_part, parallelization_word, part_words, second_words, set_instruction_words, statement_words}
 use Rattle.lowering.specs.Text.{operation_words, shown_part, target_words}
 use Rattle.decimal.specs.Numbers.{number_of}
 use Rattle.decimal.proofs.NumberLaws.{decimal-IsReadBack}
-use Rattle.plan_laws.specs.Kinds.{InstructionKind, ApplyEdges, instruction_words, kind_in, kind_of, kind_of_action, kind_of_set, index_behind, index_in, index_of}
+use Rattle.plan_laws.specs.Kinds.{InstructionKind, ApplyEdges, instruction_words, kind_in, instruction_kind_of, kind_of_action, kind_of_set, index_behind, index_in, index_of}
 use Rattle.plan_laws.specs.Settings.{dense_vertex_sets, directions, parallelizations, settings_in, settings_of, settings_used, settings_with}
 
 -- the kind of each operation
-set_kind : (p : ProgramTree) (name : ℕ) (value : SetValue) (apply_schedule : ApplySchedule) → kind_in (set_line p name value apply_schedule ++ []) ≡ Some (kind_of_set value)
+set_kind : (p : ProgramTree) (name : ℕ) (value : SetValue) (apply_schedule : ApplySchedule) → kind_in (set_instruction_words p name value apply_schedule ++ []) ≡ Some (kind_of_set value)
 set_kind p name set.Empty apply_schedule = refl
 set_kind p name set.All apply_schedule = refl
 set_kind p name (set.Copy slot) apply_schedule = refl
@@ -55,7 +55,7 @@ action_kind p (action.IfElse c body other) apply_schedule = refl
 action_kind p (action.While c body) apply_schedule = refl
 action_kind p (action.For name first last body) apply_schedule = refl
 
-kind_at : (p : ProgramTree) (apply_schedule : ApplySchedule) (o : OperationTree) → kind_in (operation_words p apply_schedule o ++ target_words o) ≡ kind_of o
+kind_at : (p : ProgramTree) (apply_schedule : ApplySchedule) (o : OperationTree) → kind_in (operation_words p apply_schedule o ++ target_words o) ≡ instruction_kind_of o
 kind_at p apply_schedule (operation.Do action) = action_kind p action apply_schedule
 kind_at p apply_schedule (operation.ApplyEdgesTogether ends first second) = refl
 kind_at p apply_schedule (operation.ApplyVerticesTogether slot first second) = refl
@@ -67,7 +67,7 @@ kind_at p apply_schedule operation.Turn = refl
 kind_at p apply_schedule (operation.Jump to) = refl
 kind_at p apply_schedule operation.End = refl
 
-pub kind_is : (p : ProgramTree) (i : InstructionTree) → kind_in (instruction_words p i) ≡ kind_of i.operation
+pub kind_is : (p : ProgramTree) (i : InstructionTree) → kind_in (instruction_words p i) ≡ instruction_kind_of i.operation
 kind_is p i = kind_at p i.apply_schedule i.operation
 
 -- a statement goes on at no other index
@@ -102,7 +102,7 @@ number_is : (to : ℕ) → to < 2 ^ 64 → number_of (2 ^ 64) (decimal to) ≡ S
 number_is to below = decimal-IsReadBack (2 ^ 64) to below below 0
 
 index_at : (p : ProgramTree) (apply_schedule : ApplySchedule) (o : OperationTree) → IfSome (index_of o) (λ to. to < 2 ^ 64)
-    → index_behind (kind_of o) (operation_words p apply_schedule o ++ target_words o) ≡ index_of o
+    → index_behind (instruction_kind_of o) (operation_words p apply_schedule o ++ target_words o) ≡ index_of o
 index_at p apply_schedule (operation.Do action) below = no_index action (statement_words p action apply_schedule ++ [])
 index_at p apply_schedule (operation.ApplyEdgesTogether ends first second) below = refl
 index_at p apply_schedule (operation.ApplyVerticesTogether slot first second) below = refl
@@ -170,7 +170,7 @@ edges_are p ends first second apply_schedule =
 
 -- an edge apply is one of these
 set_settings : (p : ProgramTree) (name : ℕ) (value : SetValue) (apply_schedule : ApplySchedule) → Some (kind_of_set value) ≡ Some ApplyEdges
-    → settings_in (set_line p name value apply_schedule ++ []) ≡ Some (settings_used apply_schedule)
+    → settings_in (set_instruction_words p name value apply_schedule ++ []) ≡ Some (settings_used apply_schedule)
 set_settings p name set.Empty apply_schedule is = absurd cc
 set_settings p name set.All apply_schedule is = absurd cc
 set_settings p name (set.Copy slot) apply_schedule is = absurd cc
@@ -199,7 +199,7 @@ action_settings p (action.IfElse c body other) apply_schedule is = absurd cc
 action_settings p (action.While c body) apply_schedule is = absurd cc
 action_settings p (action.For name first last body) apply_schedule is = absurd cc
 
-settings_at : (p : ProgramTree) (apply_schedule : ApplySchedule) (o : OperationTree) → kind_of o ≡ Some ApplyEdges
+settings_at : (p : ProgramTree) (apply_schedule : ApplySchedule) (o : OperationTree) → instruction_kind_of o ≡ Some ApplyEdges
     → settings_in (operation_words p apply_schedule o ++ target_words o) ≡ Some (settings_used apply_schedule)
 settings_at p apply_schedule (operation.Do action) is = action_settings p action apply_schedule is
 settings_at p apply_schedule (operation.ApplyEdgesTogether ends first second) is = edges_are p ends (shown_part first) (Some (shown_part second)) apply_schedule
@@ -212,5 +212,5 @@ settings_at p apply_schedule operation.Turn is = absurd cc
 settings_at p apply_schedule (operation.Jump to) is = absurd cc
 settings_at p apply_schedule operation.End is = absurd cc
 
-pub settings_are : (p : ProgramTree) (i : InstructionTree) → kind_of i.operation ≡ Some ApplyEdges → settings_in (instruction_words p i) ≡ Some (settings_used i.apply_schedule)
+pub settings_are : (p : ProgramTree) (i : InstructionTree) → instruction_kind_of i.operation ≡ Some ApplyEdges → settings_in (instruction_words p i) ≡ Some (settings_used i.apply_schedule)
 settings_are p i is = settings_at p i.apply_schedule i.operation is

@@ -81,17 +81,17 @@ kind_of_action (action.IfElse c body other) = None
 kind_of_action (action.While c body) = None
 kind_of_action (action.For name first last body) = None
 
-abbrev pub kind_of : OperationTree → Option InstructionKind
-kind_of (operation.Do action) = kind_of_action action
-kind_of (operation.ApplyEdgesTogether ends first second) = Some ApplyEdges
-kind_of (operation.ApplyVerticesTogether slot first second) = Some ApplyVertices
-kind_of (operation.Unless c to) = Some Unless
-kind_of (operation.Enter name e) = Some Set
-kind_of (operation.UnlessBelow name to) = Some Unless
-kind_of (operation.Advance name) = Some Set
-kind_of operation.Turn = Some Turn
-kind_of (operation.Jump to) = Some Jump
-kind_of operation.End = Some End
+abbrev pub instruction_kind_of : OperationTree → Option InstructionKind
+instruction_kind_of (operation.Do action) = kind_of_action action
+instruction_kind_of (operation.ApplyEdgesTogether ends first second) = Some ApplyEdges
+instruction_kind_of (operation.ApplyVerticesTogether slot first second) = Some ApplyVertices
+instruction_kind_of (operation.Unless c to) = Some Unless
+instruction_kind_of (operation.Enter name e) = Some Set
+instruction_kind_of (operation.UnlessBelow name to) = Some Unless
+instruction_kind_of (operation.Advance name) = Some Set
+instruction_kind_of operation.Turn = Some Turn
+instruction_kind_of (operation.Jump to) = Some Jump
+instruction_kind_of operation.End = Some End
 
 -- the number of the instruction that an operation may go to
 abbrev pub index_of : OperationTree → Option ℕ

@@ -5,7 +5,7 @@ use Rattle.typed_tree.specs.ProgramTree.{ProgramTree}
 use Rattle.apply_options.specs.ScheduleTree.{ScheduleTree}
 use Rattle.plans.specs.Instruction.{InstructionTree}
 use Rattle.plans.specs.Plan.{plan_of}
-use Rattle.plan_text.specs.Expressions.{vector_at}
+use Rattle.plan_text.specs.Expressions.{vector_name_at}
 use Rattle.plan_laws.specs.Brackets.{put_byte}
 use Rattle.plan_laws.specs.Kinds.{instruction_words}
 
@@ -35,7 +35,7 @@ numbered_words p number (i ∷ is) = (decimal number ∷ instruction_words p i) 
 
 -- of each group of vectors `fields` and their names, and then the words of the instructions
 abbrev pub words_of_plan : ProgramTree → ScheduleTree → List (List (List ℕ))
-words_of_plan p s = map (λ group. codes "fields" ∷ map (vector_at p) group) s.groups ++ numbered_words p 0 (plan_of p s)
+words_of_plan p s = map (λ group. codes "fields" ∷ map (vector_name_at p) group) s.groups ++ numbered_words p 0 (plan_of p s)
 
 -- a byte is no space, no line feed and no bracket, and so are those of each name
 abbrev pub is_bare : ℕ → Bool

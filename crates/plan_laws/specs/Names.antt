@@ -17,54 +17,54 @@ use Rattle.typed_tree.specs.ProgramTree.{ProgramTree}
 use Rattle.plans.specs.Fusing.{edge_apply_of}
 use Rattle.plans.specs.Instruction as operation
 use Rattle.plans.specs.Instruction.{EdgePartTree, OperationTree, ResultTree, Assigned, Declared, Dropped}
-use Rattle.plan_text.specs.Expressions.{name_at, vector_at}
+use Rattle.plan_text.specs.Expressions.{program_name_at, vector_name_at}
 use Rattle.plan_text.specs.Lines.{end_name, function_at}
 use Rattle.plan_laws.specs.Kinds.{InstructionKind, Set, Put, AddVertex, NewSet, AllSet, CopySet, Filter, ApplyVertices, ApplyEdges, kind_in}
 
 -- what stands after the first word: of an instruction with an expression one name, and of one on sets all words
-abbrev pub names_after : Option InstructionKind → List (List ℕ) → List (List ℕ)
-names_after (Some Set) words = slice_index_or words 1 [] ∷ []
-names_after (Some Put) words = slice_index_or words 1 [] ∷ []
-names_after (Some AddVertex) words = slice_index_or words 1 [] ∷ []
-names_after (Some NewSet) (word ∷ words) = words
-names_after (Some AllSet) (word ∷ words) = words
-names_after (Some CopySet) (word ∷ words) = words
-names_after (Some Filter) (word ∷ words) = words
-names_after (Some ApplyVertices) (word ∷ words) = words
-names_after _ words = []
+abbrev pub names_of_kind : Option InstructionKind → List (List ℕ) → List (List ℕ)
+names_of_kind (Some Set) words = slice_index_or words 1 [] ∷ []
+names_of_kind (Some Put) words = slice_index_or words 1 [] ∷ []
+names_of_kind (Some AddVertex) words = slice_index_or words 1 [] ∷ []
+names_of_kind (Some NewSet) (word ∷ words) = words
+names_of_kind (Some AllSet) (word ∷ words) = words
+names_of_kind (Some CopySet) (word ∷ words) = words
+names_of_kind (Some Filter) (word ∷ words) = words
+names_of_kind (Some ApplyVertices) (word ∷ words) = words
+names_of_kind _ words = []
 
 abbrev pub names_in : List (List ℕ) → List (List ℕ)
-names_in words = names_after (kind_in words) words
+names_in words = names_of_kind (kind_in words) words
 
 -- the set that gets a value, and what it gets it from
 abbrev pub names_of_set : ProgramTree → (name : ℕ) → SetValue → List (List ℕ)
-names_of_set p name set.Empty = name_at p name ∷ []
-names_of_set p name set.All = name_at p name ∷ []
-names_of_set p name (set.Copy slot) = name_at p name ∷ name_at p slot.name ∷ []
-names_of_set p name (set.Filter slot function) = name_at p name ∷ name_at p slot.name ∷ function_at p p.filters function ∷ []
+names_of_set p name set.Empty = program_name_at p name ∷ []
+names_of_set p name set.All = program_name_at p name ∷ []
+names_of_set p name (set.Copy slot) = program_name_at p name ∷ program_name_at p slot.name ∷ []
+names_of_set p name (set.Filter slot function) = program_name_at p name ∷ program_name_at p slot.name ∷ function_at p p.filters function ∷ []
 names_of_set p name (set.Modified ends function vector) = []
 
 -- the variable, the vector or the set that changes; the set and the functions of a vertex apply
 abbrev pub names_of_action : ProgramTree → StatementKindTree → List (List ℕ)
-names_of_action p (action.DeclareInteger name e) = name_at p name ∷ []
-names_of_action p (action.DeclareCondition name c) = name_at p name ∷ []
-names_of_action p (action.SetInteger slot e) = name_at p slot.name ∷ []
-names_of_action p (action.SetCondition slot c) = name_at p slot.name ∷ []
-names_of_action p (action.ReduceInteger slot reduction e) = name_at p slot.name ∷ []
-names_of_action p (action.SetEntry vector index e) = vector_at p vector ∷ []
-names_of_action p (action.ReduceEntry vector index reduction e) = vector_at p vector ∷ []
+names_of_action p (action.DeclareInteger name e) = program_name_at p name ∷ []
+names_of_action p (action.DeclareCondition name c) = program_name_at p name ∷ []
+names_of_action p (action.SetInteger slot e) = program_name_at p slot.name ∷ []
+names_of_action p (action.SetCondition slot c) = program_name_at p slot.name ∷ []
+names_of_action p (action.ReduceInteger slot reduction e) = program_name_at p slot.name ∷ []
+names_of_action p (action.SetEntry vector index e) = vector_name_at p vector ∷ []
+names_of_action p (action.ReduceEntry vector index reduction e) = vector_name_at p vector ∷ []
 names_of_action p (action.DeclareSet name value) = names_of_set p name value
 names_of_action p (action.AssignSet slot value) = names_of_set p slot.name value
-names_of_action p (action.AddVertex slot e) = name_at p slot.name ∷ []
-names_of_action p (action.ApplyVertex slot function) = name_at p slot.name ∷ function_at p p.vertex_functions function ∷ []
+names_of_action p (action.AddVertex slot e) = program_name_at p slot.name ∷ []
+names_of_action p (action.ApplyVertex slot function) = program_name_at p slot.name ∷ function_at p p.vertex_functions function ∷ []
 names_of_action p _ = []
 
 abbrev pub names_of : ProgramTree → OperationTree → List (List ℕ)
 names_of p (operation.Do action) = names_of_action p action
 names_of p (operation.ApplyVerticesTogether slot first second) =
-    name_at p slot.name ∷ function_at p p.vertex_functions first ∷ function_at p p.vertex_functions second ∷ []
+    program_name_at p slot.name ∷ function_at p p.vertex_functions first ∷ function_at p p.vertex_functions second ∷ []
 names_of p (operation.Enter name e) = end_name p name ∷ []
-names_of p (operation.Advance name) = name_at p name ∷ []
+names_of p (operation.Advance name) = program_name_at p name ∷ []
 names_of p _ = []
 
 -- by which reduction an entry gets its value
@@ -75,8 +75,8 @@ abbrev pub reduction_after : Option InstructionKind → List (List ℕ) → Opti
 reduction_after (Some Put) words = lookup (bytes_eq (slice_index_or words 3 [])) entry_reductions
 reduction_after _ words = None
 
-abbrev pub reduction_in : List (List ℕ) → Option (Option Reduction)
-reduction_in words = reduction_after (kind_in words) words
+abbrev pub reduction_named : List (List ℕ) → Option (Option Reduction)
+reduction_named words = reduction_after (kind_in words) words
 
 abbrev pub reduction_of : OperationTree → Option (Option Reduction)
 reduction_of (operation.Do (action.SetEntry vector index e)) = Some None
@@ -121,15 +121,15 @@ edges_in words = edges_behind (kind_in words) words
 -- the names of the edge apply that an operation does
 abbrev pub changed_names : ProgramTree → ResultTree → Option (List ℕ × List ℕ)
 changed_names p Dropped = None
-changed_names p (Declared name vector) = Some (name_at p name, vector_at p vector)
-changed_names p (Assigned slot vector) = Some (name_at p slot.name, vector_at p vector)
+changed_names p (Declared name vector) = Some (program_name_at p name, vector_name_at p vector)
+changed_names p (Assigned slot vector) = Some (program_name_at p slot.name, vector_name_at p vector)
 
 abbrev pub part_names : ProgramTree → EdgePartTree → PartNames
 part_names p part = record { function = function_at p p.edge_functions part.function; changed = changed_names p part.result }
 
 abbrev pub end_names : ProgramTree → Option VertexFilter → Option (List ℕ)
 end_names p None = None
-end_names p (Some (end.Members slot)) = Some (name_at p slot.name)
+end_names p (Some (end.Members slot)) = Some (program_name_at p slot.name)
 end_names p (Some (end.Function function)) = Some (function_at p p.filters function)
 
 abbrev pub apply_names : ProgramTree → ApplyEnds → EdgePartTree → Option EdgePartTree → EdgeApplyNames

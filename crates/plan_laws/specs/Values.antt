@@ -12,7 +12,7 @@ use Rattle.algorithm_meaning.specs.State.{StateValue}
 use Rattle.algorithm_meaning.specs.Stand.{bool_value_in, int_value_in}
 use Rattle.plans.specs.Instruction as operation
 use Rattle.plans.specs.Instruction.{OperationTree}
-use Rattle.plan_text.specs.Expressions.{name_at}
+use Rattle.plan_text.specs.Expressions.{program_name_at}
 use Rattle.plan_text.specs.Lines.{end_name}
 use Rattle.plan_laws.specs.Machine.{Number, Truth, Stack, Names}
 use Rattle.plan_laws.specs.Given.{ConditionIsGiven, IntegerIsGiven, IsNamed}
@@ -82,6 +82,7 @@ abbrev pub OperationIsGiven : ProgramTree → Names → LoopCounter → StateVal
 OperationIsGiven p names r s (operation.Do action) = ActionIsGiven p names s action
 OperationIsGiven p names r s (operation.Unless c to) = ConditionIsGiven p names s c
 OperationIsGiven p names r s (operation.Enter name e) = IntegerIsGiven p names s e
-OperationIsGiven p names r s (operation.UnlessBelow name to) = IsNamed names (name_at p name) (Number r.next) × IsNamed names (end_name p name) (Number r.end)
-OperationIsGiven p names r s (operation.Advance name) = IsNamed names (name_at p name) (Number r.next)
+OperationIsGiven p names r s (operation.UnlessBelow name to) = IsNamed names (program_name_at p name) (Number r.next)
+    × IsNamed names (end_name p name) (Number r.end)
+OperationIsGiven p names r s (operation.Advance name) = IsNamed names (program_name_at p name) (Number r.next)
 OperationIsGiven p names r s _ = Unit {0}

@@ -13,7 +13,7 @@ ghost use Rattle.algorithm_meaning.specs.Arithmetic.{reduced};
 ghost use Rattle.algorithm_meaning.specs.State.{StateValue};
 ghost use Rattle.algorithm_meaning.specs.Stand.{bool_value_in, int_value_in};
 ghost use Rattle.plans.specs.Instruction.{InstructionTree};
-ghost use Rattle.plan_text.specs.Expressions.{condition_words, integer_words, name_at, bracketed};
+ghost use Rattle.plan_text.specs.Expressions.{condition_words, integer_words, program_name_at, bracketed};
 ghost use Rattle.plan_text.specs.Lines.{statement_words};
 ghost use Rattle.plan_laws.specs.Machine.{Number, Truth, Names};
 ghost use Rattle.plan_laws.specs.Given.{ConditionIsGiven, IntegerIsGiven, IsNamed};
@@ -42,7 +42,7 @@ pub fn instructions_have_their_values()
 /// has the value of `x` reduced with that of `e`. The call does nothing.
 pub fn reductions_are_read_by_hand()
     ensures { (p : ProgramTree) (names : Names) (s : StateValue) (x : slot.VarRef) (r : reduction.Reduction) (e : IntExpressionTree) (apply_schedule : schedule.ApplySchedule)
-        → HasNamesOfOneWord p → IsNamed names (name_at p x.name) (Number (slice_index_or s.scope.integers x.index (pos 0)))
+        → HasNamesOfOneWord p → IsNamed names (program_name_at p x.name) (Number (slice_index_or s.scope.integers x.index (pos 0)))
         → IntegerIsGiven p names s e
         → read_reduction names (slice_index_or (statement_words p (ReduceInteger x r e) apply_schedule) 2 [])
         ≡ option_map (λ n. reduced r (slice_index_or s.scope.integers x.index (pos 0)) n) (int_value_in names.vertices e s) }

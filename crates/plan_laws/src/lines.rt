@@ -3,7 +3,7 @@ ghost use Rattle.std.specs.Prelude.{◌≡◌, ℕ, ◌∷◌, decimal, false};
 ghost use Rattle.apply_options.specs.ScheduleTree.{ScheduleTree};
 ghost use Rattle.typed_tree.specs.ProgramTree.{ProgramTree};
 ghost use Rattle.plans.specs.Instruction.{InstructionTree};
-ghost use Rattle.plan_text.specs.Expressions.{joined};
+ghost use Rattle.plan_text.specs.Expressions.{spaced_words};
 ghost use Rattle.lowering.specs.Text.{text_of};
 ghost use Rattle.plan_laws.specs.Kinds.{instruction_words};
 ghost use Rattle.plan_laws.specs.Lines.{HasBareNames, words_of_line, words_of_lines, words_of_plan};
@@ -12,7 +12,7 @@ ghost use Rattle.plan_laws.specs.Lines.{HasBareNames, words_of_line, words_of_li
 /// does nothing.
 pub fn lines_are_cut_into_words()
     ensures { (p : ProgramTree) (number : ℕ) (i : InstructionTree) → HasBareNames p
-        → words_of_line false (joined (decimal number ∷ instruction_words p i)) ≡ decimal number ∷ instruction_words p i }
+        → words_of_line false (spaced_words (decimal number ∷ instruction_words p i)) ≡ decimal number ∷ instruction_words p i }
 {}
 
 /// The law that the text of a plan, cut into lines and these into words, is the words of each group of vectors, and then of

@@ -3,7 +3,7 @@ use Rattle.std.proofs.lemmas.List.{length-append}
 use Rattle.std.proofs.Math.Seq.{take-append_seam}
 use Rattle.std.proofs.Common.{Bool, true, false, arith, add-one, true≢false, ◌-◌, ◌≡◌, ◌≢◌, ℕ, zero, suc, ◌+◌, List, [], ◌∷◌, ◌++◌, length, take, refl, sym, ◌∙◌, ap, append_assoc}
 use Rattle.plan_text.specs.inside.Rows.{times}
-use Rattle.plan_text.specs.Expressions.{bracketed, joined, spaced}
+use Rattle.plan_text.specs.Expressions.{bracketed, spaced_words, spaced}
 
 pub spaced_append : (vs ws : List (List ℕ)) → spaced (vs ++ ws) ≡ spaced vs ++ spaced ws
 spaced_append [] ws = refl
@@ -11,19 +11,19 @@ spaced_append (v ∷ vs) ws =
     ap (λ t. v ++ 32 ∷ t) (spaced_append vs ws) ∙ sym (append_assoc v (32 ∷ spaced vs) (spaced ws))
 
 -- words have a space after the last one
-pub spaced_joined : (w : List ℕ) (ws : List (List ℕ)) → spaced (w ∷ ws) ≡ joined (w ∷ ws) ++ 32 ∷ []
+pub spaced_joined : (w : List ℕ) (ws : List (List ℕ)) → spaced (w ∷ ws) ≡ spaced_words (w ∷ ws) ++ 32 ∷ []
 spaced_joined w [] = refl
 spaced_joined w (v ∷ ws) =
-    ap (λ t. w ++ 32 ∷ t) (spaced_joined v ws) ∙ sym (append_assoc w (32 ∷ joined (v ∷ ws)) (32 ∷ []))
+    ap (λ t. w ++ 32 ∷ t) (spaced_joined v ws) ∙ sym (append_assoc w (32 ∷ spaced_words (v ∷ ws)) (32 ∷ []))
 
-pub spaced_joined_some : (ws : List (List ℕ)) → ws ≢ [] → spaced ws ≡ joined ws ++ 32 ∷ []
+pub spaced_joined_some : (ws : List (List ℕ)) → ws ≢ [] → spaced ws ≡ spaced_words ws ++ 32 ∷ []
 spaced_joined_some [] some = absurd (some refl)
 spaced_joined_some (w ∷ ws) some = spaced_joined w ws
 
 -- the last byte is that space
-pub before_space : (before : List ℕ) (ws : List (List ℕ)) (bytes : List ℕ) → ws ≢ [] → bytes ≡ before ++ spaced ws → bytes ≡ (before ++ joined ws) ++ 32 ∷ []
+pub before_space : (before : List ℕ) (ws : List (List ℕ)) (bytes : List ℕ) → ws ≢ [] → bytes ≡ before ++ spaced ws → bytes ≡ (before ++ spaced_words ws) ++ 32 ∷ []
 before_space before ws bytes some is =
-    is ∙ ap (λ t. before ++ t) (spaced_joined_some ws some) ∙ sym (append_assoc before (joined ws) (32 ∷ []))
+    is ∙ ap (λ t. before ++ t) (spaced_joined_some ws some) ∙ sym (append_assoc before (spaced_words ws) (32 ∷ []))
 
 -- one more word of a kind
 pub times_suc : (n : ℕ) (w : List ℕ) → times (suc n) w ≡ times n w ++ w ∷ []
@@ -50,9 +50,9 @@ put_after old middle new vs ws first second =
     second ∙ ap (λ t. t ++ spaced ws) first ∙ append_assoc old (spaced vs) (spaced ws) ∙ ap (λ t. old ++ t) (sym (spaced_append vs ws))
 
 -- an expression in brackets
-pub bracket_closed : (old new : List ℕ) (ws : List (List ℕ)) → new ≡ (old ++ 91 ∷ []) ++ (joined ws ++ 93 ∷ 32 ∷ []) → new ≡ old ++ spaced (bracketed ws ∷ [])
+pub bracket_closed : (old new : List ℕ) (ws : List (List ℕ)) → new ≡ (old ++ 91 ∷ []) ++ (spaced_words ws ++ 93 ∷ 32 ∷ []) → new ≡ old ++ spaced (bracketed ws ∷ [])
 bracket_closed old new ws is =
-    is ∙ append_assoc old (91 ∷ []) (joined ws ++ 93 ∷ 32 ∷ []) ∙ ap (λ t. old ++ 91 ∷ t) (sym (append_assoc (joined ws) (93 ∷ []) (32 ∷ [])))
+    is ∙ append_assoc old (91 ∷ []) (spaced_words ws ++ 93 ∷ 32 ∷ []) ∙ ap (λ t. old ++ 91 ∷ t) (sym (append_assoc (spaced_words ws) (93 ∷ []) (32 ∷ [])))
 
 -- the last byte goes, of a text of this size
 pub popped : (xs : List ℕ) (y size : ℕ) (old new : List ℕ) → size ≡ length old → old ≡ xs ++ y ∷ [] → new ≡ take (size - 1) old → new ≡ xs

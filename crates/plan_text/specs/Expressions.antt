@@ -15,15 +15,15 @@ use Rattle.typed_tree.specs.IntExpressionTree as integer
 use Rattle.typed_tree.specs.BoolExpressionTree as condition
 
 -- the name at an index, without a byte where there is none
-abbrev pub name_at : ProgramTree → ℕ → List ℕ
-name_at p index = slice_index_or p.names index []
+abbrev pub program_name_at : ProgramTree → ℕ → List ℕ
+program_name_at p index = slice_index_or p.names index []
 
 abbrev pub name_of : ProgramTree → Option Vector → List ℕ
 name_of p None = []
-name_of p (Some vector) = name_at p vector.name
+name_of p (Some vector) = program_name_at p vector.name
 
-abbrev pub vector_at : ProgramTree → ℕ → List ℕ
-vector_at p index = name_of p (slice_get p.vectors index)
+abbrev pub vector_name_at : ProgramTree → ℕ → List ℕ
+vector_name_at p index = name_of p (slice_get p.vectors index)
 
 abbrev pub operator_word : Operator → List ℕ
 operator_word operator.Add = codes "+"
@@ -52,16 +52,16 @@ truth_word false = codes "false"
 
 -- the entry of a vector, after its index; the size of a set
 abbrev pub entry_word : ProgramTree → (vector : ℕ) → List ℕ
-entry_word p vector = vector_at p vector ++ codes "@"
+entry_word p vector = vector_name_at p vector ++ codes "@"
 
 abbrev pub size_word : ProgramTree → (name : ℕ) → List ℕ
-size_word p name = name_at p name ++ codes "#"
+size_word p name = program_name_at p name ++ codes "#"
 
 -- an expression of type int; what only functions have is named too
 abbrev pub integer_words : ProgramTree → IntExpressionTree → List (List ℕ)
 integer_words p (integer.Number n) = signed_decimal n ∷ []
-integer_words p (integer.Constant name n) = name_at p name ∷ []
-integer_words p (integer.Variable slot) = name_at p slot.name ∷ []
+integer_words p (integer.Constant name n) = program_name_at p name ∷ []
+integer_words p (integer.Variable slot) = program_name_at p slot.name ∷ []
 integer_words p (integer.Parameter at) = codes "vertex" ∷ []
 integer_words p integer.Weight = codes "weight" ∷ []
 integer_words p (integer.EntryAt vector at) = entry_word p vector ∷ []
@@ -73,17 +73,17 @@ integer_words p (integer.Arithmetic operator a b) = integer_words p a ++ integer
 -- and one of type bool
 abbrev pub condition_words : ProgramTree → BoolExpressionTree → List (List ℕ)
 condition_words p (condition.Literal b) = truth_word b ∷ []
-condition_words p (condition.Constant name b) = name_at p name ∷ []
-condition_words p (condition.Variable slot) = name_at p slot.name ∷ []
+condition_words p (condition.Constant name b) = program_name_at p name ∷ []
+condition_words p (condition.Variable slot) = program_name_at p slot.name ∷ []
 condition_words p (condition.Not c) = condition_words p c ++ codes "not" ∷ []
 condition_words p (condition.Compare comparison a b) = integer_words p a ++ integer_words p b ++ comparison_word comparison ∷ []
 condition_words p (condition.Connect connective a b) = condition_words p a ++ condition_words p b ++ connective_word connective ∷ []
 
 -- words with a space between
-abbrev pub joined : List (List ℕ) → List ℕ
-joined [] = []
-joined (w ∷ []) = w
-joined (w ∷ v ∷ ws) = w ++ 32 ∷ joined (v ∷ ws)
+abbrev pub spaced_words : List (List ℕ) → List ℕ
+spaced_words [] = []
+spaced_words (w ∷ []) = w
+spaced_words (w ∷ v ∷ ws) = w ++ 32 ∷ spaced_words (v ∷ ws)
 
 -- words with a space after each
 abbrev pub spaced : List (List ℕ) → List ℕ
@@ -92,4 +92,4 @@ spaced (w ∷ ws) = w ++ 32 ∷ spaced ws
 
 -- the words of an expression as one word
 abbrev pub bracketed : List (List ℕ) → List ℕ
-bracketed ws = 91 ∷ joined ws ++ 93 ∷ []
+bracketed ws = 91 ∷ spaced_words ws ++ 93 ∷ []

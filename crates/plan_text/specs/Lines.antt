@@ -23,7 +23,7 @@ use Rattle.apply_options.specs.declared.apply_schedule.Parallelization.{Parallel
 use Rattle.apply_options.specs.declared.apply_schedule.Parallelization.TheVariants as parallelization
 use Rattle.plan_text.specs.declared.applied_function.AppliedFunction.{AppliedFunction}
 use Rattle.plan_text.specs.declared.applied_function.ChangedSet.{ChangedSet}
-use Rattle.plan_text.specs.Expressions.{bracketed, name_at, vector_at, integer_words, condition_words}
+use Rattle.plan_text.specs.Expressions.{bracketed, program_name_at, vector_name_at, integer_words, condition_words}
 
 -- how a reduction of an entry is spelled, and the operator that it is
 abbrev pub reduction_word : Reduction → List ℕ
@@ -58,7 +58,7 @@ dense_word (Some dense.Bitvector) = codes "bitvector"
 -- the name of the function at an index, without a byte where there is none
 abbrev pub function_name : ProgramTree → Option FunctionTree → List ℕ
 function_name p None = []
-function_name p (Some f) = name_at p f.name
+function_name p (Some f) = program_name_at p f.name
 
 abbrev pub function_at : ProgramTree → List FunctionTree → ℕ → List ℕ
 function_at p functions index = function_name p (slice_get functions index)
@@ -70,18 +70,18 @@ set_words target words = codes "set" ∷ target ∷ bracketed words ∷ []
 -- put v [i] = [e]
 abbrev pub put_words : ProgramTree → (vector : ℕ) → (index : IntExpressionTree) → (word : List ℕ) → (value : IntExpressionTree) → List (List ℕ)
 put_words p vector index word value =
-    codes "put" ∷ vector_at p vector ∷ bracketed (integer_words p index) ∷ word ∷ bracketed (integer_words p value) ∷ []
+    codes "put" ∷ vector_name_at p vector ∷ bracketed (integer_words p index) ∷ word ∷ bracketed (integer_words p value) ∷ []
 
 -- an end of an edge apply, `-` where it is not given
 abbrev pub end_word : ProgramTree → Option VertexFilter → List ℕ
 end_word p None = codes "-"
-end_word p (Some (end.Members slot)) = name_at p slot.name
+end_word p (Some (end.Members slot)) = program_name_at p slot.name
 end_word p (Some (end.Function index)) = function_at p p.filters index
 
 -- f, or f -> s v
 abbrev pub changed_words : ProgramTree → Option ChangedSet → List (List ℕ)
 changed_words p None = []
-changed_words p (Some c) = codes "->" ∷ name_at p c.name ∷ vector_at p c.vector ∷ []
+changed_words p (Some c) = codes "->" ∷ program_name_at p c.name ∷ vector_name_at p c.vector ∷ []
 
 abbrev pub part_words : ProgramTree → AppliedFunction → List (List ℕ)
 part_words p part = function_at p p.edge_functions part.function ∷ changed_words p part.changed
@@ -105,14 +105,14 @@ second_function_words p (Some index) = function_at p p.vertex_functions index �
 
 abbrev pub vertices_words : ProgramTree → (set : VarRef) → (first : ℕ) → (second : Option ℕ) → List (List ℕ)
 vertices_words p set first second =
-    codes "vapply" ∷ name_at p set.name ∷ function_at p p.vertex_functions first ∷ second_function_words p second
+    codes "vapply" ∷ program_name_at p set.name ∷ function_at p p.vertex_functions first ∷ second_function_words p second
 
 -- a set that gets a value, which is not what an apply changes
 abbrev pub set_value_words : ProgramTree → (name : ℕ) → SetValue → List (List ℕ)
-set_value_words p name set.Empty = codes "newset" ∷ name_at p name ∷ []
-set_value_words p name set.All = codes "allset" ∷ name_at p name ∷ []
-set_value_words p name (set.Copy slot) = codes "copyset" ∷ name_at p name ∷ name_at p slot.name ∷ []
-set_value_words p name (set.Filter slot index) = codes "filter" ∷ name_at p name ∷ name_at p slot.name ∷ function_at p p.filters index ∷ []
+set_value_words p name set.Empty = codes "newset" ∷ program_name_at p name ∷ []
+set_value_words p name set.All = codes "allset" ∷ program_name_at p name ∷ []
+set_value_words p name (set.Copy slot) = codes "copyset" ∷ program_name_at p name ∷ program_name_at p slot.name ∷ []
+set_value_words p name (set.Filter slot index) = codes "filter" ∷ program_name_at p name ∷ program_name_at p slot.name ∷ function_at p p.filters index ∷ []
 set_value_words p name (set.Modified ends function vector) = []
 
 -- an apply of one edge function
@@ -120,26 +120,27 @@ abbrev pub one_part : (function : ℕ) → Option ChangedSet → AppliedFunction
 one_part function changed = record { function = function; changed = changed }
 
 -- a set that gets a value; what an apply changes is that apply, as the schedule says
-abbrev pub set_line : ProgramTree → (name : ℕ) → SetValue → ApplySchedule → List (List ℕ)
-set_line p name (set.Modified ends function vector) apply_schedule =
+abbrev pub set_instruction_words : ProgramTree → (name : ℕ) → SetValue → ApplySchedule → List (List ℕ)
+set_instruction_words p name (set.Modified ends function vector) apply_schedule =
     edges_words p ends (one_part function (Some (record { name = name; vector = vector }))) None apply_schedule
-set_line p name set.Empty apply_schedule = set_value_words p name set.Empty
-set_line p name set.All apply_schedule = set_value_words p name set.All
-set_line p name (set.Copy slot) apply_schedule = set_value_words p name (set.Copy slot)
-set_line p name (set.Filter slot index) apply_schedule = set_value_words p name (set.Filter slot index)
+set_instruction_words p name set.Empty apply_schedule = set_value_words p name set.Empty
+set_instruction_words p name set.All apply_schedule = set_value_words p name set.All
+set_instruction_words p name (set.Copy slot) apply_schedule = set_value_words p name (set.Copy slot)
+set_instruction_words p name (set.Filter slot index) apply_schedule = set_value_words p name (set.Filter slot index)
 
 -- a statement without a block; what stands for one with a block is no instruction of its own
 abbrev pub statement_words : ProgramTree → StatementKindTree → ApplySchedule → List (List ℕ)
-statement_words p (DeclareInteger name e) apply_schedule = set_words (name_at p name) (integer_words p e)
-statement_words p (DeclareCondition name c) apply_schedule = set_words (name_at p name) (condition_words p c)
-statement_words p (SetInteger slot e) apply_schedule = set_words (name_at p slot.name) (integer_words p e)
-statement_words p (SetCondition slot c) apply_schedule = set_words (name_at p slot.name) (condition_words p c)
-statement_words p (ReduceInteger slot r e) apply_schedule = set_words (name_at p slot.name) (name_at p slot.name ∷ integer_words p e ++ reducing_word r ∷ [])
+statement_words p (DeclareInteger name e) apply_schedule = set_words (program_name_at p name) (integer_words p e)
+statement_words p (DeclareCondition name c) apply_schedule = set_words (program_name_at p name) (condition_words p c)
+statement_words p (SetInteger slot e) apply_schedule = set_words (program_name_at p slot.name) (integer_words p e)
+statement_words p (SetCondition slot c) apply_schedule = set_words (program_name_at p slot.name) (condition_words p c)
+statement_words p (ReduceInteger slot r e) apply_schedule = set_words (program_name_at p slot.name)
+    (program_name_at p slot.name ∷ integer_words p e ++ reducing_word r ∷ [])
 statement_words p (SetEntry vector index e) apply_schedule = put_words p vector index (codes "=") e
 statement_words p (ReduceEntry vector index r e) apply_schedule = put_words p vector index (reduction_word r) e
-statement_words p (DeclareSet name value) apply_schedule = set_line p name value apply_schedule
-statement_words p (AssignSet slot value) apply_schedule = set_line p slot.name value apply_schedule
-statement_words p (AddVertex slot e) apply_schedule = codes "addvertex" ∷ name_at p slot.name ∷ bracketed (integer_words p e) ∷ []
+statement_words p (DeclareSet name value) apply_schedule = set_instruction_words p name value apply_schedule
+statement_words p (AssignSet slot value) apply_schedule = set_instruction_words p slot.name value apply_schedule
+statement_words p (AddVertex slot e) apply_schedule = codes "addvertex" ∷ program_name_at p slot.name ∷ bracketed (integer_words p e) ∷ []
 statement_words p (PrintInteger e) apply_schedule = codes "print" ∷ bracketed (integer_words p e) ∷ []
 statement_words p (PrintCondition c) apply_schedule = codes "print" ∷ bracketed (condition_words p c) ∷ []
 statement_words p (ApplyVertex set function) apply_schedule = vertices_words p set function None
@@ -155,17 +156,17 @@ unless_words p c = codes "unless" ∷ bracketed (condition_words p c) ∷ []
 
 -- of `for i`: set i.end [e], unless [i i.end <], set i [i 1 +]
 abbrev pub end_name : ProgramTree → (name : ℕ) → List ℕ
-end_name p name = name_at p name ++ codes ".end"
+end_name p name = program_name_at p name ++ codes ".end"
 
 abbrev pub bound_words : ProgramTree → (name : ℕ) → IntExpressionTree → List (List ℕ)
 bound_words p name e = set_words (end_name p name) (integer_words p e)
 
 abbrev pub below_words : ProgramTree → (name : ℕ) → List (List ℕ)
-below_words p name = codes "unless" ∷ bracketed (name_at p name ∷ end_name p name ∷ codes "<" ∷ []) ∷ []
+below_words p name = codes "unless" ∷ bracketed (program_name_at p name ∷ end_name p name ∷ codes "<" ∷ []) ∷ []
 
 abbrev pub advance_words : ProgramTree → (name : ℕ) → List (List ℕ)
-advance_words p name = set_words (name_at p name) (name_at p name ∷ codes "1" ∷ codes "+" ∷ [])
+advance_words p name = set_words (program_name_at p name) (program_name_at p name ∷ codes "1" ∷ codes "+" ∷ [])
 
 -- fields v w
 abbrev pub group_words : ProgramTree → (vectors : List ℕ) → List (List ℕ)
-group_words p vectors = codes "fields" ∷ map (vector_at p) vectors
+group_words p vectors = codes "fields" ∷ map (vector_name_at p) vectors

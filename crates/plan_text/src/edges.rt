@@ -1,7 +1,7 @@
 //! Edge applies, and groups of fields, as words.
 ghost use Rattle.std.specs.Prelude.{◌≡◌, ◌++◌, ◌∷◌, [], map, codes, OnOk};
 ghost use Rattle.typed_tree.specs.ProgramTree.{program_tree};
-ghost use Rattle.plan_text.specs.Expressions.{vector_at, spaced};
+ghost use Rattle.plan_text.specs.Expressions.{vector_name_at, spaced};
 ghost use Rattle.plan_text.specs.Lines.{changed_words, dense_word, direction_word, edges_words, end_word, group_words, parallelization_word, part_words, second_words};
 
 use crate::applied_function::{AppliedFunction, ChangedSet};
@@ -98,7 +98,7 @@ impl<'a> Lines<'a> {
     }
 
     fn put_vectors(self, out: &mut Vec<u8>, vectors: &[usize]) -> Result<(), AllocError>
-        ensures { OnOk result (out.new.items ≡ out.old.items ++ spaced (map (vector_at (program_tree self.entry.program.now)) vectors.now)) }
+        ensures { OnOk result (out.new.items ≡ out.old.items ++ spaced (map (vector_name_at (program_tree self.entry.program.now)) vectors.now)) }
     {
         'vectors: for vector in vectors {
             put_word(out, self.vector(*vector))?;

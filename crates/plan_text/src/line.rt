@@ -1,6 +1,6 @@
 //! Lines of words.
 ghost use Rattle.std.specs.Prelude.{◌≡◌, ◌≢◌, ◌++◌, ◌∷◌, [], List, ℕ, OnOk};
-ghost use Rattle.plan_text.specs.Expressions.{joined, spaced};
+ghost use Rattle.plan_text.specs.Expressions.{spaced_words, spaced};
 
 use std::alloc::AllocError;
 
@@ -8,7 +8,7 @@ use std::alloc::AllocError;
 /// error is out of memory.
 pub fn end_line(out: &mut Vec<u8>) -> Result<(), AllocError>
     ensures { OnOk result ((before : List ℕ) (ws : List (List ℕ)) → ws ≢ [] → out.old.items ≡ before ++ spaced ws
-        → out.new.items ≡ before ++ (joined ws ++ 10 ∷ [])) }
+        → out.new.items ≡ before ++ (spaced_words ws ++ 10 ∷ [])) }
 {
     out.pop();
     out.push(b'\n')?;

@@ -2,7 +2,7 @@
 ghost use Rattle.std.specs.Prelude.{◌≡◌, map};
 ghost use Rattle.typed_tree.specs.ProgramTree.{program_tree};
 ghost use Rattle.typed_tree.specs.FunctionStatementTree.{function_tree};
-ghost use Rattle.plan_text.specs.Expressions.{name_at, vector_at};
+ghost use Rattle.plan_text.specs.Expressions.{program_name_at, vector_name_at};
 ghost use Rattle.plan_text.specs.Lines.{function_at};
 
 use typed_tree::{Function, Typed};
@@ -16,7 +16,7 @@ pub struct Lines<'a> {
 impl<'a> Lines<'a> {
     /// The name at an index, without a byte where there is none.
     pub(crate) fn name(self, index: usize) -> &'a [u8]
-        ensures { result.now ≡ name_at (program_tree self.entry.program.now) index }
+        ensures { result.now ≡ program_name_at (program_tree self.entry.program.now) index }
     {
         match self.program.names.get(index) {
             Some(name) => name.as_slice(),
@@ -26,7 +26,7 @@ impl<'a> Lines<'a> {
 
     /// The name of a vector.
     pub(crate) fn vector(self, index: usize) -> &'a [u8]
-        ensures { result.now ≡ vector_at (program_tree self.entry.program.now) index }
+        ensures { result.now ≡ vector_name_at (program_tree self.entry.program.now) index }
     {
         match self.program.vectors.get(index) {
             Some(vector) => self.name(vector.name),

@@ -4,8 +4,8 @@ ghost use Rattle.typed_tree.specs.BlockTree.{statement_kind_tree};
 ghost use Rattle.typed_tree.specs.BoolExpressionTree.{bool_expression_tree};
 ghost use Rattle.typed_tree.specs.IntExpressionTree.{int_expression_tree};
 ghost use Rattle.typed_tree.specs.ProgramTree.{program_tree};
-ghost use Rattle.plan_text.specs.Expressions.{condition_words, integer_words, name_at, bracketed, spaced};
-ghost use Rattle.plan_text.specs.Lines.{advance_words, below_words, bound_words, end_name, put_words, reducing_word, reduction_word, set_line, set_words, statement_words, unless_words, vertices_words};
+ghost use Rattle.plan_text.specs.Expressions.{condition_words, integer_words, program_name_at, bracketed, spaced};
+ghost use Rattle.plan_text.specs.Lines.{advance_words, below_words, bound_words, end_name, put_words, reducing_word, reduction_word, set_instruction_words, set_words, statement_words, unless_words, vertices_words};
 ghost use Rattle.plan_text.specs.inside.Statements.{TakesValues};
 ghost use Rattle.apply_options.specs.declared.apply_schedule.ApplySchedule.{ApplySchedule};
 
@@ -119,7 +119,7 @@ impl Lines<'_> {
     /// `i i.end <`
     fn put_test(self, out: &mut Vec<u8>, name: usize) -> Result<(), AllocError>
         ensures { OnOk result (out.new.items ≡ out.old.items
-            ++ spaced (name_at (program_tree self.entry.program.now) name ∷ end_name (program_tree self.entry.program.now) name ∷ codes "<" ∷ [])) }
+            ++ spaced (program_name_at (program_tree self.entry.program.now) name ∷ end_name (program_tree self.entry.program.now) name ∷ codes "<" ∷ [])) }
     {
         put_word(out, self.name(name))?;
         put_marked(out, self.name(name), b".end")?;
@@ -138,7 +138,7 @@ impl Lines<'_> {
 
     /// `i 1 +`
     fn put_sum(self, out: &mut Vec<u8>, name: usize) -> Result<(), AllocError>
-        ensures { OnOk result (out.new.items ≡ out.old.items ++ spaced (name_at (program_tree self.entry.program.now) name ∷ codes "1" ∷ codes "+" ∷ [])) }
+        ensures { OnOk result (out.new.items ≡ out.old.items ++ spaced (program_name_at (program_tree self.entry.program.now) name ∷ codes "1" ∷ codes "+" ∷ [])) }
     {
         put_word(out, self.name(name))?;
         put_word(out, b"1")?;
@@ -147,7 +147,7 @@ impl Lines<'_> {
 
     /// `set x`
     fn put_target(self, out: &mut Vec<u8>, name: usize) -> Result<(), AllocError>
-        ensures { OnOk result (out.new.items ≡ out.old.items ++ spaced (codes "set" ∷ name_at (program_tree self.entry.program.now) name ∷ [])) }
+        ensures { OnOk result (out.new.items ≡ out.old.items ++ spaced (codes "set" ∷ program_name_at (program_tree self.entry.program.now) name ∷ [])) }
     {
         put_word(out, b"set")?;
         put_word(out, self.name(name))
@@ -161,7 +161,7 @@ impl Lines<'_> {
         e: &IntExpression,
     ) -> Result<(), AllocError>
         ensures { OnOk result (out.new.items ≡ out.old.items
-            ++ spaced (set_words (name_at (program_tree self.entry.program.now) name)
+            ++ spaced (set_words (program_name_at (program_tree self.entry.program.now) name)
             (integer_words (program_tree self.entry.program.now) (int_expression_tree e.now)))) }
     {
         self.put_target(out, name)?;
@@ -176,7 +176,7 @@ impl Lines<'_> {
         c: &BoolExpression,
     ) -> Result<(), AllocError>
         ensures { OnOk result (out.new.items ≡ out.old.items
-            ++ spaced (set_words (name_at (program_tree self.entry.program.now) name)
+            ++ spaced (set_words (program_name_at (program_tree self.entry.program.now) name)
             (condition_words (program_tree self.entry.program.now) (bool_expression_tree c.now)))) }
     {
         self.put_target(out, name)?;
@@ -191,8 +191,8 @@ impl Lines<'_> {
         reduction: Reduction,
         e: &IntExpression,
     ) -> Result<(), AllocError>
-        ensures { OnOk result (out.new.items ≡ out.old.items ++ spaced (set_words (name_at (program_tree self.entry.program.now) name)
-            (name_at (program_tree self.entry.program.now) name ∷ integer_words (program_tree self.entry.program.now) (int_expression_tree e.now)
+        ensures { OnOk result (out.new.items ≡ out.old.items ++ spaced (set_words (program_name_at (program_tree self.entry.program.now) name)
+            (program_name_at (program_tree self.entry.program.now) name ∷ integer_words (program_tree self.entry.program.now) (int_expression_tree e.now)
             ++ reducing_word reduction ∷ []))) }
     {
         self.put_target(out, name)?;
@@ -210,7 +210,7 @@ impl Lines<'_> {
         e: &IntExpression,
     ) -> Result<(), AllocError>
         ensures { OnOk result (out.new.items ≡ out.old.items
-            ++ spaced (name_at (program_tree self.entry.program.now) name ∷ integer_words (program_tree self.entry.program.now) (int_expression_tree e.now)
+            ++ spaced (program_name_at (program_tree self.entry.program.now) name ∷ integer_words (program_tree self.entry.program.now) (int_expression_tree e.now)
             ++ reducing_word reduction ∷ [])) }
     {
         put_word(out, self.name(name))?;
@@ -245,7 +245,7 @@ impl Lines<'_> {
         value: SetValue,
         apply_schedule: ApplySchedule,
     ) -> Result<(), AllocError>
-        ensures { OnOk result (out.new.items ≡ out.old.items ++ spaced (set_line (program_tree self.entry.program.now) name value apply_schedule)) }
+        ensures { OnOk result (out.new.items ≡ out.old.items ++ spaced (set_instruction_words (program_tree self.entry.program.now) name value apply_schedule)) }
     {
         match value {
             SetValue::Modified(ends, function, vector) => {
@@ -274,7 +274,7 @@ impl Lines<'_> {
 
     /// A word and a name.
     fn put_words(self, out: &mut Vec<u8>, word: &[u8], name: usize) -> Result<(), AllocError>
-        ensures { OnOk result (out.new.items ≡ out.old.items ++ spaced (word.now ∷ name_at (program_tree self.entry.program.now) name ∷ [])) }
+        ensures { OnOk result (out.new.items ≡ out.old.items ++ spaced (word.now ∷ program_name_at (program_tree self.entry.program.now) name ∷ [])) }
     {
         put_word(out, word)?;
         put_word(out, self.name(name))
@@ -288,7 +288,7 @@ impl Lines<'_> {
         e: &IntExpression,
     ) -> Result<(), AllocError>
         ensures { OnOk result (out.new.items ≡ out.old.items
-            ++ spaced (codes "addvertex" ∷ name_at (program_tree self.entry.program.now) name
+            ++ spaced (codes "addvertex" ∷ program_name_at (program_tree self.entry.program.now) name
             ∷ bracketed (integer_words (program_tree self.entry.program.now) (int_expression_tree e.now)) ∷ [])) }
     {
         self.put_words(out, b"addvertex", name)?;

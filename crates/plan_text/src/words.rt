@@ -1,7 +1,7 @@
 //! Words at the end of a text.
 ghost use Rattle.std.specs.Prelude.{◌≡◌, ◌≢◌, ◌++◌, ◌∷◌, [], List, ℕ, OnOk};
 ghost use Rattle.plan_text.specs.inside.Rows.{times};
-ghost use Rattle.plan_text.specs.Expressions.{joined, spaced};
+ghost use Rattle.plan_text.specs.Expressions.{spaced_words, spaced};
 
 use std::alloc::AllocError;
 
@@ -43,7 +43,7 @@ pub(crate) fn open_bracket(out: &mut Vec<u8>) -> Result<(), AllocError>
 /// Ends them after the last word, in place of the space there, and puts a space.
 pub(crate) fn close_bracket(out: &mut Vec<u8>) -> Result<(), AllocError>
     ensures { OnOk result ((before : List ℕ) (ws : List (List ℕ)) → ws ≢ [] → out.old.items ≡ before ++ spaced ws
-        → out.new.items ≡ before ++ (joined ws ++ spaced ((93 ∷ []) ∷ []))) }
+        → out.new.items ≡ before ++ (spaced_words ws ++ spaced ((93 ∷ []) ∷ []))) }
 {
     out.pop();
     put_word(out, b"]")

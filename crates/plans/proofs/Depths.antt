@@ -7,7 +7,7 @@ use Rattle.typed_tree.specs.BlockTree.{PrintInteger, PrintCondition, ApplyVertex
 use Rattle.algorithm_meaning.specs.State.{StateValue}
 use Rattle.algorithm_meaning.specs.declared.state.Depth.{Depth}
 use Rattle.plans.specs.inside.Plan.{IsWithin}
-use Rattle.plans.specs.Plan.{in_loop, behind, behind_all}
+use Rattle.plans.specs.Plan.{depth_in_loop, depth_after, depth_after_all}
 use Rattle.algorithm_meaning.specs.Loop.{depth_of, forget_beyond}
 
 pub within_itself : (d : Depth) → IsWithin d d
@@ -20,10 +20,10 @@ within_both d e f h k = record {
   sets = omega (arith, h.sets, k.sets);
 }
 
-pub within_loop : (d : Depth) → IsWithin d (in_loop d)
+pub within_loop : (d : Depth) → IsWithin d (depth_in_loop d)
 within_loop d = record { integers = omega arith; conditions = omega arith; sets = omega arith }
 
-pub within_after : (a : StatementKindTree) (d : Depth) → IsWithin d (behind a d)
+pub within_after : (a : StatementKindTree) (d : Depth) → IsWithin d (depth_after a d)
 within_after (DeclareInteger name e) d = record { integers = omega arith; conditions = omega arith; sets = omega arith }
 within_after (DeclareCondition name c) d = record { integers = omega arith; conditions = omega arith; sets = omega arith }
 within_after (DeclareSet name set) d = record { integers = omega arith; conditions = omega arith; sets = omega arith }
@@ -43,10 +43,10 @@ within_after (IfElse c body other) d = within_itself d
 within_after (While c body) d = within_itself d
 within_after (For name first end body) d = within_itself d
 
-pub within_after_all : (b : BlockTree) (d : Depth) → IsWithin d (behind_all b d)
+pub within_after_all : (b : BlockTree) (d : Depth) → IsWithin d (depth_after_all b d)
 within_after_all Empty d = within_itself d
 within_after_all (Then number label action rest) d =
-    within_both d (behind action d) (behind_all rest (behind action d)) (within_after action d) (within_after_all rest (behind action d))
+    within_both d (depth_after action d) (depth_after_all rest (depth_after action d)) (within_after action d) (within_after_all rest (depth_after action d))
 
 take_less : {A : Type 0} (m n : ℕ) (xs : List A) → m ≤ n → take m (take n xs) ≡ take m xs
 take_less zero n xs h = refl

@@ -10,7 +10,7 @@ use Rattle.algorithm_meaning.specs.declared.state.Depth.{Depth}
 use Rattle.plans.specs.Instruction.{OperationTree, ApplyEdgesTogether, ApplyVerticesTogether, Advance, Jump, End, InstructionTree}
 use Rattle.plans.specs.Fusing.{EdgeApplyTree, VertexApplyTree, edge_apply_of, vertex_apply_of, function_is_local, edges_fit, vertices_fit, fused_edges, fused_vertices, either, together, is_with}
 use Rattle.plans.specs.Fusing.{FusionRole, Alone, WithNext, WithPrevious, with_next, fusion_role_of, takes_next}
-use Rattle.plans.specs.Plan.{behind, behind_all, in_loop, main_depth, plain, loop_step, size_in, plan_in, size, size_all, plan, plan_all, plan_of}
+use Rattle.plans.specs.Plan.{depth_after, depth_after_all, depth_in_loop, main_depth, plain, loop_step, size_in, plan_in, size, size_all, plan, plan_all, plan_of}
 use Rattle.plans.specs.Fused.{FitTogether, FusedFit}
 use Rattle.plans.proofs.Ascending.{ascends_increasing}
 use Rattle.plans.proofs.VertexPairs.{both_at_each}
@@ -110,7 +110,7 @@ module _ (p : ProgramTree) (s : ScheduleTree) where
       (tt, all_append Fits (plan_all p s (index + 2) d false body) (plain number d (Jump index) ∷ []) (block_fits body false (index + 2) d) (tt, tt)),
     )
     action_fits (For name first end body) index number label d =
-        let deep = in_loop d in (
+        let deep = depth_in_loop d in (
           tt,
           (
             tt,
@@ -131,12 +131,12 @@ module _ (p : ProgramTree) (s : ScheduleTree) where
         let company = fusion_role_of p s d is_done label action rest in
         let own = plan p s index d number label action in
         let n = size_in company (size p s d action) in
-        all_append Fits (plan_in company s number label d own) (plan_all p s (index + n) (behind action d) (takes_next company) rest)
+        all_append Fits (plan_in company s number label d own) (plan_all p s (index + n) (depth_after action d) (takes_next company) rest)
         (in_company company number label d own (company_fits p s d is_done label action rest) (action_fits action index number label d))
-        (block_fits rest (takes_next company) (index + n) (behind action d))
+        (block_fits rest (takes_next company) (index + n) (depth_after action d))
 
 pub fused_fit : (p : ProgramTree) (s : ScheduleTree) → FusedFit p (plan_of p s)
 fused_fit p s index i at =
     let d = main_depth p in
-    let last = plain 0 (behind_all p.main d) End ∷ [] in
+    let last = plain 0 (depth_after_all p.main d) End ∷ [] in
     all_at (Fits p s) (plan_of p s) index i (all_append (Fits p s) (plan_all p s 0 d false p.main) last (block_fits p s p.main false 0 d) (tt, tt)) at

@@ -9,7 +9,7 @@ use Rattle.apply_options.specs.ScheduleTree.{ScheduleTree}
 use Rattle.algorithm_meaning.specs.declared.state.Depth.{Depth}
 use Rattle.plans.specs.Instruction.{InstructionTree, Jump, Advance}
 use Rattle.plans.specs.Fusing.{FusionRole, Alone, WithNext, WithPrevious, fusion_role_of, takes_next}
-use Rattle.plans.specs.Plan.{behind, in_loop, plain, loop_step, size_in, plan_in, size, size_all, plan, plan_all}
+use Rattle.plans.specs.Plan.{depth_after, depth_in_loop, plain, loop_step, size_in, plan_in, size, size_all, plan, plan_all}
 
 -- the instructions stand in the code at this index
 abbrev pub HasAt : List InstructionTree → ℕ → List InstructionTree → Type 0
@@ -64,8 +64,8 @@ module _ (p : ProgramTree) (s : ScheduleTree) where
     length-plan (For name first end body) index d number label =
         omega (
           arith,
-          length-plan_all body (index + 4) (in_loop d) false,
-          length-append (plan_all p s (index + 4) (in_loop d) false body) (plain number d (Advance name) ∷ loop_step number (in_loop d) d (Jump (index + 2)) ∷ []),
+          length-plan_all body (index + 4) (depth_in_loop d) false,
+          length-append (plan_all p s (index + 4) (depth_in_loop d) false body) (plain number d (Advance name) ∷ loop_step number (depth_in_loop d) d (Jump (index + 2)) ∷ []),
         )
     length-plan (DeclareInteger name e) index d number label = refl
     length-plan (DeclareCondition name c) index d number label = refl
@@ -89,5 +89,5 @@ module _ (p : ProgramTree) (s : ScheduleTree) where
         let first = plan_in company s number label d (plan p s index d number label action) in
         let n = size_in company (size p s d action) in
         let e : length first ≡ n = length_in company s number label d (plan p s index d number label action) (size p s d action) (length-plan action index d number label) in
-        let others = length-plan_all rest (index + n) (behind action d) (takes_next company) in
-        omega (arith, e, others, length-append first (plan_all p s (index + n) (behind action d) (takes_next company) rest))
+        let others = length-plan_all rest (index + n) (depth_after action d) (takes_next company) in
+        omega (arith, e, others, length-append first (plan_all p s (index + n) (depth_after action d) (takes_next company) rest))

@@ -9,7 +9,7 @@ use Rattle.algorithm_meaning.specs.declared.state.LoopCounter.{LoopCounter}
 use Rattle.algorithm_meaning.specs.declared.state.Depth.{Depth}
 use Rattle.plans.specs.Instruction.{OperationTree}
 use Rattle.plans.specs.Fusing.{FusionRole, Alone, WithNext, WithPrevious}
-use Rattle.plans.specs.Plan.{behind}
+use Rattle.plans.specs.Plan.{depth_after}
 use Rattle.plans.specs.Machine.{At, act}
 use Rattle.plans.proofs.Proper.{IsProper, HasNoBlock, Leaves, alone-leaves}
 
@@ -35,6 +35,6 @@ module _ (p : ProgramTree) (g : GraphValue) where
   IsGoodCompany (WithNext operation) d a Empty = ⊥
   IsGoodCompany (WithNext operation) d a (Then number label b rest) = DoesBoth operation d a b
 
-  pub faultless-proper : (a : StatementKindTree) (f : StateValue → StateValue) (d : Depth) (turns : ℕ) (s : StateValue) → IsFaultless a f → IsProper d turns s → IsProper (behind a d) turns (f s)
+  pub faultless-proper : (a : StatementKindTree) (f : StateValue → StateValue) (d : Depth) (turns : ℕ) (s : StateValue) → IsFaultless a f → IsProper d turns s → IsProper (depth_after a d) turns (f s)
   faultless-proper a f d turns s faultless q =
-      subst (Leaves d (behind a d) turns) (faultless.means 0 s) (alone-leaves p g 0 d turns s q a faultless.alone)
+      subst (Leaves d (depth_after a d) turns) (faultless.means 0 s) (alone-leaves p g 0 d turns s q a faultless.alone)

@@ -8,8 +8,8 @@ use Rattle.algorithm_meaning.specs.declared.state.Depth.{Depth}
 use Rattle.plans.specs.Instruction.{OperationTree, ApplyEdgesTogether, ApplyVerticesTogether, Advance, Jump, End, InstructionTree}
 use Rattle.plans.specs.Fusing.{EdgeApplyTree, VertexApplyTree, edge_apply_of, vertex_apply_of, edges_fit, vertices_fit, fused_edges, fused_vertices, either, together, is_with, FusionRole, Alone}
 use Rattle.plans.specs.Fusing.{WithNext, WithPrevious, with_next, fusion_role_of, takes_next}
-use Rattle.plans.specs.Plan.{behind, behind_all, in_loop, main_depth, plain, loop_step, chosen, size_in, plan_in, size, size_all, plan, plan_all, plan_of}
-use Rattle.plans.specs.ApplySchedules.{StandsIn, StandsInside, first_apply, ComesFrom, GoBySchedule}
+use Rattle.plans.specs.Plan.{depth_after, depth_after_all, depth_in_loop, main_depth, plain, loop_step, chosen, size_in, plan_in, size, size_all, plan, plan_all, plan_of}
+use Rattle.plans.specs.ApplySchedules.{IsStatementOf, StandsInside, first_apply, ComesFrom, GoBySchedule}
 
 abbrev pub AllOf : (InstructionTree → Type 0) → List InstructionTree → Type 0
 AllOf P [] = Unit {0}
@@ -124,7 +124,7 @@ module _ (p : ProgramTree) (schedule : ScheduleTree) (P : InstructionTree → Ty
       ),
     )
     action_comes (For name first end body) index number label d own inner =
-        let deep = in_loop d in
+        let deep = depth_in_loop d in
         let a = For name first end body in (
           other number label a _ own refl refl,
           (
@@ -140,23 +140,23 @@ module _ (p : ProgramTree) (schedule : ScheduleTree) (P : InstructionTree → Ty
           ),
         )
 
-    block_comes : (b : BlockTree) (is_done : Bool) (index : ℕ) (d : Depth) → ((n : ℕ) (l : Option ℕ) (c : StatementKindTree) → StandsIn b n l c → HoldsFor n l c)
+    block_comes : (b : BlockTree) (is_done : Bool) (index : ℕ) (d : Depth) → ((n : ℕ) (l : Option ℕ) (c : StatementKindTree) → IsStatementOf b n l c → HoldsFor n l c)
         → AllOf P (plan_all p schedule index d is_done b)
     block_comes Empty is_done index d holds = tt
     block_comes (Then number label action rest) is_done index d holds =
         let company = fusion_role_of p schedule d is_done label action rest in
         let own = plan p schedule index d number label action in
         let n = size_in company (size p schedule d action) in
-        all_append P (plan_in company schedule number label d own) (plan_all p schedule (index + n) (behind action d) (takes_next company) rest)
+        all_append P (plan_in company schedule number label d own) (plan_all p schedule (index + n) (depth_after action d) (takes_next company) rest)
         (in_company company number label d action own (company_begins p schedule d is_done label action rest) (holds number label action (inl (refl, refl, refl)))
         (action_comes action index number label d (holds number label action (inl (refl, refl, refl))) (λ n l c h. holds n l c (inr (inl h)))))
-        (block_comes rest (takes_next company) (index + n) (behind action d) (λ n l c h. holds n l c (inr (inr h))))
+        (block_comes rest (takes_next company) (index + n) (depth_after action d) (λ n l c h. holds n l c (inr (inr h))))
 
 pub go_by_schedule : (p : ProgramTree) (schedule : ScheduleTree) → GoBySchedule p.main schedule (plan_of p schedule)
 go_by_schedule p schedule index i x at e =
     let P : InstructionTree → Type 0 = λ i. (x : EdgeApplyTree) → first_apply i.operation ≡ Some x → ComesFrom p.main schedule i x in
     let d = main_depth p in
-    let last = plain 0 (behind_all p.main d) End ∷ [] in
+    let last = plain 0 (depth_after_all p.main d) End ∷ [] in
     let from_main = block_comes p schedule P p.main false 0 d (λ n l c stands i numbered tells x e.
     let t = tells x e in record { number = n; label = l; action = c; stands = stands; applies = t.0; numbered = numbered; chosen = t.1 }) in
     all_at P (plan_of p schedule) index i (all_append P (plan_all p schedule 0 d false p.main) last from_main (λ x e. let bad : None ≡ Some x = e in cc, tt)) at x e

@@ -17,7 +17,7 @@ use Rattle.algorithm_meaning.specs.Arithmetic.{reduced}
 use Rattle.algorithm_meaning.specs.Meaning.{after}
 use Rattle.algorithm_meaning.specs.declared.state.Depth.{Depth}
 use Rattle.plans.specs.inside.Plan.{IsWithin}
-use Rattle.plans.specs.Plan.{behind, with_set}
+use Rattle.plans.specs.Plan.{depth_after, depth_with_set}
 use Rattle.algorithm_meaning.specs.Loop.{forget_beyond, depth_of}
 use Rattle.plans.proofs.Depths.{visible-forgotten}
 use Rattle.plans.proofs.Ascending.{AscendsFrom, AreAscending, ascends_range, ascends_filter, ascends_inserted}
@@ -97,7 +97,7 @@ one_more xs x n e = length-append xs (x ∷ []) ∙ ap (λ (m : ℕ). m + 1) e
 
 -- a set that is declared, and one that is assigned, with other vectors
 pub declared-proper : (d : Depth) (turns : ℕ) (s : StateValue) → IsProper d turns s → (name : ℕ) (members : List ℕ) (vectors : List (List ℤ)) → AscendsFrom 0 members
-    → IsProper (with_set d) turns (with_new_set (with_vectors s vectors) name members)
+    → IsProper (depth_with_set d) turns (with_new_set (with_vectors s vectors) name members)
 declared-proper d turns s proper name members vectors ascending = record {
   deep = λ i. record {
     integers = ap (λ (d : Depth). d.integers) proper.deep i;
@@ -130,15 +130,15 @@ module _ (p : ProgramTree) (g : GraphValue) (number : ℕ) (d : Depth) (turns : 
   sets_here : length s.sets ≡ d.sets
   sets_here = ap (λ (d : Depth). d.sets) proper.deep
 
-  pub alone-leaves : (a : StatementKindTree) → HasNoBlock a → Leaves d (behind a d) turns (after p g number a s)
+  pub alone-leaves : (a : StatementKindTree) → HasNoBlock a → Leaves d (depth_after a d) turns (after p g number a s)
   alone-leaves (DeclareInteger name e) alone =
-      by_value (int_value_in g.vertices e s) d (behind (DeclareInteger name e) d) turns number s _ proper.deep (λ n. record {
+      by_value (int_value_in g.vertices e s) d (depth_after (DeclareInteger name e) d) turns number s _ proper.deep (λ n. record {
         deep = λ i. record { integers = one_more s.scope.integers n d.integers integers_here i; conditions = conditions_here i; sets = sets_here i };
         sets = proper.sets;
         fewer = proper.fewer;
       })
   alone-leaves (DeclareCondition name c) alone =
-      by_value (bool_value_in g.vertices c s) d (behind (DeclareCondition name c) d) turns number s _ proper.deep (λ b. record {
+      by_value (bool_value_in g.vertices c s) d (depth_after (DeclareCondition name c) d) turns number s _ proper.deep (λ b. record {
         deep = λ i. record { integers = integers_here i; conditions = one_more s.scope.conditions b d.conditions conditions_here i; sets = sets_here i };
         sets = proper.sets;
         fewer = proper.fewer;

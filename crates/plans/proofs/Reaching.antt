@@ -14,7 +14,7 @@ use Rattle.algorithm_meaning.specs.declared.state.LoopCounter.{LoopCounter}
 use Rattle.algorithm_meaning.specs.declared.state.Depth.{Depth}
 use Rattle.plans.specs.Instruction.{Do, Jump, InstructionTree}
 use Rattle.plans.specs.inside.Plan.{IsWithin}
-use Rattle.plans.specs.Plan.{behind, loop_step}
+use Rattle.plans.specs.Plan.{depth_after, loop_step}
 use Rattle.plans.specs.Machine.{Configuration, At, Ended, go_on, act, act_at, step}
 use Rattle.plans.specs.RunLaws.{GoesOn}
 use Rattle.plans.proofs.Depths.{forgotten-all, forgotten-less}
@@ -97,9 +97,9 @@ module _ (p : ProgramTree) (g : GraphValue) (code : List InstructionTree) where
   -- a statement without a block
   pub alone_runs : (a : StatementKindTree) → HasNoBlock a → (index number : ℕ) (apply_schedule : ApplySchedule) (d : Depth) (turns : ℕ) (loops : List LoopCounter) (m s : StateValue)
       → slice_get code index ≡ Some (record { number = number; keep = d; shown = d; apply_schedule = apply_schedule; operation = Do a })
-      → forget_beyond d m ≡ s → IsProper d turns s → Follows (index + 1) loops (behind a d) turns (after p g number a s) (At index loops m)
+      → forget_beyond d m ≡ s → IsProper d turns s → Follows (index + 1) loops (depth_after a d) turns (after p g number a s) (At index loops m)
   alone_runs a alone index number apply_schedule d turns loops m s at same proper =
-      alone_stands (after p g number a s) (index + 1) loops d (behind a d) turns (At index loops m) (alone-leaves p g number d turns s proper a alone)
+      alone_stands (after p g number a s) (index + 1) loops d (depth_after a d) turns (At index loops m) (alone-leaves p g number d turns s proper a alone)
       (takes index loops m (record { number = number; keep = d; shown = d; apply_schedule = apply_schedule; operation = Do a }) s at same)
 
   -- a block is left

@@ -13,7 +13,7 @@ use Rattle.algorithm_meaning.specs.declared.state.LoopCounter.{LoopCounter}
 use Rattle.algorithm_meaning.specs.declared.state.Depth.{Depth}
 use Rattle.plans.specs.Instruction.{OperationTree, Do, Unless, UnlessBelow, Turn, Jump, Advance, InstructionTree}
 use Rattle.plans.specs.Fusing.{FusionRole, Alone, WithNext, WithPrevious, fusion_role_of, takes_next}
-use Rattle.plans.specs.Plan.{behind, behind_all, in_loop, plain, loop_step, chosen, size_in, plan_in, size, size_all, plan, plan_all}
+use Rattle.plans.specs.Plan.{depth_after, depth_after_all, depth_in_loop, plain, loop_step, chosen, size_in, plan_in, size, size_all, plan, plan_all}
 use Rattle.plans.specs.Machine.{Configuration, At}
 use Rattle.plans.proofs.Depths.{within_loop, within_after_all, within_both, forgotten-all}
 use Rattle.plans.proofs.Proper.{IsProper, HasNoBlock}
@@ -32,7 +32,7 @@ after_rest p g true (Then number label action rest) s = after_all p g rest s
 abbrev pub at_rest : (is_done : Bool) → BlockTree → Depth → Depth
 at_rest false b d = d
 at_rest true Empty d = d
-at_rest true (Then number label action rest) d = behind action d
+at_rest true (Then number label action rest) d = depth_after action d
 
 module _ (p : ProgramTree) (g : GraphValue) (schedule : ScheduleTree) (code : List InstructionTree) where
   -- one statement after the other
@@ -46,14 +46,14 @@ module _ (p : ProgramTree) (g : GraphValue) (schedule : ScheduleTree) (code : Li
 
   -- a block inside a statement, at its first instruction
   block_inside : (st : Stand) (to : ℕ) (loops : List LoopCounter) (b : BlockTree) (d : Depth) (turns : ℕ) (s : StateValue) (c c' : Configuration) → IsProper d turns s
-      → Moves p g code c c' → Follows p g code to loops (behind_all b d) turns st c' → Follows p g code to loops d turns (leave (depth_of s) st) c
+      → Moves p g code c c' → Follows p g code to loops (depth_after_all b d) turns st c' → Follows p g code to loops d turns (leave (depth_of s) st) c
   block_inside st to loops b d turns s c c' q e f =
       follows_from p g code (leave (depth_of s) st) to loops d turns c c' (by_step p g code c c' c' e here)
-      (leaving p g code st to loops d (behind_all b d) turns s c' q.deep (within_after_all b d) f)
+      (leaving p g code st to loops d (depth_after_all b d) turns s c' q.deep (within_after_all b d) f)
 
   if_runs : (c : BoolExpressionTree) (body : BlockTree) (index number to : ℕ) (d : Depth) (turns : ℕ) (loops : List LoopCounter) (m s : StateValue) (o : Option Bool)
       → slice_get code index ≡ Some (plain number d (Unless c to)) → forget_beyond d m ≡ s → IsProper d turns s → bool_value_in g.vertices c s ≡ o
-      → Follows p g code to loops (behind_all body d) turns (after_all p g body s) (At (index + 1) loops s)
+      → Follows p g code to loops (depth_after_all body d) turns (after_all p g body s) (At (index + 1) loops s)
       → Follows p g code to loops d turns (with_value o number s (λ b. choose b (inside (after_all p g body) s) (Live s))) (At index loops m)
   if_runs c body index number to d turns loops m s None at same q e body_runs = unless_faults p g code c index number to d turns loops m s at same q e
   if_runs c body index number to d turns loops m s (Some true) at same q e body_runs =
@@ -69,8 +69,8 @@ module _ (p : ProgramTree) (g : GraphValue) (schedule : ScheduleTree) (code : Li
   if_else_runs : (c : BoolExpressionTree) (body other : BlockTree) (index number back from to : ℕ) (d : Depth) (turns : ℕ) (loops : List LoopCounter) (m s : StateValue) (o : Option Bool)
       → slice_get code index ≡ Some (plain number d (Unless c from)) → slice_get code back ≡ Some (plain number d (Jump to)) → forget_beyond d m ≡ s → IsProper d turns s
       → bool_value_in g.vertices c s ≡ o
-      → Follows p g code back loops (behind_all body d) turns (after_all p g body s) (At (index + 1) loops s)
-      → Follows p g code to loops (behind_all other d) turns (after_all p g other s) (At from loops s)
+      → Follows p g code back loops (depth_after_all body d) turns (after_all p g body s) (At (index + 1) loops s)
+      → Follows p g code to loops (depth_after_all other d) turns (after_all p g other s) (At from loops s)
       → Follows p g code to loops d turns (with_value o number s (λ b. choose b (inside (after_all p g body) s) (inside (after_all p g other) s))) (At index loops m)
   if_else_runs c body other index number back from to d turns loops m s None at at_jump same q e body_runs other_runs =
       unless_faults p g code c index number from d turns loops m s at same q e
@@ -86,14 +86,14 @@ module _ (p : ProgramTree) (g : GraphValue) (schedule : ScheduleTree) (code : Li
   both_run : (operation : OperationTree) (a b : StatementKindTree) (index number : ℕ) (label : Option ℕ) (d : Depth) (turns : ℕ) (loops : List LoopCounter) (m s : StateValue)
       (both : DoesBoth p g operation d a b)
       → slice_get code index ≡ Some (chosen schedule number label d operation) → forget_beyond d m ≡ s → IsProper d turns s
-      → Lands p g code (index + 1) loops (behind b (behind a d)) turns (both.second (both.first s)) (At index loops m)
+      → Lands p g code (index + 1) loops (depth_after b (depth_after a d)) turns (both.second (both.first s)) (At index loops m)
   both_run operation a b index number label d turns loops m s both at same q =
-      let proper = faultless-proper p g b both.second (behind a d) turns (both.first s) both.second_means (faultless-proper p g a both.first d turns s both.first_means q) in
+      let proper = faultless-proper p g b both.second (depth_after a d) turns (both.first s) both.second_means (faultless-proper p g a both.first d turns s both.first_means q) in
       record {
         there = both.second (both.first s);
         reaches = by_step p g code (At index loops m) (At (index + 1) loops (both.second (both.first s))) (At (index + 1) loops (both.second (both.first s)))
             (moves_on p g code (takes p g code index loops m (chosen schedule number label d operation) s at same) (both.acts number d index loops turns s q)) here;
-        same = forgotten-all (behind b (behind a d)) (both.second (both.first s)) proper.deep;
+        same = forgotten-all (depth_after b (depth_after a d)) (both.second (both.first s)) proper.deep;
         proper = proper;
       }
 
@@ -107,7 +107,7 @@ module _ (p : ProgramTree) (g : GraphValue) (schedule : ScheduleTree) (code : Li
   -- the instruction of a statement without a block
   single : (a : StatementKindTree) → HasNoBlock a → (index number : ℕ) (label : Option ℕ) (d : Depth) (turns : ℕ) (loops : List LoopCounter) (m s : StateValue)
       → HasAt code index (chosen schedule number label d (Do a) ∷ []) → forget_beyond d m ≡ s → IsProper d turns s
-      → Follows p g code (index + 1) loops (behind a d) turns (after p g number a s) (At index loops m)
+      → Follows p g code (index + 1) loops (depth_after a d) turns (after p g number a s) (At index loops m)
   single a alone index number label d turns loops m s at same q = alone_runs p g code a alone index number (apply_schedule_at label schedule) d turns loops m s at.0 same q
 
   -- the instructions of a block after others
@@ -122,41 +122,42 @@ module _ (p : ProgramTree) (g : GraphValue) (schedule : ScheduleTree) (code : Li
   joined_runs : (company : FusionRole) (action : StatementKindTree) (rest : BlockTree) (index number : ℕ) (label : Option ℕ) (d : Depth) (turns : ℕ) (loops : List LoopCounter) (m s : StateValue)
       → IsGoodCompany p g company d action rest
       → HasAt code index (plan_in company schedule number label d (plan p schedule index d number label action)
-      ++ plan_all p schedule (index + size_in company (size p schedule d action)) (behind action d) (takes_next company) rest)
+      ++ plan_all p schedule (index + size_in company (size p schedule d action)) (depth_after action d) (takes_next company) rest)
       → forget_beyond d m ≡ s → IsProper d turns s
-      → (HasAt code index (plan p schedule index d number label action) → Follows p g code (index + size p schedule d action) loops (behind action d) turns (after p g number action s)
+      → (HasAt code index (plan p schedule index d number label action) → Follows p g code (index + size p schedule d action) loops (depth_after action d) turns (after p g number action s)
       (At index loops m))
-      → ((is_done : Bool) (from : ℕ) (m t : StateValue) → HasAt code from (plan_all p schedule from (behind action d) is_done rest)
-      → forget_beyond (at_rest is_done rest (behind action d)) m ≡ t → IsProper (at_rest is_done rest (behind action d)) turns t
-      → Follows p g code (from + size_all p schedule (behind action d) is_done rest) loops (behind_all rest (behind action d)) turns (after_rest p g is_done rest t) (At from loops m))
-      → Follows p g code (index + (size_in company (size p schedule d action) + size_all p schedule (behind action d) (takes_next company) rest)) loops (behind_all rest (behind action d)) turns
+      → ((is_done : Bool) (from : ℕ) (m t : StateValue) → HasAt code from (plan_all p schedule from (depth_after action d) is_done rest)
+      → forget_beyond (at_rest is_done rest (depth_after action d)) m ≡ t → IsProper (at_rest is_done rest (depth_after action d)) turns t
+      → Follows p g code (from + size_all p schedule (depth_after action d) is_done rest) loops (depth_after_all rest (depth_after action d)) turns (after_rest p g is_done rest t) (At from loops m))
+      → Follows p g code (index + (size_in company (size p schedule d action) + size_all p schedule (depth_after action d) (takes_next company) rest)) loops
+      (depth_after_all rest (depth_after action d)) turns
       (then_do (after p g number action s) (after_all p g rest)) (At index loops m)
   joined_runs Alone action rest index number label d turns loops m s good at same q run_action run_rest =
       let n = size p schedule d action in
-      let e = behind action d in
+      let e = depth_after action d in
       let to = index + n + size_all p schedule e false rest in
       let own = plan p schedule index d number label action in
       let others = plan_all p schedule (index + n) e false rest in
       let st = then_do (after p g number action s) (after_all p g rest) in
-      lands_at p g code st to (index + (n + size_all p schedule e false rest)) loops (behind_all rest e) turns (At index loops m) (omega arith)
-      (then_follows (after p g number action s) (after_all p g rest) (index + n) to loops e (behind_all rest e) turns (At index loops m)
+      lands_at p g code st to (index + (n + size_all p schedule e false rest)) loops (depth_after_all rest e) turns (At index loops m) (omega arith)
+      (then_follows (after p g number action s) (after_all p g rest) (index + n) to loops e (depth_after_all rest e) turns (At index loops m)
       (run_action (has_front code index own others at))
       (λ t there kept proper. run_rest false (index + n) there t (has_behind code index n (index + n) own others (length-plan p schedule action index d number label) refl at) kept proper))
   joined_runs WithPrevious action rest index number label d turns loops m s good at same q run_action run_rest = absurd good
   joined_runs (WithNext operation) action Empty index number label d turns loops m s good at same q run_action run_rest = absurd good
   joined_runs (WithNext operation) action (Then other second next rest) index number label d turns loops m s good at same q run_action run_rest =
-      let e = behind action d in
+      let e = depth_after action d in
       let block = Then other second next rest in
       let t = good.second (good.first s) in
       let lands = both_run operation action next index number label d turns loops m s good at.0 same q in
       let to = index + 1 + size_all p schedule e true block in
       let st = after_all p g rest t in
-      let ran = follows_from p g code st to loops (behind_all block e) turns (At index loops m) (At (index + 1) loops lands.there) lands.reaches
+      let ran = follows_from p g code st to loops (depth_after_all block e) turns (At index loops m) (At (index + 1) loops lands.there) lands.reaches
       (run_rest true (index + 1) lands.there t at.1 lands.same lands.proper) in
       let same_stand = both_mean action next number other rest second s good.first good.second good.first_means good.second_means in
-      lands_at p g code (then_do (after p g number action s) (after_all p g block)) to (index + (1 + size_all p schedule e true block)) loops (behind_all block e) turns (At index loops m)
+      lands_at p g code (then_do (after p g number action s) (after_all p g block)) to (index + (1 + size_all p schedule e true block)) loops (depth_after_all block e) turns (At index loops m)
       (omega arith)
-      (subst (λ (st : Stand). Follows p g code to loops (behind_all block e) turns st (At index loops m)) same_stand ran)
+      (subst (λ (st : Stand). Follows p g code to loops (depth_after_all block e) turns st (At index loops m)) same_stand ran)
 
   lands_here : (index : ℕ) (loops : List LoopCounter) (d : Depth) (turns : ℕ) (m s : StateValue) → forget_beyond d m ≡ s → IsProper d turns s
       → Lands p g code (index + 0) loops d turns s (At index loops m)
@@ -168,7 +169,7 @@ module _ (p : ProgramTree) (g : GraphValue) (schedule : ScheduleTree) (code : Li
     mutual
       pub action_runs : (a : StatementKindTree) (index number : ℕ) (label : Option ℕ) (d : Depth) (turns : ℕ) (loops : List LoopCounter) (m s : StateValue)
           → HasAt code index (plan p schedule index d number label a) → forget_beyond d m ≡ s → IsProper d turns s
-          → Follows p g code (index + size p schedule d a) loops (behind a d) turns (after p g number a s) (At index loops m)
+          → Follows p g code (index + size p schedule d a) loops (depth_after a d) turns (after p g number a s) (At index loops m)
       action_runs (DeclareInteger name e) index number label d turns loops m s at same q = single (DeclareInteger name e) tt index number label d turns loops m s at same q
       action_runs (DeclareCondition name c) index number label d turns loops m s at same q = single (DeclareCondition name c) tt index number label d turns loops m s at same q
       action_runs (SetInteger slot e) index number label d turns loops m s at same q = single (SetInteger slot e) tt index number label d turns loops m s at same q
@@ -205,12 +206,12 @@ module _ (p : ProgramTree) (g : GraphValue) (schedule : ScheduleTree) (code : Li
           let jump = plain number d (Jump index) ∷ [] in
           let inner : HasBlock (index + 2) d false body jump = subst (λ (x : ℕ). HasAt code x (plan_all p schedule (index + 2) d false body ++ jump)) (omega arith) at.1.1 in
           lands_at p g code (after p g number (While c body) s) to (index + size p schedule d (While c body)) loops d turns (At index loops m) (omega arith)
-          (while_runs p g code c (after_all p g body) index number back to d (behind_all body d) turns loops m s at.0 at.1.0 (behind_block (index + 2) back d body jump refl inner).0
+          (while_runs p g code c (after_all p g body) index number back to d (depth_after_all body d) turns loops m s at.0 at.1.0 (behind_block (index + 2) back d body jump refl inner).0
           (within_after_all body d)
           (λ n t proper. block_runs body false (index + 2) d n loops t t (has_front code (index + 2) (plan_all p schedule (index + 2) d false body) jump inner) (forgotten-all d t proper.deep) proper)
           same q)
       action_runs (For name first end body) index number label d turns loops m s at same q =
-          let deep = in_loop d in
+          let deep = depth_in_loop d in
           let back = index + 4 + size_all p schedule deep false body in
           let to = back + 2 in
           let last = plain number d (Advance name) ∷ loop_step number deep d (Jump (index + 2)) ∷ [] in
@@ -225,23 +226,23 @@ module _ (p : ProgramTree) (g : GraphValue) (schedule : ScheduleTree) (code : Li
             at_jump = others.1.0;
           } in
           lands_at p g code (after p g number (For name first end body) s) to (index + size p schedule d (For name first end body)) loops d turns (At index loops m) (omega arith)
-          (for_runs p g code index number name back to first end d (behind_all body deep) loops stands (after_all p g body) turns s m
-          (within_both d deep (behind_all body deep) (within_loop d) (within_after_all body deep))
+          (for_runs p g code index number name back to first end d (depth_after_all body deep) loops stands (after_all p g body) turns s m
+          (within_both d deep (depth_after_all body deep) (within_loop d) (within_after_all body deep))
           (λ r n t proper. block_runs body false (index + 4) deep n (r ∷ loops) t t (has_front code (index + 4) (plan_all p schedule (index + 4) deep false body) last inner)
           (forgotten-all deep t proper.deep) proper)
           same q)
 
       pub block_runs : (b : BlockTree) (is_done : Bool) (index : ℕ) (d : Depth) (turns : ℕ) (loops : List LoopCounter) (m s : StateValue)
           → HasAt code index (plan_all p schedule index d is_done b) → forget_beyond (at_rest is_done b d) m ≡ s → IsProper (at_rest is_done b d) turns s
-          → Follows p g code (index + size_all p schedule d is_done b) loops (behind_all b d) turns (after_rest p g is_done b s) (At index loops m)
+          → Follows p g code (index + size_all p schedule d is_done b) loops (depth_after_all b d) turns (after_rest p g is_done b s) (At index loops m)
       block_runs Empty true index d turns loops m s at same q = lands_here index loops d turns m s same q
       block_runs Empty false index d turns loops m s at same q = lands_here index loops d turns m s same q
       block_runs (Then number label action rest) true index d turns loops m s at same q =
           let e : index + 0 ≡ index = omega arith in
-          lands_at p g code (after_all p g rest s) (index + size_all p schedule (behind action d) false rest) (index + size_all p schedule d true (Then number label action rest)) loops
-          (behind_all rest (behind action d)) turns (At index loops m) (omega arith)
-          (block_runs rest false index (behind action d) turns loops m s (subst (λ (x : ℕ). HasAt code index (plan_all p schedule x (behind action d) false rest)) e at) same q)
+          lands_at p g code (after_all p g rest s) (index + size_all p schedule (depth_after action d) false rest) (index + size_all p schedule d true (Then number label action rest)) loops
+          (depth_after_all rest (depth_after action d)) turns (At index loops m) (omega arith)
+          (block_runs rest false index (depth_after action d) turns loops m s (subst (λ (x : ℕ). HasAt code index (plan_all p schedule x (depth_after action d) false rest)) e at) same q)
       block_runs (Then number label action rest) false index d turns loops m s at same q =
           joined_runs (fusion_role_of p schedule d false label action rest) action rest index number label d turns loops m s (good d label action rest) at same q
           (λ own. action_runs action index number label d turns loops m s own same q)
-          (λ is_done from m t others kept proper. block_runs rest is_done from (behind action d) turns loops m t others kept proper)
+          (λ is_done from m t others kept proper. block_runs rest is_done from (depth_after action d) turns loops m t others kept proper)

@@ -8,7 +8,7 @@ use Rattle.algorithm_meaning.specs.declared.state.Depth.{Depth}
 use Rattle.plans.specs.Instruction.{Advance, InstructionTree, Jump}
 use Rattle.plans.specs.Fusing.{FusionRole, Alone, WithNext, WithPrevious, fusion_role_of, takes_next}
 use Rattle.plans.specs.inside.Plan.{IsWithin}
-use Rattle.plans.specs.Plan.{behind, behind_all, in_loop, loop_step, main_depth, plain, plan, plan_all, plan_in, plan_of, size, size_all, size_in, with_integer}
+use Rattle.plans.specs.Plan.{depth_after, depth_after_all, depth_in_loop, loop_step, main_depth, plain, plan, plan_all, plan_in, plan_of, size, size_all, size_in, depth_with_integer}
 use Rattle.plans.proofs.Depths.{within_itself, within_loop}
 use Rattle.plans.proofs.Origins.{AllOf, all_append, all_at}
 
@@ -16,7 +16,7 @@ use Rattle.plans.proofs.Origins.{AllOf, all_append, all_at}
 abbrev pub ShowsWithin : InstructionTree → Type 0
 ShowsWithin i = IsWithin i.shown i.keep
 
-one_deeper : (d : Depth) → IsWithin d (with_integer d)
+one_deeper : (d : Depth) → IsWithin d (depth_with_integer d)
 one_deeper d = record { integers = omega arith; conditions = omega arith; sets = omega arith }
 
 in_company : (company : FusionRole) (s : ScheduleTree) (number : ℕ) (label : Option ℕ) (d : Depth) (is : List InstructionTree) → AllOf ShowsWithin is
@@ -57,7 +57,7 @@ module _ (p : ProgramTree) (s : ScheduleTree) where
       ),
     )
     action_shows (For name first end body) index number label d =
-        let deep = in_loop d in (
+        let deep = depth_in_loop d in (
           within_itself d,
           (
             one_deeper d,
@@ -78,14 +78,14 @@ module _ (p : ProgramTree) (s : ScheduleTree) where
         let company = fusion_role_of p s d is_done label action rest in
         let own = plan p s index d number label action in
         let n = size_in company (size p s d action) in
-        all_append ShowsWithin (plan_in company s number label d own) (plan_all p s (index + n) (behind action d) (takes_next company) rest)
+        all_append ShowsWithin (plan_in company s number label d own) (plan_all p s (index + n) (depth_after action d) (takes_next company) rest)
         (in_company company s number label d own (action_shows action index number label d))
-        (block_shows rest (takes_next company) (index + n) (behind action d))
+        (block_shows rest (takes_next company) (index + n) (depth_after action d))
 
 -- each instruction of a plan does so
 pub shows_within : (p : ProgramTree) (s : ScheduleTree) (index : ℕ) (i : InstructionTree) → slice_get (plan_of p s) index ≡ Some i → IsWithin i.shown i.keep
 shows_within p s index i at =
     let d = main_depth p in
-    let last = behind_all p.main d in
+    let last = depth_after_all p.main d in
     all_at ShowsWithin (plan_of p s) index i
     (all_append ShowsWithin (plan_all p s 0 d false p.main) _ (block_shows p s p.main false 0 d) (within_itself last, tt)) at

@@ -8,7 +8,7 @@ use Rattle.algorithm_meaning.specs.declared.state.Depth.{Depth}
 use Rattle.plans.specs.Instruction.{OperationTree, Do, ApplyEdgesTogether, ApplyVerticesTogether, Unless, UnlessBelow, Advance, Turn, Jump, End, InstructionTree}
 use Rattle.plans.specs.Fusing.{EdgeApplyTree, VertexApplyTree, edge_apply_of, vertex_apply_of, edges_fit, vertices_fit, fused_edges, fused_vertices, either, together, is_with, FusionRole, Alone}
 use Rattle.plans.specs.Fusing.{WithNext, WithPrevious, with_next, fusion_role_of, takes_next}
-use Rattle.plans.specs.Plan.{behind, behind_all, in_loop, main_depth, plan_of, plain, loop_step, size_in, plan_in, size, size_all, plan, plan_all}
+use Rattle.plans.specs.Plan.{depth_after, depth_after_all, depth_in_loop, main_depth, plan_of, plain, loop_step, size_in, plan_in, size, size_all, plan, plan_all}
 use Rattle.plans.specs.Bound.{is_turn}
 use Rattle.plans.proofs.Proper.{HasNoBlock}
 use Rattle.plans.proofs.Indices.{HasAt, has_front, has_behind, has_all, length_in, length-plan, length-plan_all}
@@ -157,7 +157,7 @@ module _ (p : ProgramTree) (schedule : ScheduleTree) (code : List InstructionTre
         (block_leads body false (index + 2) d (has_front code (index + 2) own jump inside)) (inr head, tt) in
         (omega arith, (tt, subst (λ (x : ℕ). AllLeadWell code x (own ++ jump)) (sym second) both))
     action_leads (For name first end body) index number label d at =
-        let deep = in_loop d in
+        let deep = depth_in_loop d in
         let n = size_all p schedule deep false body in
         let back = index + 4 + n in
         let own = plan_all p schedule (index + 4) deep false body in
@@ -187,12 +187,12 @@ module _ (p : ProgramTree) (schedule : ScheduleTree) (code : List InstructionTre
         let own = plan p schedule index d number label action in
         let n = size_in company (size p schedule d action) in
         let first = plan_in company schedule number label d own in
-        let others = plan_all p schedule (index + n) (behind action d) (takes_next company) rest in
+        let others = plan_all p schedule (index + n) (depth_after action d) (takes_next company) rest in
         let e : length first ≡ n = length_in company schedule number label d own (size p schedule d action) (length-plan p schedule action index d number label) in
         lead_append code index n first others e
         (company_leads company index number label d own (company_of_two p schedule d is_done label action rest) (has_front code index first others at)
         (λ here. action_leads action index number label d here))
-        (block_leads rest (takes_next company) (index + n) (behind action d) (has_behind code index n (index + n) first others e refl at))
+        (block_leads rest (takes_next company) (index + n) (depth_after action d) (has_behind code index n (index + n) first others e refl at))
 
 -- each instruction of the plan of a program leads well
 pub plan_leads : (p : ProgramTree) (schedule : ScheduleTree) → AllLeadWell (plan_of p schedule) 0 (plan_of p schedule)
@@ -200,6 +200,6 @@ plan_leads p schedule =
     let code = plan_of p schedule in
     let d = main_depth p in
     let main = plan_all p schedule 0 d false p.main in
-    let last = plain 0 (behind_all p.main d) End ∷ [] in
+    let last = plain 0 (depth_after_all p.main d) End ∷ [] in
     lead_append code 0 (size_all p schedule d false p.main) main last (length-plan_all p schedule p.main 0 d false)
     (block_leads p schedule code p.main false 0 d (has_front code 0 main last (has_all code []))) (tt, tt)

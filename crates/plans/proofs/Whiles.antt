@@ -12,7 +12,7 @@ use Rattle.algorithm_meaning.specs.declared.state.LoopCounter.{LoopCounter}
 use Rattle.algorithm_meaning.specs.declared.state.Depth.{Depth}
 use Rattle.plans.specs.Instruction.{Unless, Turn, Jump, InstructionTree}
 use Rattle.plans.specs.inside.Plan.{IsWithin}
-use Rattle.plans.specs.Plan.{with_integer, in_loop, plain}
+use Rattle.plans.specs.Plan.{depth_with_integer, depth_in_loop, plain}
 use Rattle.plans.specs.Machine.{Configuration, At, Ended, after_unless, after_turn}
 use Rattle.plans.proofs.Depths.{forgotten-all}
 use Rattle.plans.proofs.Proper.{IsProper}
@@ -22,7 +22,7 @@ use Rattle.plans.proofs.Reaching.{Reaches, here, and_reaches, by_step, Moves, mo
 abbrev pub pushed : StateValue → (next end : ℤ) → StateValue
 pushed s next end = with_new_integer (with_new_integer s next) end
 
-pub proper-integer : (d : Depth) (turns : ℕ) (s : StateValue) (n : ℤ) → IsProper d turns s → IsProper (with_integer d) turns (with_new_integer s n)
+pub proper-integer : (d : Depth) (turns : ℕ) (s : StateValue) (n : ℤ) → IsProper d turns s → IsProper (depth_with_integer d) turns (with_new_integer s n)
 proper-integer d turns s n proper = record {
   deep = λ i. record {
     integers = (length-append s.scope.integers (n ∷ []) ∙ ap (λ (d : Depth). d.integers + 1) proper.deep) i;
@@ -33,8 +33,8 @@ proper-integer d turns s n proper = record {
   fewer = proper.fewer;
 }
 
-pub proper-pushed : (d : Depth) (turns : ℕ) (s : StateValue) (next end : ℤ) → IsProper d turns s → IsProper (in_loop d) turns (pushed s next end)
-proper-pushed d turns s next end proper = proper-integer (with_integer d) turns (with_new_integer s next) end (proper-integer d turns s next proper)
+pub proper-pushed : (d : Depth) (turns : ℕ) (s : StateValue) (next end : ℤ) → IsProper d turns s → IsProper (depth_in_loop d) turns (pushed s next end)
+proper-pushed d turns s next end proper = proper-integer (depth_with_integer d) turns (with_new_integer s next) end (proper-integer d turns s next proper)
 
 -- what is beyond the name is forgotten
 pub forgotten-integer : (d : Depth) (turns : ℕ) (s : StateValue) (n : ℤ) → IsProper d turns s → forget_beyond d (with_new_integer s n) ≡ s

@@ -5,11 +5,11 @@ use Rattle.algorithm_meaning.specs.declared.outcome.End.TheVariants.{Finished}
 use Rattle.algorithm_meaning.specs.State.{GraphValue, StateValue}
 use Rattle.algorithm_meaning.specs.Value.{members_of}
 use Rattle.algorithm_meaning.specs.Stand.{Stand, Live, Over}
-use Rattle.algorithm_meaning.specs.Meaning.{after_all, opening, all_vertices, outcome_of, meaning}
+use Rattle.algorithm_meaning.specs.Meaning.{after_all, opening, full_set, outcome_of, meaning}
 use Rattle.apply_options.specs.ScheduleTree.{ScheduleTree}
 use Rattle.algorithm_meaning.specs.declared.state.Depth.{Depth}
 use Rattle.plans.specs.Instruction.{End, InstructionTree}
-use Rattle.plans.specs.Plan.{behind_all, main_depth, plain, size_all, plan_all, plan_of}
+use Rattle.plans.specs.Plan.{depth_after_all, main_depth, plain, size_all, plan_all, plan_of}
 use Rattle.plans.specs.Machine.{Configuration, At, Ended, first_configuration, finish}
 use Rattle.plans.specs.RunLaws.{Shows, RunsAs, StepsLowerTheBound}
 use Rattle.plans.proofs.Depths.{forgotten-all}
@@ -23,11 +23,11 @@ use Rattle.plans.proofs.Targets.{plan_leads}
 use Rattle.plans.proofs.Falls.{step_falls}
 use Rattle.plans.proofs.Counting.{takes_steps}
 
-length-all_vertices : (g : GraphValue) (sets : List ℕ) → length (map (all_vertices g) sets) ≡ length sets
+length-all_vertices : (g : GraphValue) (sets : List ℕ) → length (map (full_set g) sets) ≡ length sets
 length-all_vertices g [] = refl
 length-all_vertices g (x ∷ xs) = ap suc (length-all_vertices g xs)
 
-constant_sets_ascend : (g : GraphValue) (sets : List ℕ) (index : ℕ) → AscendsFrom 0 (members_of (slice_get (map (all_vertices g) sets) index))
+constant_sets_ascend : (g : GraphValue) (sets : List ℕ) (index : ℕ) → AscendsFrom 0 (members_of (slice_get (map (full_set g) sets) index))
 constant_sets_ascend g [] index = tt
 constant_sets_ascend g (x ∷ xs) zero = ascends_range 0 g.vertices
 constant_sets_ascend g (x ∷ xs) (suc n) = constant_sets_ascend g xs n
@@ -56,10 +56,10 @@ reaches_end p schedule g turns =
     let s = opening p g turns in
     let main = plan_all p schedule 0 d false p.main in
     let to = size_all p schedule d false p.main in
-    let last = plain 0 (behind_all p.main d) End ∷ [] in
+    let last = plain 0 (depth_after_all p.main d) End ∷ [] in
     let stands = has_all code [] in
     let q = opening-proper p g turns in
-    comes_to_end p g code (after_all p g p.main s) (0 + to) (behind_all p.main d) turns (At 0 [] s)
+    comes_to_end p g code (after_all p g p.main s) (0 + to) (depth_after_all p.main d) turns (At 0 [] s)
     (has_behind code 0 to (0 + to) main last (length-plan_all p schedule p.main 0 d false) refl stands).0
     (block_runs p g schedule code (company_is_good p g schedule) p.main false 0 d turns [] s s (has_front code 0 main last stands) (forgotten-all d s q.deep) q)
 

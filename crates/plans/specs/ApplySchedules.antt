@@ -7,16 +7,16 @@ use Rattle.plans.specs.Fusing.{EdgeApplyTree, edge_apply_of}
 
 abbrev mutual
   -- the statement of this number and this label stands in the block, or in a statement of it
-  pub StandsIn : BlockTree → (number : ℕ) → (label : Option ℕ) → StatementKindTree → Type 0
-  StandsIn Empty number label action = ⊥
-  StandsIn (Then n l a rest) number label action =
-      ((n ≡ number) × (l ≡ label) × (a ≡ action)) ⊎ (StandsInside a number label action ⊎ StandsIn rest number label action)
+  pub IsStatementOf : BlockTree → (number : ℕ) → (label : Option ℕ) → StatementKindTree → Type 0
+  IsStatementOf Empty number label action = ⊥
+  IsStatementOf (Then n l a rest) number label action =
+      ((n ≡ number) × (l ≡ label) × (a ≡ action)) ⊎ (StandsInside a number label action ⊎ IsStatementOf rest number label action)
 
   pub StandsInside : StatementKindTree → (number : ℕ) → (label : Option ℕ) → StatementKindTree → Type 0
-  StandsInside (If c body) number label action = StandsIn body number label action
-  StandsInside (IfElse c body other) number label action = StandsIn body number label action ⊎ StandsIn other number label action
-  StandsInside (While c body) number label action = StandsIn body number label action
-  StandsInside (For name first end body) number label action = StandsIn body number label action
+  StandsInside (If c body) number label action = IsStatementOf body number label action
+  StandsInside (IfElse c body other) number label action = IsStatementOf body number label action ⊎ IsStatementOf other number label action
+  StandsInside (While c body) number label action = IsStatementOf body number label action
+  StandsInside (For name first end body) number label action = IsStatementOf body number label action
   StandsInside _ number label action = ⊥
 
 -- the edge apply that an operation does, of two the first
@@ -30,7 +30,7 @@ pub record ComesFrom (main : BlockTree) (s : ScheduleTree) (i : InstructionTree)
   pub number : ℕ
   pub label : Option ℕ
   pub action : StatementKindTree
-  pub stands : StandsIn main number label action
+  pub stands : IsStatementOf main number label action
   pub applies : edge_apply_of action ≡ Some x
   pub numbered : i.number ≡ number
   pub chosen : i.apply_schedule ≡ apply_schedule_at label s

@@ -113,16 +113,16 @@ abbrev pub with_edge_functions : ProgramTree → ProgramTree
 with_edge_functions p = record p { filters = reads_first ∷ []; edge_functions = adds_to 0 ∷ adds_to 1 ∷ adds_to 2 ∷ [] }
 
 -- to the vertices that the filter lets through
-abbrev pub filtered : ApplyEnds
-filtered = record { from = None; to = Some (end.Function 0) }
+abbrev pub to_filtered : ApplyEnds
+to_filtered = record { from = None; to = Some (end.Function 0) }
 
 abbrev pub edge_applies : (f g : ℕ) → BlockTree
-edge_applies f g = Then 1 (Some 0) (ApplyEdges filtered f) (Then 2 (Some 1) (ApplyEdges filtered g) Empty)
+edge_applies f g = Then 1 (Some 0) (ApplyEdges to_filtered f) (Then 2 (Some 1) (ApplyEdges to_filtered g) Empty)
 
 abbrev pub HasPlanOfEdgePair : ProgramTree → Type 0
 HasPlanOfEdgePair p =
     operations (plan_of (with_main (with_edge_functions p) (edge_applies 1 2)) fuses_two)
-    ≡ ApplyEdgesTogether filtered (record { function = 1; result = Dropped }) (record { function = 2; result = Dropped })
+    ≡ ApplyEdgesTogether to_filtered (record { function = 1; result = Dropped }) (record { function = 2; result = Dropped })
     ∷ End
     ∷ []
 
@@ -147,7 +147,7 @@ HasPlanOfModifyingPair p m n =
 abbrev pub HasPlanOfApartEdges : ProgramTree → Type 0
 HasPlanOfApartEdges p =
     operations (plan_of (with_main (with_edge_functions p) (edge_applies 0 1)) fuses_two)
-    ≡ Do (ApplyEdges filtered 0)
-    ∷ Do (ApplyEdges filtered 1)
+    ≡ Do (ApplyEdges to_filtered 0)
+    ∷ Do (ApplyEdges to_filtered 1)
     ∷ End
     ∷ []

@@ -14,33 +14,33 @@ use Rattle.plans.specs.declared.plan.Plan.{Plan}
 use Rattle.plans.specs.Reducing.{AppliesReduce}
 
 -- one more of each kind
-abbrev pub with_integer : Depth → Depth
-with_integer d = record d { integers = d.integers + 1 }
+abbrev pub depth_with_integer : Depth → Depth
+depth_with_integer d = record d { integers = d.integers + 1 }
 
-abbrev pub with_condition : Depth → Depth
-with_condition d = record d { conditions = d.conditions + 1 }
+abbrev pub depth_with_condition : Depth → Depth
+depth_with_condition d = record d { conditions = d.conditions + 1 }
 
-abbrev pub with_set : Depth → Depth
-with_set d = record d { sets = d.sets + 1 }
+abbrev pub depth_with_set : Depth → Depth
+depth_with_set d = record d { sets = d.sets + 1 }
 
 -- in the body of `for`: the name, and the bound after it
-abbrev pub in_loop : Depth → Depth
-in_loop d = with_integer (with_integer d)
+abbrev pub depth_in_loop : Depth → Depth
+depth_in_loop d = depth_with_integer (depth_with_integer d)
 
 -- at the first statement of main only the constant sets are visible
 abbrev pub main_depth : ProgramTree → Depth
 main_depth p = record { integers = 0; conditions = 0; sets = length p.sets }
 
 -- after a statement of main, and after all of a block
-abbrev pub behind : StatementKindTree → Depth → Depth
-behind (DeclareInteger name e) d = with_integer d
-behind (DeclareCondition name c) d = with_condition d
-behind (DeclareSet name value) d = with_set d
-behind _ d = d
+abbrev pub depth_after : StatementKindTree → Depth → Depth
+depth_after (DeclareInteger name e) d = depth_with_integer d
+depth_after (DeclareCondition name c) d = depth_with_condition d
+depth_after (DeclareSet name value) d = depth_with_set d
+depth_after _ d = d
 
-abbrev pub behind_all : BlockTree → Depth → Depth
-behind_all Empty d = d
-behind_all (Then number label action rest) d = behind_all rest (behind action d)
+abbrev pub depth_after_all : BlockTree → Depth → Depth
+depth_after_all Empty d = d
+depth_after_all (Then number label action rest) d = depth_after_all rest (depth_after action d)
 
 -- an instruction at what is visible
 abbrev pub plain : (number : ℕ) → Depth → OperationTree → InstructionTree
@@ -71,7 +71,7 @@ abbrev mutual
   size p s d (If c body) = 1 + size_all p s d false body
   size p s d (IfElse c body other) = 1 + size_all p s d false body + 1 + size_all p s d false other
   size p s d (While c body) = 2 + size_all p s d false body + 1
-  size p s d (For name first end body) = 4 + size_all p s (in_loop d) false body + 2
+  size p s d (For name first end body) = 4 + size_all p s (depth_in_loop d) false body + 2
   size p s d _ = 1
 
   -- and those of a block, whose first one may be done already
@@ -79,7 +79,7 @@ abbrev mutual
   size_all p s d is_done Empty = 0
   size_all p s d is_done (Then number label action rest) =
       size_in (fusion_role_of p s d is_done label action rest) (size p s d action)
-      + size_all p s (behind action d) (takes_next (fusion_role_of p s d is_done label action rest)) rest
+      + size_all p s (depth_after action d) (takes_next (fusion_role_of p s d is_done label action rest)) rest
 
 abbrev mutual
   -- the instructions of a statement, of which the first stands at this index
@@ -99,12 +99,12 @@ abbrev mutual
       ++ plain number d (Jump index) ∷ [])
   plan p s index d number label (For name first end body) =
       plain number d (Do (DeclareInteger name first))
-      ∷ loop_step number (with_integer d) d (Enter name end)
-      ∷ loop_step number (in_loop d) d (UnlessBelow name (index + 4 + size_all p s (in_loop d) false body + 2))
-      ∷ loop_step number (in_loop d) d Turn
-      ∷ (plan_all p s (index + 4) (in_loop d) false body
+      ∷ loop_step number (depth_with_integer d) d (Enter name end)
+      ∷ loop_step number (depth_in_loop d) d (UnlessBelow name (index + 4 + size_all p s (depth_in_loop d) false body + 2))
+      ∷ loop_step number (depth_in_loop d) d Turn
+      ∷ (plan_all p s (index + 4) (depth_in_loop d) false body
       ++ plain number d (Advance name)
-      ∷ loop_step number (in_loop d) d (Jump (index + 2)) ∷ [])
+      ∷ loop_step number (depth_in_loop d) d (Jump (index + 2)) ∷ [])
   plan p s index d number label action = chosen s number label d (Do action) ∷ []
 
   -- the instructions of a block
@@ -112,12 +112,12 @@ abbrev mutual
   plan_all p s index d is_done Empty = []
   plan_all p s index d is_done (Then number label action rest) =
       plan_in (fusion_role_of p s d is_done label action rest) s number label d (plan p s index d number label action)
-      ++ plan_all p s (index + size_in (fusion_role_of p s d is_done label action rest) (size p s d action)) (behind action d)
+      ++ plan_all p s (index + size_in (fusion_role_of p s d is_done label action rest) (size p s d action)) (depth_after action d)
       (takes_next (fusion_role_of p s d is_done label action rest)) rest
 
 -- the instructions of main, and the end
 abbrev pub plan_of : ProgramTree → ScheduleTree → List InstructionTree
-plan_of p s = plan_all p s 0 (main_depth p) false p.main ++ plain 0 (behind_all p.main (main_depth p)) End ∷ []
+plan_of p s = plan_all p s 0 (main_depth p) false p.main ++ plain 0 (depth_after_all p.main (main_depth p)) End ∷ []
 
 -- they are those of the plan of a program under a schedule
 pub record ArePartsOf (is : List Instruction) (f : FunctionKernels) (vs : List Vector) (ss : List ℕ) (ns gs : List (List ℕ)) (p : ProgramTree)

@@ -13,7 +13,7 @@ use Rattle.flat_snapshot.specs.Neighbours.{sources_of}
 use Rattle.edge_fold.specs.declared.apply_context.ApplyContext.{ApplyContext}
 use Rattle.edge_fold.specs.declared.scratch.Scratch.{Scratch}
 use Rattle.edge_fold.specs.Contributions.{column}
-use Rattle.edge_fold.specs.Gathered.{is_between}
+use Rattle.edge_fold.specs.Gathered.{is_in_range}
 use Rattle.edge_fold.proofs.Walks.{FoldsMore, folded_along}
 use Rattle.pull_engine.specs.Columns.{columns, passing}
 use Rattle.pull_engine.specs.inside.Words.{in_word}
@@ -118,7 +118,7 @@ cut_range lets first low high total a b c =
 
 -- one more block of a range
 pub block_folded : (f : ApplyContext) (from lets : ℕ → Bool) (es : List Edge) (low high first k mask word : ℕ) (s t u : Scratch) → first ≤ k
-    → ((v : ℕ) → v / 64 ≡ k → in_word (64 * k) mask v ≡ is_between low high v) → ((v : ℕ) → v / 64 ≡ k → in_word (64 * k) word v ≡ lets v)
+    → ((v : ℕ) → v / 64 ≡ k → in_word (64 * k) mask v ≡ is_in_range low high v) → ((v : ℕ) → v / 64 ≡ k → in_word (64 * k) word v ≡ lets v)
     → FoldsMore f (columns from es (filter (in_word (64 * k) (bit_and mask word)) (range_with_len (64 * k) 64))) t u
     → FoldsMore f (columns from es (filter (within low high lets) (range_with_len (64 * first) (64 * (k - first))))) s t
     → FoldsMore f (columns from es (filter (within low high lets) (range_with_len (64 * first) (64 * (k + 1 - first))))) s u

@@ -14,7 +14,7 @@ use Rattle.edge_fold.specs.declared.scratch.Scratch.{Scratch}
 use Rattle.edge_fold.specs.Between.{edges_between}
 use Rattle.edge_fold.specs.declared.apply_context.ApplyContext.{ApplyContext}
 use Rattle.edge_fold.specs.Folded.{HasFolded}
-use Rattle.edge_fold.specs.Contributions.{column, entries_of, given_on, reduced_at}
+use Rattle.edge_fold.specs.Contributions.{column, weighted_entries, given_on, reduced_at}
 use Rattle.edge_fold.proofs.Meaning.{filtered_edges}
 use Rattle.edge_fold.proofs.Walks.{InRow}
 use Rattle.edge_fold.proofs.WeightColumns.{firsts-filter}
@@ -55,11 +55,11 @@ kept_keys from left first second count kept filled keeps =
 -- so it is with their weights
 pub kept_entries : (from : ℕ → Bool) (left : List (ℕ × ℤ)) (keys : List ℕ) (weights : List ℤ) (count : ℕ) (kept : List (ℕ × ℤ)) → take count keys ≡ take count (keys_of left)
     → take count weights ≡ take count (values_of left)
-    → kept ≡ passing from (entries_of (take count keys) (take count weights)) → kept ≡ passing from (take count left)
+    → kept ≡ passing from (weighted_entries (take count keys) (take count weights)) → kept ≡ passing from (take count left)
 kept_entries from left keys weights count kept same weighed keeps =
     keeps
     ∙ ap (passing from)
-    (ap (λ (ks : List ℕ). entries_of ks (take count weights)) same ∙ ap (entries_of (take count (keys_of left))) weighed ∙ entries_read count left)
+    (ap (λ (ks : List ℕ). weighted_entries ks (take count weights)) same ∙ ap (weighted_entries (take count (keys_of left))) weighed ∙ entries_read count left)
 
 -- a walk at its end
 pub none_left : (left : List (ℕ × ℤ)) → length left ≤ 0 → left ≡ []

@@ -11,7 +11,7 @@ use Rattle.apply_options.specs.declared.reduction.Reduction.TheVariants as reduc
 use Rattle.kernels.specs.Arithmetic.{reduced}
 use Rattle.edge_fold.specs.ReducedContributions.{reduced_with}
 use Rattle.ascending_lists.specs.Ascending.{AscendsFrom}
-use Rattle.pull_engine.specs.EarlySources.{CountsOnce, first_of, last_of, last_or, reduced_once}
+use Rattle.pull_engine.specs.EarlySources.{CountsOnce, first_of, last_source, last_or, reduced_once}
 
 -- of two numbers the greater decides alone, and the less
 above_all : (old : ℤ) (x y : ℕ) → x ≤ y → int_max (int_max old (pos x)) (pos y) ≡ int_max old (pos y)
@@ -39,7 +39,7 @@ greatest_after old x [] up = refl
 greatest_after old x (y ∷ ys) up =
     ap (λ (n : ℤ). reduced_with reduction.Max (λ s. pos s) n ys) (above_all old x y up.0) ∙ greatest_after old y ys (from_lower y (y + 1) ys (omega arith) up.2)
 
-pub greatest : (old : ℤ) (low : ℕ) (xs : List ℕ) → AscendsFrom low xs → reduced_with reduction.Max (λ s. pos s) old xs ≡ reduced_once reduction.Max (λ s. pos s) old (last_of xs)
+pub greatest : (old : ℤ) (low : ℕ) (xs : List ℕ) → AscendsFrom low xs → reduced_with reduction.Max (λ s. pos s) old xs ≡ reduced_once reduction.Max (λ s. pos s) old (last_source xs)
 greatest old low [] up = refl
 greatest old low (x ∷ xs) up = greatest_after old x xs (from_lower x (x + 1) xs (omega arith) up.2)
 
@@ -77,12 +77,12 @@ last_with o [] x false = refl
 last_with o (y ∷ ys) x b = last_with (Some y) ys x b
 
 pub last_passes : (p : ℕ → Bool) (xs : List ℕ) (i : ℕ) (b : Bool) → i < length xs → p (get_or xs i 0) ≡ b
-    → last_of (filter p (take (i + 1) xs)) ≡ cond b (Some (get_or xs i 0)) (last_of (filter p (take i xs)))
+    → last_source (filter p (take (i + 1) xs)) ≡ cond b (Some (get_or xs i 0)) (last_source (filter p (take i xs)))
 last_passes p xs i b l is =
     let x = get_or xs i 0 in
-    ap (λ (ys : List ℕ). last_of (filter p ys)) (take_more xs i 0 l)
-    ∙ ap last_of (filter-append p (take i xs) (x ∷ []))
-    ∙ ap (λ (c : Bool). last_of (filter p (take i xs) ++ cond c (x ∷ []) [])) is
+    ap (λ (ys : List ℕ). last_source (filter p ys)) (take_more xs i 0 l)
+    ∙ ap last_source (filter-append p (take i xs) (x ∷ []))
+    ∙ ap (λ (c : Bool). last_source (filter p (take i xs) ++ cond c (x ∷ []) [])) is
     ∙ last_with None (filter p (take i xs)) x b
 
 -- the neighbours of the entries that are left

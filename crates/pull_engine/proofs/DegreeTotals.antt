@@ -6,7 +6,8 @@ use Rattle.std.proofs.lemmas.List.FromFn.{length-range_with_len}
 use Rattle.weighted_edges.specs.Edge.{Edge}
 use Rattle.tree_batch.proofs.AllEdges.{few_vertices}
 use Rattle.flat_snapshot.specs.Digraph.{Digraph, IsDigraph}
-use Rattle.flat_snapshot.specs.Edge.{Ends, IsWithin, Rises, ends_eq, ends_of, weight_in}
+use Rattle.flat_snapshot.specs.Edge.{Ends, IsWithin, ends_eq, ends_of, weight_in}
+use Rattle.tree_batch.specs.Edge.{EdgesRise}
 use Rattle.flat_snapshot.specs.Neighbours.{sources_of}
 use Rattle.edge_apply.proofs.Filtered.{has_first, has_later}
 use Rattle.crew.specs.Limits.{weight}
@@ -46,7 +47,7 @@ pub none_past : (g : Digraph) → IsDigraph g → (v : ℕ) → g.vertices ≤ v
 none_past g is v past = zero_or (degree g.edges v) (λ some. let inside = destination_within g.vertices v g.edges is.within some in omega (arith, past, inside))
 
 -- a graph has few edges
-edges_below : (n low high : ℕ) (es : List Edge) → ((p : Ends) (w : ℤ) → weight_in p es ≡ Some w → IsWithin n p) → Rises low high es → low ≤ n * 2 ^ 32 → low + length es ≤ n * 2 ^ 32
+edges_below : (n low high : ℕ) (es : List Edge) → ((p : Ends) (w : ℤ) → weight_in p es ≡ Some w → IsWithin n p) → EdgesRise low high es → low ≤ n * 2 ^ 32 → low + length es ≤ n * 2 ^ 32
 edges_below n low high [] within s room = omega (arith, room)
 edges_below n low high (e ∷ es) within s room =
     let source = (within (ends_of e) e.2 (has_first e es)).0 in

@@ -7,7 +7,7 @@ use Rattle.vectors.specs.declared.changes.EntryChange.{EntryChange}
 use Rattle.flat_snapshot.specs.Neighbours.{sources_of}
 use Rattle.edge_fold.specs.Changed.{change_at, changed_from}
 use Rattle.edge_fold.specs.EntryNumbers.{reduced_over}
-use Rattle.edge_fold.specs.Gathered.{is_between}
+use Rattle.edge_fold.specs.Gathered.{is_in_range}
 use Rattle.edge_fold.proofs.ChangedRows.{changed_from-append, nothing_changed}
 use Rattle.pull_engine.specs.Columns.{passing}
 use Rattle.pull_engine.specs.inside.Ranges.{pulled, pulled_to}
@@ -16,7 +16,7 @@ use Rattle.pull_engine.proofs.WordBits.{before_is, behind_is, between_is, in_bot
 
 -- those of a range that a test lets through
 abbrev pub within : (low high : ℕ) → (ℕ → Bool) → ℕ → Bool
-within low high lets v = is_between low high v && lets v
+within low high lets v = is_in_range low high v && lets v
 
 -- the changes of entries that agree in a row
 agree_between : (a b c d : ℕ → ℤ) → ((v : ℕ) → a v ≡ b v) → (v n : ℕ) → ((u : ℕ) → v ≤ u → u < v + n → c u ≡ d u) → changed_from a c v n ≡ changed_from b d v n
@@ -34,7 +34,7 @@ blocks_begun old new first v = ap (λ n. changed_from old new first n) (let none
 
 -- one more block, whose word has the vertices of the range that pass
 pub block_more : (r : Reduction) (number : ℕ → ℤ → ℤ) (old : ℕ → ℤ) (from lets : ℕ → Bool) (es : List Edge) (low high first k mask word : ℕ) (found more : List EntryChange) → first ≤ k
-    → ((v : ℕ) → v / 64 ≡ k → in_word (64 * k) mask v ≡ is_between low high v) → ((v : ℕ) → v / 64 ≡ k → in_word (64 * k) word v ≡ lets v)
+    → ((v : ℕ) → v / 64 ≡ k → in_word (64 * k) mask v ≡ is_in_range low high v) → ((v : ℕ) → v / 64 ≡ k → in_word (64 * k) word v ≡ lets v)
     → more ≡ found ++ changed_from old (pulled_to r number old from (in_word (64 * k) (bit_and mask word)) es) (64 * k) 64
     → found ≡ changed_from old (pulled_to r number old from (within low high lets) es) (64 * first) (64 * (k - first))
     → more ≡ changed_from old (pulled_to r number old from (within low high lets) es) (64 * first) (64 * (k + 1 - first))

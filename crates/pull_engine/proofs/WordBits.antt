@@ -4,7 +4,7 @@ use Rattle.std.specs.Int.{bit_at}
 use Rattle.std.proofs.lemmas.Bool.{cases_lt, eq-eqb, ne_eqb}
 use Rattle.std.proofs.lemmas.Bool.Decides.{nat_tests}
 use Rattle.std.proofs.lemmas.Nat.Bits.{bit_at_and, bit_at-lt, bit_at_mask_inside, bit_at_mask_below, bit_at_mask_above}
-use Rattle.edge_fold.specs.Gathered.{is_between}
+use Rattle.edge_fold.specs.Gathered.{is_in_range}
 use Rattle.pull_engine.specs.inside.Words.{in_word}
 
 -- the bit of a vertex by its number in the block
@@ -44,17 +44,17 @@ pub clear_test : (word i : ℕ) → bit_at word i ≡ 0 → (bit_at word i == 1)
 clear_test word i is = ne_eqb (bit_at word i) 1 (λ e. omega (arith, e, is))
 
 -- the bits from one up to another, of which each is at most 64
-pub between_is : (low high v : ℕ) → low ≤ v → v < high → is_between low high v ≡ true
+pub between_is : (low high v : ℕ) → low ≤ v → v < high → is_in_range low high v ≡ true
 between_is low high v a b = grind (arith, nat_tests)
 
-pub before_is : (low high v : ℕ) → v < low → is_between low high v ≡ false
+pub before_is : (low high v : ℕ) → v < low → is_in_range low high v ≡ false
 before_is low high v a = grind (arith, nat_tests)
 
-pub behind_is : (low high v : ℕ) → high ≤ v → is_between low high v ≡ false
+pub behind_is : (low high v : ℕ) → high ≤ v → is_in_range low high v ≡ false
 behind_is low high v a = grind (arith, nat_tests)
 
 pub range_bits : (first low high start end word v : ℕ) → start ≡ min (low - first) 64 → end ≡ min (high - first) 64 → word ≡ 2 ^ end - 2 ^ start
-    → first ≤ v → v < first + 64 → in_word first word v ≡ is_between low high v
+    → first ≤ v → v < first + 64 → in_word first word v ≡ is_in_range low high v
 range_bits first low high start end word v starts ends is from to = elim (cases_lt v low) [
   | inl below ↦
       ap (λ w. bit_at w (v - first) == 1) is

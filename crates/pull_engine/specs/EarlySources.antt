@@ -23,5 +23,5 @@ abbrev pub last_or : Option ℕ → List ℕ → Option ℕ
 last_or other [] = other
 last_or other (x ∷ xs) = last_or (Some x) xs
 
-abbrev pub last_of : List ℕ → Option ℕ
-last_of xs = last_or None xs
+abbrev pub last_source : List ℕ → Option ℕ
+last_source xs = last_or None xs

@@ -1,6 +1,6 @@
 //! Ranges of vertices in blocks of 64.
 ghost use Rattle.std.specs.Prelude.{◌≡◌, ℕ, ◌+◌, ◌-◌, ◌*◌, ◌/◌, ◌^◌, ◌<◌, ◌≤◌};
-ghost use Rattle.edge_fold.specs.Gathered.{is_between};
+ghost use Rattle.edge_fold.specs.Gathered.{is_in_range};
 ghost use Rattle.pull_engine.specs.inside.Words.{in_word};
 
 /// How many blocks have a vertex below a number.
@@ -20,7 +20,7 @@ pub(crate) fn blocks_below(vertices: u32) -> u32
 pub(crate) fn range_word(block: u32, low: u32, high: u32) -> u64
     requires few { block < 2 ^ 26 }
     requires order { low ≤ high }
-    ensures { (v : ℕ) → v / 64 ≡ block → in_word (64 * block) result v ≡ is_between low high v }
+    ensures { (v : ℕ) → v / 64 ≡ block → in_word (64 * block) result v ≡ is_in_range low high v }
 {
     let first = block * 64;
     let start = low.saturating_sub(first).min(64);

@@ -7,7 +7,7 @@ ghost use Rattle.apply_options.specs.declared.reduction.Reduction.{Reduction};
 ghost use Rattle.apply_options.specs.declared.reduction.Reduction.TheVariants.{Min, Max};
 ghost use Rattle.edge_apply.specs.Words.{passes_words};
 ghost use Rattle.edge_fold.specs.ReducedContributions.{reduced_with};
-ghost use Rattle.pull_engine.specs.EarlySources.{CountsOnce, first_of, last_of, reduced_once};
+ghost use Rattle.pull_engine.specs.EarlySources.{CountsOnce, first_of, last_source, reduced_once};
 ghost use Rattle.kernels.specs.declared.columns.TheConstants.{PAIRS};
 
 use edge_apply::{keep_members, passes};
@@ -18,7 +18,7 @@ use vertex_blocks::{NeighbourWalk, Neighbours, SetWalk};
 /// made. So a walk may end at that source, and the entry is the same as after all sources. The call does nothing.
 pub fn one_source_decides()
     ensures greatest { (from : ℕ → Bool) (old : ℤ) (sources : List ℕ) → AscendsFrom 0 sources
-        → reduced_with Max (λ s. pos s) old (filter from sources) ≡ reduced_once Max (λ s. pos s) old (last_of (filter from sources)) }
+        → reduced_with Max (λ s. pos s) old (filter from sources) ≡ reduced_once Max (λ s. pos s) old (last_source (filter from sources)) }
     ensures least { (from : ℕ → Bool) (old : ℤ) (sources : List ℕ) → AscendsFrom 0 sources
         → reduced_with Min (λ s. pos s) old (filter from sources) ≡ reduced_once Min (λ s. pos s) old (first_of (filter from sources)) }
     ensures any { (r : Reduction) → CountsOnce r → (number old : ℤ) (sources : List ℕ)
@@ -44,7 +44,7 @@ pub(crate) fn first_packed(sources: Neighbours<'_>, from: Option<&[u64]>) -> Opt
 /// The last source of a packed list whose bit is set. Sources are read downward, so what stands before it is not.
 #[inline(always)]
 pub(crate) fn last_packed(sources: Neighbours<'_>, from: Option<&[u64]>) -> Option<u32>
-    ensures { result ≡ last_of (filter (passes_words from.entry) (keys_of sources.entry)) }
+    ensures { result ≡ last_source (filter (passes_words from.entry) (keys_of sources.entry)) }
 {
     let mut end = sources.len();
     'down: while end > 0 {
@@ -77,7 +77,7 @@ pub(crate) fn last_chunked(
 ) -> Option<u32>
     requires { length block.old ≡ PAIRS }
     ensures room { length block.new ≡ PAIRS }
-    ensures last { result ≡ last_of (filter (passes_words from.entry) (keys_of sources.entry)) }
+    ensures last { result ≡ last_source (filter (passes_words from.entry) (keys_of sources.entry)) }
 {
     let mut last = None;
     'rounds: while sources.len() > 0 {

@@ -5,7 +5,7 @@ use Rattle.std.proofs.lemmas.List.Elements.{filter-append}
 use Rattle.std.specs.List.{filter}
 use Rattle.std.specs.Map.{keys_of, values_of}
 use Rattle.edge_fold.specs.Between.{firsts}
-use Rattle.edge_fold.specs.Contributions.{entries_of}
+use Rattle.edge_fold.specs.Contributions.{weighted_entries}
 use Rattle.edge_fold.proofs.WeightColumns.{firsts-filter}
 use Rattle.edge_apply.proofs.Kept.{entries_read}
 
@@ -22,11 +22,11 @@ keys_kept test n coming read kept filled keeps =
 -- so it is with their weights
 pub entries_kept : (test : ℕ → Bool) (n : ℕ) (coming : List (ℕ × ℤ)) (keys : List ℕ) (weights : List ℤ) (kept : List (ℕ × ℤ)) → take n keys ≡ take n (keys_of coming)
     → take n weights ≡ take n (values_of coming)
-    → kept ≡ filter (λ e. test e.0) (entries_of (take n keys) (take n weights)) → kept ≡ filter (λ e. test e.0) (take n coming)
+    → kept ≡ filter (λ e. test e.0) (weighted_entries (take n keys) (take n weights)) → kept ≡ filter (λ e. test e.0) (take n coming)
 entries_kept test n coming keys weights kept first second keeps =
     keeps ∙ ap (filter (λ e. test e.0)) (
-    ap (λ ks. entries_of ks (take n weights)) first
-    ∙ ap (λ ws. entries_of (take n (keys_of coming)) ws) second
+    ap (λ ks. weighted_entries ks (take n weights)) first
+    ∙ ap (λ ws. weighted_entries (take n (keys_of coming)) ws) second
     ∙ entries_read n coming
     )
 

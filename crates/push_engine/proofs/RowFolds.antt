@@ -7,7 +7,7 @@ use Rattle.std.specs.List.{filter}
 use Rattle.weighted_edges.specs.Edge.{Edge}
 use Rattle.apply_options.specs.declared.reduction.Reduction.{Reduction}
 use Rattle.kernels.specs.EdgeApply.{is_member}
-use Rattle.edge_fold.specs.Contributions.{for_vector, given_on, reduced_at, row}
+use Rattle.edge_fold.specs.Contributions.{numbers_for_vector, given_on, reduced_at, row}
 use Rattle.edge_fold.proofs.Meaning.{filtered_edges}
 use Rattle.edge_fold.proofs.Folds.{given_on-append, reduced_at-append, reduced_at-swap}
 use Rattle.flat_snapshot.specs.Neighbours.{destinations_of}
@@ -33,11 +33,11 @@ row_grows u e es true is = ap (λ (k : ℕ). (k, e.1, e.2) ∷ row u (destinatio
 row_grows u e es false is = refl
 
 more_rows : (r : Reduction) (x v : ℕ) (g : Edge → List (ℕ × Reduction × ℤ)) (e : Edge) (n : ℤ) (line rest now : List Edge) (b m : Bool) → (b ≡ true → m ≡ false)
-    → ((k : ℤ) → reduced_at r v k (given_on x g now) ≡ cond m (reduced_at r v (reduced_at r v k (for_vector x e.1 (g e))) (given_on x g rest)) (reduced_at r v k (given_on x g rest)))
+    → ((k : ℤ) → reduced_at r v k (given_on x g now) ≡ cond m (reduced_at r v (reduced_at r v k (numbers_for_vector x e.1 (g e))) (given_on x g rest)) (reduced_at r v k (given_on x g rest)))
     → reduced_at r v n (given_on x g (cond b (e ∷ line) line ++ now))
-    ≡ cond (b || m) (reduced_at r v (reduced_at r v n (for_vector x e.1 (g e))) (given_on x g (line ++ rest))) (reduced_at r v n (given_on x g (line ++ rest)))
+    ≡ cond (b || m) (reduced_at r v (reduced_at r v n (numbers_for_vector x e.1 (g e))) (given_on x g (line ++ rest))) (reduced_at r v n (given_on x g (line ++ rest)))
 more_rows r x v g e n line rest now true m once more =
-    let here = for_vector x e.1 (g e) in
+    let here = numbers_for_vector x e.1 (g e) in
     let k = reduced_at r v n here in
     reduced_at-append r v n here (given_on x g (line ++ now))
     ∙ ap (λ gs. reduced_at r v k gs) (given_on-append x g line now)
@@ -48,7 +48,7 @@ more_rows r x v g e n line rest now true m once more =
     ∙ sym (reduced_at-append r v k (given_on x g line) (given_on x g rest))
     ∙ ap (λ gs. reduced_at r v k gs) (sym (given_on-append x g line rest))
 more_rows r x v g e n line rest now false true once more =
-    let here = for_vector x e.1 (g e) in
+    let here = numbers_for_vector x e.1 (g e) in
     let k = reduced_at r v n here in
     ap (λ gs. reduced_at r v n gs) (given_on-append x g line now)
     ∙ reduced_at-append r v n (given_on x g line) (given_on x g now)
@@ -66,7 +66,7 @@ more_rows r x v g e n line rest now false false once more =
 -- an edge in front of the others, in the rows of ascending sources
 edge_first : (r : Reduction) (x v : ℕ) (g : Edge → List (ℕ × Reduction × ℤ)) (e : Edge) (es : List Edge) (low : ℕ) (us : List ℕ) → Rises low us → (n : ℤ)
     → reduced_at r v n (given_on x g (rows (e ∷ es) us))
-    ≡ cond (is_member e.0 us) (reduced_at r v (reduced_at r v n (for_vector x e.1 (g e))) (given_on x g (rows es us))) (reduced_at r v n (given_on x g (rows es us)))
+    ≡ cond (is_member e.0 us) (reduced_at r v (reduced_at r v n (numbers_for_vector x e.1 (g e))) (given_on x g (rows es us))) (reduced_at r v n (given_on x g (rows es us)))
 edge_first r x v g e es low [] up n = refl
 edge_first r x v g e es low (u ∷ us) up n =
     let line = row u (destinations_of u es) in
@@ -74,7 +74,7 @@ edge_first r x v g e es low (u ∷ us) up n =
     ∙ more_rows r x v g e n line (rows es us) (rows (e ∷ es) us) (e.0 == u) (is_member e.0 us)
     (λ is. below_all (u + 1) e.0 us up.1 (let here = same e.0 u is in omega (arith, here)))
     (λ k. edge_first r x v g e es (u + 1) us up.1 k)
-    ∙ ap (λ (b : Bool). cond (b || is_member e.0 us) (reduced_at r v (reduced_at r v n (for_vector x e.1 (g e))) (given_on x g (line ++ rows es us)))
+    ∙ ap (λ (b : Bool). cond (b || is_member e.0 us) (reduced_at r v (reduced_at r v n (numbers_for_vector x e.1 (g e))) (given_on x g (line ++ rows es us)))
     (reduced_at r v n (given_on x g (line ++ rows es us)))) (same_back e.0 u)
 
 no_rows : (us : List ℕ) → rows [] us ≡ []
@@ -88,9 +88,9 @@ Agree from us (e ∷ es) = (is_member e.0 us ≡ from e.0) × Agree from us es
 
 passing_first : (r : Reduction) (x v : ℕ) (g : Edge → List (ℕ × Reduction × ℤ)) (e : Edge) (n : ℤ) (line kept : List Edge) (b : Bool)
     → ((k : ℤ) → reduced_at r v k (given_on x g line) ≡ reduced_at r v k (given_on x g kept))
-    → cond b (reduced_at r v (reduced_at r v n (for_vector x e.1 (g e))) (given_on x g line)) (reduced_at r v n (given_on x g line)) ≡ reduced_at r v n (given_on x g (cond b (e ∷ kept) kept))
+    → cond b (reduced_at r v (reduced_at r v n (numbers_for_vector x e.1 (g e))) (given_on x g line)) (reduced_at r v n (given_on x g line)) ≡ reduced_at r v n (given_on x g (cond b (e ∷ kept) kept))
 passing_first r x v g e n line kept true more =
-    let here = for_vector x e.1 (g e) in
+    let here = numbers_for_vector x e.1 (g e) in
     more (reduced_at r v n here) ∙ sym (reduced_at-append r v n here (given_on x g kept))
 passing_first r x v g e n line kept false more = more n
 
@@ -101,7 +101,7 @@ rows_are_edges r x v g from us up [] agree n = ap (λ (ks : List Edge). reduced_
 rows_are_edges r x v g from us up (e ∷ es) agree n =
     let kept = filter (λ (e : Edge). from e.0) es in
     edge_first r x v g e es 0 us up n
-    ∙ ap (λ (b : Bool). cond b (reduced_at r v (reduced_at r v n (for_vector x e.1 (g e))) (given_on x g (rows es us))) (reduced_at r v n (given_on x g (rows es us)))) agree.0
+    ∙ ap (λ (b : Bool). cond b (reduced_at r v (reduced_at r v n (numbers_for_vector x e.1 (g e))) (given_on x g (rows es us))) (reduced_at r v n (given_on x g (rows es us)))) agree.0
     ∙ passing_first r x v g e n (rows es us) kept (from e.0) (λ k. rows_are_edges r x v g from us up es agree.1 k)
 
 -- where each vertex with an edge agrees

@@ -8,7 +8,7 @@ use Rattle.kernels.specs.Registers.{HasSizes}
 use Rattle.edge_fold.specs.declared.gathered.Gathered.{Gathered}
 use Rattle.edge_fold.specs.Ends.{IsEndTest}
 use Rattle.edge_fold.specs.Folded.{AreKernels}
-use Rattle.edge_fold.specs.Gathered.{AreAscending, AreGathered}
+use Rattle.edge_fold.specs.Gathered.{AllAreNonDescending, AreGathered}
 use Rattle.crew.specs.Partition.{piece_of}
 use Rattle.push_engine.specs.declared.work.PushWork.{PushWork}
 use Rattle.push_engine.specs.Rows.{rows}
@@ -27,4 +27,4 @@ GivesPiece w k g = (m : StateValue) (steps : List FunctionStatementsTree) (from 
 
 -- a piece answers what its edges give, by ascending vertices
 abbrev pub Answers : PushWork → (piece : ℕ) → Gathered → Type 0
-Answers w k g = AreAscending g.vectors.items × GivesPiece w k g
+Answers w k g = AllAreNonDescending g.vectors.items × GivesPiece w k g

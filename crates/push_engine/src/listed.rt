@@ -12,7 +12,7 @@ ghost use Rattle.flat_snapshot.specs.Digraph.{IsDigraph};
 ghost use Rattle.flat_snapshot.specs.Neighbours.{destinations_of};
 ghost use Rattle.vertex_sets.specs.VertexSet.{IsVertexSet};
 ghost use Rattle.edge_apply.specs.inside.Lists.{AscendsFrom};
-ghost use Rattle.edge_apply.specs.Lists.{IsEndOf};
+ghost use Rattle.edge_apply.specs.Lists.{IsEndFor};
 ghost use Rattle.edge_apply.specs.Words.{is_set};
 ghost use Rattle.push_engine.specs.inside.Sources.{AreSources};
 ghost use Rattle.push_engine.specs.Sources.{cut_list};
@@ -47,7 +47,7 @@ pub(crate) fn list_sources(
         → AreSources apply.now.flat.now.edges from l.tested l.sources.items) }
     ensures list { IfOk result (λ l. (m : StateValue) (from : ℕ → Bool) → apply.now.vectors.now.vectors ≡ m.vectors → HasSizes apply.now.sizes.now m
         → IsEndTest apply.now.from m from
-        → IsEndOf apply.now.flat.now.vertices apply.now.from → l.sources.items ≡ cut_list apply.now.direction apply.now.flat.now.vertices from) }
+        → IsEndFor apply.now.flat.now.vertices apply.now.from → l.sources.items ≡ cut_list apply.now.direction apply.now.flat.now.vertices from) }
 {
     match apply.from {
         None => {
@@ -76,7 +76,7 @@ fn list_from(
         → AreSources apply.now.flat.now.edges test l.tested l.sources.items) }
     ensures list { IfOk result (λ l. (m : StateValue) (test : ℕ → Bool) → apply.now.vectors.now.vectors ≡ m.vectors → HasSizes apply.now.sizes.now m
         → IsTest from.entry m test
-        → IsEndOf apply.now.flat.now.vertices (Some from.entry) → l.sources.items ≡ cut_list apply.now.direction apply.now.flat.now.vertices test) }
+        → IsEndFor apply.now.flat.now.vertices (Some from.entry) → l.sources.items ≡ cut_list apply.now.direction apply.now.flat.now.vertices test) }
 {
     if apply.direction == Direction::DensePush {
         let sources = all_vertices(alloc, apply.flat)?;
@@ -104,7 +104,7 @@ fn passing_sources(
         → AreSources apply.now.flat.now.edges test false us.items) }
     ensures list { IfOk result (λ us. (m : StateValue) (test : ℕ → Bool) → apply.now.vectors.now.vectors ≡ m.vectors → HasSizes apply.now.sizes.now m
         → IsTest from.entry m test
-        → IsEndOf apply.now.flat.now.vertices (Some from.entry) → us.items ≡ filter test (range_with_len 0 apply.now.flat.now.vertices)) }
+        → IsEndFor apply.now.flat.now.vertices (Some from.entry) → us.items ≡ filter test (range_with_len 0 apply.now.flat.now.vertices)) }
 {
     match from {
         EndpointFilter::Members(set) => {

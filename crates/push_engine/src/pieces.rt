@@ -10,7 +10,7 @@ ghost use Rattle.crew.specs.Partition.{piece_of};
 ghost use Rattle.edge_fold.specs.Changed.{AreApart};
 ghost use Rattle.edge_fold.specs.Ends.{IsEndTest};
 ghost use Rattle.edge_fold.specs.Folded.{AreKernels, IsContextOf, HasFolded};
-ghost use Rattle.edge_fold.specs.Gathered.{AreAscending, AreGathered};
+ghost use Rattle.edge_fold.specs.Gathered.{AllAreNonDescending, AreGathered};
 ghost use Rattle.edge_apply.specs.Applied.{AreChangesOf};
 ghost use Rattle.edge_apply.specs.Pieces.{EachGathered};
 ghost use Rattle.edge_apply.specs.Words.{is_set, passes_words};
@@ -106,7 +106,7 @@ impl PushWork<'_> {
     ) -> Result<Gathered, AllocError>
         requires some { 0 < piece }
         requires inside { piece ≤ length self.now.partition }
-        ensures ascending { IfOk result (λ g. AreAscending g.vectors.items) }
+        ensures ascending { IfOk result (λ g. AllAreNonDescending g.vectors.items) }
         ensures given { IfOk result (λ g. (m : StateValue) (steps : List FunctionStatementsTree) (from test : ℕ → Bool)
             → self.now.apply.vectors.now.vectors ≡ m.vectors → HasSizes self.now.apply.sizes.now m
             → AreKernels self.now.apply.first.now self.now.apply.second steps → IsEndTest self.now.apply.from m from → IsEndTest to.entry m test

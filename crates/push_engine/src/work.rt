@@ -11,7 +11,7 @@ ghost use Rattle.crew.specs.Partition.{AreEnds};
 ghost use Rattle.flat_snapshot.specs.Neighbours.{destinations_of};
 ghost use Rattle.std.proofs.Props.{props};
 ghost use Rattle.edge_apply.specs.inside.Propositions.{AreEnds-prop, AscendsFrom-prop};
-ghost use Rattle.edge_apply.specs.Lists.{IsEndOf};
+ghost use Rattle.edge_apply.specs.Lists.{IsEndFor};
 ghost use Rattle.vertex_sets.specs.declared.form.Form.TheVariants as Form;
 ghost use Rattle.push_engine.specs.inside.Sources.{AreSources};
 ghost use Rattle.push_engine.specs.Sources.{cut_list};
@@ -74,7 +74,7 @@ impl<'a> PushWork<'a> {
         ensures apply { IfOk result (λ w. w.apply ≡ apply.now) }
         ensures list { IfOk result (λ w. (m : StateValue) (from : ℕ → Bool) → apply.now.vectors.now.vectors ≡ m.vectors
             → HasSizes apply.now.sizes.now m → IsEndTest apply.now.from m from
-            → IsEndOf apply.now.flat.now.vertices apply.now.from → w.sources.items ≡ cut_list apply.now.direction apply.now.flat.now.vertices from) }
+            → IsEndFor apply.now.flat.now.vertices apply.now.from → w.sources.items ≡ cut_list apply.now.direction apply.now.flat.now.vertices from) }
         ensures partition { IfOk result (λ w. w.partition ≡ boundaries apply.now.parallelization workers (vec_len w.sources)
             (map (λ u. length (destinations_of u apply.now.flat.now.edges)) w.sources.items)) }
         ensures bits { IfOk result (λ w. IsSome w.bits ↔ (makes_bits apply.now.flat.now apply.now.from apply.now.to ≡ true)) }
@@ -96,7 +96,7 @@ impl<'a> PushWork<'a> {
         ensures apply { IfOk result (λ w. w.apply ≡ apply.now) }
         ensures list { IfOk result (λ w. (m : StateValue) (from : ℕ → Bool) → apply.now.vectors.now.vectors ≡ m.vectors
             → HasSizes apply.now.sizes.now m → IsEndTest apply.now.from m from
-            → IsEndOf apply.now.flat.now.vertices apply.now.from → w.sources.items ≡ cut_list apply.now.direction apply.now.flat.now.vertices from) }
+            → IsEndFor apply.now.flat.now.vertices apply.now.from → w.sources.items ≡ cut_list apply.now.direction apply.now.flat.now.vertices from) }
         ensures partition { IfOk result (λ w. w.partition ≡ boundaries apply.now.parallelization count (vec_len w.sources)
             (map (λ u. length (destinations_of u apply.now.flat.now.edges)) w.sources.items)) }
         ensures bits { IfOk result (λ w. IsSome w.bits ↔ (makes_bits apply.now.flat.now apply.now.from apply.now.to ≡ true)) }

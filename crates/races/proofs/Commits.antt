@@ -13,7 +13,7 @@ use Rattle.shared_graph.specs.Histories.{own, steps_of, ReaderState}
 use Rattle.shared_graph.specs.Outcome.{Answers}
 use Rattle.races.specs.declared.outcomes.CommitReply.{CommitReply}
 use Rattle.races.specs.declared.outcomes.CommitReply.TheVariants as answer
-use Rattle.races.specs.Race.{AreAnswered, IsAnswered, commits, entries_of}
+use Rattle.races.specs.Race.{AreAnswered, IsAnswered, commits, history_entries_of}
 use Rattle.races.specs.inside.Racing.{RepliesTo}
 
 -- some batches of all are answered: what the others are answered makes up the whole
@@ -65,7 +65,7 @@ is_answered base old new batch (Err shared.BadSeats) result reply met gives is =
 -- what one reply says of the reader's history
 record GoesOn (base : State) (batch : List Change) (reply : CommitReply) (old new : ReaderState) : Type 0 where
   pub number : new.number ≡ old.number
-  pub own_entries : own old.number new.last ≡ own old.number old.last ++ entries_of old.number batch reply
+  pub own_entries : own old.number new.last ≡ own old.number old.last ++ history_entries_of old.number batch reply
   pub legal : IsLegal base (steps_of old.last) → IsLegal base (steps_of new.last)
 
 goes_on : (base : State) (batch : List Change) (reply : CommitReply) (old new : ReaderState) → IsAnswered base old batch reply new → GoesOn base batch reply old new
@@ -103,6 +103,6 @@ has_commits base (batch ∷ batches) (reply ∷ replies) old new is =
       own_entries =
           subst (λ (n : ℕ). own n new.last ≡ own n next.last ++ commits n batches replies) one.number rest.own_entries
           ∙ ap (λ (es : List Entry). es ++ commits old.number batches replies) one.own_entries
-          ∙ append_assoc (own old.number old.last) (entries_of old.number batch reply) (commits old.number batches replies);
+          ∙ append_assoc (own old.number old.last) (history_entries_of old.number batch reply) (commits old.number batches replies);
       legal = λ before. rest.legal (one.legal before);
     }

@@ -11,7 +11,7 @@ use Rattle.version_list.specs.declared.step.Reply.TheVariants.{Version}
 use Rattle.version_list.specs.Machine.{State, opened}
 use Rattle.version_list.specs.Timeline.{IsLegal}
 use Rattle.shared_graph.specs.declared.entry.Entry.{Entry}
-use Rattle.shared_graph.specs.Histories.{batches_of, entry, fold_of, own, steps_of, ReaderState, fresh_reader, HasMade, IsRefused}
+use Rattle.shared_graph.specs.Histories.{batches_of, history_entry, fold_of, own, steps_of, ReaderState, fresh_reader, HasMade, IsRefused}
 use Rattle.snapshot_runs.specs.Outcome.{IsOutcomeOn}
 use Rattle.races.specs.declared.outcomes.CommitReply.{CommitReply}
 use Rattle.races.specs.declared.outcomes.CommitReply.TheVariants as answer
@@ -33,15 +33,15 @@ AreAnswered base old (batch ∷ batches) (reply ∷ replies) new = (next : Reade
     × AreAnswered base next batches replies new
 
 -- the entry of a commit that was answered so, if it is one of the history
-abbrev pub entries_of : ℕ → List Change → CommitReply → List Entry
-entries_of by batch (answer.Version version) = entry by (Commit batch) (Version version) ∷ []
-entries_of by batch (answer.Refused number) = []
+abbrev pub history_entries_of : ℕ → List Change → CommitReply → List Entry
+history_entries_of by batch (answer.Version version) = history_entry by (Commit batch) (Version version) ∷ []
+history_entries_of by batch (answer.Refused number) = []
 
 -- the commits of these batches by one reader that made a version
 abbrev pub commits : ℕ → List (List Change) → List CommitReply → List Entry
 commits by [] replies = []
 commits by (batch ∷ batches) [] = []
-commits by (batch ∷ batches) (reply ∷ replies) = entries_of by batch reply ++ commits by batches replies
+commits by (batch ∷ batches) (reply ∷ replies) = history_entries_of by batch reply ++ commits by batches replies
 
 -- the run is on the newest version of the history: its number is the count of the commits, and its outcome what the plan's program means on the fold of their
 -- batches
@@ -90,5 +90,5 @@ abbrev pub runs_fault : ProgramRuns → Bool
 runs_fault runs = is_fault runs.early.outcome.end || is_fault runs.late.outcome.end
 
 -- whether some run of a race ended by a fault
-abbrev pub has_faulted : Race → Bool
-has_faulted race = list_any runs_fault race.runs.items
+abbrev pub race_has_faulted : Race → Bool
+race_has_faulted race = list_any runs_fault race.runs.items

@@ -1,6 +1,6 @@
 //! Outcomes of a race: the replies to its batches, and two runs of each program.
 ghost use Rattle.std.specs.Prelude.{◌≡◌};
-ghost use Rattle.races.specs.Race.{has_faulted, runs_fault};
+ghost use Rattle.races.specs.Race.{race_has_faulted, runs_fault};
 
 use algorithm_meaning::Outcome;
 use replies::is_fault;
@@ -37,7 +37,7 @@ pub struct Race {
 impl Race {
     /// Whether some run ended by a fault.
     pub fn has_faulted(&self) -> bool
-        ensures { result ≡ has_faulted self.now }
+        ensures { result ≡ race_has_faulted self.now }
     {
         self.runs.iter().any(|runs| runs.fault())
     }

@@ -2,7 +2,7 @@
 ghost use Rattle.std.specs.Prelude.{◌≡◌, [], IfOk};
 ghost use Rattle.replies.specs.ReplyText.{line_text};
 ghost use Rattle.replies.specs.Sending.{Emits};
-ghost use Rattle.scripts.specs.Script.{bytes_written_by};
+ghost use Rattle.scripts.specs.Script.{taken_by_writer};
 ghost use Rattle.races.specs.RaceText.{Writes, early_text, late_text, race_text, replies_text, reply_line, run_line, run_text};
 
 use crate::outcomes::{CommitReply, ProgramRuns, Race, VersionRun};
@@ -21,8 +21,8 @@ const LATE: &[u8] = b"late";
 /// Errors: `WriteFailed` where the writer failed in this call, or `NoMemory`. What was written is then a beginning of the text.
 pub fn write_race<W: Drain>(alloc: Global, race: &Race, writer: &mut W) -> Result<(), SendError>
     ensures { Writes (race_text race.now)
-        (bytes_written_by (W.bytes_written writer.old) (W.failures writer.old))
-        (bytes_written_by (W.bytes_written writer.new) (W.failures writer.new)) result }
+        (taken_by_writer (W.bytes_written writer.old) (W.failures writer.old))
+        (taken_by_writer (W.bytes_written writer.new) (W.failures writer.new)) result }
 {
     let mut kept = Vec::with_capacity(alloc, BLOCK)?;
     let mut replies = ReplyWriter {
@@ -45,8 +45,8 @@ fn send_all<W: Drain>(
     requires kept { replies.old.kept ≡ [] }
     ensures same_writer { replies.new.writer ≡ replies.old.writer }
     ensures writes { Writes (race_text race.now)
-        (bytes_written_by replies.old.bytes_written replies.old.failures)
-        (bytes_written_by replies.new.bytes_written replies.new.failures) result }
+        (taken_by_writer replies.old.bytes_written replies.old.failures)
+        (taken_by_writer replies.new.bytes_written replies.new.failures) result }
 {
     send_race(alloc, race, replies)?;
     replies.flush()

@@ -13,7 +13,7 @@ use Rattle.clap.specs.declared.error.kind.ErrorKind.{ErrorKind as FaultKind}
 use Rattle.clap.specs.declared.error.kind.ErrorKind.TheVariants.{OutOfMemory}
 use Rattle.clap.specs.declared.parser.matches.ArgMatches.{ArgMatches}
 use Rattle.clap.specs.declared.parser.matches.ArgMatches.TheViews.{out-ArgMatches, out-SubCommand}
-use Rattle.requests.specs.Asked.{Answers, HasFewWorkers, IsFaultAmong, command_of, found_request, race_of, request_of, script_with, files_of, command_line}
+use Rattle.requests.specs.Asked.{Answers, HasFewWorkers, IsFaultAmong, command_named, found_request, race_of, request_of, script_with, files_of, command_line}
 use Rattle.requests.specs.Refusal.{of_fault}
 use Rattle.requests.specs.declared.asked.Request.{Request}
 use Rattle.requests.specs.declared.asked.RequestError.{RequestError}
@@ -38,7 +38,7 @@ name-rows m =
 
 -- a command that was met
 pub met_command : (p : Option (Text × List Row)) (name : Text) (rows : List Row) → Some name ≡ option_map (λ q. q.0) p → Some rows ≡ option_map (λ q. q.1) p
-    → command_of name rows ≡ found_request p
+    → command_named name rows ≡ found_request p
 met_command None name rows named found = cc
 met_command (Some q) name rows named found =
     let n : name ≡ q.0 = ap (λ (o : Option Text). unwrap_or o name) named in
@@ -87,10 +87,10 @@ script_has_few : (files : List Text) → HasFewWorkers (script_with files)
 script_has_few [] = tt
 script_has_few (f ∷ fs) = tt
 
-command_has_few : (name : Text) (rows : List Row) → HasFewWorkers (command_of name rows)
+command_has_few : (name : Text) (rows : List Row) → HasFewWorkers (command_named name rows)
 command_has_few name rows = go (bytes_eq name (codes "check")) (bytes_eq name (codes "plan")) (bytes_eq name (codes "race")) refl refl refl
   where
-    go : (c p r : Bool) → bytes_eq name (codes "check") ≡ c → bytes_eq name (codes "plan") ≡ p → bytes_eq name (codes "race") ≡ r → HasFewWorkers (command_of name rows)
+    go : (c p r : Bool) → bytes_eq name (codes "check") ≡ c → bytes_eq name (codes "plan") ≡ p → bytes_eq name (codes "race") ≡ r → HasFewWorkers (command_named name rows)
     go true p r is _ _ = rw is tt
     go false true r fails is _ = rw (fails, is) tt
     go false false true fails nor is = rw (fails, nor, is) (race_has_few rows)

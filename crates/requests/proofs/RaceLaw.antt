@@ -10,7 +10,8 @@ use Rattle.clap.specs.Words.{Row, Rule, Text, fault_of}
 use Rattle.clap.specs.Faults.{check_fault, default_fault, defaults_fault, given_default_fault, level_fault, walk_fault}
 use Rattle.clap.specs.Walk.{Walk, default_rows, has_row, nothing_held, reading_by, rows_after, walked, with_default}
 use Rattle.requests.specs.Asked.{Asks, a_race, race_of, request_of, command_line}
-use Rattle.requests.specs.Forms.{HasNoHyphen, IsTaken, NumberOption, RacePart, a_file, apart, files_in, joined, number_given, numbers_in, numbers_of, option_word, the_turns, the_workers, words_of}
+use Rattle.requests.specs.Forms.{HasNoHyphen, IsTaken, NumberOption, RacePart, a_file, apart, files_in, joined, number_given, numbers_in, numbers_of, option_word, the_turns, the_workers}
+use Rattle.requests.specs.Forms.{words_of_parts}
 use Rattle.requests.proofs.RaceParts.{AreRows, Follows, Pending, a_number, a_script, all_used, nothing, pending_files, pending_numbers, position_after, settled_at, some_programs, turns_used}
 use Rattle.requests.proofs.RaceParts.{use_quiet, walk_at, workers_used}
 use Rattle.requests.proofs.RaceWalk.{IsQuiet, Turn, first_after_turns, first_after_workers, first_file, next_after_script, next_after_turns, next_after_workers, next_file, number_has_no_hyphen}
@@ -338,29 +339,29 @@ module _ (all_files all_workers all_turns : List Text) (w : IsTaken the_workers 
   }
 
   pub all_parts : (parts : List RacePart) (position : ℕ) (files workers turns : List Text) (rows : List Row) (pending : Pending) → AllByRecursion HasNoHyphen (files_in parts)
-      → IsAt position files workers turns rows pending parts → Ends (walk_at position rows pending) (words_of parts)
+      → IsAt position files workers turns rows pending parts → Ends (walk_at position rows pending) (words_of_parts parts)
   all_parts [] position files workers turns rows pending h at = nothing_left position files workers turns rows pending at
   all_parts (a_file file ∷ parts) position files workers turns rows pending h at =
       let n = file_next position files workers turns rows pending file parts h.0 at in
-      one_word (walk_at position rows pending) (walk_at n.position n.rows n.pending) file (words_of parts) n.turn (all_parts parts n.position n.files n.workers n.turns n.rows n.pending h.1 n.at)
+      one_word (walk_at position rows pending) (walk_at n.position n.rows n.pending) file (words_of_parts parts) n.turn (all_parts parts n.position n.files n.workers n.turns n.rows n.pending h.1 n.at)
   all_parts (joined the_workers number ∷ parts) position files workers turns rows pending h at =
       let n = workers_next position files workers turns rows pending number parts at in
-      one_word (walk_at position rows pending) (walk_at n.position n.rows n.pending) (option_word the_workers ++ 61 ∷ number) (words_of parts) n.turn
+      one_word (walk_at position rows pending) (walk_at n.position n.rows n.pending) (option_word the_workers ++ 61 ∷ number) (words_of_parts parts) n.turn
       (all_parts parts n.position n.files n.workers n.turns n.rows n.pending h n.at)
   all_parts (joined the_turns number ∷ parts) position files workers turns rows pending h at =
       let n = turns_next position files workers turns rows pending number parts at in
-      one_word (walk_at position rows pending) (walk_at n.position n.rows n.pending) (option_word the_turns ++ 61 ∷ number) (words_of parts) n.turn
+      one_word (walk_at position rows pending) (walk_at n.position n.rows n.pending) (option_word the_turns ++ 61 ∷ number) (words_of_parts parts) n.turn
       (all_parts parts n.position n.files n.workers n.turns n.rows n.pending h n.at)
   all_parts (apart the_workers number ∷ parts) position files workers turns rows pending h at =
       let b = workers_apart position files workers turns rows pending number parts at in
       let n = b.next in
-      one_word (walk_at position rows pending) b.between (option_word the_workers) (number ∷ words_of parts) b.named
-      (one_word b.between (walk_at n.position n.rows n.pending) number (words_of parts) n.turn (all_parts parts n.position n.files n.workers n.turns n.rows n.pending h n.at))
+      one_word (walk_at position rows pending) b.between (option_word the_workers) (number ∷ words_of_parts parts) b.named
+      (one_word b.between (walk_at n.position n.rows n.pending) number (words_of_parts parts) n.turn (all_parts parts n.position n.files n.workers n.turns n.rows n.pending h n.at))
   all_parts (apart the_turns number ∷ parts) position files workers turns rows pending h at =
       let b = turns_apart position files workers turns rows pending number parts at in
       let n = b.next in
-      one_word (walk_at position rows pending) b.between (option_word the_turns) (number ∷ words_of parts) b.named
-      (one_word b.between (walk_at n.position n.rows n.pending) number (words_of parts) n.turn (all_parts parts n.position n.files n.workers n.turns n.rows n.pending h n.at))
+      one_word (walk_at position rows pending) b.between (option_word the_turns) (number ∷ words_of_parts parts) b.named
+      (one_word b.between (walk_at n.position n.rows n.pending) number (words_of_parts parts) n.turn (all_parts parts n.position n.files n.workers n.turns n.rows n.pending h n.at))
 
 -- ---- after the walk
 
@@ -416,7 +417,7 @@ race_first word words no_check no_plan no_script is = rw (walk_from_command (cod
 
 module _ (parts : List RacePart) (script program : Text) (programs : List Text) (files : files_in parts ≡ script ∷ program ∷ programs) (h : AllByRecursion HasNoHyphen (files_in parts))
     (w : IsTaken the_workers (numbers_in the_workers parts)) (t : IsTaken the_turns (numbers_in the_turns parts)) (few : length parts ≤ usize_max) where
-  end : Ends (files_in parts) (numbers_in the_workers parts) (numbers_in the_turns parts) w t (walk_at 1 [] nothing) (words_of parts)
+  end : Ends (files_in parts) (numbers_in the_workers parts) (numbers_in the_turns parts) w t (walk_at 1 [] nothing) (words_of_parts parts)
   end = all_parts (files_in parts) (numbers_in the_workers parts) (numbers_in the_turns parts) w t parts 1 [] [] [] [] nothing h (record {
     found = record { script = refl; programs = refl; workers_are = refl; turns_are = refl };
     follows = tt;
@@ -447,21 +448,21 @@ module _ (parts : List RacePart) (script program : Text) (programs : List Text) 
   rows_kept : fold with_default rows race.rules ≡ rows
   rows_kept = all_kept race.rules rows race_has_none
 
-  level_quiet : level_fault race [] nothing_held (words_of parts) false [] ≡ []
+  level_quiet : level_fault race [] nothing_held (words_of_parts parts) false [] ≡ []
   level_quiet =
       rw (end.quiet, end.is, settle_quiet, no_default_faults race.rules rows race_has_none, rows_kept)
       (checked script program programs (numbers_in the_workers parts) (numbers_in the_turns parts) rows found)
 
-  rows_read : race_of (rows_after race.rules [] (words_of parts)) ≡ a_race script (program ∷ programs) (number_given 2 (numbers_in the_workers parts))
+  rows_read : race_of (rows_after race.rules [] (words_of_parts parts)) ≡ a_race script (program ∷ programs) (number_given 2 (numbers_in the_workers parts))
       (number_given 1000000 (numbers_in the_turns parts))
   rows_read = rw (end.is, rows_kept) (race_read script program programs (numbers_in the_workers parts) (numbers_in the_turns parts) rows w t found)
 
-  asked : request_of (codes "race" ∷ words_of parts) ≡ a_race script (program ∷ programs) (number_given 2 (numbers_in the_workers parts)) (number_given 1000000 (numbers_in the_turns parts))
-  asked = race_first (codes "race") (words_of parts) refl refl refl refl ∙ rows_read
+  asked : request_of (codes "race" ∷ words_of_parts parts) ≡ a_race script (program ∷ programs) (number_given 2 (numbers_in the_workers parts)) (number_given 1000000 (numbers_in the_turns parts))
+  asked = race_first (codes "race") (words_of_parts parts) refl refl refl refl ∙ rows_read
 
-  quiet : fault_of command_line (codes "race" ∷ words_of parts) ≡ []
+  quiet : fault_of command_line (codes "race" ∷ words_of_parts parts) ≡ []
   unfolding walk_fault walked defaults_fault
-  quiet = rw (gathers top.rules names (at_start false) (codes "race") [] (words_of parts), stopped_fault top names (at_start false) (codes "race", []) (words_of parts), level_quiet) refl
+  quiet = rw (gathers top.rules names (at_start false) (codes "race") [] (words_of_parts parts), stopped_fault top names (at_start false) (codes "race", []) (words_of_parts parts), level_quiet) refl
 
-  pub race_asked : Asks (codes "race" ∷ words_of parts) (a_race script (program ∷ programs) (number_given 2 (numbers_in the_workers parts)) (number_given 1000000 (numbers_in the_turns parts)))
+  pub race_asked : Asks (codes "race" ∷ words_of_parts parts) (a_race script (program ∷ programs) (number_given 2 (numbers_in the_workers parts)) (number_given 1000000 (numbers_in the_turns parts)))
   race_asked = (quiet, asked)

@@ -59,8 +59,8 @@ race_of rows =
     (number_of (codes "turns") 0 18446744073709551615 1000000 rows)
 
 -- what the command of this name asks for, with what was found after it
-abbrev pub command_of : Text → List Row → Asked
-command_of name rows =
+abbrev pub command_named : Text → List Row → Asked
+command_named name rows =
     if bytes_eq name (codes "check") then a_check (file_of (codes "FILE") rows) else
     if bytes_eq name (codes "plan") then a_plan (file_of (codes "FILE") rows) else
     if bytes_eq name (codes "race") then race_of rows else
@@ -69,7 +69,7 @@ command_of name rows =
 -- with no command, the input
 abbrev pub found_request : Option (Text × List Row) → Asked
 found_request None = the_input
-found_request (Some p) = command_of p.0 p.1
+found_request (Some p) = command_named p.0 p.1
 
 -- what the words ask for
 abbrev pub request_of : List Text → Asked

@@ -61,11 +61,11 @@ pub data RacePart : Type 0 where
 abbrev pub option_word : NumberOption → Text
 option_word option = 45 ∷ 45 ∷ option_name option
 
-abbrev pub words_of : List RacePart → List Text
-words_of [] = []
-words_of (a_file file ∷ parts) = file ∷ words_of parts
-words_of (joined option number ∷ parts) = (option_word option ++ 61 ∷ number) ∷ words_of parts
-words_of (apart option number ∷ parts) = option_word option ∷ number ∷ words_of parts
+abbrev pub words_of_parts : List RacePart → List Text
+words_of_parts [] = []
+words_of_parts (a_file file ∷ parts) = file ∷ words_of_parts parts
+words_of_parts (joined option number ∷ parts) = (option_word option ++ 61 ∷ number) ∷ words_of_parts parts
+words_of_parts (apart option number ∷ parts) = option_word option ∷ number ∷ words_of_parts parts
 
 abbrev pub files_in : List RacePart → List Text
 files_in [] = []

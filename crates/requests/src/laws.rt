@@ -9,7 +9,7 @@ ghost use Rattle.clap.specs.Words.{Text, fault_of};
 ghost use Rattle.clap.specs.declared.builder.value_parser.ValueParser.TheVariants.{Unsigned};
 ghost use Rattle.clap.specs.declared.error.kind.ErrorKind.TheVariants.{ValueValidation};
 ghost use Rattle.requests.specs.Asked.{Asks, a_race, request_of, command_line};
-ghost use Rattle.requests.specs.Forms.{HasNoHyphen, HasOperands, IsCommand, IsTaken, RacePart, files_in, number_given, numbers_in, the_turns, the_workers, words_of};
+ghost use Rattle.requests.specs.Forms.{HasNoHyphen, HasOperands, IsCommand, IsTaken, RacePart, files_in, number_given, numbers_in, the_turns, the_workers, words_of_parts};
 
 /// The law that words without a fault which ask for no race ask for what their operands are: no words for the input, and else a
 /// command and its files. The call does nothing.
@@ -56,6 +56,6 @@ pub fn races_come_in_any_order()
     ensures { (parts : List RacePart) (script program : Text) (programs : List Text) → files_in parts ≡ script ∷ program ∷ programs
         → AllByRecursion HasNoHyphen (files_in parts) → IsTaken the_workers (numbers_in the_workers parts)
         → IsTaken the_turns (numbers_in the_turns parts) → length parts ≤ usize_max
-        → Asks (codes "race" ∷ words_of parts)
+        → Asks (codes "race" ∷ words_of_parts parts)
         (a_race script (program ∷ programs) (number_given 2 (numbers_in the_workers parts)) (number_given 1000000 (numbers_in the_turns parts))) }
 {}

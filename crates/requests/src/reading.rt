@@ -2,7 +2,7 @@
 
 ghost use Rattle.std.specs.Prelude.{◌≡◌, IfOk, codes, map};
 ghost use Rattle.clap.specs.Words.{found_of, rows_of, subcommand_rows_of};
-ghost use Rattle.requests.specs.Asked.{Answers, HasFewWorkers, asked_by, command_of, file_of, files_of, found_request, number_of, race_of, script_with};
+ghost use Rattle.requests.specs.Asked.{Answers, HasFewWorkers, asked_by, command_named, file_of, files_of, found_request, number_of, race_of, script_with};
 ghost use Rattle.requests.specs.inside.Numbers.{within};
 
 use crate::asked::{Request, RequestError};
@@ -50,7 +50,7 @@ fn named_request<'a>(
     name: &str,
     found: &ArgMatches<'a>,
 ) -> Result<Request<'a>, AllocError>
-    ensures { IfOk result (λ r. asked_by r ≡ command_of name.now (rows_of (found_of found.now))) }
+    ensures { IfOk result (λ r. asked_by r ≡ command_named name.now (rows_of (found_of found.now))) }
 {
     if name == CHECK {
         Ok(Request::Check {

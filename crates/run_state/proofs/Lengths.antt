@@ -14,7 +14,8 @@ use Rattle.algorithm_meaning.specs.Meaning.{opening_entries, out_degree}
 use Rattle.algorithm_meaning.specs.VertexSets.{after_vertex, after_vertices}
 use Rattle.kernels.specs.RegisterInstruction.{RegisterInstruction}
 use Rattle.kernels.specs.RegisterInstruction.TheVariants.{SetEntry}
-use Rattle.kernels.specs.Registers.{Registers, HasSizes, CodeInput, after, is_active, step, written}
+use Rattle.kernels.specs.Registers.{Registers, HasSizes, CodeInput, after, is_active, step}
+use Rattle.register_code.specs.Registers.{vectors_written}
 use Rattle.kernels.specs.Meaning.{IsVertexCode, vertex_input}
 use Rattle.vectors.specs.declared.changes.EntryChange.{EntryChange}
 use Rattle.vectors.specs.declared.changes.VectorChanges.{VectorChanges}
@@ -41,14 +42,14 @@ either : (b : Bool) (xs ys : List (List ℤ)) → lengths xs ≡ lengths ys → 
 either true xs ys h = h
 either false xs ys h = refl
 
-lengths_written : (s : CodeInput) (i : RegisterInstruction) (c : Registers) → lengths (written s i c) ≡ lengths s.vectors
+lengths_written : (s : CodeInput) (i : RegisterInstruction) (c : Registers) → lengths (vectors_written s i c) ≡ lengths s.vectors
 lengths_written s (SetEntry vector from when) c =
     either (is_active c.numbers when) (with_entry s.vectors vector s.source (c.numbers from)) s.vectors (lengths_after_entry s.vectors vector s.source (c.numbers from))
 lengths_written s i c = refl
 
 lengths_after_code : (s : CodeInput) (is : List RegisterInstruction) (c : Registers) → lengths (after s is c).0.vectors ≡ lengths s.vectors
 lengths_after_code s [] c = refl
-lengths_after_code s (i ∷ is) c = lengths_after_code (record s { vectors = written s i c }) is (step s i c) ∙ lengths_written s i c
+lengths_after_code s (i ∷ is) c = lengths_after_code (record s { vectors = vectors_written s i c }) is (step s i c) ∙ lengths_written s i c
 
 no_registers : Registers
 no_registers = record { numbers = λ _. pos 0; integers = λ _. pos 0; conditions = λ _. pos 0; inside = pos 0 }

@@ -4,7 +4,7 @@ use Rattle.weighted_edges.specs.Edge.{unit_weight}
 use Rattle.typed_tree.specs.declared.program.Vector.{Vector}
 use Rattle.algorithm_meaning.specs.State.{GraphValue, StateValue, main_scope}
 use Rattle.algorithm_meaning.specs.Value.{members_of}
-use Rattle.algorithm_meaning.specs.Meaning.{all_vertices, opening_entries}
+use Rattle.algorithm_meaning.specs.Meaning.{full_set, opening_entries}
 use Rattle.flat_snapshot.specs.Digraph.{Digraph}
 use Rattle.vectors.specs.Vectors.{IsGrouping}
 use Rattle.vertex_sets.specs.VertexSet.{IsAscendingBelow}
@@ -39,7 +39,7 @@ opened_vectors d vectors = map (λ v. opening_entries (graph_value d) v.beginnin
 abbrev pub opened : Digraph → List Vector → (sets : List ℕ) → (turns : ℕ) → StateValue
 opened d vectors sets turns = record {
   vectors = opened_vectors d vectors;
-  sets = map (all_vertices (graph_value d)) sets;
+  sets = map (full_set (graph_value d)) sets;
   scope = main_scope;
   text = [];
   turns = turns;

@@ -1,7 +1,7 @@
 //! The vertex sets of a run, with their names and their sizes.
 ghost use Rattle.std.specs.Prelude.{◌≡◌, ◌<◌, ◌≤◌, ◌+◌, ℕ, length, map, slice_get, take, vec_capacity, vec_len, IfOk, IfSome, OnErr, OnOk};
 ghost use Rattle.std.specs.Option.{option_copied};
-ghost use Rattle.algorithm_meaning.specs.Meaning.{named_set, all_vertices};
+ghost use Rattle.algorithm_meaning.specs.Meaning.{named_set, full_set};
 ghost use Rattle.algorithm_meaning.specs.State.{GraphValue};
 ghost use Rattle.algorithm_meaning.specs.Value.{members_of};
 ghost use Rattle.algorithm_meaning.specs.VertexSets.{inserted, with_members, with_new_set};
@@ -72,7 +72,7 @@ impl NamedSets {
         names: &[usize],
     ) -> Result<NamedSets, AllocError>
         ensures { IfOk result (λ s. (g : GraphValue) → g.vertices ≡ vertices
-            → s ≡ sets_alone vertices (record nothing { sets = map (all_vertices g) names.now })) }
+            → s ≡ sets_alone vertices (record nothing { sets = map (full_set g) names.now })) }
     {
         let mut opened = NamedSets::new(alloc, vertices);
         'names: for name in names {

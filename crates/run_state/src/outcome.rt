@@ -1,6 +1,6 @@
 //! Outcomes: what a run shows in the end.
 ghost use Rattle.std.specs.Prelude.{◌≡◌, length, map, take, IfOk};
-ghost use Rattle.algorithm_meaning.specs.Meaning.{name_at, named_set, named_vectors};
+ghost use Rattle.algorithm_meaning.specs.Meaning.{shown_name_at, named_set, named_vectors};
 ghost use Rattle.run_state.specs.inside.NamedSets.{named};
 
 use algorithm_meaning::{NamedSet, NamedVector};
@@ -61,7 +61,7 @@ fn members_of(alloc: Global, set: &VertexSet) -> Result<Sequence<u32>, AllocErro
 
 /// A copy of the name at an index, the empty one where there is none.
 fn name_of(alloc: Global, names: &[Name], index: usize) -> Result<Name, AllocError>
-    ensures { IfOk result (λ name. name ≡ name_at names.now index) }
+    ensures { IfOk result (λ name. name ≡ shown_name_at names.now index) }
 {
     match names.get(index) {
         Some(name) => Ok(Sequence::new(Vec::from_slice(alloc, name.as_slice())?)),

@@ -22,7 +22,7 @@ use Rattle.schedule.specs.BrokenRules.{AppliesNoEdges, BreakNoRule, BreaksConfig
 use Rattle.schedule.specs.BrokenRules.{IsFusedTwice, IsLeastBroken, IsNoValue, IsRefused, NamedTwice, NamesOneTwice, NamesVector, NoVector, OnApplies, OnLabel, OnLabels, TooFew, WithTwo}
 use Rattle.schedule.specs.Calls.{after_call, and_then, apply_at, first_given, fuse_at, fuse_or, fusing_fault_of, fusing_of_two, given, grown, grown_by, is_followed_by, schedule_of, two_of, value_at}
 use Rattle.schedule.specs.Calls.{value_of_two, value_on, with_call, with_call_of, with_calls, with_group}
-use Rattle.schedule.specs.Schedule.{label_index, vector_index, empty_schedule, is_fused, with_apply_schedule, dense_vertex_set_of, direction_of, parallelization_of}
+use Rattle.schedule.specs.Schedule.{label_index, vector_by_name, empty_schedule, is_fused, with_apply_schedule, dense_vertex_set_of, direction_of, parallelization_of}
 use Rattle.schedule.specs.Refusal.{number_of_rule}
 use Rattle.schedule.proofs.CallSteps.{ok_is}
 
@@ -425,7 +425,7 @@ in_taken v taken is = list_any-from_Contains {eq = nat_eq} nat_eq_equiv v taken 
 abbrev AreBad : ProgramTree → List ℕ → List (List ℕ) → Type 0
 AreBad p taken names = HasNoVector p names ⊎ (((v : ℕ) × Contains taken v × NamesVector p v names) ⊎ NamesOneTwice p names)
 
-further_bad : (p : ProgramTree) (taken : List ℕ) (v : ℕ) (name : List ℕ) (names : List (List ℕ)) → vector_index p name ≡ Some v → AreBad p (taken ++ v ∷ []) names → AreBad p taken (name ∷ names)
+further_bad : (p : ProgramTree) (taken : List ℕ) (v : ℕ) (name : List ℕ) (names : List (List ℕ)) → vector_by_name p name ≡ Some v → AreBad p (taken ++ v ∷ []) names → AreBad p taken (name ∷ names)
 further_bad p taken v name names is bad =
     elim bad [
       | inl none ↦ inl (inr none)
@@ -438,18 +438,18 @@ further_bad p taken v name names is bad =
       ]
     ]
 
-first_bad : (p : ProgramTree) (taken : List ℕ) (v : ℕ) (name : List ℕ) (names : List (List ℕ)) → vector_index p name ≡ Some v → AreBad p taken (name ∷ names)
+first_bad : (p : ProgramTree) (taken : List ℕ) (v : ℕ) (name : List ℕ) (names : List (List ℕ)) → vector_by_name p name ≡ Some v → AreBad p taken (name ∷ names)
     → Contains taken v ⊎ AreBad p (taken ++ v ∷ []) names
 first_bad p taken v name names is bad =
     elim bad [
-      | inl none ↦ elim none [ inl here ↦ absurd (nowhere (vector_index p name) v here is) | inr there ↦ inr (inl there) ]
+      | inl none ↦ elim none [ inl here ↦ absurd (nowhere (vector_by_name p name) v here is) | inr there ↦ inr (inl there) ]
       | inr other ↦ elim other [
         | inl named ↦ elim named.2 [
-          | inl here ↦ inl (subst (Contains taken) (two_indices (vector_index p name) named.0 v here is) named.1)
+          | inl here ↦ inl (subst (Contains taken) (two_indices (vector_by_name p name) named.0 v here is) named.1)
           | inr there ↦ inr (inr (inl (named.0, Contains-append_left taken (v ∷ []) named.0 named.1, there)))
         ]
         | inr twice ↦ elim twice [
-          | inl here ↦ inr (inr (inl (v, Contains-push taken v, subst (λ w. NamesVector p w names) (two_indices (vector_index p name) here.0 v here.1 is) here.2)))
+          | inl here ↦ inr (inr (inl (v, Contains-push taken v, subst (λ w. NamesVector p w names) (two_indices (vector_by_name p name) here.0 v here.1 is) here.2)))
           | inr there ↦ inr (inr (inr there))
         ]
       ]
@@ -457,9 +457,9 @@ first_bad p taken v name names is bad =
 
 grown_none : (p : ProgramTree) (taken group : List ℕ) (names : List (List ℕ)) → grown p taken group names ≡ None → AreBad p (taken ++ group) names
 grown_none p taken group [] none = cc
-grown_none p taken group (name ∷ names) none = at_index (vector_index p name) refl (λ more none. grown_none p taken more names none) none
+grown_none p taken group (name ∷ names) none = at_index (vector_by_name p name) refl (λ more none. grown_none p taken more names none) none
   where
-    untaken : (v : ℕ) (any : Bool) → list_any (nat_eq v) (taken ++ group) ≡ any → vector_index p name ≡ Some v
+    untaken : (v : ℕ) (any : Bool) → list_any (nat_eq v) (taken ++ group) ≡ any → vector_by_name p name ≡ Some v
         → ((more : List ℕ) → grown p taken more names ≡ None → AreBad p (taken ++ more) names)
         → (if any then None else grown p taken (group ++ v ∷ []) names) ≡ None → AreBad p (taken ++ group) (name ∷ names)
     untaken v true any is others none = inr (inl (v, taken_in v (taken ++ group) any, inl is))
@@ -467,16 +467,16 @@ grown_none p taken group (name ∷ names) none = at_index (vector_index p name) 
         further_bad p (taken ++ group) v name names is
         (subst (λ t. AreBad p t names) (sym (append_assoc taken group (v ∷ []))) (others (group ++ v ∷ []) none))
 
-    at_index : (index : Option ℕ) → vector_index p name ≡ index → ((more : List ℕ) → grown p taken more names ≡ None → AreBad p (taken ++ more) names)
+    at_index : (index : Option ℕ) → vector_by_name p name ≡ index → ((more : List ℕ) → grown p taken more names ≡ None → AreBad p (taken ++ more) names)
         → grown_by taken group index (λ more. grown p taken more names) ≡ None → AreBad p (taken ++ group) (name ∷ names)
     at_index None is others none = inl (inl is)
     at_index (Some v) is others none = untaken v (list_any (nat_eq v) (taken ++ group)) refl is others none
 
 grown_some : (p : ProgramTree) (taken group end : List ℕ) (names : List (List ℕ)) → grown p taken group names ≡ Some end → AreBad p (taken ++ group) names → ⊥
 grown_some p taken group end [] some bad = elim bad [ inl none ↦ none | inr other ↦ elim other [ inl named ↦ named.2 | inr twice ↦ twice ] ]
-grown_some p taken group end (name ∷ names) some bad = at_index (vector_index p name) refl (λ more some bad. grown_some p taken more end names some bad) some
+grown_some p taken group end (name ∷ names) some bad = at_index (vector_by_name p name) refl (λ more some bad. grown_some p taken more end names some bad) some
   where
-    untaken : (v : ℕ) (any : Bool) → list_any (nat_eq v) (taken ++ group) ≡ any → vector_index p name ≡ Some v
+    untaken : (v : ℕ) (any : Bool) → list_any (nat_eq v) (taken ++ group) ≡ any → vector_by_name p name ≡ Some v
         → ((more : List ℕ) → grown p taken more names ≡ Some end → AreBad p (taken ++ more) names → ⊥)
         → (if any then None else grown p taken (group ++ v ∷ []) names) ≡ Some end → ⊥
     untaken v true any is others some = nowhere {A = List ℕ} None end refl some
@@ -486,7 +486,7 @@ grown_some p taken group end (name ∷ names) some bad = at_index (vector_index 
           | inr further ↦ others (group ++ v ∷ []) some (subst (λ t. AreBad p t names) (append_assoc taken group (v ∷ [])) further)
         ]
 
-    at_index : (index : Option ℕ) → vector_index p name ≡ index → ((more : List ℕ) → grown p taken more names ≡ Some end → AreBad p (taken ++ more) names → ⊥)
+    at_index : (index : Option ℕ) → vector_by_name p name ≡ index → ((more : List ℕ) → grown p taken more names ≡ Some end → AreBad p (taken ++ more) names → ⊥)
         → grown_by taken group index (λ more. grown p taken more names) ≡ Some end → ⊥
     at_index None is others some = nowhere {A = List ℕ} None end refl some
     at_index (Some v) is others some = untaken v (list_any (nat_eq v) (taken ++ group)) refl is others some

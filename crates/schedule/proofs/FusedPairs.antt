@@ -11,7 +11,7 @@ use Rattle.typed_tree.specs.declared.apply.StatementApply.{StatementApply}
 use Rattle.typed_tree.specs.declared.apply.StatementApply.TheVariants.{Vertices, Edges}
 use Rattle.schedule.specs.Calls.{apply_at, fusing_fault_of, is_followed_by, schedule_of}
 use Rattle.schedule.specs.Laws.{FusesWell, IsFusedWell, IsIndependent}
-use Rattle.typed_tree.specs.Independence.{are_independent, have_same_sets, is_end}
+use Rattle.typed_tree.specs.Independence.{are_independent, have_same_sets, is_end_of_name}
 use Rattle.apply_options.specs.ScheduleTree.{ScheduleTree, apply_schedule_of, fused_as}
 use Rattle.schedule.specs.Schedule.{empty_schedule, with_fused}
 use Rattle.schedule.proofs.CallSteps.{Step, GivesValue, Fuses, PutsGroup, kept_by_calls}
@@ -36,7 +36,7 @@ is_independent p (Edges a f r) (Edges b g s) h =
     let ends = and_parts _ _ h in
     let function = and_parts _ _ ends.1 in
     let sources = and_parts _ _ function.1 in
-    let changes = not_or (is_end p.names r b.from) (is_end p.names r b.to) ends.0 in
+    let changes = not_or (is_end_of_name p.names r b.from) (is_end_of_name p.names r b.to) ends.0 in
     record {
       function = nothing_in_common _ _ function.0;
       sources = nothing_in_common _ _ sources.0;

@@ -8,7 +8,7 @@ use Rattle.std.specs.Prelude.{Option, Some, None, Ok, if◌then◌else◌}
 use Rattle.typed_tree.specs.ProgramTree.{ProgramTree}
 use Rattle.schedule.specs.Calls.{grown, grown_by, schedule_of}
 use Rattle.schedule.specs.Laws.{GroupsAreDistinct}
-use Rattle.schedule.specs.Schedule.{vector_index, empty_schedule}
+use Rattle.schedule.specs.Schedule.{vector_by_name, empty_schedule}
 use Rattle.apply_options.specs.ScheduleTree.{ScheduleTree}
 use Rattle.schedule.proofs.CallSteps.{Step, GivesValue, Fuses, PutsGroup, kept_by_calls}
 use Rattle.schedule.proofs.Indices.{concat_last}
@@ -21,7 +21,7 @@ grown_is_distinct : (p : ProgramTree) (taken group end : List ℕ) (names : List
     → IsDistinct nat_eq (taken ++ group) → grown p taken group names ≡ Some end → IsDistinct nat_eq (taken ++ end)
 grown_is_distinct p taken group end [] distinct e = subst (λ (g : List ℕ). IsDistinct nat_eq (taken ++ g)) (some_is _ _ _ refl e) distinct
 grown_is_distinct p taken group end (name ∷ names) distinct e =
-    at_index (vector_index p name) (λ more before. grown_is_distinct p taken more end names before) e
+    at_index (vector_by_name p name) (λ more before. grown_is_distinct p taken more end names before) e
   where
     untaken : (v : ℕ) (any : Bool) → list_any (nat_eq v) (taken ++ group) ≡ any
         → ((more : List ℕ) → IsDistinct nat_eq (taken ++ more) → grown p taken more names ≡ Some end → IsDistinct nat_eq (taken ++ end))

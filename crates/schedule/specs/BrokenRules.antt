@@ -12,7 +12,7 @@ use Rattle.typed_tree.specs.ProgramTree.{ProgramTree, ScheduleCallTree}
 use Rattle.schedule.specs.declared.error.ScheduleRule.{ScheduleRule}
 use Rattle.schedule.specs.declared.error.ScheduleRule.TheVariants as rule
 use Rattle.schedule.specs.Calls.{apply_at, is_followed_by, two_of, with_call}
-use Rattle.schedule.specs.Schedule.{label_index, vector_index, is_fused, dense_vertex_set_of, direction_of, parallelization_of}
+use Rattle.schedule.specs.Schedule.{label_index, vector_by_name, is_fused, dense_vertex_set_of, direction_of, parallelization_of}
 use Rattle.schedule.specs.Refusal.{number_of_rule}
 
 -- the text is no value of the kind that a `config` call gives
@@ -85,17 +85,17 @@ BreaksFuseRule p s first second rule.BadFields = ⊥
 -- one of the names is that of no vector
 abbrev pub HasNoVector : ProgramTree → List (List ℕ) → Type 0
 HasNoVector p [] = ⊥
-HasNoVector p (name ∷ names) = (vector_index p name ≡ None) ⊎ HasNoVector p names
+HasNoVector p (name ∷ names) = (vector_by_name p name ≡ None) ⊎ HasNoVector p names
 
 -- one of the names is that of this vector
 abbrev pub NamesVector : ProgramTree → ℕ → List (List ℕ) → Type 0
 NamesVector p v [] = ⊥
-NamesVector p v (name ∷ names) = (vector_index p name ≡ Some v) ⊎ NamesVector p v names
+NamesVector p v (name ∷ names) = (vector_by_name p name ≡ Some v) ⊎ NamesVector p v names
 
 -- two of the names are those of one vector
 abbrev pub NamesOneTwice : ProgramTree → List (List ℕ) → Type 0
 NamesOneTwice p [] = ⊥
-NamesOneTwice p (name ∷ names) = ((v : ℕ) × (vector_index p name ≡ Some v) × NamesVector p v names) ⊎ NamesOneTwice p names
+NamesOneTwice p (name ∷ names) = ((v : ℕ) × (vector_by_name p name ≡ Some v) × NamesVector p v names) ⊎ NamesOneTwice p names
 
 -- fused fields are two vectors at least, each in no group yet, and once
 pub data BreaksFields (p : ProgramTree) (taken : List ℕ) (names : List (List ℕ)) : Type 0 where

@@ -13,8 +13,8 @@ use Rattle.schedule.specs.declared.error.ScheduleError.TheVariants.{Faulty, NoMe
 use Rattle.typed_tree.specs.declared.apply.StatementApply.{StatementApply}
 use Rattle.typed_tree.specs.declared.apply.StatementApply.TheVariants.{Vertices, Edges}
 use Rattle.schedule.specs.declared.site.Site.{Site}
-use Rattle.schedule.specs.Schedule.{label_index, vector_index, with_apply_schedule, with_fused, with_one_group, is_fused, empty_schedule, site_of, direction_of}
-use Rattle.schedule.specs.Schedule.{parallelization_of, dense_vertex_set_of}
+use Rattle.schedule.specs.Schedule.{label_index, vector_by_name, with_apply_schedule, with_fused, with_one_group, is_fused, empty_schedule, site_of}
+use Rattle.schedule.specs.Schedule.{direction_of, parallelization_of, dense_vertex_set_of}
 use Rattle.typed_tree.specs.Independence.{have_same_sets, are_independent}
 use Rattle.apply_options.specs.ScheduleTree.{ScheduleTree, apply_schedule_of}
 
@@ -70,8 +70,8 @@ abbrev pub value_of_two : ProgramTree → Setting → Option (List ℕ × List �
 value_of_two p setting (Some (label, text)) s = value_at p setting text s (label_index p label)
 value_of_two p setting None s = Err rule.BadArgument
 
-abbrev pub with_value : ProgramTree → Setting → List (List ℕ) → ScheduleTree → Result ScheduleTree ScheduleRule
-with_value p setting arguments s = value_of_two p setting (two_of arguments) s
+abbrev pub with_setting_value : ProgramTree → Setting → List (List ℕ) → ScheduleTree → Result ScheduleTree ScheduleRule
+with_setting_value p setting arguments s = value_of_two p setting (two_of arguments) s
 
 -- the statement right after that with the first label, in its block, has the second
 abbrev pub is_label : Option ℕ → ℕ → Bool
@@ -121,7 +121,7 @@ grown_by taken group (Some v) rest = if list_any (nat_eq v) (taken ++ group) the
 
 abbrev pub grown : ProgramTree → (taken group : List ℕ) → List (List ℕ) → Option (List ℕ)
 grown p taken group [] = Some group
-grown p taken group (name ∷ names) = grown_by taken group (vector_index p name) λ more. grown p taken more names
+grown p taken group (name ∷ names) = grown_by taken group (vector_by_name p name) λ more. grown p taken more names
 
 abbrev pub with_group : Option (List ℕ) → ScheduleTree → Result ScheduleTree ScheduleRule
 with_group None s = Err rule.BadFields
@@ -136,7 +136,7 @@ with_fields p names s =
 abbrev pub with_call_of : ProgramTree → Setting → List (List ℕ) → ScheduleTree → Result ScheduleTree ScheduleRule
 with_call_of p setting.FuseFunctions arguments s = with_fusing p arguments s
 with_call_of p setting.FuseFields arguments s = with_fields p arguments s
-with_call_of p which arguments s = with_value p which arguments s
+with_call_of p which arguments s = with_setting_value p which arguments s
 
 abbrev pub with_call : ProgramTree → ScheduleCallTree → ScheduleTree → Result ScheduleTree ScheduleRule
 with_call p call s = with_call_of p call.setting call.arguments s

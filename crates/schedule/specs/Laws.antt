@@ -14,7 +14,7 @@ use Rattle.typed_tree.specs.declared.apply.StatementApply.{StatementApply}
 use Rattle.typed_tree.specs.declared.apply.StatementApply.TheVariants.{Edges}
 use Rattle.schedule.specs.Calls.{apply_at, is_followed_by, two_of}
 use Rattle.schedule.specs.Schedule.{label_index, direction_of, parallelization_of, dense_vertex_set_of}
-use Rattle.typed_tree.specs.Independence.{end_reads, function_uses, function_writes, have_same_sets, is_end}
+use Rattle.typed_tree.specs.Independence.{end_reads, function_uses, function_writes, have_same_sets, is_end_of_name}
 use Rattle.apply_options.specs.ScheduleTree.{ScheduleTree, apply_schedule_of}
 
 -- No vector that the first of two edge applies writes is read or written by the second, or read by a filter of its ends,
@@ -23,8 +23,8 @@ pub record SharesNoVector (p : ProgramTree) (f : ℕ) (r : Option ℕ) (b : Appl
   pub function : (v : ℕ) → Contains (function_uses p.edge_functions g) v → Contains (function_writes p.edge_functions f) v → ⊥
   pub sources : (v : ℕ) → Contains (end_reads p.filters b.from) v → Contains (function_writes p.edge_functions f) v → ⊥
   pub destinations : (v : ℕ) → Contains (end_reads p.filters b.to) v → Contains (function_writes p.edge_functions f) v → ⊥
-  pub changes_of_sources : is_end p.names r b.from ≡ false
-  pub changes_of_destinations : is_end p.names r b.to ≡ false
+  pub changes_of_sources : is_end_of_name p.names r b.from ≡ false
+  pub changes_of_destinations : is_end_of_name p.names r b.to ≡ false
 
 abbrev pub IsIndependent : ProgramTree → StatementApply → StatementApply → Type 0
 IsIndependent p (Edges a f r) (Edges b g s) = SharesNoVector p f r b g

@@ -52,8 +52,8 @@ abbrev pub label_index : ProgramTree → List ℕ → Option ℕ
 label_index p name = index_from 0 name p.labels
 
 -- the index of a vector
-abbrev pub vector_index : ProgramTree → List ℕ → Option ℕ
-vector_index p name = index_from 0 name (vector_names p.names p.vectors)
+abbrev pub vector_by_name : ProgramTree → List ℕ → Option ℕ
+vector_by_name p name = index_from 0 name (vector_names p.names p.vectors)
 
 -- an edge apply, where the value of a set of this name is what the apply changes
 abbrev pub modifying_as : ℕ → SetValue → Option StatementApply

@@ -3,8 +3,8 @@ ghost use Rattle.std.specs.Prelude.{◌≡◌, [], map, IfNone, IfOk, OnOk};
 ghost use Rattle.std.specs.Option.{option_map};
 ghost use Rattle.std.specs.List.{concat};
 ghost use Rattle.typed_tree.specs.ProgramTree.{call_tree, program_tree};
-ghost use Rattle.schedule.specs.Calls.{Accepts, apply_at as applied_at, fusing_fault as fault_of_fusing, grown, is_followed_by as has_behind, two_of as two_in, with_call, with_calls, with_fields, with_fusing, with_value as value_put};
-ghost use Rattle.schedule.specs.Schedule.{label_index, vector_names, vector_index};
+ghost use Rattle.schedule.specs.Calls.{Accepts, apply_at as applied_at, fusing_fault as fault_of_fusing, grown, is_followed_by as has_behind, two_of as two_in, with_call, with_calls, with_fields, with_fusing, with_setting_value as value_put};
+ghost use Rattle.schedule.specs.Schedule.{label_index, vector_names, vector_by_name};
 ghost use Rattle.schedule.specs.inside.Putting.{AreIndices, AreSites, Groups, Puts, PutsAll, bytes_of_two};
 
 use crate::config_values::with_value;
@@ -159,7 +159,7 @@ impl Tables<'_> {
 
     /// The index of the vector with this name.
     fn vector(&self, name: &[u8]) -> Option<usize>
-        ensures { result ≡ vector_index (program_tree self.now.program.now) name.now }
+        ensures { result ≡ vector_by_name (program_tree self.now.program.now) name.now }
     {
         self.vectors.get(name)
     }

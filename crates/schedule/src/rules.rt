@@ -1,7 +1,7 @@
 //! Rules of `fuse` calls: whether two applies may be done together.
 ghost use Rattle.std.specs.Prelude.{◌≡◌, IfOk};
 ghost use Rattle.typed_tree.specs.ProgramTree.{program_tree};
-ghost use Rattle.typed_tree.specs.Independence.{are_independent as independent, are_same as same_name, are_same_ends as same_ends, have_same_sets as same_sets, is_end};
+ghost use Rattle.typed_tree.specs.Independence.{are_independent as independent, are_same as same_name, are_same_ends as same_ends, have_same_sets as same_sets, is_end_of_name};
 
 use crate::access::{end_does_avoid, function_does_avoid};
 use crate::names::name_at;
@@ -81,7 +81,7 @@ pub fn are_independent(
 
 /// Whether an end is the set that an apply's changes go to.
 fn names_result(names: &[Name], name: Option<usize>, end: Option<VertexFilter>) -> bool
-    ensures { result ≡ is_end names.now name end }
+    ensures { result ≡ is_end_of_name names.now name end }
 {
     match (name, end) {
         (Some(name), Some(VertexFilter::Members(set))) => are_same(names, name, set.name),

@@ -6,7 +6,7 @@ use Rattle.std.specs.Str.{all_ascii_digits}
 use Rattle.std.specs.Char.{is_ascii_digit}
 use Rattle.std.proofs.lemmas.Bool.{cases_Bool, cases_eq, eq-eqb, false≢true, ltb-true, ne_eqb}
 use Rattle.std.proofs.lemmas.Fmt.{decimal-digits_value}
-use Rattle.decimal.specs.Numbers.{value_of, number_of, integer_of}
+use Rattle.decimal.specs.Numbers.{digits_number, number_of, integer_of}
 use Rattle.decimal.proofs.NumberLaws.{digits_model, decimal-IsReadBack}
 use Rattle.script_laws.proofs.Options.{map_some}
 use Rattle.script_laws.specs.Spelling.{IsInteger, IsNumber}
@@ -17,12 +17,12 @@ both_true true b is = (refl, is)
 both_true false b is = absurd (false≢true is)
 
 -- digits are those of their value, after any zeros
-stripped : (word : List ℕ) → 0 < length word → all_ascii_digits word ≡ true → value_of word < 2 ^ 64 → (zeros : ℕ) × (word ≡ replicate zeros 48 ++ decimal (value_of word))
+stripped : (word : List ℕ) → 0 < length word → all_ascii_digits word ≡ true → digits_number word < 2 ^ 64 → (zeros : ℕ) × (word ≡ replicate zeros 48 ++ decimal (digits_number word))
 stripped [] some digits small = absurd (omega (arith, some))
 stripped (d ∷ []) some digits small = (0, sym (decimal-digits_value digits_model (d ∷ []) digits some (λ first. refl) small))
 stripped (d ∷ e ∷ rest) some digits small = elim (cases_eq d 48) [
   | inl none ↦
-      let value : value_of (d ∷ e ∷ rest) ≡ value_of (e ∷ rest) = rw (none) (omega arith) in
+      let value : digits_number (d ∷ e ∷ rest) ≡ digits_number (e ∷ rest) = rw (none) (omega arith) in
       let inner = stripped (e ∷ rest) (omega arith) (both_true (is_ascii_digit d) (all_ascii_digits (e ∷ rest)) digits).1 (omega (arith, value, small)) in
       (suc inner.0, ap (λ (b : ℕ). b ∷ e ∷ rest) none ∙ ap (λ (l : List ℕ). 48 ∷ l) (inner.1 ∙ ap (λ (n : ℕ). replicate inner.0 48 ++ decimal n) (sym value)))
   | inr other ↦ (0, sym (decimal-digits_value digits_model (d ∷ e ∷ rest) digits some (λ first. absurd (other first)) small))
@@ -30,14 +30,14 @@ stripped (d ∷ e ∷ rest) some digits small = elim (cases_eq d 48) [
 
 -- a word that is read as a number
 read_number : (limit n : ℕ) (word : List ℕ) → limit ≤ 2 ^ 64 → number_of limit word ≡ Some n → IsNumber limit n word
-read_number limit n word wide is = elim (cases_Bool (nat_lt 0 (length word) && all_ascii_digits word && nat_lt (value_of word) limit)) [
+read_number limit n word wide is = elim (cases_Bool (nat_lt 0 (length word) && all_ascii_digits word && nat_lt (digits_number word) limit)) [
   | inr fails ↦ let none : None ≡ Some n = rw (fails) at is in absurd cc
   | inl holds ↦
-      let found : Some (value_of word) ≡ Some n = rw (holds) at is in
-      let value : value_of word ≡ n = cc in
-      let tests = both_true (nat_lt 0 (length word) && all_ascii_digits word) (nat_lt (value_of word) limit) holds in
+      let found : Some (digits_number word) ≡ Some n = rw (holds) at is in
+      let value : digits_number word ≡ n = cc in
+      let tests = both_true (nat_lt 0 (length word) && all_ascii_digits word) (nat_lt (digits_number word) limit) holds in
       let front = both_true (nat_lt 0 (length word)) (all_ascii_digits word) tests.0 in
-      let below : value_of word < limit = ltb-true (value_of word) limit tests.1 in
+      let below : digits_number word < limit = ltb-true (digits_number word) limit tests.1 in
       let digits = stripped word (ltb-true 0 (length word) front.0) front.1 (omega (arith, below, wide)) in
       record { below = omega (arith, below, value); zeros = digits.0; digits = digits.1 ∙ ap (λ (m : ℕ). replicate digits.0 48 ++ decimal m) value }
 ]
@@ -50,9 +50,9 @@ number_is limit n word wide = (read_number limit n word wide, spelled_number lim
 
 -- a word that is read as a number has digits alone
 only_digits : (limit n : ℕ) (word : List ℕ) → number_of limit word ≡ Some n → all_ascii_digits word ≡ true
-only_digits limit n word is = elim (cases_Bool (nat_lt 0 (length word) && all_ascii_digits word && nat_lt (value_of word) limit)) [
+only_digits limit n word is = elim (cases_Bool (nat_lt 0 (length word) && all_ascii_digits word && nat_lt (digits_number word) limit)) [
   | inr fails ↦ let none : None ≡ Some n = rw (fails) at is in absurd cc
-  | inl holds ↦ (both_true (nat_lt 0 (length word)) (all_ascii_digits word) (both_true (nat_lt 0 (length word) && all_ascii_digits word) (nat_lt (value_of word) limit) holds).0).1
+  | inl holds ↦ (both_true (nat_lt 0 (length word)) (all_ascii_digits word) (both_true (nat_lt 0 (length word) && all_ascii_digits word) (nat_lt (digits_number word) limit) holds).0).1
 ]
 
 read_integer : (w : ℤ) (word : List ℕ) → integer_of word ≡ Some w → IsInteger w word

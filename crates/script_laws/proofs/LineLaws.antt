@@ -9,7 +9,7 @@ use Rattle.scripts.specs.declared.commands.Command.TheVariants.{Vertices, Add, R
 use Rattle.scripts.specs.Commands.{command_of, command_of_words}
 use Rattle.scripts.specs.Pieces.{AreParts, HasNone, words_of}
 use Rattle.scripts.proofs.PieceLaws.{join_with_byte-pieces, pieces-join_with_byte}
-use Rattle.script_laws.specs.Spelling.{AreArguments, AreAt, AreEdge, HasWords, IsInRange, IsInteger, IsNumber, name_of, spelling_of}
+use Rattle.script_laws.specs.Spelling.{AreArguments, AreAt, AreEdge, HasWords, IsInRange, IsInteger, IsNumber, command_name, spelling_of}
 use Rattle.script_laws.proofs.DigitLaws.{number_digits}
 use Rattle.script_laws.proofs.WordLaws.{command_is, spelling_is}
 
@@ -76,7 +76,7 @@ arguments_only (EdgesOf k) words are = numbers_only (2 ^ 64) (k ∷ []) words (o
 arguments_only (Run p t w None) words are = numbers_only (2 ^ 64) (p ∷ t ∷ w ∷ []) words (omega arith) are
 arguments_only (Run p t w (Some k)) words are = numbers_only (2 ^ 64) (p ∷ t ∷ w ∷ k ∷ []) words (omega arith) are
 
-name_only : (c : Command) → HasNone 32 (name_of c)
+name_only : (c : Command) → HasNone 32 (command_name c)
 name_only (Vertices n b) = looked_at (codes "vertices") refl
 name_only (Add u v w) = looked_at (codes "add") refl
 name_only (Remove u v) = looked_at (codes "del") refl

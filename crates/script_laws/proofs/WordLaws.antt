@@ -11,7 +11,7 @@ use Rattle.decimal.proofs.NumberLaws.{integer-read_back}
 use Rattle.scripts.specs.declared.commands.Command.{Command}
 use Rattle.scripts.specs.declared.commands.Command.TheVariants.{Vertices, Add, Remove, Grow, Commit, Hold, Release, Edges, EdgesOf, Run}
 use Rattle.scripts.specs.Commands.{add_of, alone, command_of_words, edges_of, grow_of, hold_of, one_number, remove_of, run_of, ticket_of, vertices_of, weight_of, with_numbers}
-use Rattle.script_laws.specs.Spelling.{AreArguments, AreAt, AreEdge, AreLong, AreShort, HasWords, IsInRange, IsNumber, name_of, spelling_of}
+use Rattle.script_laws.specs.Spelling.{AreArguments, AreAt, AreEdge, AreLong, AreShort, HasWords, IsInRange, IsNumber, command_name, spelling_of}
 use Rattle.script_laws.proofs.DigitLaws.{integer_is, number_is}
 use Rattle.script_laws.proofs.Options.{and_some, map_some}
 
@@ -34,7 +34,7 @@ not_none c is = absurd (false≢true (ap is_some is))
 
 -- the command has this name, and the words are its arguments
 abbrev Says : (name : List ℕ) → List (List ℕ) → Command → Type 0
-Says name words c = (name ≡ name_of c) × AreArguments c words
+Says name words c = (name ≡ command_name c) × AreArguments c words
 
 two_read : (make : ℕ → ℕ → Command) (a b : List ℕ) (c : Command) → with_numbers make a b ≡ Some c → (m : ℕ) × (n : ℕ) × AreShort (m ∷ n ∷ []) (a ∷ b ∷ []) × (make m n ≡ c)
 two_read make a b c is =
@@ -249,7 +249,7 @@ held_spelled p t w k (a ∷ b ∷ d ∷ []) are = absurd are.1.1.1
 held_spelled p t w k (a ∷ b ∷ d ∷ e ∷ rest) are =
     ran_spelled p t w (Some k) a b d (e ∷ rest) are.0 are.1.0 are.1.1.0 (ap (option_map Some) (one_spelled (e ∷ rest) k are.1.1.1))
 
-arguments_spelled : (c : Command) (words : List (List ℕ)) → AreArguments c words → command_of_words (name_of c ∷ words) ≡ Some c
+arguments_spelled : (c : Command) (words : List (List ℕ)) → AreArguments c words → command_of_words (command_name c ∷ words) ≡ Some c
 arguments_spelled (Vertices n b) words (inl are) = alone_spelled n words are.0 ∙ ap (λ (k : ℕ). Some (Vertices n k)) (sym are.1)
 arguments_spelled (Vertices n b) words (inr are) = both_spelled n b words are
 arguments_spelled (Add u v w) words are = edge_spelled u v w words are

@@ -28,17 +28,17 @@ abbrev pub AreLong : List ℕ → List (List ℕ) → Type 0
 AreLong numbers words = AllZip (IsNumber (2 ^ 64)) numbers words
 
 -- the name of a command
-abbrev pub name_of : Command → List ℕ
-name_of (Vertices vertices chunk_size) = codes "vertices"
-name_of (Add source destination weight) = codes "add"
-name_of (Remove source destination) = codes "del"
-name_of (Grow vertices) = codes "grow"
-name_of Commit = codes "commit"
-name_of (Hold version) = codes "hold"
-name_of (Release ticket) = codes "release"
-name_of Edges = codes "edges"
-name_of (EdgesOf ticket) = codes "edges"
-name_of (Run program turns workers ticket) = codes "run"
+abbrev pub command_name : Command → List ℕ
+command_name (Vertices vertices chunk_size) = codes "vertices"
+command_name (Add source destination weight) = codes "add"
+command_name (Remove source destination) = codes "del"
+command_name (Grow vertices) = codes "grow"
+command_name Commit = codes "commit"
+command_name (Hold version) = codes "hold"
+command_name (Release ticket) = codes "release"
+command_name Edges = codes "edges"
+command_name (EdgesOf ticket) = codes "edges"
+command_name (Run program turns workers ticket) = codes "run"
 
 -- the source, the destination and the weight of an edge, which may be left out where it is 1
 abbrev pub AreEdge : (source destination : ℕ) → (weight : ℤ) → List (List ℕ) → Type 0
@@ -69,7 +69,7 @@ AreArguments (Run program turns workers (Some ticket)) words = AreLong (program 
 -- the words are those of a command: its name, and what stands after it
 abbrev pub HasWords : Command → List (List ℕ) → Type 0
 HasWords c [] = ⊥
-HasWords c (name ∷ words) = (name ≡ name_of c) × AreArguments c words
+HasWords c (name ∷ words) = (name ≡ command_name c) × AreArguments c words
 
 -- the numbers of a command are in their ranges
 abbrev pub IsInRange : Command → Type 0

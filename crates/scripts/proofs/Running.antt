@@ -10,7 +10,7 @@ use Rattle.replies.specs.declared.send_error.SendError.{SendError}
 use Rattle.replies.specs.declared.send_error.SendError.TheVariants.{NoMemory, WriteFailed}
 use Rattle.scripts.specs.Pieces.{HasNone}
 use Rattle.scripts.specs.Replies.{OpenState, answer, replies, replies_to_ended, has_faulted}
-use Rattle.scripts.specs.Script.{Input, Written, bytes_written_by, IsBeginning, NoneFails, RepliesInPart, RepliesToEnded, RunsScript, Reading}
+use Rattle.scripts.specs.Script.{Input, Written, taken_by_writer, IsBeginning, NoneFails, RepliesInPart, RepliesToEnded, RunsScript, Reading}
 use Rattle.replies.specs.Sending.{Output, Sends, SendsPart, Fails}
 use Rattle.replies.specs.inside.Sending.{output}
 use Rattle.scripts.specs.inside.Progress.{at_start, reading_after, replies_within}
@@ -61,7 +61,7 @@ begins_whole programs new bytes ended more nothing =
 -- of such a text a part was taken
 part_begins : (programs : List ProgramTree) (old new : Input) (a c : Output) (bytes text : List ℕ) → a.kept ≡ [] → new.bytes_read ≡ old.bytes_read ++ bytes → BeginsAll programs new bytes text
     → SendsPart a c text
-    → RepliesInPart programs old new (bytes_written_by a.bytes_written a.failures) (bytes_written_by c.bytes_written c.failures)
+    → RepliesInPart programs old new (taken_by_writer a.bytes_written a.failures) (taken_by_writer c.bytes_written c.failures)
 part_begins programs old new a c bytes text empty bytes_read all part = record {
   bytes = bytes;
   bytes_read = bytes_read;
@@ -76,7 +76,7 @@ part_begins programs old new a c bytes text empty bytes_read all part = record {
 -- a call that fails to send it, which the script ends with
 ends_in_part : (programs : List ProgramTree) (old new : Input) (a c : Output) (bytes text : List ℕ) (e : SendError) → a.kept ≡ [] → new.bytes_read ≡ old.bytes_read ++ bytes
     → new.failures ≡ old.failures → BeginsAll programs new bytes text → Fails a c text e
-    → RunsScript programs old new (bytes_written_by a.bytes_written a.failures) (bytes_written_by c.bytes_written c.failures) (Err (error_of_send e))
+    → RunsScript programs old new (taken_by_writer a.bytes_written a.failures) (taken_by_writer c.bytes_written c.failures) (Err (error_of_send e))
 ends_in_part programs old new a c bytes text NoMemory empty bytes_read same all h = (part_begins programs old new a c bytes text empty bytes_read all h.0, (same, h.1))
 ends_in_part programs old new a c bytes text WriteFailed empty bytes_read same all h = (part_begins programs old new a c bytes text empty bytes_read all h.0, same, h.1)
 
@@ -87,10 +87,10 @@ module _ (programs : List ProgramTree) (old now : Input) (a : Output) (reading :
 
   -- a reader that fails
   pub read_fails : (new : Input) → a.kept ≡ [] → new.bytes_read ≡ now.bytes_read → now.failures < new.failures
-      → RunsScript programs old new (bytes_written_by a.bytes_written a.failures) (bytes_written_by b.bytes_written b.failures) (Err ReadFailed)
+      → RunsScript programs old new (taken_by_writer a.bytes_written a.failures) (taken_by_writer b.bytes_written b.failures) (Err ReadFailed)
   read_fails new empty bytes_read fails = (exactly, omega (arith, fails, r.failures), r.sends.failures)
     where
-      exactly : RepliesToEnded programs old new (bytes_written_by a.bytes_written a.failures) (bytes_written_by b.bytes_written b.failures)
+      exactly : RepliesToEnded programs old new (taken_by_writer a.bytes_written a.failures) (taken_by_writer b.bytes_written b.failures)
       exactly = record {
         bytes = r.bytes;
         bytes_read = bytes_read ∙ r.bytes_read;
@@ -116,7 +116,7 @@ module _ (programs : List ProgramTree) (old now : Input) (a : Output) (reading :
 
     -- or the answer to one fails
     pub lines_fail : (e : SendError) → a.kept ≡ [] → Fails b c (replies_within programs reading more) e
-        → RunsScript programs old new (bytes_written_by a.bytes_written a.failures) (bytes_written_by c.bytes_written c.failures) (Err (error_of_send e))
+        → RunsScript programs old new (taken_by_writer a.bytes_written a.failures) (taken_by_writer c.bytes_written c.failures) (Err (error_of_send e))
     lines_fail e empty fails =
         let both = fails_then a b c (replies_to_ended programs r.bytes) (replies_within programs reading more) e r.sends fails in
         let all = begins_lines programs new (r.bytes ++ more) in
@@ -137,7 +137,7 @@ module _ (programs : List ProgramTree) (old now : Input) (a : Output) (reading :
 
     -- or that fails
     pub flush_fails : Sends b c (replies_within programs reading more) → (d : Output) (e : SendError) → a.kept ≡ [] → Fails c d [] e
-        → RunsScript programs old new (bytes_written_by a.bytes_written a.failures) (bytes_written_by d.bytes_written d.failures) (Err (error_of_send e))
+        → RunsScript programs old new (taken_by_writer a.bytes_written a.failures) (taken_by_writer d.bytes_written d.failures) (Err (error_of_send e))
     flush_fails sends d e empty fails =
         let both = fails_then a c d (replies_to_ended programs (r.bytes ++ more)) [] e (lines_sent sends) fails in
         let all = begins_lines programs new (r.bytes ++ more) in
@@ -162,7 +162,7 @@ module _ (programs : List ProgramTree) (old now : Input) (a : Output) (reading :
     all_sent sends = subst (Sends a c) (sym all_replies) (sends_then a b c (replies_to_ended programs r.bytes) last r.sends sends)
 
     -- or its answer fails
-    pub finish_fails : (e : SendError) → a.kept ≡ [] → Fails b c last e → RunsScript programs old new (bytes_written_by a.bytes_written a.failures) (bytes_written_by c.bytes_written c.failures)
+    pub finish_fails : (e : SendError) → a.kept ≡ [] → Fails b c last e → RunsScript programs old new (taken_by_writer a.bytes_written a.failures) (taken_by_writer c.bytes_written c.failures)
         (Err (error_of_send e))
     finish_fails e empty fails =
         let both = fails_then a b c (replies_to_ended programs r.bytes) last e r.sends fails in
@@ -171,7 +171,7 @@ module _ (programs : List ProgramTree) (old now : Input) (a : Output) (reading :
 
     -- and then the last flush fails
     pub last_flush_fails : Sends b c last → (d : Output) (e : SendError) → a.kept ≡ [] → Fails c d [] e
-        → RunsScript programs old new (bytes_written_by a.bytes_written a.failures) (bytes_written_by d.bytes_written d.failures) (Err (error_of_send e))
+        → RunsScript programs old new (taken_by_writer a.bytes_written a.failures) (taken_by_writer d.bytes_written d.failures) (Err (error_of_send e))
     last_flush_fails sends d e empty fails =
         let both = fails_then a c d (replies programs r.bytes) [] e (all_sent sends) fails in
         ends_in_part programs old new a d r.bytes (replies programs r.bytes) e empty read_all (same ∙ r.failures) (begins_whole programs new r.bytes ended)
@@ -180,7 +180,7 @@ module _ (programs : List ProgramTree) (old now : Input) (a : Output) (reading :
     -- or all is written
     pub script_ends : Sends b c last → (d : Output) → a.kept ≡ [] → d.kept ≡ [] → Sends c d []
         → (state : Option OpenState) → state ≡ (answer programs reading.state reading.partial).state → (faulted : Bool) → faulted ≡ has_faulted state
-        → RunsScript programs old new (bytes_written_by a.bytes_written a.failures) (bytes_written_by d.bytes_written d.failures) (Ok faulted)
+        → RunsScript programs old new (taken_by_writer a.bytes_written a.failures) (taken_by_writer d.bytes_written d.failures) (Ok faulted)
     script_ends sends d empty flushed last_flush state is faulted fault = record {
       bytes = r.bytes;
       bytes_read = read_all;
@@ -199,10 +199,10 @@ runs_failed programs old new before after r e is runs = let p = err_from_is_err_
 -- a script whose writer is at last the one that the replies were sent to
 pub runs_tied : {W : Type 0} (bytes_written : W → List ℕ) (failures : W → ℕ) (name : ℕ) (kept : List ℕ) (programs : List ProgramTree) (old new : Input) (before : Written) (o : Output) (last sent : W)
     (r : Result Bool ScriptError)
-    → RunsScript programs old new before (bytes_written_by o.bytes_written o.failures) r → output name (bytes_written sent) kept (failures sent) ≡ o → last ≡ sent
-    → RunsScript programs old new before (bytes_written_by (bytes_written last) (failures last)) r
+    → RunsScript programs old new before (taken_by_writer o.bytes_written o.failures) r → output name (bytes_written sent) kept (failures sent) ≡ o → last ≡ sent
+    → RunsScript programs old new before (taken_by_writer (bytes_written last) (failures last)) r
 runs_tied bytes_written failures name kept programs old new before o last sent r runs is same =
-    rw (same) (subst (λ (out : Output). RunsScript programs old new before (bytes_written_by out.bytes_written out.failures) r) (sym is) runs)
+    rw (same) (subst (λ (out : Output). RunsScript programs old new before (taken_by_writer out.bytes_written out.failures) r) (sym is) runs)
 
 -- a script that ends before it reads
 pub nothing_done : (programs : List ProgramTree) (i : Input) (t : Written) → RepliesInPart programs i i t t × NoneFails i i t t

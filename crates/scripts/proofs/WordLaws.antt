@@ -8,7 +8,7 @@ use Rattle.std.specs.Option.{is_some, option_map}
 use Rattle.std.specs.Str.{all_ascii_digits}
 use Rattle.std.proofs.lemmas.Bool.{false≢true}
 use Rattle.std.proofs.lemmas.List.{length-take, take-append-drop, drop_more}
-use Rattle.decimal.specs.Numbers.{value_of}
+use Rattle.decimal.specs.Numbers.{digits_number}
 use Rattle.scripts.specs.Pieces.{HasNone, pieces, words_of}
 use Rattle.decimal.specs.Digits.{AreLeadingDigits}
 use Rattle.scripts.specs.inside.Parsing.{words_left, first_number}
@@ -57,7 +57,7 @@ pieces-append c (b ∷ front) rest none =
     pieces_other c b (front ++ rest) none.0 ∙ ap (onto_first b) (pieces-append c front rest none.1) ∙ onto_first-onto_front b front (pieces c rest)
 
 -- no number where the first word begins with digits for the limit or more, or has another byte after them
-front_large : (limit : ℕ) (front : List ℕ) (parts : List (List ℕ)) → limit ≤ value_of front → first_number limit (onto_front front parts) ≡ None
+front_large : (limit : ℕ) (front : List ℕ) (parts : List (List ℕ)) → limit ≤ digits_number front → first_number limit (onto_front front parts) ≡ None
 front_large limit front [] large = ap (option_map (λ n. (n, []))) (number_of-large limit front large)
 front_large limit front (part ∷ parts) large =
     ap (option_map (λ n. (n, parts))) (number_of-large limit (front ++ part) (value_of-longer limit front part large))
@@ -67,7 +67,7 @@ front_other limit b front [] other = ap (option_map (λ n. (n, []))) (number_of-
 front_other limit b front (part ∷ parts) other = ap (option_map (λ n. (n, parts))) (number_of-other limit b front part other)
 
 -- The first number of a line that begins with digits: none where they stand for the limit or more;
-first_number-large : (limit : ℕ) (bytes : List ℕ) (len : ℕ) → all_ascii_digits (take len bytes) ≡ true → limit ≤ value_of (take len bytes) → first_number limit (words_of bytes) ≡ None
+first_number-large : (limit : ℕ) (bytes : List ℕ) (len : ℕ) → all_ascii_digits (take len bytes) ≡ true → limit ≤ digits_number (take len bytes) → first_number limit (words_of bytes) ≡ None
 first_number-large limit bytes len digits large =
     ap (λ v. first_number limit (words_of v)) (sym (take-append-drop len bytes))
     ∙ ap (first_number limit) (pieces-append 32 (take len bytes) (drop len bytes) (HasNone-digits (take len bytes) digits))
@@ -84,8 +84,9 @@ first_number-other limit bytes len digits within other apart =
     ∙ front_other limit (get_or bytes len 0) (take len bytes) (words_of (drop (len + 1) bytes)) other
 
 -- theirs where a space ends them;
-pub first_number-space : (limit : ℕ) (bytes : List ℕ) (len : ℕ) → all_ascii_digits (take len bytes) ≡ true → 0 < len → len < length bytes → get_or bytes len 0 ≡ 32 → value_of (take len bytes) < limit
-    → first_number limit (words_of bytes) ≡ Some (value_of (take len bytes), words_of (drop (len + 1) bytes))
+pub first_number-space : (limit : ℕ) (bytes : List ℕ) (len : ℕ) → all_ascii_digits (take len bytes) ≡ true → 0 < len → len < length bytes → get_or bytes len 0 ≡ 32
+    → digits_number (take len bytes) < limit
+    → first_number limit (words_of bytes) ≡ Some (digits_number (take len bytes), words_of (drop (len + 1) bytes))
 first_number-space limit bytes len digits some within space small =
     ap (λ v. first_number limit (words_of v)) (cut_at 32 bytes len within space)
     ∙ ap (first_number limit) (pieces_before 32 (take len bytes) (drop (len + 1) bytes) (HasNone-digits (take len bytes) digits))
@@ -93,7 +94,8 @@ first_number-space limit bytes len digits some within space small =
     (number_of-digits limit (take len bytes) (omega (arith, length-take {A = ℕ})) digits small)
 
 -- and theirs where they are the line.
-pub first_number-alone : (limit : ℕ) (bytes : List ℕ) → all_ascii_digits bytes ≡ true → 0 < length bytes → value_of bytes < limit → first_number limit (words_of bytes) ≡ Some (value_of bytes, [])
+pub first_number-alone : (limit : ℕ) (bytes : List ℕ) → all_ascii_digits bytes ≡ true → 0 < length bytes → digits_number bytes < limit
+    → first_number limit (words_of bytes) ≡ Some (digits_number bytes, [])
 first_number-alone limit bytes digits some small =
     ap (first_number limit) (pieces_alone 32 bytes (HasNone-digits bytes digits))
     ∙ ap (option_map (λ n. (n, []))) (number_of-digits limit bytes some digits small)

@@ -21,8 +21,8 @@ abbrev pub input : List ℕ → Bool → ℕ → Input
 input bytes_read ended failures = record { bytes_read = bytes_read; ended = ended; failures = failures }
 
 -- what a writer has taken, of its parts
-abbrev pub bytes_written_by : List ℕ → ℕ → Written
-bytes_written_by bytes_written failures = record { bytes_written = bytes_written; failures = failures }
+abbrev pub taken_by_writer : List ℕ → ℕ → Written
+taken_by_writer bytes_written failures = record { bytes_written = bytes_written; failures = failures }
 
 -- neither the reader nor the writer failed
 abbrev pub NoneFails : Input → Input → Written → Written → Type 0

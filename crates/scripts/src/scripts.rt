@@ -1,7 +1,7 @@
 //! Scripts from their first byte to their last.
 ghost use Rattle.std.specs.Prelude.{◌≡◌, ◌<◌, [], length};
 ghost use Rattle.scripts.specs.inside.Progress.{at_start};
-ghost use Rattle.scripts.specs.Script.{input, bytes_written_by, RunsScript};
+ghost use Rattle.scripts.specs.Script.{input, taken_by_writer, RunsScript};
 
 use crate::error::ScriptError;
 use crate::host::Host;
@@ -31,8 +31,8 @@ pub fn script<P: Programs, R: Feed, W: Drain>(
     ensures { RunsScript (P.trees programs.now)
         (input (R.bytes_read reader.old) (R.ended reader.old) (R.failures reader.old))
         (input (R.bytes_read reader.new) (R.ended reader.new) (R.failures reader.new))
-        (bytes_written_by (W.bytes_written writer.old) (W.failures writer.old))
-        (bytes_written_by (W.bytes_written writer.new) (W.failures writer.new)) result.0 }
+        (taken_by_writer (W.bytes_written writer.old) (W.failures writer.old))
+        (taken_by_writer (W.bytes_written writer.new) (W.failures writer.new)) result.0 }
 {
     let host = Host { alloc, programs };
     let mut state = ScriptState::new(alloc);
@@ -52,8 +52,8 @@ fn run_whole<P: Programs, R: Feed, W: Drain>(
     ensures { RunsScript (P.trees host.now.programs.now)
         (input (R.bytes_read reader.old) (R.ended reader.old) (R.failures reader.old))
         (input (R.bytes_read reader.new) (R.ended reader.new) (R.failures reader.new))
-        (bytes_written_by (W.bytes_written writer.old) (W.failures writer.old))
-        (bytes_written_by (W.bytes_written writer.new) (W.failures writer.new)) result }
+        (taken_by_writer (W.bytes_written writer.old) (W.failures writer.old))
+        (taken_by_writer (W.bytes_written writer.new) (W.failures writer.new)) result }
 {
     let mut block = vec![in host.alloc; 0u8; BLOCK]?;
     let mut kept = Vec::with_capacity(host.alloc, BLOCK)?;
@@ -85,8 +85,8 @@ fn read_to_end<P: Programs, R: Feed, W: Drain>(
     ensures runs { RunsScript (P.trees host.now.programs.now)
         (input (R.bytes_read reader.old) (R.ended reader.old) (R.failures reader.old))
         (input (R.bytes_read reader.new) (R.ended reader.new) (R.failures reader.new))
-        (bytes_written_by replies.old.bytes_written replies.old.failures)
-        (bytes_written_by replies.new.bytes_written replies.new.failures) result }
+        (taken_by_writer replies.old.bytes_written replies.old.failures)
+        (taken_by_writer replies.new.bytes_written replies.new.failures) result }
 {
     'reads: loop {
         let count = match reader.read(block) {

@@ -1,6 +1,6 @@
 //! Whole texts: scripts that are at hand from their first byte to their last.
 ghost use Rattle.std.specs.Prelude.{◌≡◌};
-ghost use Rattle.scripts.specs.Script.{bytes_written_by, RunsText};
+ghost use Rattle.scripts.specs.Script.{taken_by_writer, RunsText};
 
 use crate::error::ScriptError;
 use crate::programs::Programs;
@@ -22,8 +22,8 @@ pub fn run_text<P: Programs, W: Drain>(
 ) -> (Result<bool, ScriptError>, ScriptState)
     requires ready { P.are_ready programs.now }
     ensures { RunsText (P.trees programs.now) text.now
-        (bytes_written_by (W.bytes_written writer.old) (W.failures writer.old))
-        (bytes_written_by (W.bytes_written writer.new) (W.failures writer.new)) result.0 }
+        (taken_by_writer (W.bytes_written writer.old) (W.failures writer.old))
+        (taken_by_writer (W.bytes_written writer.new) (W.failures writer.new)) result.0 }
 {
     run_known::<Brand, P, W>(alloc, programs, text, writer)
 }
@@ -38,8 +38,8 @@ fn run_known<T: Text, P: Programs, W: Drain>(
     requires ready { P.are_ready programs.now }
     requires text { text.now ≡ T.text }
     ensures { RunsText (P.trees programs.now) text.now
-        (bytes_written_by (W.bytes_written writer.old) (W.failures writer.old))
-        (bytes_written_by (W.bytes_written writer.new) (W.failures writer.new)) result.0 }
+        (taken_by_writer (W.bytes_written writer.old) (W.failures writer.old))
+        (taken_by_writer (W.bytes_written writer.new) (W.failures writer.new)) result.0 }
 {
     let mut reader: TextFeed<'_, T> = TextFeed::new(text);
     script(alloc, programs, &mut reader, writer)

@@ -29,7 +29,8 @@ use Rattle.session.specs.declared.error.SessionError.TheVariants.{VertexRange, B
 use Rattle.session.specs.declared.step.SessionReply.{SessionReply}
 use Rattle.session.specs.declared.step.SessionReply.TheVariants.{Of, Job, Stands}
 use Rattle.session.specs.declared.step.SessionStep.{SessionStep}
-use Rattle.session.specs.World.{ScheduledProgram, WorldJob, World, Answer, index_after, index_of, after_its_step, numbered, with_numbered, refused, on_versions, start, job_step, answer}
+use Rattle.session.specs.World.{ScheduledProgram, WorldJob, World, StepAnswer, index_after, job_index, after_its_step, nth_from_one, with_numbered, step_refused, on_versions, start, job_step}
+use Rattle.session.specs.World.{step_answer}
 use Rattle.session.specs.Standing.{SessionValue, IsPlanOf, StandsAt, IsAt, Takes}
 use Rattle.session.specs.inside.Attempts.{StepsVersions, Attempts, told_of}
 use Rattle.session.proofs.Alone.{more_instructions, steps_once}
@@ -55,32 +56,33 @@ pairwise_turned R [] (y ∷ ys) all = absurd all
 pairwise_turned R (x ∷ xs) [] all = absurd all
 pairwise_turned R (x ∷ xs) (y ∷ ys) all = (all.0, pairwise_turned R xs ys all.1)
 
-numbered_partner : {A B : Type 0} (R : A → B → Type 0) (xs : List A) (ys : List B) (number : ℕ) (x : A) → ArePairwise R xs ys → numbered xs number ≡ Some x → HasPartner R x (numbered ys number)
+numbered_partner : {A B : Type 0} (R : A → B → Type 0) (xs : List A) (ys : List B) (number : ℕ) (x : A) → ArePairwise R xs ys → nth_from_one xs number ≡ Some x
+    → HasPartner R x (nth_from_one ys number)
 numbered_partner R xs ys zero x all is = absurd (none_is x is)
   where
     none_is : {A : Type 0} (x : A) → None ≡ Some x → ⊥
     none_is x e = cc
 numbered_partner R xs ys (suc index) x all is = partner_at R xs ys index x all is
 
-numbered_none : {A B : Type 0} (R : A → B → Type 0) (xs : List A) (ys : List B) (number : ℕ) → ArePairwise R xs ys → numbered xs number ≡ None → numbered ys number ≡ None
+numbered_none : {A B : Type 0} (R : A → B → Type 0) (xs : List A) (ys : List B) (number : ℕ) → ArePairwise R xs ys → nth_from_one xs number ≡ None → nth_from_one ys number ≡ None
 numbered_none R xs ys zero all is = refl
 numbered_none R xs ys (suc index) all is = none_at R xs ys index all is
 
 -- the job of a session that stands where the world's job of a number stands
-pub numbered_job : (js : List JobValue) (jobs : List WorldJob) (number : ℕ) (job : WorldJob) → ArePairwise StandsAt js jobs → numbered jobs number ≡ Some job
-    → HasPartner (λ job j. StandsAt j job) job (numbered js number)
+pub numbered_job : (js : List JobValue) (jobs : List WorldJob) (number : ℕ) (job : WorldJob) → ArePairwise StandsAt js jobs → nth_from_one jobs number ≡ Some job
+    → HasPartner (λ job j. StandsAt j job) job (nth_from_one js number)
 numbered_job js jobs number job all is = numbered_partner (λ job j. StandsAt j job) jobs js number job (pairwise_turned StandsAt js jobs all) is
 
 -- steps of the versions
 
-refused_there : (w : World) (st : Step) (number : ℕ) → reply_to w.versions st ≡ Refused number → ((n : ℕ) → changed w.versions st (Refused n) ≡ w.versions) → on_versions w st ≡ refused w number
+refused_there : (w : World) (st : Step) (number : ℕ) → reply_to w.versions st ≡ Refused number → ((n : ℕ) → changed w.versions st (Refused n) ≡ w.versions) → on_versions w st ≡ step_refused w number
 refused_there w st number is unchanged =
     let same : state_after w.versions st ≡ w.versions = ap (changed w.versions st) is ∙ unchanged number in
     ap (λ (r : Reply). record { reply = Of r; world = record w { versions = state_after w.versions st } }) is
     ∙ ap (λ (s : State). record { reply = Of (Refused number); world = record w { versions = s } }) same
 
 versions_refused : (programs : List ScheduledProgram) (w : World) (st : Step) (old : SessionValue) (number : ℕ) → IsAt programs w old → ((n : ℕ) → changed w.versions st (Refused n) ≡ w.versions)
-    → reply_to old.versions st ≡ Refused number → on_versions w st ≡ refused w number
+    → reply_to old.versions st ≡ Refused number → on_versions w st ≡ step_refused w number
 versions_refused programs w st old number at unchanged is = refused_there w st number (ap (λ (s : State). reply_to s st) (sym at.versions) ∙ is) unchanged
 
 -- a step of the versions that no refusal changes
@@ -105,13 +107,13 @@ versions_attempt programs w st old new (Err NoJob) at unchanged steps = (version
 
 -- starts
 
-pub no_program : (programs : List ScheduledProgram) (w : World) (old : SessionValue) (program turns : ℕ) (graph : Option Digraph) → IsAt programs w old → numbered old.plans program ≡ None
-    → start w turns (numbered programs program) graph ≡ refused w 412
+pub no_program : (programs : List ScheduledProgram) (w : World) (old : SessionValue) (program turns : ℕ) (graph : Option Digraph) → IsAt programs w old → nth_from_one old.plans program ≡ None
+    → start w turns (nth_from_one programs program) graph ≡ step_refused w 412
 no_program programs w old program turns graph at none = ap (λ (p : Option ScheduledProgram). start w turns p graph) (numbered_none IsPlanOf old.plans programs program at.plans none)
 
 pub no_ticket : (programs : List ScheduledProgram) (w : World) (old : SessionValue) (program turns : ℕ) (plan : Plan) (graph : Option Digraph) → IsAt programs w old
-    → numbered old.plans program ≡ Some plan
-    → graph ≡ None → start w turns (numbered programs program) graph ≡ refused w 122
+    → nth_from_one old.plans program ≡ Some plan
+    → graph ≡ None → start w turns (nth_from_one programs program) graph ≡ step_refused w 122
 no_ticket programs w old program turns plan graph at found none =
     let partner = numbered_partner IsPlanOf old.plans programs program plan at.plans found in
     ap (λ (p : Option ScheduledProgram). start w turns p graph) partner.is_there ∙ ap (start w turns (Some partner.partner)) none
@@ -131,8 +133,8 @@ stands_new plan graph turns j program of new =
     }
 
 pub starts : (programs : List ScheduledProgram) (w : World) (old new : SessionValue) (program turns : ℕ) (plan : Plan) (graph : Digraph) (asked : Option Digraph) (j : JobValue) → IsAt programs w old
-    → numbered old.plans program ≡ Some plan → asked ≡ Some graph → IsNewJob plan graph turns j → new ≡ record old { jobs = old.jobs ++ j ∷ [] }
-    → Takes programs (start w turns (numbered programs program) asked) (Job (length old.jobs + 1)) new
+    → nth_from_one old.plans program ≡ Some plan → asked ≡ Some graph → IsNewJob plan graph turns j → new ≡ record old { jobs = old.jobs ++ j ∷ [] }
+    → Takes programs (start w turns (nth_from_one programs program) asked) (Job (length old.jobs + 1)) new
 starts programs w old new program turns plan graph asked j at found held is_new after =
     let partner = numbered_partner IsPlanOf old.plans programs program plan at.plans found in
     let started : Takes programs (start w turns (Some partner.partner) (Some graph)) (Job (length old.jobs + 1)) new = record {
@@ -148,8 +150,8 @@ starts programs w old new program turns plan graph asked j at found held is_new 
 
 -- steps of jobs
 
-pub no_job : (programs : List ScheduledProgram) (w : World) (old : SessionValue) (number : ℕ) → IsAt programs w old → numbered old.jobs number ≡ None
-    → job_step w number (numbered w.jobs number) ≡ refused w 413
+pub no_job : (programs : List ScheduledProgram) (w : World) (old : SessionValue) (number : ℕ) → IsAt programs w old → nth_from_one old.jobs number ≡ None
+    → job_step w number (nth_from_one w.jobs number) ≡ step_refused w 413
 no_job programs w old number at none = ap (job_step w number) (numbered_none StandsAt old.jobs w.jobs number at.jobs none)
 
 -- the value of a job after one step
@@ -167,35 +169,35 @@ stand_resting is (At index loops s) = stand_kept (slice_get is index) index loop
 stand_resting is (Ended s end) = refl
 
 -- one instruction from where a job stands leads to where it stands after its step
-next_index : (job : WorldJob) → step job.program.tree (graph_value job.graph) (plan_of job.program.tree job.program.schedule) (index_of job) ≡ index_of (after_its_step job)
-next_index job = sym (more_instructions job.program job.graph job.turns job.count 1) ∙ sym (steps_once job (index_of job) refl).stands
+next_index : (job : WorldJob) → step job.program.tree (graph_value job.graph) (plan_of job.program.tree job.program.schedule) (job_index job) ≡ job_index (after_its_step job)
+next_index job = sym (more_instructions job.program job.graph job.turns job.count 1) ∙ sym (steps_once job (job_index job) refl).stands
 
-stands_next : (old new : JobValue) (job : WorldJob) → StandsAt old job → IsNextOf old new → new ≡ job_value old.plan job.graph job.turns (index_of (after_its_step job))
+stands_next : (old new : JobValue) (job : WorldJob) → StandsAt old job → IsNextOf old new → new ≡ job_value old.plan job.graph job.turns (job_index (after_its_step job))
 stands_next old new job at next =
     let p = job.program.tree in
     let s = job.program.schedule in
     let graph : old.graph ≡ job.graph = ap (λ (v : JobValue). v.graph) at.is in
     let turns : old.turns ≡ job.turns = ap (λ (v : JobValue). v.turns) at.is in
-    let stands : old.stands ≡ resting old.plan.instructions.items (index_of job) = ap (λ (v : JobValue). v.stands) at.is in
+    let stands : old.stands ≡ resting old.plan.instructions.items (job_index job) = ap (λ (v : JobValue). v.stands) at.is in
     next p s at.plan.planned at.plan.reducing
     ∙ ap (λ (c : Configuration). job_value old.plan old.graph old.turns (step p (graph_value old.graph) (plan_of p s) c)) stands
-    ∙ ap (λ (c : Configuration). job_value old.plan old.graph old.turns c) (step_resting p (graph_value old.graph) old.plan s at.plan.planned (index_of job))
-    ∙ ap (λ (g : Digraph). job_value old.plan g old.turns (step p (graph_value g) (plan_of p s) (index_of job))) graph
-    ∙ ap (λ (n : ℕ). job_value old.plan job.graph n (step p (graph_value job.graph) (plan_of p s) (index_of job))) turns
+    ∙ ap (λ (c : Configuration). job_value old.plan old.graph old.turns c) (step_resting p (graph_value old.graph) old.plan s at.plan.planned (job_index job))
+    ∙ ap (λ (g : Digraph). job_value old.plan g old.turns (step p (graph_value g) (plan_of p s) (job_index job))) graph
+    ∙ ap (λ (n : ℕ). job_value old.plan job.graph n (step p (graph_value job.graph) (plan_of p s) (job_index job))) turns
     ∙ ap (λ (c : Configuration). job_value old.plan job.graph job.turns c) (next_index job)
 
 stands_after : (old new : JobValue) (job : WorldJob) → StandsAt old job → IsNextOf old new → StandsAt new (after_its_step job)
 stands_after old new job at next =
     let after = after_its_step job in
-    let once = steps_once job (index_of job) refl in
+    let once = steps_once job (job_index job) refl in
     let is = stands_next old new job at next in
     let same : new.plan ≡ old.plan = ap (λ (v : JobValue). v.plan) is in
     record {
       plan = subst (λ (q : Plan). IsPlanOf q after.program) (sym same) (subst (λ (p : ScheduledProgram). IsPlanOf old.plan p) (sym once.program) at.plan);
       is =
-          is ∙ ap (λ (q : Plan). job_value q job.graph job.turns (index_of after)) (sym same)
-          ∙ ap (λ (g : Digraph). job_value new.plan g job.turns (index_of after)) (sym once.graph)
-          ∙ ap (λ (n : ℕ). job_value new.plan after.graph n (index_of after)) (sym once.turns);
+          is ∙ ap (λ (q : Plan). job_value q job.graph job.turns (job_index after)) (sym same)
+          ∙ ap (λ (g : Digraph). job_value new.plan g job.turns (job_index after)) (sym once.graph)
+          ∙ ap (λ (n : ℕ). job_value new.plan after.graph n (job_index after)) (sym once.turns);
     }
 
 pairwise_with : {A B : Type 0} (R : A → B → Type 0) (xs : List A) (ys : List B) (number : ℕ) (x : A) (y : B) → ArePairwise R xs ys → R x y
@@ -203,14 +205,14 @@ pairwise_with : {A B : Type 0} (R : A → B → Type 0) (xs : List A) (ys : List
 pairwise_with R xs ys zero x y all one = all
 pairwise_with R xs ys (suc index) x y all one = pairwise_set R xs ys index x y all one
 
-pub steps_job : (programs : List ScheduledProgram) (w : World) (old new : SessionValue) (number : ℕ) (j k : JobValue) → IsAt programs w old → numbered old.jobs number ≡ Some j → IsNextOf j k
-    → new ≡ record old { jobs = with_numbered old.jobs number k } → Takes programs (job_step w number (numbered w.jobs number)) (Stands (stand_of k.stands)) new
+pub steps_job : (programs : List ScheduledProgram) (w : World) (old new : SessionValue) (number : ℕ) (j k : JobValue) → IsAt programs w old → nth_from_one old.jobs number ≡ Some j → IsNextOf j k
+    → new ≡ record old { jobs = with_numbered old.jobs number k } → Takes programs (job_step w number (nth_from_one w.jobs number)) (Stands (stand_of k.stands)) new
 steps_job programs w old new number j k at found next after =
     let partner = numbered_partner StandsAt old.jobs w.jobs number j at.jobs found in
     let job = partner.partner in
     let is = stands_next j k job partner.related next in
     let stepped : Takes programs (job_step w number (Some job)) (Stands (stand_of k.stands)) new = record {
-      reply_is = ap (λ (v : JobValue). Stands (stand_of v.stands)) is ∙ ap Stands (stand_resting j.plan.instructions.items (index_of (after_its_step job)));
+      reply_is = ap (λ (v : JobValue). Stands (stand_of v.stands)) is ∙ ap Stands (stand_resting j.plan.instructions.items (job_index (after_its_step job)));
       stands = subst (IsAt programs (job_step w number (Some job)).world) (sym after) (record {
         plans = at.plans;
         versions = at.versions;
@@ -220,24 +222,24 @@ steps_job programs w old new number j k at found next after =
     subst (λ (o : Option WorldJob). Takes programs (job_step w number o) (Stands (stand_of k.stands)) new) (sym partner.is_there) stepped
 
 -- a refusal that is told as a reply
-refused_takes : (programs : List ScheduledProgram) (w : World) (a : Answer) (old new : SessionValue) (number : ℕ) → IsAt programs w old → a ≡ refused w number → new ≡ old
+refused_takes : (programs : List ScheduledProgram) (w : World) (a : StepAnswer) (old new : SessionValue) (number : ℕ) → IsAt programs w old → a ≡ step_refused w number → new ≡ old
     → Takes programs a (Of (Refused number)) new
 refused_takes programs w a old new number at is same =
-    subst (λ (b : Answer). Takes programs b (Of (Refused number)) new) (sym is) (record { reply_is = refl; stands = subst (IsAt programs w) (sym same) at })
+    subst (λ (b : StepAnswer). Takes programs b (Of (Refused number)) new) (sym is) (record { reply_is = refl; stands = subst (IsAt programs w) (sym same) at })
 
 -- what is told of an attempt at a step
 pub told_takes : (step : SessionStep) (old new : SessionValue) (result : Result SessionReply SessionError)
-    → ((programs : List ScheduledProgram) (w : World) → IsAt programs w old → Attempts programs w (answer programs w step) old result new)
-    → IfOk (told_of result) (λ reply. (programs : List ScheduledProgram) (w : World) → IsAt programs w old → Takes programs (answer programs w step) reply new)
+    → ((programs : List ScheduledProgram) (w : World) → IsAt programs w old → Attempts programs w (step_answer programs w step) old result new)
+    → IfOk (told_of result) (λ reply. (programs : List ScheduledProgram) (w : World) → IsAt programs w old → Takes programs (step_answer programs w step) reply new)
 told_takes step old new (Ok reply) is = is
 told_takes step old new (Err NoMemory) is = tt
-told_takes step old new (Err VertexRange) is = λ programs w at. let no = is programs w at in refused_takes programs w (answer programs w step) old new 111 at no.0 no.1
-told_takes step old new (Err BadChunkSize) is = λ programs w at. let no = is programs w at in refused_takes programs w (answer programs w step) old new 103 at no.0 no.1
-told_takes step old new (Err NotKept) is = λ programs w at. let no = is programs w at in refused_takes programs w (answer programs w step) old new 121 at no.0 no.1
-told_takes step old new (Err NotHeld) is = λ programs w at. let no = is programs w at in refused_takes programs w (answer programs w step) old new 122 at no.0 no.1
-told_takes step old new (Err HistoryFull) is = λ programs w at. let no = is programs w at in refused_takes programs w (answer programs w step) old new 123 at no.0 no.1
-told_takes step old new (Err NoProgram) is = λ programs w at. let no = is programs w at in refused_takes programs w (answer programs w step) old new 412 at no.0 no.1
-told_takes step old new (Err NoJob) is = λ programs w at. let no = is programs w at in refused_takes programs w (answer programs w step) old new 413 at no.0 no.1
+told_takes step old new (Err VertexRange) is = λ programs w at. let no = is programs w at in refused_takes programs w (step_answer programs w step) old new 111 at no.0 no.1
+told_takes step old new (Err BadChunkSize) is = λ programs w at. let no = is programs w at in refused_takes programs w (step_answer programs w step) old new 103 at no.0 no.1
+told_takes step old new (Err NotKept) is = λ programs w at. let no = is programs w at in refused_takes programs w (step_answer programs w step) old new 121 at no.0 no.1
+told_takes step old new (Err NotHeld) is = λ programs w at. let no = is programs w at in refused_takes programs w (step_answer programs w step) old new 122 at no.0 no.1
+told_takes step old new (Err HistoryFull) is = λ programs w at. let no = is programs w at in refused_takes programs w (step_answer programs w step) old new 123 at no.0 no.1
+told_takes step old new (Err NoProgram) is = λ programs w at. let no = is programs w at in refused_takes programs w (step_answer programs w step) old new 412 at no.0 no.1
+told_takes step old new (Err NoJob) is = λ programs w at. let no = is programs w at in refused_takes programs w (step_answer programs w step) old new 413 at no.0 no.1
 
 pub told_err : (P : Type 0) (result : Result SessionReply SessionError) → OnErr result P → OnErr (told_of result) P
 told_err P (Ok reply) is = tt

@@ -13,8 +13,8 @@ use Rattle.version_list.specs.Machine.{State, changed, reply_to, ticket_graph, t
 use Rattle.session.specs.declared.step.SessionStep.{SessionStep}
 use Rattle.session.specs.declared.step.SessionStep.TheVariants.{Commit, Acquire, Release, Start, JobStep}
 use Rattle.session.specs.declared.step.SessionReply.TheVariants.{Of}
-use Rattle.session.specs.World.{ScheduledProgram, WorldJob, World, numbered, start, job_step, answer, world_after, first_world}
-use Rattle.session.specs.Laws.{committed_by, batches_of, HasFolds}
+use Rattle.session.specs.World.{ScheduledProgram, WorldJob, World, nth_from_one, start, job_step, step_answer, world_after, first_world}
+use Rattle.session.specs.Laws.{batch_committed_by, committed_batches, HasFolds}
 
 -- a version machine has come to another state, whose batches are these more
 record Adds (old new : State) (more : List (List Entry)) : Type 0 where
@@ -25,7 +25,7 @@ adds_none : (s : State) → Adds s s []
 adds_none s = record { opening = refl; batches = sym (append-nil s.batches) }
 
 -- a step that was answered so
-commit_adds : (s : State) (batch : List Entry) (reply : Reply) → Adds s (changed s (versions.Commit batch) reply) (committed_by (Commit batch) (Of reply))
+commit_adds : (s : State) (batch : List Entry) (reply : Reply) → Adds s (changed s (versions.Commit batch) reply) (batch_committed_by (Commit batch) (Of reply))
 commit_adds s batch (Version number) = record { opening = refl; batches = refl }
 commit_adds s batch (Ticket number version) = adds_none s
 commit_adds s batch Released = adds_none s
@@ -55,24 +55,25 @@ job_step_adds : (w : World) (number : ℕ) (job : Option WorldJob) → Adds w.ve
 job_step_adds w number None = adds_none w.versions
 job_step_adds w number (Some job) = adds_none w.versions
 
-step_adds : (programs : List ScheduledProgram) (w : World) (step : SessionStep) → Adds w.versions (answer programs w step).world.versions (committed_by step (answer programs w step).reply)
+step_adds : (programs : List ScheduledProgram) (w : World) (step : SessionStep) → Adds w.versions (step_answer programs w step).world.versions
+    (batch_committed_by step (step_answer programs w step).reply)
 step_adds programs w (Commit batch) = commit_adds w.versions batch (reply_to w.versions (versions.Commit batch))
 step_adds programs w (Acquire which) = acquire_adds w.versions which (reply_to w.versions (versions.Acquire which))
 step_adds programs w (Release ticket) = release_adds w.versions ticket (reply_to w.versions (versions.Release ticket))
-step_adds programs w (Start program ticket turns) = start_adds w turns (numbered programs program) (ticket_graph w.versions ticket)
-step_adds programs w (JobStep number) = job_step_adds w number (numbered w.jobs number)
+step_adds programs w (Start program ticket turns) = start_adds w turns (nth_from_one programs program) (ticket_graph w.versions ticket)
+step_adds programs w (JobStep number) = job_step_adds w number (nth_from_one w.jobs number)
 
 -- steps, one after another
-steps_add : (programs : List ScheduledProgram) (w : World) (steps : List SessionStep) → Adds w.versions (world_after programs w steps).versions (batches_of programs w steps)
+steps_add : (programs : List ScheduledProgram) (w : World) (steps : List SessionStep) → Adds w.versions (world_after programs w steps).versions (committed_batches programs w steps)
 steps_add programs w [] = adds_none w.versions
 steps_add programs w (step ∷ steps) =
     let first = step_adds programs w step in
-    let later = steps_add programs (answer programs w step).world steps in
+    let later = steps_add programs (step_answer programs w step).world steps in
     record {
       opening = later.opening ∙ first.opening;
       batches =
-          later.batches ∙ ap (λ (bs : List (List Entry)). bs ++ batches_of programs (answer programs w step).world steps) first.batches
-          ∙ append_assoc w.versions.batches (committed_by step (answer programs w step).reply) (batches_of programs (answer programs w step).world steps);
+          later.batches ∙ ap (λ (bs : List (List Entry)). bs ++ committed_batches programs (step_answer programs w step).world steps) first.batches
+          ∙ append_assoc w.versions.batches (batch_committed_by step (step_answer programs w step).reply) (committed_batches programs (step_answer programs w step).world steps);
     }
 
 -- a version that a ticket holds, where the versions are folds
@@ -81,11 +82,12 @@ held_are f g same None = refl
 held_are f g same (Some k) = ap Some (same k)
 
 -- from the first world on, the batches of the versions are those of the steps
-pub versions_are_folds : (programs : List ScheduledProgram) (n : ℕ) (steps : List SessionStep) → HasFolds n (batches_of programs (first_world n) steps) (world_after programs (first_world n) steps)
+pub versions_are_folds : (programs : List ScheduledProgram) (n : ℕ) (steps : List SessionStep)
+    → HasFolds n (committed_batches programs (first_world n) steps) (world_after programs (first_world n) steps)
 versions_are_folds programs n steps =
     let w = world_after programs (first_world n) steps in
     let all = steps_add programs (first_world n) steps in
-    let graph : (k : ℕ) → version_graph w.versions k ≡ graph_through (empty_graph n) (take k (batches_of programs (first_world n) steps)) = λ k.
+    let graph : (k : ℕ) → version_graph w.versions k ≡ graph_through (empty_graph n) (take k (committed_batches programs (first_world n) steps)) = λ k.
     ap (λ (d : Digraph). graph_through d (take k w.versions.batches)) all.opening ∙ ap (λ (bs : List (List Entry)). graph_through (empty_graph n) (take k bs)) all.batches in
     record {
       number = ap length all.batches;

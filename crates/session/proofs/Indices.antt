@@ -8,12 +8,12 @@ use Rattle.version_list.specs.Machine.{ticket_graph}
 use Rattle.session.specs.declared.step.SessionStep.{SessionStep}
 use Rattle.session.specs.declared.step.SessionStep.TheVariants.{Commit, Acquire, Release, Start, JobStep}
 use Rattle.session.specs.declared.step.SessionReply.TheVariants.{Job}
-use Rattle.session.specs.World.{ScheduledProgram, WorldJob, World, Answer, after_its_step, numbered, on_versions, start, job_step, answer}
+use Rattle.session.specs.World.{ScheduledProgram, WorldJob, World, StepAnswer, after_its_step, nth_from_one, on_versions, start, job_step, step_answer}
 use Rattle.session.specs.Laws.{is_step_of, MayChangePlaces}
 use Rattle.session.proofs.Numbered.{numbered_other, numbered_append, with_numbered_append, with_numbered_twice, with_numbered_length}
 
 -- the answers of two steps taken in either order
-record ChangePlaces (one one_later other other_later : Answer) : Type 0 where
+record ChangePlaces (one one_later other other_later : StepAnswer) : Type 0 where
   worlds : other_later.world ≡ one_later.world
   one_reply : one_later.reply ≡ one.reply
   other_reply : other_later.reply ≡ other.reply
@@ -25,8 +25,8 @@ beside_versions w number None step = record { worlds = refl; one_reply = refl; o
 beside_versions w number (Some job) step = record { worlds = refl; one_reply = refl; other_reply = refl }
 
 -- a step of a job that is there, and a start
-beside_start : (w : World) (number turns : ℕ) (job : WorldJob) (program : Option ScheduledProgram) (graph : Option Digraph) → numbered w.jobs number ≡ Some job
-    → ChangePlaces (job_step w number (Some job)) (job_step (start w turns program graph).world number (numbered (start w turns program graph).world.jobs number))
+beside_start : (w : World) (number turns : ℕ) (job : WorldJob) (program : Option ScheduledProgram) (graph : Option Digraph) → nth_from_one w.jobs number ≡ Some job
+    → ChangePlaces (job_step w number (Some job)) (job_step (start w turns program graph).world number (nth_from_one (start w turns program graph).world.jobs number))
     (start w turns program graph) (start (job_step w number (Some job)).world turns program graph)
 beside_start w number turns job None graph is = record {
   worlds = ap (λ (o : Option WorldJob). (job_step w number o).world) (sym is);
@@ -41,7 +41,7 @@ beside_start w number turns job (Some program) None is = record {
 beside_start w number turns job (Some program) (Some graph) is =
     let new : WorldJob = record { program = program; graph = graph; turns = turns; count = 0 } in
     let started = (start w turns (Some program) (Some graph)).world in
-    let there : numbered started.jobs number ≡ Some job = numbered_append w.jobs (new ∷ []) number job is in
+    let there : nth_from_one started.jobs number ≡ Some job = numbered_append w.jobs (new ∷ []) number job is in
     record {
       worlds =
           ap (λ (jobs : List WorldJob). record w { jobs = jobs }) (sym (with_numbered_append w.jobs (new ∷ []) number job (after_its_step job) is))
@@ -51,12 +51,12 @@ beside_start w number turns job (Some program) (Some graph) is =
     }
 
 -- steps of two jobs, of which one is there
-beside_job : (w : World) (number other : ℕ) (job : WorldJob) (found : Option WorldJob) → numbered w.jobs number ≡ Some job → numbered w.jobs other ≡ found → number ≢ other
-    → ChangePlaces (job_step w number (Some job)) (job_step (job_step w other found).world number (numbered (job_step w other found).world.jobs number))
-    (job_step w other found) (job_step (job_step w number (Some job)).world other (numbered (job_step w number (Some job)).world.jobs other))
+beside_job : (w : World) (number other : ℕ) (job : WorldJob) (found : Option WorldJob) → nth_from_one w.jobs number ≡ Some job → nth_from_one w.jobs other ≡ found → number ≢ other
+    → ChangePlaces (job_step w number (Some job)) (job_step (job_step w other found).world number (nth_from_one (job_step w other found).world.jobs number))
+    (job_step w other found) (job_step (job_step w number (Some job)).world other (nth_from_one (job_step w number (Some job)).world.jobs other))
 beside_job w number other job None is found apart =
     let after = (job_step w number (Some job)).world in
-    let none : numbered after.jobs other ≡ None = numbered_other w.jobs number other (after_its_step job) apart ∙ found in
+    let none : nth_from_one after.jobs other ≡ None = numbered_other w.jobs number other (after_its_step job) apart ∙ found in
     record {
       worlds = ap (λ (o : Option WorldJob). (job_step after other o).world) none ∙ ap (λ (o : Option WorldJob). (job_step w number o).world) (sym is);
       one_reply = ap (λ (o : Option WorldJob). (job_step w number o).reply) is;
@@ -65,8 +65,8 @@ beside_job w number other job None is found apart =
 beside_job w number other job (Some too) is found apart =
     let after = (job_step w number (Some job)).world in
     let after_other = (job_step w other (Some too)).world in
-    let there : numbered after.jobs other ≡ Some too = numbered_other w.jobs number other (after_its_step job) apart ∙ found in
-    let here : numbered after_other.jobs number ≡ Some job = numbered_other w.jobs other number (after_its_step too) (λ same. apart (sym same)) ∙ is in
+    let there : nth_from_one after.jobs other ≡ Some too = numbered_other w.jobs number other (after_its_step job) apart ∙ found in
+    let here : nth_from_one after_other.jobs number ≡ Some job = numbered_other w.jobs other number (after_its_step too) (λ same. apart (sym same)) ∙ is in
     record {
       worlds =
           ap (λ (o : Option WorldJob). (job_step after other o).world) there
@@ -77,44 +77,47 @@ beside_job w number other job (Some too) is found apart =
     }
 
 changes : (programs : List ScheduledProgram) (w : World) (one other : SessionStep)
-    → ChangePlaces (answer programs w one) (answer programs (answer programs w other).world one) (answer programs w other) (answer programs (answer programs w one).world other)
+    → ChangePlaces (step_answer programs w one) (step_answer programs (step_answer programs w other).world one) (step_answer programs w other)
+    (step_answer programs (step_answer programs w one).world other)
     → MayChangePlaces programs w one other
 changes programs w one other change = record { worlds = change.worlds; one_reply = change.one_reply; other_reply = change.other_reply }
 
 -- the step of a job that is there, and any step that is not that job's
-pub job_steps_change_places : (programs : List ScheduledProgram) (w : World) (number : ℕ) (job : WorldJob) (other : SessionStep) → numbered w.jobs number ≡ Some job → is_step_of number other ≡ false
+pub job_steps_change_places : (programs : List ScheduledProgram) (w : World) (number : ℕ) (job : WorldJob) (other : SessionStep) → nth_from_one w.jobs number ≡ Some job
+    → is_step_of number other ≡ false
     → MayChangePlaces programs w (JobStep number) other
-job_steps_change_places programs w number job (Commit batch) is apart = changes programs w (JobStep number) (Commit batch) (beside_versions w number (numbered w.jobs number) (versions.Commit batch))
+job_steps_change_places programs w number job (Commit batch) is apart = changes programs w (JobStep number) (Commit batch)
+    (beside_versions w number (nth_from_one w.jobs number) (versions.Commit batch))
 job_steps_change_places programs w number job (Acquire which) is apart = changes programs w (JobStep number) (Acquire which)
-    (beside_versions w number (numbered w.jobs number) (versions.Acquire which))
+    (beside_versions w number (nth_from_one w.jobs number) (versions.Acquire which))
 job_steps_change_places programs w number job (Release ticket) is apart = changes programs w (JobStep number) (Release ticket)
-    (beside_versions w number (numbered w.jobs number) (versions.Release ticket))
+    (beside_versions w number (nth_from_one w.jobs number) (versions.Release ticket))
 job_steps_change_places programs w number job (Start program ticket turns) is apart =
-    let p = numbered programs program in
+    let p = nth_from_one programs program in
     let g = ticket_graph w.versions ticket in
     changes programs w (JobStep number) (Start program ticket turns)
-    (subst (λ (o : Option WorldJob). ChangePlaces (job_step w number o) (job_step (start w turns p g).world number (numbered (start w turns p g).world.jobs number)) (start w turns p g)
+    (subst (λ (o : Option WorldJob). ChangePlaces (job_step w number o) (job_step (start w turns p g).world number (nth_from_one (start w turns p g).world.jobs number)) (start w turns p g)
     (start (job_step w number o).world turns p (ticket_graph (job_step w number o).world.versions ticket)))
     (sym is) (beside_start w number turns job p g is))
 job_steps_change_places programs w number job (JobStep stepped) is apart =
     let ne : number ≢ stepped = λ same. eqb-false stepped number apart (sym same) in
     changes programs w (JobStep number) (JobStep stepped)
-    (subst (λ (o : Option WorldJob). ChangePlaces (job_step w number o) (job_step (job_step w stepped (numbered w.jobs stepped)).world number
-    (numbered (job_step w stepped (numbered w.jobs stepped)).world.jobs number))
-    (job_step w stepped (numbered w.jobs stepped)) (job_step (job_step w number o).world stepped (numbered (job_step w number o).world.jobs stepped)))
-    (sym is) (beside_job w number stepped job (numbered w.jobs stepped) is refl ne))
+    (subst (λ (o : Option WorldJob). ChangePlaces (job_step w number o) (job_step (job_step w stepped (nth_from_one w.jobs stepped)).world number
+    (nth_from_one (job_step w stepped (nth_from_one w.jobs stepped)).world.jobs number))
+    (job_step w stepped (nth_from_one w.jobs stepped)) (job_step (job_step w number o).world stepped (nth_from_one (job_step w number o).world.jobs stepped)))
+    (sym is) (beside_job w number stepped job (nth_from_one w.jobs stepped) is refl ne))
 
 -- steps of two jobs that are not there
-beside_none : (programs : List ScheduledProgram) (w : World) (number other : ℕ) → numbered w.jobs number ≡ None → numbered w.jobs other ≡ None
+beside_none : (programs : List ScheduledProgram) (w : World) (number other : ℕ) → nth_from_one w.jobs number ≡ None → nth_from_one w.jobs other ≡ None
     → MayChangePlaces programs w (JobStep number) (JobStep other)
 beside_none programs w number other none too =
     changes programs w (JobStep number) (JobStep other)
-    (subst (λ (o : Option WorldJob). ChangePlaces (job_step w number o) (job_step (job_step w other (numbered w.jobs other)).world number
-    (numbered (job_step w other (numbered w.jobs other)).world.jobs number))
-    (job_step w other (numbered w.jobs other)) (job_step (job_step w number o).world other (numbered (job_step w number o).world.jobs other)))
+    (subst (λ (o : Option WorldJob). ChangePlaces (job_step w number o) (job_step (job_step w other (nth_from_one w.jobs other)).world number
+    (nth_from_one (job_step w other (nth_from_one w.jobs other)).world.jobs number))
+    (job_step w other (nth_from_one w.jobs other)) (job_step (job_step w number o).world other (nth_from_one (job_step w number o).world.jobs other)))
     (sym none)
-    (subst (λ (o : Option WorldJob). ChangePlaces (job_step w number None) (job_step (job_step w other o).world number (numbered (job_step w other o).world.jobs number))
-    (job_step w other o) (job_step w other (numbered w.jobs other))) (sym too)
+    (subst (λ (o : Option WorldJob). ChangePlaces (job_step w number None) (job_step (job_step w other o).world number (nth_from_one (job_step w other o).world.jobs number))
+    (job_step w other o) (job_step w other (nth_from_one w.jobs other))) (sym too)
     (record {
       worlds = ap (λ (o : Option WorldJob). (job_step w other o).world) too ∙ ap (λ (o : Option WorldJob). (job_step w number o).world) (sym none);
       one_reply = ap (λ (o : Option WorldJob). (job_step w number o).reply) none;
@@ -124,7 +127,7 @@ beside_none programs w number other none too =
 other_way : (programs : List ScheduledProgram) (w : World) (one other : SessionStep) → MayChangePlaces programs w one other → MayChangePlaces programs w other one
 other_way programs w one other change = record { worlds = sym change.worlds; one_reply = change.other_reply; other_reply = change.one_reply }
 
-by_what_is_there : (programs : List ScheduledProgram) (w : World) (number other : ℕ) (one two : Option WorldJob) → numbered w.jobs number ≡ one → numbered w.jobs other ≡ two → number ≢ other
+by_what_is_there : (programs : List ScheduledProgram) (w : World) (number other : ℕ) (one two : Option WorldJob) → nth_from_one w.jobs number ≡ one → nth_from_one w.jobs other ≡ two → number ≢ other
     → MayChangePlaces programs w (JobStep number) (JobStep other)
 by_what_is_there programs w number other (Some job) two is too apart = job_steps_change_places programs w number job (JobStep other) is (ne_eqb other number (λ same. apart (sym same)))
 by_what_is_there programs w number other None (Some job) is too apart = other_way programs w (JobStep other) (JobStep number)
@@ -133,4 +136,4 @@ by_what_is_there programs w number other None None is too apart = beside_none pr
 
 -- the steps of two jobs, whether they are there or not
 pub steps_of_two_jobs : (programs : List ScheduledProgram) (w : World) (number other : ℕ) → number ≢ other → MayChangePlaces programs w (JobStep number) (JobStep other)
-steps_of_two_jobs programs w number other apart = by_what_is_there programs w number other (numbered w.jobs number) (numbered w.jobs other) refl refl apart
+steps_of_two_jobs programs w number other apart = by_what_is_there programs w number other (nth_from_one w.jobs number) (nth_from_one w.jobs other) refl refl apart

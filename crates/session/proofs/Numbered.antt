@@ -1,7 +1,7 @@
 -- Lists whose items are counted from 1.
 use Rattle.std.proofs.Common.{◌≡◌, ◌≢◌, ℕ, zero, suc, List, [], ◌∷◌, ◌++◌, Some, None, slice_get, length, refl, ap}
 use Rattle.std.specs.Prelude.{slice_set}
-use Rattle.session.specs.World.{numbered, with_numbered}
+use Rattle.session.specs.World.{nth_from_one, with_numbered}
 
 none_is : {A : Type 0} (x : A) → None ≡ Some x → ⊥
 none_is x e = cc
@@ -41,22 +41,22 @@ set_length (y ∷ ys) zero x = refl
 set_length (y ∷ ys) (suc i) x = ap suc (set_length ys i x)
 
 -- what was put under a number stands there
-pub numbered_same : {A : Type 0} (xs : List A) (number : ℕ) (old x : A) → numbered xs number ≡ Some old → numbered (with_numbered xs number x) number ≡ Some x
+pub numbered_same : {A : Type 0} (xs : List A) (number : ℕ) (old x : A) → nth_from_one xs number ≡ Some old → nth_from_one (with_numbered xs number x) number ≡ Some x
 numbered_same xs zero old x is = absurd (none_is old is)
 numbered_same xs (suc index) old x is = get_set_same xs index old x is
 
 -- what stands under another number stays
-pub numbered_other : {A : Type 0} (xs : List A) (number other : ℕ) (x : A) → number ≢ other → numbered (with_numbered xs number x) other ≡ numbered xs other
+pub numbered_other : {A : Type 0} (xs : List A) (number other : ℕ) (x : A) → number ≢ other → nth_from_one (with_numbered xs number x) other ≡ nth_from_one xs other
 numbered_other xs zero other x apart = refl
 numbered_other xs (suc index) zero x apart = refl
 numbered_other xs (suc index) (suc other) x apart = get_set_other xs index other x (λ same. apart (ap suc same))
 
 -- a longer list has the same under the numbers of its beginning
-pub numbered_append : {A : Type 0} (xs more : List A) (number : ℕ) (x : A) → numbered xs number ≡ Some x → numbered (xs ++ more) number ≡ Some x
+pub numbered_append : {A : Type 0} (xs more : List A) (number : ℕ) (x : A) → nth_from_one xs number ≡ Some x → nth_from_one (xs ++ more) number ≡ Some x
 numbered_append xs more zero x is = absurd (none_is x is)
 numbered_append xs more (suc index) x is = get_append xs more index x is
 
-pub with_numbered_append : {A : Type 0} (xs more : List A) (number : ℕ) (old x : A) → numbered xs number ≡ Some old → with_numbered (xs ++ more) number x ≡ with_numbered xs number x ++ more
+pub with_numbered_append : {A : Type 0} (xs more : List A) (number : ℕ) (old x : A) → nth_from_one xs number ≡ Some old → with_numbered (xs ++ more) number x ≡ with_numbered xs number x ++ more
 with_numbered_append xs more zero old x is = absurd (none_is old is)
 with_numbered_append xs more (suc index) old x is = set_append xs more index old x is
 

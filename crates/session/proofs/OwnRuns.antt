@@ -15,7 +15,7 @@ use Rattle.runner.proofs.Partners.{HasPartner}
 use Rattle.runner.proofs.Resting.{outcome_resting}
 use Rattle.runner.proofs.Running.{HasEnded, means}
 use Rattle.session.specs.declared.step.SessionStep.{SessionStep}
-use Rattle.session.specs.World.{ScheduledProgram, WorldJob, World, index_of, numbered, world_after}
+use Rattle.session.specs.World.{ScheduledProgram, WorldJob, World, job_index, nth_from_one, world_after}
 use Rattle.session.specs.Standing.{SessionValue, IsPlanOf, StandsAt, IsAt}
 use Rattle.session.specs.Laws.{is_step_of, GoesOnAlone, RunsAlone, shown_at, ShowsItsOwnRun, HasPrograms}
 use Rattle.session.proofs.Alone.{jobs_go_alone}
@@ -33,17 +33,17 @@ runs_as_there old more (Some job) here goes stands =
     subst (λ (o : Option JobValue). IsSomeAnd o (RunsAlone old more)) (sym partner.is_there) (record {
       plan = subst (λ (p : ScheduledProgram). IsPlanOf j.plan p) goes.program at.plan;
       is =
-          at.is ∙ ap (λ (g : Digraph). job_value j.plan g job.turns (index_of job)) goes.graph
-          ∙ ap (λ (n : ℕ). job_value j.plan old.graph n (index_of job)) goes.turns
+          at.is ∙ ap (λ (g : Digraph). job_value j.plan g job.turns (job_index job)) goes.graph
+          ∙ ap (λ (n : ℕ). job_value j.plan old.graph n (job_index job)) goes.turns
           ∙ ap (λ (c : Configuration). job_value j.plan old.graph old.turns c) goes.stands;
     })
 
-pub jobs_run_alone : (programs : List ScheduledProgram) (w : World) (steps : List SessionStep) (s : SessionValue) (number : ℕ) (job : WorldJob) → numbered w.jobs number ≡ Some job
+pub jobs_run_alone : (programs : List ScheduledProgram) (w : World) (steps : List SessionStep) (s : SessionValue) (number : ℕ) (job : WorldJob) → nth_from_one w.jobs number ≡ Some job
     → IsAt programs (world_after programs w steps) s
-    → IsSomeAnd (numbered s.jobs number) (RunsAlone job (count_by (is_step_of number) steps))
+    → IsSomeAnd (nth_from_one s.jobs number) (RunsAlone job (count_by (is_step_of number) steps))
 jobs_run_alone programs w steps s number job is at =
     let after = world_after programs w steps in
-    runs_as_there job (count_by (is_step_of number) steps) (numbered after.jobs number) (numbered s.jobs number) (jobs_go_alone programs w steps number job is)
+    runs_as_there job (count_by (is_step_of number) steps) (nth_from_one after.jobs number) (nth_from_one s.jobs number) (jobs_go_alone programs w steps number job is)
     (λ there found. numbered_job s.jobs after.jobs number there at.jobs found)
 
 -- an index that shows an end is an end
@@ -55,13 +55,13 @@ pub shows_its_own_run : (j : JobValue) (job : WorldJob) → StandsAt j job → S
 shows_its_own_run j job at =
     let p = job.program.tree in
     let schedule = job.program.schedule in
-    let stands : j.stands ≡ resting j.plan.instructions.items (index_of job) = ap (λ (v : JobValue). v.stands) at.is in
-    let shown : shown_at job j.stands ≡ shown_at job (index_of job) = ap (shown_at job) stands ∙ outcome_resting p job.turns j.plan schedule at.plan.planned (index_of job) in
+    let stands : j.stands ≡ resting j.plan.instructions.items (job_index job) = ap (λ (v : JobValue). v.stands) at.is in
+    let shown : shown_at job j.stands ≡ shown_at job (job_index job) = ap (shown_at job) stands ∙ outcome_resting p job.turns j.plan schedule at.plan.planned (job_index job) in
     record {
       so_far = shown;
       at_end = λ end is.
-          let here : stand_of (index_of job) ≡ stand.Ended end = sym (stand_resting j.plan.instructions.items (index_of job)) ∙ ap stand_of (sym stands) ∙ is in
-          shown ∙ means p schedule (graph_value job.graph) job.turns (index_of job) (record { count = job.count; is = refl }) (ends (index_of job) end here);
+          let here : stand_of (job_index job) ≡ stand.Ended end = sym (stand_resting j.plan.instructions.items (job_index job)) ∙ ap stand_of (sym stands) ∙ is in
+          shown ∙ means p schedule (graph_value job.graph) job.turns (job_index job) (record { count = job.count; is = refl }) (ends (job_index job) end here);
     }
 
 -- compiled plans are plans of their programs

@@ -5,30 +5,30 @@ use Rattle.session.specs.declared.error.SessionError.{SessionError}
 use Rattle.session.specs.declared.error.SessionError.TheVariants.{NoMemory}
 use Rattle.session.specs.declared.step.SessionStep.{SessionStep}
 use Rattle.session.specs.declared.step.SessionReply.{SessionReply}
-use Rattle.session.specs.World.{ScheduledProgram, World, answer, replies_to, world_after}
+use Rattle.session.specs.World.{ScheduledProgram, World, step_answer, step_replies, world_after}
 use Rattle.session.specs.Standing.{SessionValue, IsAt, Takes, Runs}
 
 -- one more step
 pub world_after-push : (programs : List ScheduledProgram) (w : World) (steps : List SessionStep) (step : SessionStep)
-    → world_after programs w (steps ++ step ∷ []) ≡ (answer programs (world_after programs w steps) step).world
+    → world_after programs w (steps ++ step ∷ []) ≡ (step_answer programs (world_after programs w steps) step).world
 world_after-push programs w [] step = refl
-world_after-push programs w (first ∷ rest) step = world_after-push programs (answer programs w first).world rest step
+world_after-push programs w (first ∷ rest) step = world_after-push programs (step_answer programs w first).world rest step
 
 pub replies_to-push : (programs : List ScheduledProgram) (w : World) (steps : List SessionStep) (step : SessionStep)
-    → replies_to programs w (steps ++ step ∷ []) ≡ replies_to programs w steps ++ (answer programs (world_after programs w steps) step).reply ∷ []
+    → step_replies programs w (steps ++ step ∷ []) ≡ step_replies programs w steps ++ (step_answer programs (world_after programs w steps) step).reply ∷ []
 replies_to-push programs w [] step = refl
-replies_to-push programs w (first ∷ rest) step = ap (λ (l : List SessionReply). (answer programs w first).reply ∷ l) (replies_to-push programs (answer programs w first).world rest step)
+replies_to-push programs w (first ∷ rest) step = ap (λ (l : List SessionReply). (step_answer programs w first).reply ∷ l) (replies_to-push programs (step_answer programs w first).world rest step)
 
 -- one more step is taken
 pub one_more_taken : (programs : List ScheduledProgram) (w : World) (steps more : List SessionStep) (step copy : SessionStep) (old new : List SessionReply) (reply : SessionReply) (s : SessionValue)
     → more ≡ steps ++ step ∷ [] → copy ≡ step
-    → old ≡ replies_to programs w steps → new ≡ old ++ reply ∷ [] → Takes programs (answer programs (world_after programs w steps) copy) reply s
-    → (new ≡ replies_to programs w more) × IsAt programs (world_after programs w more) s
+    → old ≡ step_replies programs w steps → new ≡ old ++ reply ∷ [] → Takes programs (step_answer programs (world_after programs w steps) copy) reply s
+    → (new ≡ step_replies programs w more) × IsAt programs (world_after programs w more) s
 one_more_taken programs w steps more step copy old new reply s is copied so_far next takes =
-    let there = subst (λ (st : SessionStep). Takes programs (answer programs (world_after programs w steps) st) reply s) copied takes in
-    let replies : new ≡ replies_to programs w more =
-    next ∙ ap (λ (l : List SessionReply). l ++ reply ∷ []) so_far ∙ ap (λ (r : SessionReply). replies_to programs w steps ++ r ∷ []) there.reply_is
-    ∙ sym (replies_to-push programs w steps step) ∙ ap (replies_to programs w) (sym is) in
+    let there = subst (λ (st : SessionStep). Takes programs (step_answer programs (world_after programs w steps) st) reply s) copied takes in
+    let replies : new ≡ step_replies programs w more =
+    next ∙ ap (λ (l : List SessionReply). l ++ reply ∷ []) so_far ∙ ap (λ (r : SessionReply). step_replies programs w steps ++ r ∷ []) there.reply_is
+    ∙ sym (replies_to-push programs w steps step) ∙ ap (step_replies programs w) (sym is) in
     (replies, subst (λ (v : World). IsAt programs v s) (sym (world_after-push programs w steps step) ∙ ap (world_after programs w) (sym is)) there.stands)
 
 -- where memory runs out

@@ -10,31 +10,32 @@ use Rattle.runner.specs.Job.{stand_of}
 use Rattle.runner.specs.Resting.{JobValue}
 use Rattle.version_list.specs.Machine.{State, version_graph, ticket_version, ticket_graph}
 use Rattle.session.specs.declared.step.SessionReply.TheVariants.{Job, Stands}
-use Rattle.session.specs.World.{ScheduledProgram, World, numbered, with_numbered, refused, start, job_step}
+use Rattle.session.specs.World.{ScheduledProgram, World, nth_from_one, with_numbered, step_refused, start, job_step}
 use Rattle.session.specs.Standing.{SessionValue, IsAt, Takes}
 use Rattle.session.proofs.Attempting.{IsNewJob, IsNextOf, no_program, no_ticket, starts, no_job, steps_job}
 
 -- a number is one more than its index
-numbered_at : {A : Type 0} (xs : List A) (number index : ℕ) → number ≡ index + 1 → numbered xs number ≡ slice_get xs index
-numbered_at xs number index is = let next : number ≡ suc index = omega (arith, is) in ap (numbered xs) next
+numbered_at : {A : Type 0} (xs : List A) (number index : ℕ) → number ≡ index + 1 → nth_from_one xs number ≡ slice_get xs index
+numbered_at xs number index is = let next : number ≡ suc index = omega (arith, is) in ap (nth_from_one xs) next
 
 with_numbered_at : {A : Type 0} (xs : List A) (number index : ℕ) (x : A) → number ≡ index + 1 → with_numbered xs number x ≡ slice_set xs index x
 with_numbered_at xs number index x is = let next : number ≡ suc index = omega (arith, is) in ap (λ (n : ℕ). with_numbered xs n x) next
 
-numbered_map : {A B : Type 0} (f : A → B) (xs : List A) (number : ℕ) → numbered (map f xs) number ≡ option_map f (numbered xs number)
+numbered_map : {A B : Type 0} (f : A → B) (xs : List A) (number : ℕ) → nth_from_one (map f xs) number ≡ option_map f (nth_from_one xs number)
 numbered_map f xs zero = refl
 numbered_map f xs (suc index) = slice_get-map f xs index
 
 -- the plan of a program, among plans that are shared
-plan_found : {A : Type 0} (plan_in : A → Plan) (plans : List Plan) (shared lent : List A) (program : ℕ) (found : Option A) → plans ≡ map plan_in shared → lent ≡ shared → found ≡ numbered lent program
-    → numbered plans program ≡ option_map plan_in found
+plan_found : {A : Type 0} (plan_in : A → Plan) (plans : List Plan) (shared lent : List A) (program : ℕ) (found : Option A) → plans ≡ map plan_in shared → lent ≡ shared
+    → found ≡ nth_from_one lent program
+    → nth_from_one plans program ≡ option_map plan_in found
 plan_found plan_in plans shared lent program found are lies is =
-    ap (λ (ps : List Plan). numbered ps program) are ∙ numbered_map plan_in shared program
-    ∙ ap (option_map plan_in) (ap (λ l. numbered l program) (sym lies) ∙ sym is)
+    ap (λ (ps : List Plan). nth_from_one ps program) are ∙ numbered_map plan_in shared program
+    ∙ ap (option_map plan_in) (ap (λ l. nth_from_one l program) (sym lies) ∙ sym is)
 
 pub starts_no_program : {A : Type 0} (plan_in : A → Plan) (shared lent : List A) (programs : List ScheduledProgram) (w : World) (old : SessionValue) (program turns : ℕ) (graph : Option Digraph)
     → IsAt programs w old
-    → old.plans ≡ map plan_in shared → lent ≡ shared → None ≡ numbered lent program → start w turns (numbered programs program) graph ≡ refused w 412
+    → old.plans ≡ map plan_in shared → lent ≡ shared → None ≡ nth_from_one lent program → start w turns (nth_from_one programs program) graph ≡ step_refused w 412
 starts_no_program plan_in shared lent programs w old program turns graph at are lies is =
     no_program programs w old program turns graph at (plan_found plan_in old.plans shared lent program None are lies is)
 
@@ -47,8 +48,8 @@ graph_there programs w old s ticket version at here is =
 
 pub starts_no_ticket : {A : Type 0} (plan_in : A → Plan) (shared lent : List A) (programs : List ScheduledProgram) (w : World) (old : SessionValue) (s : State) (program ticket turns : ℕ) (plan : A)
     → IsAt programs w old
-    → old.plans ≡ map plan_in shared → lent ≡ shared → Some plan ≡ numbered lent program → old.versions ≡ s → ticket_version s.open_tickets ticket ≡ None
-    → start w turns (numbered programs program) (ticket_graph w.versions ticket) ≡ refused w 122
+    → old.plans ≡ map plan_in shared → lent ≡ shared → Some plan ≡ nth_from_one lent program → old.versions ≡ s → ticket_version s.open_tickets ticket ≡ None
+    → start w turns (nth_from_one programs program) (ticket_graph w.versions ticket) ≡ step_refused w 122
 starts_no_ticket plan_in shared lent programs w old s program ticket turns plan at are lies is here none =
     no_ticket programs w old program turns (plan_in plan) (ticket_graph w.versions ticket) at (plan_found plan_in old.plans shared lent program (Some plan) are lies is)
     (graph_there programs w old s ticket None at here none)
@@ -59,28 +60,28 @@ new_of p q g h turns j plans graphs new = subst (λ (r : Plan). IsNewJob r h tur
 
 pub starts_there : {A : Type 0} (plan_in : A → Plan) (shared lent : List A) (programs : List ScheduledProgram) (w : World) (old new : SessionValue) (s : State) (program ticket version turns : ℕ)
     (plan : A) (graph flat : Digraph) (own : Plan) (j : JobValue)
-    (number : ℕ) → IsAt programs w old → old.plans ≡ map plan_in shared → lent ≡ shared → Some plan ≡ numbered lent program → old.versions ≡ s → ticket_version s.open_tickets ticket ≡ Some version
+    (number : ℕ) → IsAt programs w old → old.plans ≡ map plan_in shared → lent ≡ shared → Some plan ≡ nth_from_one lent program → old.versions ≡ s → ticket_version s.open_tickets ticket ≡ Some version
     → graph ≡ version_graph s version
     → own ≡ plan_in plan → flat ≡ graph → IsNewJob own flat turns j → new ≡ record old { jobs = old.jobs ++ j ∷ [] } → number ≡ length old.jobs + 1
-    → Takes programs (start w turns (numbered programs program) (ticket_graph w.versions ticket)) (Job number) new
+    → Takes programs (start w turns (nth_from_one programs program) (ticket_graph w.versions ticket)) (Job number) new
 starts_there plan_in shared lent programs w old new s program ticket version turns plan graph flat own j number at are lies is here held graph_is own_is flat_is new_is after count =
-    subst (λ (n : ℕ). Takes programs (start w turns (numbered programs program) (ticket_graph w.versions ticket)) (Job n) new) (sym count)
+    subst (λ (n : ℕ). Takes programs (start w turns (nth_from_one programs program) (ticket_graph w.versions ticket)) (Job n) new) (sym count)
     (starts programs w old new program turns (plan_in plan) graph (ticket_graph w.versions ticket) j at (plan_found plan_in old.plans shared lent program (Some plan) are lies is)
     (graph_there programs w old s ticket (Some version) at here held ∙ ap Some (sym graph_is)) (new_of own (plan_in plan) flat graph turns j own_is flat_is new_is) after)
 
 pub no_job_there : (programs : List ScheduledProgram) (w : World) (old : SessionValue) (jobs : List JobValue) (number index : ℕ) → IsAt programs w old → old.jobs ≡ jobs → number ≡ index + 1
     → length jobs ≤ index
-    → job_step w number (numbered w.jobs number) ≡ refused w 413
+    → job_step w number (nth_from_one w.jobs number) ≡ step_refused w 413
 no_job_there programs w old jobs number index at are is past =
-    no_job programs w old number at (ap (λ (js : List JobValue). numbered js number) are ∙ numbered_at jobs number index is ∙ slice_get_past jobs index past)
+    no_job programs w old number at (ap (λ (js : List JobValue). nth_from_one js number) are ∙ numbered_at jobs number index is ∙ slice_get_past jobs index past)
 
 pub steps_job_there : (programs : List ScheduledProgram) (w : World) (old new : SessionValue) (jobs : List JobValue) (number index : ℕ) (j k : JobValue) (stand : Stand) → IsAt programs w old
     → old.jobs ≡ jobs → number ≡ index + 1
     → index < length jobs → ((d : JobValue) → j ≡ get_or jobs index d) → IsNextOf j k → stand ≡ stand_of k.stands → new ≡ record old { jobs = slice_set jobs index k }
-    → Takes programs (job_step w number (numbered w.jobs number)) (Stands stand) new
+    → Takes programs (job_step w number (nth_from_one w.jobs number)) (Stands stand) new
 steps_job_there programs w old new jobs number index j k stand at are is within there next stands after =
-    let found : numbered old.jobs number ≡ Some j = ap (λ (js : List JobValue). numbered js number) are ∙ numbered_at jobs number index is
+    let found : nth_from_one old.jobs number ≡ Some j = ap (λ (js : List JobValue). nth_from_one js number) are ∙ numbered_at jobs number index is
     ∙ slice_get_read jobs (length jobs) index j refl within (there j) in
     let put : slice_set jobs index k ≡ with_numbered old.jobs number k = sym (ap (λ (js : List JobValue). with_numbered js number k) are ∙ with_numbered_at jobs number index k is) in
-    subst (λ (st : Stand). Takes programs (job_step w number (numbered w.jobs number)) (Stands st) new) (sym stands)
+    subst (λ (st : Stand). Takes programs (job_step w number (nth_from_one w.jobs number)) (Stands st) new) (sym stands)
     (steps_job programs w old new number j k at found next (after ∙ ap (λ (js : List JobValue). record old { jobs = js }) put))

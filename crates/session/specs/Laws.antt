@@ -21,7 +21,7 @@ use Rattle.session.specs.declared.step.SessionStep.{SessionStep}
 use Rattle.session.specs.declared.step.SessionStep.TheVariants.{Commit, JobStep}
 use Rattle.session.specs.declared.step.SessionReply.{SessionReply}
 use Rattle.session.specs.declared.step.SessionReply.TheVariants.{Of}
-use Rattle.session.specs.World.{ScheduledProgram, WorldJob, World, index_after, index_of, answer, world_after}
+use Rattle.session.specs.World.{ScheduledProgram, WorldJob, World, index_after, job_index, step_answer, world_after}
 use Rattle.session.specs.Standing.{IsPlanOf}
 
 -- whether it is a step of the job of this number
@@ -34,7 +34,7 @@ pub record GoesOnAlone (old : WorldJob) (more : ℕ) (new : WorldJob) : Type 0 w
   pub program : new.program ≡ old.program
   pub graph : new.graph ≡ old.graph
   pub turns : new.turns ≡ old.turns
-  pub stands : index_of new ≡ index_after old.program old.graph old.turns (old.count + more)
+  pub stands : job_index new ≡ index_after old.program old.graph old.turns (old.count + more)
 
 -- The job of a session runs a plan of that program on that graph within that bound, and stands where the program's machine stands on it after n instructions
 -- more.
@@ -48,24 +48,25 @@ shown_at job c = outcome_so_far job.program.tree job.turns (plan_of job.program.
 
 -- The job of a session shows what the run of the program shows on the graph after the count of instructions, and at its end what the program means.
 pub record ShowsItsOwnRun (job : WorldJob) (j : JobValue) : Type 0 where
-  pub so_far : shown_at job j.stands ≡ shown_at job (index_of job)
+  pub so_far : shown_at job j.stands ≡ shown_at job (job_index job)
   pub at_end : (end : End) → stand_of j.stands ≡ Ended end → shown_at job j.stands ≡ meaning job.program.tree (graph_value job.graph) job.turns
 
 -- the two steps are answered alike and lead to one world, whichever is taken first
 pub record MayChangePlaces (programs : List ScheduledProgram) (w : World) (one other : SessionStep) : Type 0 where
   pub worlds : world_after programs w (one ∷ other ∷ []) ≡ world_after programs w (other ∷ one ∷ [])
-  pub one_reply : (answer programs (answer programs w other).world one).reply ≡ (answer programs w one).reply
-  pub other_reply : (answer programs (answer programs w one).world other).reply ≡ (answer programs w other).reply
+  pub one_reply : (step_answer programs (step_answer programs w other).world one).reply ≡ (step_answer programs w one).reply
+  pub other_reply : (step_answer programs (step_answer programs w one).world other).reply ≡ (step_answer programs w other).reply
 
 -- the batch that a step commits, where it is accepted
-abbrev pub committed_by : SessionStep → SessionReply → List (List Entry)
-committed_by (Commit batch) (Of (Version number)) = batch ∷ []
-committed_by step reply = []
+abbrev pub batch_committed_by : SessionStep → SessionReply → List (List Entry)
+batch_committed_by (Commit batch) (Of (Version number)) = batch ∷ []
+batch_committed_by step reply = []
 
 -- the batches that steps commit, one after another
-abbrev pub batches_of : List ScheduledProgram → World → List SessionStep → List (List Entry)
-batches_of programs w [] = []
-batches_of programs w (step ∷ steps) = committed_by step (answer programs w step).reply ++ batches_of programs (answer programs w step).world steps
+abbrev pub committed_batches : List ScheduledProgram → World → List SessionStep → List (List Entry)
+committed_batches programs w [] = []
+committed_batches programs w (step ∷ steps) = batch_committed_by step (step_answer programs w step).reply
+    ++ committed_batches programs (step_answer programs w step).world steps
 
 -- there are as many versions beside version 0 as batches, and the graph of version k, also where a ticket holds it, is n vertices without edges, taken through
 -- the first k of the batches

@@ -11,7 +11,7 @@ use Rattle.session.specs.declared.error.SessionError.{SessionError}
 use Rattle.session.specs.declared.error.SessionError.TheVariants.{VertexRange, BadChunkSize, NotKept, NotHeld, HistoryFull, NoProgram, NoJob, NoMemory}
 use Rattle.session.specs.declared.step.SessionStep.{SessionStep}
 use Rattle.session.specs.declared.step.SessionReply.{SessionReply}
-use Rattle.session.specs.World.{ScheduledProgram, WorldJob, World, Answer, index_of, replies_to, world_after}
+use Rattle.session.specs.World.{ScheduledProgram, WorldJob, World, StepAnswer, job_index, step_replies, world_after}
 
 -- the plans of the programs, the state of the versions, and the jobs in the order in which they were started
 pub record SessionValue : Type 0 where
@@ -27,7 +27,7 @@ pub record IsPlanOf (plan : Plan) (program : ScheduledProgram) : Type 0 where
 -- the job runs a plan of the world's program on the world's graph, and stands where the machine stands after the world's count of instructions
 pub record StandsAt (j : JobValue) (job : WorldJob) : Type 0 where
   pub plan : IsPlanOf j.plan job.program
-  pub is : j ≡ job_value j.plan job.graph job.turns (index_of job)
+  pub is : j ≡ job_value j.plan job.graph job.turns (job_index job)
 
 -- the session has plans of these programs, and stands where the world stands
 pub record IsAt (programs : List ScheduledProgram) (w : World) (s : SessionValue) : Type 0 where
@@ -48,13 +48,13 @@ Opens n b plans (Err NoProgram) = ⊥
 Opens n b plans (Err NoJob) = ⊥
 
 -- the reply is the answer's, and the session stands where the answer's world stands
-pub record Takes (programs : List ScheduledProgram) (a : Answer) (reply : SessionReply) (s : SessionValue) : Type 0 where
+pub record Takes (programs : List ScheduledProgram) (a : StepAnswer) (reply : SessionReply) (s : SessionValue) : Type 0 where
   pub reply_is : reply ≡ a.reply
   pub stands : IsAt programs a.world s
 
 -- So it is with steps, one after another, where replies is the list that the call gives. Where memory runs out the call may stop before a step, after those in
 -- front of it.
 abbrev pub Runs : {A : Type 0} → List ScheduledProgram → World → List SessionStep → (A → List SessionReply) → Result A SessionError → SessionValue → Type 0
-Runs programs w steps replies (Ok x) new = (replies x ≡ replies_to programs w steps) × IsAt programs (world_after programs w steps) new
+Runs programs w steps replies (Ok x) new = (replies x ≡ step_replies programs w steps) × IsAt programs (world_after programs w steps) new
 Runs programs w steps replies (Err NoMemory) new = (k : ℕ) × (k < length steps) × IsAt programs (world_after programs w (take k steps)) new
 Runs programs w steps replies (Err e) new = ⊥

@@ -40,8 +40,8 @@ index_after p g turns count =
     steps p.tree (graph_value g) (plan_of p.tree p.schedule) count (first_configuration (opening p.tree (graph_value g) turns))
 
 -- where a job stands
-abbrev pub index_of : WorldJob → Configuration
-index_of job = index_after job.program job.graph job.turns job.count
+abbrev pub job_index : WorldJob → Configuration
+job_index job = index_after job.program job.graph job.turns job.count
 
 -- a job that stands so, after one more instruction: one that has ended stays
 abbrev pub one_more : Configuration → WorldJob → WorldJob
@@ -50,12 +50,12 @@ one_more (Ended s end) job = job
 
 -- a job after its next step
 abbrev pub after_its_step : WorldJob → WorldJob
-after_its_step job = one_more (index_of job) job
+after_its_step job = one_more (job_index job) job
 
 -- what has this number in a list, counted from 1
-abbrev pub numbered : {A : Type 0} → List A → ℕ → Option A
-numbered xs zero = None
-numbered xs (suc index) = slice_get xs index
+abbrev pub nth_from_one : {A : Type 0} → List A → ℕ → Option A
+nth_from_one xs zero = None
+nth_from_one xs (suc index) = slice_get xs index
 
 -- the list with another item at this number
 abbrev pub with_numbered : {A : Type 0} → List A → ℕ → A → List A
@@ -63,52 +63,52 @@ with_numbered xs zero x = xs
 with_numbered xs (suc index) x = slice_set xs index x
 
 -- what a step is answered, and the world after it
-pub record Answer : Type 0 where
+pub record StepAnswer : Type 0 where
   pub reply : SessionReply
   pub world : World
 
 -- a refusal changes nothing
-abbrev pub refused : World → (number : ℕ) → Answer
-refused w number = record { reply = Of (Refused number); world = w }
+abbrev pub step_refused : World → (number : ℕ) → StepAnswer
+step_refused w number = record { reply = Of (Refused number); world = w }
 
 -- a step of the versions is the version machine's
-abbrev pub on_versions : World → Step → Answer
+abbrev pub on_versions : World → Step → StepAnswer
 on_versions w step = record { reply = Of (reply_to w.versions step); world = record w { versions = state_after w.versions step } }
 
 -- a job of a program on a graph is the last of the jobs, and has done nothing
-abbrev pub start : World → (turns : ℕ) → Option ScheduledProgram → Option Digraph → Answer
-start w turns None graph = refused w 412
-start w turns (Some program) None = refused w 122
+abbrev pub start : World → (turns : ℕ) → Option ScheduledProgram → Option Digraph → StepAnswer
+start w turns None graph = step_refused w 412
+start w turns (Some program) None = step_refused w 122
 start w turns (Some program) (Some graph) = record {
   reply = Job (length w.jobs + 1);
   world = record w { jobs = w.jobs ++ record { program = program; graph = graph; turns = turns; count = 0 } ∷ [] };
 }
 
 -- a step of the job of this number, which is this one
-abbrev pub job_step : World → (number : ℕ) → Option WorldJob → Answer
-job_step w number None = refused w 413
+abbrev pub job_step : World → (number : ℕ) → Option WorldJob → StepAnswer
+job_step w number None = step_refused w 413
 job_step w number (Some job) = record {
-  reply = Stands (stand_of (index_of (after_its_step job)));
+  reply = Stands (stand_of (job_index (after_its_step job)));
   world = record w { jobs = with_numbered w.jobs number (after_its_step job) };
 }
 
 -- what a step is answered where the programs are these
-abbrev pub answer : List ScheduledProgram → World → SessionStep → Answer
-answer programs w (Commit batch) = on_versions w (versions.Commit batch)
-answer programs w (Acquire which) = on_versions w (versions.Acquire which)
-answer programs w (Release ticket) = on_versions w (versions.Release ticket)
-answer programs w (Start program ticket turns) = start w turns (numbered programs program) (ticket_graph w.versions ticket)
-answer programs w (JobStep job) = job_step w job (numbered w.jobs job)
+abbrev pub step_answer : List ScheduledProgram → World → SessionStep → StepAnswer
+step_answer programs w (Commit batch) = on_versions w (versions.Commit batch)
+step_answer programs w (Acquire which) = on_versions w (versions.Acquire which)
+step_answer programs w (Release ticket) = on_versions w (versions.Release ticket)
+step_answer programs w (Start program ticket turns) = start w turns (nth_from_one programs program) (ticket_graph w.versions ticket)
+step_answer programs w (JobStep job) = job_step w job (nth_from_one w.jobs job)
 
 -- what steps are answered, one after another
-abbrev pub replies_to : List ScheduledProgram → World → List SessionStep → List SessionReply
-replies_to programs w [] = []
-replies_to programs w (step ∷ steps) = (answer programs w step).reply ∷ replies_to programs (answer programs w step).world steps
+abbrev pub step_replies : List ScheduledProgram → World → List SessionStep → List SessionReply
+step_replies programs w [] = []
+step_replies programs w (step ∷ steps) = (step_answer programs w step).reply ∷ step_replies programs (step_answer programs w step).world steps
 
 -- the world after steps, one after another
 abbrev pub world_after : List ScheduledProgram → World → List SessionStep → World
 world_after programs w [] = w
-world_after programs w (step ∷ steps) = world_after programs (answer programs w step).world steps
+world_after programs w (step ∷ steps) = world_after programs (step_answer programs w step).world steps
 
 -- a graph of n vertices without edges as version 0, and no job
 abbrev pub first_world : (n : ℕ) → World

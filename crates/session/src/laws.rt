@@ -6,9 +6,9 @@ ghost use Rattle.plans.specs.Plan.{IsCompiled};
 ghost use Rattle.runner.specs.Resting.{JobValue};
 ghost use Rattle.session.specs.declared.step.SessionStep.{SessionStep};
 ghost use Rattle.session.specs.declared.step.SessionStep.TheVariants.{JobStep};
-ghost use Rattle.session.specs.World.{ScheduledProgram, WorldJob, World, numbered, world_after, first_world};
+ghost use Rattle.session.specs.World.{ScheduledProgram, WorldJob, World, nth_from_one, world_after, first_world};
 ghost use Rattle.session.specs.Standing.{SessionValue, StandsAt, IsAt};
-ghost use Rattle.session.specs.Laws.{is_step_of, GoesOnAlone, RunsAlone, ShowsItsOwnRun, MayChangePlaces, batches_of, HasFolds, HasPrograms};
+ghost use Rattle.session.specs.Laws.{is_step_of, GoesOnAlone, RunsAlone, ShowsItsOwnRun, MayChangePlaces, committed_batches, HasFolds, HasPrograms};
 
 /// A job goes by its own steps alone. Whatever steps are taken, it keeps its program, its graph and its bound of turns, and
 /// stands where its program's machine stands on that graph after as many instructions more as there are steps of this job:
@@ -16,11 +16,11 @@ ghost use Rattle.session.specs.Laws.{is_step_of, GoesOnAlone, RunsAlone, ShowsIt
 /// where the world stands.
 pub fn jobs_go_by_their_own_steps()
     ensures world { (programs : List ScheduledProgram) (w : World) (steps : List SessionStep) (number : ℕ) (job : WorldJob)
-        → numbered w.jobs number ≡ Some job
-        → IsSomeAnd (numbered (world_after programs w steps).jobs number) (GoesOnAlone job (count_by (is_step_of number) steps)) }
+        → nth_from_one w.jobs number ≡ Some job
+        → IsSomeAnd (nth_from_one (world_after programs w steps).jobs number) (GoesOnAlone job (count_by (is_step_of number) steps)) }
     ensures session { (programs : List ScheduledProgram) (w : World) (steps : List SessionStep) (s : SessionValue) (number : ℕ) (job : WorldJob)
-        → numbered w.jobs number ≡ Some job → IsAt programs (world_after programs w steps) s
-        → IsSomeAnd (numbered s.jobs number) (RunsAlone job (count_by (is_step_of number) steps)) }
+        → nth_from_one w.jobs number ≡ Some job → IsAt programs (world_after programs w steps) s
+        → IsSomeAnd (nth_from_one s.jobs number) (RunsAlone job (count_by (is_step_of number) steps)) }
 {}
 
 /// A job of a session shows what its program's run shows on the job's graph after the job's own count of instructions; and
@@ -33,14 +33,14 @@ pub fn jobs_show_their_own_runs()
 /// of each, held or the newest, is the fold of the batches up to it.
 pub fn versions_are_folds_of_their_batches()
     ensures { (programs : List ScheduledProgram) (n : ℕ) (steps : List SessionStep)
-        → HasFolds n (batches_of programs (first_world n) steps) (world_after programs (first_world n) steps) }
+        → HasFolds n (committed_batches programs (first_world n) steps) (world_after programs (first_world n) steps) }
 {}
 
 /// The step of a job may change places with any step that is not of this job, once the job is there; and the steps of two jobs
 /// may change places in any case: the replies and the world after both are the same.
 pub fn steps_of_jobs_change_places()
     ensures any_step { (programs : List ScheduledProgram) (w : World) (number : ℕ) (job : WorldJob) (other : SessionStep)
-        → numbered w.jobs number ≡ Some job → is_step_of number other ≡ false → MayChangePlaces programs w (JobStep number) other }
+        → nth_from_one w.jobs number ≡ Some job → is_step_of number other ≡ false → MayChangePlaces programs w (JobStep number) other }
     ensures two_jobs { (programs : List ScheduledProgram) (w : World) (one other : ℕ) → one ≢ other
         → MayChangePlaces programs w (JobStep one) (JobStep other) }
 {}

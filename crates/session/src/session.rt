@@ -6,7 +6,7 @@ ghost use Rattle.plans.specs.Operation.{ArePairwise};
 ghost use Rattle.version_list.specs.declared.step.Step.TheVariants as versions;
 ghost use Rattle.session.specs.declared.error.SessionError.TheVariants.{NoMemory};
 ghost use Rattle.session.specs.declared.step.SessionStep.TheVariants.{Start, JobStep};
-ghost use Rattle.session.specs.World.{ScheduledProgram, World, answer, first_world, numbered};
+ghost use Rattle.session.specs.World.{ScheduledProgram, World, step_answer, first_world, nth_from_one};
 ghost use Rattle.session.specs.Standing.{IsAt, IsPlanOf, Opens, Runs, Takes};
 ghost use Rattle.session.specs.inside.Attempts.{Attempts, StepsVersions, told_of};
 
@@ -105,7 +105,7 @@ impl Session {
     /// ```
     pub fn step(&mut self, alloc: Global, step: SessionStep) -> Result<SessionReply, SessionError>
         ensures takes { IfOk result (λ reply. (programs : List ScheduledProgram) (w : World)
-            → IsAt programs w self.old → Takes programs (answer programs w step) reply self.new) }
+            → IsAt programs w self.old → Takes programs (step_answer programs w step) reply self.new) }
         ensures err { OnErr result (self.new ≡ self.old) }
         ensures only_memory { IfErr result (λ e. e ≡ NoMemory) }
     {
@@ -135,7 +135,7 @@ impl Session {
 
     /// The job of this number, or `None` where there is none. Takes no memory.
     pub fn job(&self, number: u64) -> Option<&Job>
-        ensures { option_copied result ≡ numbered self.now.jobs number }
+        ensures { option_copied result ≡ nth_from_one self.now.jobs number }
     {
         numbered_in(&self.jobs, number)
     }
@@ -143,7 +143,7 @@ impl Session {
     /// Takes a step; a refusal is an error, and changes nothing.
     fn attempt(&mut self, alloc: Global, step: SessionStep) -> Result<SessionReply, SessionError>
         ensures attempts { (programs : List ScheduledProgram) (w : World) → IsAt programs w self.old
-            → Attempts programs w (answer programs w step) self.old result self.new }
+            → Attempts programs w (step_answer programs w step) self.old result self.new }
         ensures err { OnErr result (self.new ≡ self.old) }
     {
         match step {
@@ -198,7 +198,7 @@ impl Session {
         turns: u64,
     ) -> Result<SessionReply, SessionError>
         ensures attempts { (programs : List ScheduledProgram) (w : World) → IsAt programs w self.old
-            → Attempts programs w (answer programs w (Start program ticket turns)) self.old result self.new }
+            → Attempts programs w (step_answer programs w (Start program ticket turns)) self.old result self.new }
         ensures err { OnErr result (self.new ≡ self.old) }
     {
         let Some(plan) = numbered_in(&self.plans, program) else {
@@ -216,7 +216,7 @@ impl Session {
     /// Does one instruction of a job, and tells how the job stands after it.
     fn step_job(&mut self, alloc: Global, number: u64) -> Result<SessionReply, SessionError>
         ensures attempts { (programs : List ScheduledProgram) (w : World) → IsAt programs w self.old
-            → Attempts programs w (answer programs w (JobStep number)) self.old result self.new }
+            → Attempts programs w (step_answer programs w (JobStep number)) self.old result self.new }
         ensures err { OnErr result (self.new ≡ self.old) }
     {
         let Some(index) = index_of(number) else {
@@ -232,7 +232,7 @@ impl Session {
 
 /// What is told of a step: a refusal is a reply, and want of memory none.
 fn told(answer: Result<SessionReply, SessionError>) -> Result<SessionReply, SessionError>
-    ensures { result ≡ told_of answer }
+    ensures { result ≡ told_of step_answer }
 {
     match answer {
         Ok(reply) => Ok(reply),
@@ -262,7 +262,7 @@ fn index_of(number: u64) -> Option<usize>
 
 /// What has this number, which counts from 1.
 fn numbered_in<T>(items: &[T], number: u64) -> Option<&T>
-    ensures { option_copied result ≡ numbered items.now number }
+    ensures { option_copied result ≡ nth_from_one items.now number }
 {
     items.get(index_of(number)?)
 }

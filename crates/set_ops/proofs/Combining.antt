@@ -12,7 +12,7 @@ use Rattle.ascending_lists.proofs.MapCuts.{keys_below, keys_above}
 use Rattle.ascending_lists.proofs.MapKeys.{entries_rise}
 use Rattle.ascending_lists.proofs.MapUnions.{exchanged}
 use Rattle.tail_codec.specs.EntryCuts.{CutsEntries}
-use Rattle.tail_codec.specs.Operations.{combined, on_keys}
+use Rattle.tail_codec.specs.Operations.{combined_maps, on_keys}
 use Rattle.tail_codec.specs.declared.operation.MapOperation.{MapOperation}
 use Rattle.tail_codec.specs.declared.operation.MapOperation.TheVariants.{Union, UnionKeepingFirst}
 use Rattle.c_tree.specs.Chunks.{ChunkedSet}
@@ -62,18 +62,18 @@ module _ (base : Option ℕ) (k : ℕ) (w : ℤ) (xs l r ys yl yr : List (ℕ ×
   right_smaller = omega (arith, ap length is, length-append l ((k, w) ∷ r))
 
   module _ (op : MapOperation) (b : ℕ) (lo hi : Combined) (lo_is : IsCombined op b l yl lo.part lo.common) (hi_is : IsCombined op b r yr hi.part hi.common) where
-    list : rejoined op lo.part.entries (head_of k w found) hi.part.entries ≡ combined op xs ys
+    list : rejoined op lo.part.entries (head_of k w found) hi.part.entries ≡ combined_maps op xs ys
     list =
         ap (λ v. around v k (kept op w found) hi.part.entries) lo_is.set.entries
-        ∙ ap (λ v. around (combined op l yl) k (kept op w found) v) hi_is.set.entries
+        ∙ ap (λ v. around (combined_maps op l yl) k (kept op w found) v) hi_is.set.entries
         ∙ rw (cut.front, cut.there, cut.back, is) (sym (combined_cut op k w (least base) l r ys rising))
 
     whole : (m : Combined) → IsRejoined op lo (head_of k w found) hi m.part m.common → IsCombined op b xs ys m.part m.common
     whole m re = record {
       set = record { entries = re.set.entries ∙ list; chunk_size = re.set.chunk_size ∙ lo_is.set.chunk_size };
       count =
-          let below_count : lo.common + length (combined op l (entries_below k ys)) ≡ most (on_keys op) (length l) (length (entries_below k ys)) = rw cut.front at lo_is.count in
-          let above_count : hi.common + length (combined op r (entries_above k ys)) ≡ most (on_keys op) (length r) (length (entries_above k ys)) = rw cut.back at hi_is.count in
+          let below_count : lo.common + length (combined_maps op l (entries_below k ys)) ≡ most (on_keys op) (length l) (length (entries_below k ys)) = rw cut.front at lo_is.count in
+          let above_count : hi.common + length (combined_maps op r (entries_above k ys)) ≡ most (on_keys op) (length r) (length (entries_above k ys)) = rw cut.back at hi_is.count in
           rw (re.count, cut.there, is) (combined_count op k w (least base) (least base) l r ys rising up' lo.common hi.common below_count above_count);
     }
 
@@ -81,7 +81,7 @@ module _ (base : Option ℕ) (k : ℕ) (w : ℤ) (xs l r ys yl yr : List (ℕ ×
     can_rejoin = record {
       sizes = hi_is.set.chunk_size ∙ sym lo_is.set.chunk_size;
       size = lo_is.set.chunk_size;
-      ascending = rw list (ascends_from 0 (least base) (keys_of (combined op xs ys)) (omega arith) (combined_ascends op (least base) xs ys up up'));
+      ascending = rw list (ascends_from 0 (least base) (keys_of (combined_maps op xs ys)) (omega arith) (combined_ascends op (least base) xs ys up up'));
       below_room = omega (arith, lo_is.count, most_room op (least base) l yl left_over below_over);
       above_room = omega (arith, hi_is.count, most_room op (k + 1) r yr right_over above_over);
       whole = whole;

@@ -15,7 +15,7 @@ use Rattle.ascending_lists.proofs.MapUnions.{keys_of_first, keys_of_second}
 use Rattle.ascending_lists.proofs.MapDifferences.{keys_without}
 use Rattle.tail_codec.specs.declared.operation.MapOperation.{MapOperation}
 use Rattle.tail_codec.specs.declared.operation.MapOperation.TheVariants.{Union, UnionKeepingFirst, Difference}
-use Rattle.tail_codec.specs.Operations.{combined, on_keys}
+use Rattle.tail_codec.specs.Operations.{combined_maps, on_keys}
 use Rattle.tail_codec.proofs.MapPositions.{entries_below_none, entries_above_all, no_value}
 use Rattle.tail_codec.proofs.MapMerging.{second_nothing, without_nothing}
 use Rattle.tail_codec.proofs.Writing.{length_keys, few_entries}
@@ -53,7 +53,7 @@ left_over k w front back (Some v) h is = rw is refl
 
 -- the answer, from those for what is below an entry of the first list and for what is above it
 pub combined_cut : (op : MapOperation) (k : ℕ) (w : ℤ) (low : ℕ) (l r ys : List (ℕ × ℤ)) → AscendsFrom low (keys_of (l ++ (k, w) ∷ r))
-    → combined op (l ++ (k, w) ∷ r) ys ≡ around (combined op l (entries_below k ys)) k (kept op w (lookup k ys)) (combined op r (entries_above k ys))
+    → combined_maps op (l ++ (k, w) ∷ r) ys ≡ around (combined_maps op l (entries_below k ys)) k (kept op w (lookup k ys)) (combined_maps op r (entries_above k ys))
 combined_cut Union k w low l r ys s = second_at (k, w) r low l ys s
 combined_cut UnionKeepingFirst k w low l r ys s = first_at (k, w) r low l ys s
 combined_cut Difference k w low l r ys s =
@@ -62,7 +62,7 @@ combined_cut Difference k w low l r ys s =
     ∙ ap (λ v. without_keys l (keys_of (entries_below k ys)) ++ one_of (has k (keys_of ys)) (k, w) (without_keys r v)) (sym (keys_above k ys))
     ∙ left_over k w (without_keys l (keys_of (entries_below k ys))) (without_keys r (keys_of (entries_above k ys))) (lookup k ys) (has k (keys_of ys)) (has_lookup k ys)
 
-pub combined_ascends : (op : MapOperation) (low : ℕ) (xs ys : List (ℕ × ℤ)) → AscendsFrom low (keys_of xs) → AscendsFrom low (keys_of ys) → AscendsFrom low (keys_of (combined op xs ys))
+pub combined_ascends : (op : MapOperation) (low : ℕ) (xs ys : List (ℕ × ℤ)) → AscendsFrom low (keys_of xs) → AscendsFrom low (keys_of ys) → AscendsFrom low (keys_of (combined_maps op xs ys))
 combined_ascends Union low xs ys s t = rw (keys_of_second xs ys) (union_ascends low (keys_of xs) (keys_of ys) s t)
 combined_ascends UnionKeepingFirst low xs ys s t = rw (keys_of_first xs ys) (union_ascends low (keys_of xs) (keys_of ys) s t)
 combined_ascends Difference low xs ys s t = rw (keys_without xs (keys_of ys)) (difference_ascends low (keys_of xs) (keys_of ys) s)
@@ -93,12 +93,12 @@ most_cut UnionKeepingFirst k w low l r ys t = omega (arith, length-append l ((k,
 most_cut Difference k w low l r ys t = omega (arith, length-append l ((k, w) ∷ r))
 
 pub combined_count : (op : MapOperation) (k : ℕ) (w : ℤ) (low low' : ℕ) (l r ys : List (ℕ × ℤ)) → AscendsFrom low (keys_of (l ++ (k, w) ∷ r)) → AscendsFrom low' (keys_of ys) → (c d : ℕ)
-    → c + length (combined op l (entries_below k ys)) ≡ most (on_keys op) (length l) (length (entries_below k ys))
-    → d + length (combined op r (entries_above k ys)) ≡ most (on_keys op) (length r) (length (entries_above k ys))
-    → c + d + one (lookup k ys) + length (combined op (l ++ (k, w) ∷ r) ys) ≡ most (on_keys op) (length (l ++ (k, w) ∷ r)) (length ys)
+    → c + length (combined_maps op l (entries_below k ys)) ≡ most (on_keys op) (length l) (length (entries_below k ys))
+    → d + length (combined_maps op r (entries_above k ys)) ≡ most (on_keys op) (length r) (length (entries_above k ys))
+    → c + d + one (lookup k ys) + length (combined_maps op (l ++ (k, w) ∷ r) ys) ≡ most (on_keys op) (length (l ++ (k, w) ∷ r)) (length ys)
 combined_count op k w low low' l r ys s t c d e f =
     let long = ap length (combined_cut op k w low l r ys s) in
-    let parts = around_length (combined op l (entries_below k ys)) k (kept op w (lookup k ys)) (combined op r (entries_above k ys)) in
+    let parts = around_length (combined_maps op l (entries_below k ys)) k (kept op w (lookup k ys)) (combined_maps op r (entries_above k ys)) in
     omega (arith, long, parts, tally op w (lookup k ys), most_cut op k w low' l r ys t, e, f)
 
 pub most_room : (op : MapOperation) (low : ℕ) (xs ys : List (ℕ × ℤ)) → AscendsFrom low (keys_of xs) → AscendsFrom low (keys_of ys) → most (on_keys op) (length xs) (length ys) ≤ 2 ^ 33
@@ -130,20 +130,20 @@ difference_length (x ∷ xs) ys = elim (cases_Bool (has x ys)) [ inl h ↦ rw h 
 by_union : (es xs ys : List (ℕ × ℤ)) → keys_of es ≡ union (keys_of xs) (keys_of ys) → length es ≤ length xs + length ys
 by_union es xs ys is = omega (arith, length_keys es, length_keys xs, length_keys ys, ap length is, union_length (keys_of xs) (keys_of ys))
 
-pub combined_length : (op : MapOperation) (xs ys : List (ℕ × ℤ)) → length (combined op xs ys) ≤ most (on_keys op) (length xs) (length ys)
-combined_length Union xs ys = by_union (combined Union xs ys) xs ys (keys_of_second xs ys)
-combined_length UnionKeepingFirst xs ys = by_union (combined UnionKeepingFirst xs ys) xs ys (keys_of_first xs ys)
-combined_length Difference xs ys = omega (arith, length_keys (combined Difference xs ys), length_keys xs, ap length (keys_without xs (keys_of ys)), difference_length (keys_of xs) (keys_of ys))
+pub combined_length : (op : MapOperation) (xs ys : List (ℕ × ℤ)) → length (combined_maps op xs ys) ≤ most (on_keys op) (length xs) (length ys)
+combined_length Union xs ys = by_union (combined_maps Union xs ys) xs ys (keys_of_second xs ys)
+combined_length UnionKeepingFirst xs ys = by_union (combined_maps UnionKeepingFirst xs ys) xs ys (keys_of_first xs ys)
+combined_length Difference xs ys = omega (arith, length_keys (combined_maps Difference xs ys), length_keys xs, ap length (keys_without xs (keys_of ys)), difference_length (keys_of xs) (keys_of ys))
 
 first_nothing : (xs : List (ℕ × ℤ)) → union_keeping_first xs [] ≡ xs
 first_nothing [] = refl
 first_nothing (x ∷ xs) = ap (λ v. x ∷ v) (first_nothing xs)
 
 -- nothing in the second list
-pub with_no_second : (op : MapOperation) (xs ys : List (ℕ × ℤ)) → ys ≡ [] → combined op xs ys ≡ xs
-with_no_second Union xs ys e = ap (combined Union xs) e ∙ second_nothing xs
-with_no_second UnionKeepingFirst xs ys e = ap (combined UnionKeepingFirst xs) e ∙ first_nothing xs
-with_no_second Difference xs ys e = ap (combined Difference xs) e ∙ without_nothing xs
+pub with_no_second : (op : MapOperation) (xs ys : List (ℕ × ℤ)) → ys ≡ [] → combined_maps op xs ys ≡ xs
+with_no_second Union xs ys e = ap (combined_maps Union xs) e ∙ second_nothing xs
+with_no_second UnionKeepingFirst xs ys e = ap (combined_maps UnionKeepingFirst xs) e ∙ first_nothing xs
+with_no_second Difference xs ys e = ap (combined_maps Difference xs) e ∙ without_nothing xs
 
 pub most_no_second : (op : MapOperation) (xs ys : List (ℕ × ℤ)) → ys ≡ [] → most (on_keys op) (length xs) (length ys) ≡ length xs
 most_no_second Union xs ys e = rw e (omega arith)

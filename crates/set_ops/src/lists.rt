@@ -1,7 +1,7 @@
 //! The operations on a set and a list.
 
 ghost use Rattle.std.specs.Map.{keys_of};
-ghost use Rattle.tail_codec.specs.Operations.{combined};
+ghost use Rattle.tail_codec.specs.Operations.{combined_maps};
 ghost use Rattle.set_ops.specs.Outcome.{Changes, Inserts, Removes};
 
 use crate::combined::Task;
@@ -47,7 +47,7 @@ fn with_list(
     set: &CTree,
     entries: &Entries<'_>,
 ) -> Result<CTree, SetError>
-    ensures { Changes (keys_of entries.now) (combined operation set.now.entries entries.now)
+    ensures { Changes (keys_of entries.now) (combined_maps operation set.now.entries entries.now)
         set.now.chunk_size result }
 {
     if !ascends(None, entries.keys()) {

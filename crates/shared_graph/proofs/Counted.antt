@@ -11,7 +11,7 @@ use Rattle.version_list.specs.declared.step.Reply.TheVariants.{Version, Refused}
 use Rattle.version_list.specs.Machine.{State, lacks_room, newest_graph, newest_number, opened, reply_to, state_after}
 use Rattle.version_list.specs.Timeline.{IsLegal, replay}
 use Rattle.shared_graph.specs.declared.entry.Entry.{Entry}
-use Rattle.shared_graph.specs.Histories.{batches_of, entry, state_at, steps_of, HasMade, ReaderState}
+use Rattle.shared_graph.specs.Histories.{batches_of, history_entry, state_at, steps_of, HasMade, ReaderState}
 use Rattle.shared_graph.proofs.Growing.{steps_of-push}
 use Rattle.shared_graph.proofs.Prefixes.{prefix_trans, prefix_whole}
 use Rattle.shared_graph.proofs.Versions.{batches_append, batches_prefix, number_at}
@@ -44,9 +44,9 @@ record EndsInCommit (before : List Entry) (batch : List Change) (number : ℕ) (
   pub counted : number ≡ length (batches_of before) + 1
 
 ends_in_commit : (n room : ℕ) (before log : List Entry) (by : ℕ) (batch : List Change) (number : ℕ)
-    → log ≡ before ++ entry by (Commit batch) (Version number) ∷ [] → IsLegal (opened n room) (steps_of log) → EndsInCommit before batch number log
+    → log ≡ before ++ history_entry by (Commit batch) (Version number) ∷ [] → IsLegal (opened n room) (steps_of log) → EndsInCommit before batch number log
 ends_in_commit n room before log by batch number is legal =
-    let e : Entry = entry by (Commit batch) (Version number) in
+    let e : Entry = history_entry by (Commit batch) (Version number) in
     let base : State = opened n room in
     let whole : IsLegal base (steps_of before ++ e.done ∷ []) = subst (IsLegal base) (ap steps_of is ∙ steps_of-push before e) legal in
     let last : reply_to (state_at base before) (Commit batch) ≡ Version number = legal_last base (steps_of before) e.done whole in record {

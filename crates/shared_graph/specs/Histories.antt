@@ -13,8 +13,8 @@ use Rattle.version_list.specs.declared.step.Reply.TheVariants.{Refused}
 use Rattle.shared_graph.specs.declared.entry.Entry.{Entry}
 
 -- a step that this reader made
-abbrev pub entry : ℕ → Step → Reply → Entry
-entry reader step reply = record { by = reader; done = record { step = step; reply = reply } }
+abbrev pub history_entry : ℕ → Step → Reply → Entry
+history_entry reader step reply = record { by = reader; done = record { step = step; reply = reply } }
 
 -- the steps without their readers
 abbrev pub steps_of : List Entry → List Done
@@ -70,8 +70,8 @@ fresh_readers (suc n) = fresh_readers n ++ fresh_reader n ∷ []
 pub record HasMade (base : State) (old : ReaderState) (step : Step) (reply : Reply) (new : ReaderState) : Type 0 where
   pub number : new.number ≡ old.number
   pub between : List Entry
-  pub shown : new.shown ≡ (old.shown ++ between) ++ entry old.number step reply ∷ []
-  pub own_entries : own old.number new.shown ≡ own old.number old.last ++ entry old.number step reply ∷ []
+  pub shown : new.shown ≡ (old.shown ++ between) ++ history_entry old.number step reply ∷ []
+  pub own_entries : own old.number new.shown ≡ own old.number old.last ++ history_entry old.number step reply ∷ []
   pub last : new.last ≡ new.shown
   pub legal : IsLegal base (steps_of new.shown)
 

@@ -2,7 +2,7 @@
 use Rattle.std.proofs.Common.{◌≡◌, ℕ, ◌+◌, ◌%◌, ◌^◌, ◌≤◌, inl, inr, Option, Some, None, List, [], ◌∷◌, ◌++◌, refl, arith}
 use Rattle.std.proofs.lemmas.Bool.{cases_order}
 use Rattle.ascending_lists.specs.Maps.{Rises, IsMap, lookup}
-use Rattle.shared_tree.specs.Changes.{entry_at, IsSplit}
+use Rattle.shared_tree.specs.Changes.{entry_at_key, IsSplit}
 use Rattle.shared_tree.specs.ChangedMaps.{MadeAt, IsChangedMap, total_weight, GrewBy}
 use Rattle.shared_tree.specs.inside.ChangedMaps.{weight_at}
 use Rattle.ascending_lists.proofs.MapOrder.{rises_room, rises_to, rises_from, rises_left, rises_right, rises_joined, rises_front, rises_back, rises_between}
@@ -51,7 +51,7 @@ module _ {V C : Type 0} (makes : C → Option V → Option V → Type 0) (k : �
 
   module _ (l' r' : List (ℕ × V)) (lower : IsChangedMap makes b l l') (upper : IsChangedMap makes a r r') where
     -- what is changed is split at the key
-    pub split_changed : (o : Option V) (c : Option C) (m : Option V) → IsSplit k es l o r → IsSplit k cs b c a → IsSplit k (l' ++ (entry_at k m ++ r')) l' m r'
+    pub split_changed : (o : Option V) (c : Option C) (m : Option V) → IsSplit k es l o r → IsSplit k cs b c a → IsSplit k (l' ++ (entry_at_key k m ++ r')) l' m r'
     split_changed o c m s t = record {
       whole = refl;
       below = lower.within 0 k s.below t.below;
@@ -59,25 +59,25 @@ module _ {V C : Type 0} (makes : C → Option V → Option V → Type 0) (k : �
     }
 
     within_bounds : (o : Option V) (c : Option C) (m : Option V) (low high : ℕ) → IsSplit k es l o r → IsSplit k cs b c a → MadeAt makes c o m → Rises low high es → Rises low high cs
-        → Rises low high (l' ++ (entry_at k m ++ r'))
+        → Rises low high (l' ++ (entry_at_key k m ++ r'))
     within_bounds o c None low high s t made p q =
         let is = split_changed o c None s t in
-        let ls = lower.within low high (rises_front low high l (entry_at k o ++ r) (rw s.whole at p)) (rises_front low high b (entry_at k c ++ a) (rw t.whole at q)) in
-        let rs = upper.within low high (rises_back low high (entry_at k o) r (rises_back low high l (entry_at k o ++ r) (rw s.whole at p)))
-        (rises_back low high (entry_at k c) a (rises_back low high b (entry_at k c ++ a) (rw t.whole at q))) in
+        let ls = lower.within low high (rises_front low high l (entry_at_key k o ++ r) (rw s.whole at p)) (rises_front low high b (entry_at_key k c ++ a) (rw t.whole at q)) in
+        let rs = upper.within low high (rises_back low high (entry_at_key k o) r (rises_back low high l (entry_at_key k o ++ r) (rw s.whole at p)))
+        (rises_back low high (entry_at_key k c) a (rises_back low high b (entry_at_key k c ++ a) (rw t.whole at q))) in
         rises_around low high k (2 ^ 32) l' r' ls is.below rs is.above
     within_bounds o c (Some v) low high s t made p q =
         let is = split_changed o c (Some v) s t in
         let inside = was_within o c v low high s t made p q in
-        let ls = lower.within low high (rises_front low high l (entry_at k o ++ r) (rw s.whole at p)) (rises_front low high b (entry_at k c ++ a) (rw t.whole at q)) in
-        let rs = upper.within low high (rises_back low high (entry_at k o) r (rises_back low high l (entry_at k o ++ r) (rw s.whole at p)))
-        (rises_back low high (entry_at k c) a (rises_back low high b (entry_at k c ++ a) (rw t.whole at q))) in
+        let ls = lower.within low high (rises_front low high l (entry_at_key k o ++ r) (rw s.whole at p)) (rises_front low high b (entry_at_key k c ++ a) (rw t.whole at q)) in
+        let rs = upper.within low high (rises_back low high (entry_at_key k o) r (rises_back low high l (entry_at_key k o ++ r) (rw s.whole at p)))
+        (rises_back low high (entry_at_key k c) a (rises_back low high b (entry_at_key k c ++ a) (rw t.whole at q))) in
         rises_joined low high l' k v r' (rises_between low high 0 k l' ls is.below inside.0) (rises_between (k + 1) (2 ^ 32) low high r' is.above rs inside.1)
 
     values_changed : (o : Option V) (c : Option C) (m : Option V) → IsSplit k es l o r → IsSplit k cs b c a → MadeAt makes c o m → (j : ℕ)
-        → MadeAt makes (lookup j cs) (lookup j es) (lookup j (l' ++ (entry_at k m ++ r')))
+        → MadeAt makes (lookup j cs) (lookup j es) (lookup j (l' ++ (entry_at_key k m ++ r')))
     values_changed o c m s t made j =
-        let new = l' ++ (entry_at k m ++ r') in
+        let new = l' ++ (entry_at_key k m ++ r') in
         let is = split_changed o c m s t in
         elim (cases_order j k) [
           | inl e ↦ rw e (rw (value_of_split k cs b c a t, value_of_split k es l o r s, value_of_split k new l' m r' is) made)
@@ -88,11 +88,11 @@ module _ {V C : Type 0} (makes : C → Option V → Option V → Type 0) (k : �
         ]
 
     -- a map changed on both sides of a key and at it is changed
-    pub changed_around : (o : Option V) (c : Option C) (m : Option V) → IsSplit k es l o r → IsSplit k cs b c a → MadeAt makes c o m → IsChangedMap makes cs es (l' ++ (entry_at k m ++ r'))
+    pub changed_around : (o : Option V) (c : Option C) (m : Option V) → IsSplit k es l o r → IsSplit k cs b c a → MadeAt makes c o m → IsChangedMap makes cs es (l' ++ (entry_at_key k m ++ r'))
     changed_around o c m s t made = record { values = values_changed o c m s t made; within = λ low high. within_bounds o c m low high s t made }
 
     -- and is a map
-    pub map_around : (o : Option V) (c : Option C) (m : Option V) → IsSplit k es l o r → IsSplit k cs b c a → IsMap (l' ++ (entry_at k m ++ r'))
+    pub map_around : (o : Option V) (c : Option C) (m : Option V) → IsSplit k es l o r → IsSplit k cs b c a → IsMap (l' ++ (entry_at_key k m ++ r'))
     map_around o c m s t = let is = split_changed o c m s t in rises_split (2 ^ 32) k l' m r' is.below is.above
 
 -- a map without changes is as it was
@@ -106,7 +106,7 @@ module _ {V : Type 0} (weight : V → ℕ) where
 
   -- what the entries around a key weigh
   pub weight_around : (k : ℕ) (f : List (ℕ × V)) (m : Option V) (b : List (ℕ × V))
-      → total_weight weight (f ++ (entry_at k m ++ b)) ≡ total_weight weight f + (weight_at weight m + total_weight weight b)
+      → total_weight weight (f ++ (entry_at_key k m ++ b)) ≡ total_weight weight f + (weight_at weight m + total_weight weight b)
   weight_around k f None b = omega (arith, weight_append f b)
   weight_around k f (Some v) b = weight_append f ((k, v) ∷ b)
 
@@ -116,7 +116,7 @@ grew_sum a b x a' b' x' g h i s t p q r e f = omega arith
 
 module _ {V : Type 0} (weight : V → ℕ) (k : ℕ) (es l : List (ℕ × V)) (o : Option V) (r new l' : List (ℕ × V)) (m : Option V) (r' : List (ℕ × V)) where
   -- the growth of a map is that below a key, at it and above it
-  pub grew_around : es ≡ l ++ (entry_at k o ++ r) → new ≡ l' ++ (entry_at k m ++ r') → (g h i s t : ℕ) → GrewBy (total_weight weight l) g (total_weight weight l')
+  pub grew_around : es ≡ l ++ (entry_at_key k o ++ r) → new ≡ l' ++ (entry_at_key k m ++ r') → (g h i s t : ℕ) → GrewBy (total_weight weight l) g (total_weight weight l')
       → GrewBy (total_weight weight r) h (total_weight weight r') → GrewBy (weight_at weight o) i (weight_at weight m) → s ≡ (g + h) % 2 ^ 64 → t ≡ (i + s) % 2 ^ 64
       → GrewBy (total_weight weight es) t (total_weight weight new)
   grew_around is new_is g h i s t p q u e f =

@@ -3,12 +3,12 @@ use Rattle.std.proofs.Common.{◌≡◌, ◌≢◌, ℕ, ◌+◌, ◌^◌, ◌<�
 use Rattle.std.proofs.lemmas.Bool.{ne_eqb}
 use Rattle.std.proofs.lemmas.List.{take_more, drop_more, take-append-drop}
 use Rattle.ascending_lists.specs.Maps.{Rises, IsMap, lookup}
-use Rattle.shared_tree.specs.Changes.{entry_at, IsSplit}
+use Rattle.shared_tree.specs.Changes.{entry_at_key, IsSplit}
 use Rattle.ascending_lists.proofs.MapOrder.{rises_room, rises_left, rises_right, rises_joined, lookup_below}
 
 module _ {V : Type 0} where
   -- at a key below that of a split
-  lookup_front : (h k j a : ℕ) (f : List (ℕ × V)) (m : Option V) (b : List (ℕ × V)) → Rises a k f → Rises (k + 1) h b → j < k → lookup j (f ++ (entry_at k m ++ b)) ≡ lookup j f
+  lookup_front : (h k j a : ℕ) (f : List (ℕ × V)) (m : Option V) (b : List (ℕ × V)) → Rises a k f → Rises (k + 1) h b → j < k → lookup j (f ++ (entry_at_key k m ++ b)) ≡ lookup j f
   lookup_front h k j a [] None b s t lt = lookup_below (k + 1) h b j t (omega arith)
   lookup_front h k j a [] (Some v) b s t lt =
       let other : k ≢ j = omega arith in
@@ -16,7 +16,7 @@ module _ {V : Type 0} where
   lookup_front h k j a (e ∷ f) m b s t lt = rw (lookup_front h k j (e.0 + 1) f m b s.1 t lt)
 
   -- at a key above that of a split
-  lookup_back : (h k j a : ℕ) (f : List (ℕ × V)) (m : Option V) (b : List (ℕ × V)) → Rises a k f → Rises (k + 1) h b → k < j → lookup j (f ++ (entry_at k m ++ b)) ≡ lookup j b
+  lookup_back : (h k j a : ℕ) (f : List (ℕ × V)) (m : Option V) (b : List (ℕ × V)) → Rises a k f → Rises (k + 1) h b → k < j → lookup j (f ++ (entry_at_key k m ++ b)) ≡ lookup j b
   lookup_back h k j a [] None b s t lt = refl
   lookup_back h k j a [] (Some v) b s t lt =
       let other : k ≢ j = omega arith in
@@ -87,12 +87,12 @@ module _ {V : Type 0} where
       record { whole = w; below = rises_left 0 (2 ^ 32) l k v r m; above = rises_right 0 (2 ^ 32) l k v r m }
 
   -- how many entries a split has
-  pub split_length : (k : ℕ) (es f : List (ℕ × V)) (m : Option V) (b : List (ℕ × V)) → IsSplit k es f m b → length es ≡ length f + (length (entry_at k m) + length b)
-  split_length k es f m b s = rw s.whole (length-append f (entry_at k m ++ b) ∙ ap (λ n. length f + n) (length-append (entry_at k m) b))
+  pub split_length : (k : ℕ) (es f : List (ℕ × V)) (m : Option V) (b : List (ℕ × V)) → IsSplit k es f m b → length es ≡ length f + (length (entry_at_key k m) + length b)
+  split_length k es f m b s = rw s.whole (length-append f (entry_at_key k m ++ b) ∙ ap (λ n. length f + n) (length-append (entry_at_key k m) b))
 
 -- where one of two maps that are cut at a key has an entry there, both halves are smaller
 pub halves_smaller : {V C : Type 0} (k : ℕ) (es l : List (ℕ × V)) (o : Option V) (r : List (ℕ × V)) (cs b : List (ℕ × C)) (c : Option C) (a : List (ℕ × C)) → IsSplit k es l o r → IsSplit k cs b c a
-    → 0 < length (entry_at k o) + length (entry_at k c) → (length l + length b < length es + length cs) × (length r + length a < length es + length cs)
+    → 0 < length (entry_at_key k o) + length (entry_at_key k c) → (length l + length b < length es + length cs) × (length r + length a < length es + length cs)
 halves_smaller k es l o r cs b c a s t some =
     let x = split_length k es l o r s in
     let y = split_length k cs b c a t in

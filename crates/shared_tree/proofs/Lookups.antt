@@ -2,12 +2,12 @@
 use Rattle.std.proofs.Common.{◌≡◌, ◌≢◌, ℕ, ◌+◌, ◌^◌, inl, inr, Option, Some, None, List, [], ◌∷◌, ◌++◌, refl, sym, ◌∙◌, arith}
 use Rattle.std.proofs.lemmas.Bool.{ne_eqb, eq-eqb, cases_order, cases_eq}
 use Rattle.ascending_lists.specs.Maps.{Rises, lookup}
-use Rattle.shared_tree.specs.Changes.{entry_at, IsSplit}
+use Rattle.shared_tree.specs.Changes.{entry_at_key, IsSplit}
 use Rattle.ascending_lists.proofs.MapOrder.{rises_room, lookup_below}
 
 module _ {V : Type 0} where
   -- the value at the key of a split
-  lookup_at : (h k : ℕ) (f : List (ℕ × V)) (m : Option V) (b : List (ℕ × V)) (a : ℕ) → Rises a k f → Rises (k + 1) h b → lookup k (f ++ (entry_at k m ++ b)) ≡ m
+  lookup_at : (h k : ℕ) (f : List (ℕ × V)) (m : Option V) (b : List (ℕ × V)) (a : ℕ) → Rises a k f → Rises (k + 1) h b → lookup k (f ++ (entry_at_key k m ++ b)) ≡ m
   lookup_at h k [] None b a s t = lookup_below (k + 1) h b k t (omega arith)
   lookup_at h k [] (Some v) b a s t = rw (eq-eqb k k refl)
   lookup_at h k (e ∷ f) m b a s t =

@@ -1,12 +1,12 @@
 -- Maps split at a key, below and above an entry.
 use Rattle.std.proofs.Common.{◌≡◌, ℕ, ◌+◌, ◌^◌, ◌<◌, Option, Some, None, List, ◌∷◌, ◌++◌, refl, sym, ap, ◌∙◌, append_assoc, arith}
 use Rattle.ascending_lists.specs.Maps.{Rises, IsMap}
-use Rattle.shared_tree.specs.Changes.{entry_at, IsSplit}
+use Rattle.shared_tree.specs.Changes.{entry_at_key, IsSplit}
 use Rattle.ascending_lists.proofs.MapOrder.{rises_from, rises_left, rises_right, rises_joined, rises_append, rises_front, rises_back, rises_between}
 
 module _ {V : Type 0} where
   -- what is below a key, an entry there or none, and what is above are in order
-  pub rises_split : (h k : ℕ) (f : List (ℕ × V)) (m : Option V) (b : List (ℕ × V)) → Rises 0 k f → Rises (k + 1) h b → Rises 0 h (f ++ (entry_at k m ++ b))
+  pub rises_split : (h k : ℕ) (f : List (ℕ × V)) (m : Option V) (b : List (ℕ × V)) → Rises 0 k f → Rises (k + 1) h b → Rises 0 h (f ++ (entry_at_key k m ++ b))
   rises_split h k f None b s t = rises_append 0 k h f b s (rises_from k (k + 1) h b (omega arith) t)
   rises_split h k f (Some v) b s t = rises_joined 0 h f k v b s t
 
@@ -24,9 +24,9 @@ module _ {V : Type 0} (k j : ℕ) (v : V) (t l r : List (ℕ × V)) (map : IsMap
   -- a split of what stands before an entry is one of the whole
   pub split_left : (f : List (ℕ × V)) (m : Option V) (b n : List (ℕ × V)) → k < j → IsSplit k l f m b → n ≡ b ++ (j, v) ∷ r → IsSplit k t f m n
   split_left f m b n lt s e =
-      let near : Rises 0 j b = rises_back 0 j (entry_at k m) b (rises_back 0 j f (entry_at k m ++ b) (rw s.whole at side_left)) in
+      let near : Rises 0 j b = rises_back 0 j (entry_at_key k m) b (rises_back 0 j f (entry_at_key k m ++ b) (rw s.whole at side_left)) in
       record {
-        whole = rw e (is ∙ ap (λ l. l ++ (j, v) ∷ r) s.whole ∙ append_assoc f (entry_at k m ++ b) ((j, v) ∷ r) ∙ ap (λ x. f ++ x) (append_assoc (entry_at k m) b ((j, v) ∷ r)));
+        whole = rw e (is ∙ ap (λ l. l ++ (j, v) ∷ r) s.whole ∙ append_assoc f (entry_at_key k m ++ b) ((j, v) ∷ r) ∙ ap (λ x. f ++ x) (append_assoc (entry_at_key k m) b ((j, v) ∷ r)));
         below = s.below;
         above = rw e (rises_joined (k + 1) (2 ^ 32) b j v r (rises_between (k + 1) (2 ^ 32) 0 j b s.above near (omega arith)) side_right);
       }
@@ -34,9 +34,9 @@ module _ {V : Type 0} (k j : ℕ) (v : V) (t l r : List (ℕ × V)) (map : IsMap
   -- so is a split of what stands after it
   pub split_right : (f : List (ℕ × V)) (m : Option V) (b n : List (ℕ × V)) → j < k → IsSplit k r f m b → n ≡ l ++ (j, v) ∷ f → IsSplit k t n m b
   split_right f m b n lt s e =
-      let near : Rises (j + 1) (2 ^ 32) f = rises_front (j + 1) (2 ^ 32) f (entry_at k m ++ b) (rw s.whole at side_right) in
+      let near : Rises (j + 1) (2 ^ 32) f = rises_front (j + 1) (2 ^ 32) f (entry_at_key k m ++ b) (rw s.whole at side_right) in
       record {
-        whole = rw e (is ∙ ap (λ r. l ++ (j, v) ∷ r) s.whole ∙ sym (append_assoc l ((j, v) ∷ f) (entry_at k m ++ b)));
+        whole = rw e (is ∙ ap (λ r. l ++ (j, v) ∷ r) s.whole ∙ sym (append_assoc l ((j, v) ∷ f) (entry_at_key k m ++ b)));
         below = rw e (rises_joined 0 k l j v f side_left (rises_between (j + 1) (2 ^ 32) 0 k f near s.below (omega arith)));
         above = s.above;
       }

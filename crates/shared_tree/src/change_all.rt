@@ -3,7 +3,7 @@
 ghost use Rattle.std.specs.Prelude.{◌≡◌, ◌+◌, ◌^◌, ◌≤◌, ◌++◌, [], length, take, drop, IfOk, MatchOption};
 ghost use Rattle.std.specs.Option.{option_copied};
 ghost use Rattle.ascending_lists.specs.Maps.{IsMap, Rises};
-ghost use Rattle.shared_tree.specs.Changes.{entry_at, IsSplit};
+ghost use Rattle.shared_tree.specs.Changes.{entry_at_key, IsSplit};
 ghost use Rattle.shared_tree.specs.ChangedMaps.{IsChangedMap, total_weight, GrewBy};
 ghost use Rattle.shared_tree.specs.inside.Halves.{AreHalves};
 
@@ -67,9 +67,9 @@ pub fn join_around<V: Share>(
     value: Option<V>,
     right: Tree<V>,
 ) -> Result<Tree<V>, AllocError>
-    requires { IsMap (left.entries ++ (entry_at key value ++ right.entries)) }
+    requires { IsMap (left.entries ++ (entry_at_key key value ++ right.entries)) }
     ensures { IfOk result (λ t. t.entries
-        ≡ left.entries ++ (entry_at key value ++ right.entries)) }
+        ≡ left.entries ++ (entry_at_key key value ++ right.entries)) }
 {
     let Some(value) = value else {
         return concatenated(alloc, left, right);

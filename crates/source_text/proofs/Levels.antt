@@ -8,7 +8,7 @@ use Rattle.syntax.specs.declared.expression.Unary.{Unary}
 use Rattle.syntax.specs.declared.expression.Term.{Term}
 use Rattle.syntax.specs.declared.expression.Comparison.{Comparison}
 use Rattle.syntax.specs.declared.expression.Conjunction.{Conjunction}
-use Rattle.syntax.specs.ExpressionViews.{behind, conjunction_from, expression_from, sum_from, term_from, unary_of}
+use Rattle.syntax.specs.ExpressionViews.{signed_operand, conjunction_from, expression_from, sum_from, term_from, unary_of}
 use Rattle.syntax.specs.inside.ExpressionViews.{comparison_of, conjunction_of, term_of}
 use Rattle.syntax.specs.ExpressionSpelling.{addition_terminal, comparison_terminals, conjunction_terminals, expression_terminals, multiplication_terminal, prefix_terminal, primary_terminals}
 use Rattle.syntax.specs.ExpressionSpelling.{sum_terminals, term_terminals, unary_terminals}
@@ -58,6 +58,6 @@ term_split first (m ∷ more) rest =
     ∙ ap (λ t. unary_terminals first ++ multiplication_terminal m.0 ∷ t) (term_split (unary_of m.1) more rest)
 
 pub unary_split : (signs : List Prefix) (p : PrimaryTree) (rest : List Terminal)
-    → unary_terminals (behind signs (Bare p)) ++ rest ≡ signs_before signs (primary_terminals p ++ rest)
+    → unary_terminals (signed_operand signs (Bare p)) ++ rest ≡ signs_before signs (primary_terminals p ++ rest)
 unary_split [] p rest = refl
 unary_split (sign ∷ signs) p rest = ap (λ t. prefix_terminal sign ∷ t) (unary_split signs p rest)

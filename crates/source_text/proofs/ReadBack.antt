@@ -10,7 +10,7 @@ use Rattle.parser.specs.declared.error.ParseError.TheVariants.{Unexpected}
 use Rattle.parser.specs.Outcome.{Parses, without_place}
 use Rattle.parser.proofs.AnswerLaws.{one_answer}
 use Rattle.source_text.specs.Text.{text_of, bare, AreAlike, AreSpelled, HasTerminals}
-use Rattle.source_text.specs.ReadBack.{IsWritable, AreSame, IsReadBack}
+use Rattle.source_text.specs.ReadBack.{IsWritable, AreSame, IsSourceReadBack}
 use Rattle.source_text.specs.Bare.{bare_source}
 use Rattle.source_text.proofs.BareSources.{source_bare}
 use Rattle.source_text.proofs.MovesSources.{move_source}
@@ -54,7 +54,7 @@ same_bare read source within alike =
     one_source (bare_source read) (bare_source source) (subst (StaysWithin limit 0) (source_bare read) (bare_within 0 (source_terminals read) within))
     (sym (source_bare read) ∙ alike ∙ source_bare source)
 
-read_back_by : (text : List ℕ) (source : SourceTree) → IsWritable source → HasTerminals text (source_terminals source) → IsReadBack text source
+read_back_by : (text : List ℕ) (source : SourceTree) → IsWritable source → HasTerminals text (source_terminals source) → IsSourceReadBack text source
 read_back_by text source writable has =
     let moved = move_source source (terminals_of text has.tokens) has.alike in
     let within : StaysWithin limit 0 (terminals_of text has.tokens) = alike_within (terminals_of text has.tokens) (source_terminals source) has.alike writable.within in
@@ -72,7 +72,7 @@ read_back_by text source writable has =
       same = same_bare moved.0 source (subst (StaysWithin limit 0) (moved.1) within) (ap (map bare) (sym (moved.1)) ∙ has.alike);
     }
 
-pub text_of-IsReadBack : (source : SourceTree) → IsWritable source → IsReadBack (text_of (source_terminals source)) source
+pub text_of-IsReadBack : (source : SourceTree) → IsWritable source → IsSourceReadBack (text_of (source_terminals source)) source
 text_of-IsReadBack source writable =
     read_back_by (text_of (source_terminals source)) source writable (text_of-HasTerminals (source_terminals source) writable.spelled)
 

@@ -18,7 +18,7 @@ abbrev pub AreSame : SourceTree → SourceTree → Type 0
 AreSame source other = bare_source source ≡ bare_source other
 
 -- the text is a source, it has no other answer, and that source is this one but for the offsets
-pub record IsReadBack (text : List ℕ) (source : SourceTree) : Type 0 where
+pub record IsSourceReadBack (text : List ℕ) (source : SourceTree) : Type 0 where
   pub read : SourceTree
   pub is : Parses text (Ok read)
   pub only : (answer : Result SourceTree ParseError) → Parses text answer → answer ≡ Ok read

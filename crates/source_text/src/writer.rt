@@ -4,7 +4,7 @@ ghost use Rattle.syntax.specs.SourceSpelling.{source_terminals};
 ghost use Rattle.syntax.specs.SourceViews.{source_tree};
 ghost use Rattle.syntax.specs.SourceTrees.{SourceTree};
 ghost use Rattle.parser.specs.Outcome.{Parses};
-ghost use Rattle.source_text.specs.ReadBack.{IsReadBack, IsWritable};
+ghost use Rattle.source_text.specs.ReadBack.{IsSourceReadBack, IsWritable};
 ghost use Rattle.source_text.specs.Text.{text_of};
 ghost use Rattle.source_text.specs.inside.Written.{Puts, elements_before};
 
@@ -24,7 +24,7 @@ use syntax::Source;
 /// than the source nests, and only the text itself takes memory.
 pub fn write(alloc: Global, source: &Source) -> Result<Vec<u8>, AllocError>
     ensures text { IfOk result (λ text. text.items ≡ text_of (source_terminals (source_tree source.now))) }
-    ensures read_back { IfOk result (λ text. IsWritable (source_tree source.now) → IsReadBack text.items (source_tree source.now)) }
+    ensures read_back { IfOk result (λ text. IsWritable (source_tree source.now) → IsSourceReadBack text.items (source_tree source.now)) }
 {
     let mut out = Vec::new(alloc);
     put_elements(&mut out)?;

@@ -13,8 +13,8 @@ use Rattle.apply_options.specs.declared.reduction.Reduction.TheVariants as reduc
 use Rattle.syntax.specs.SourceSpelling.{ends_before, initial_before, assigned_before, ended_before, end_terminals, reduction_terminal, label_terminals, action_before, block_before, each_before}
 use Rattle.syntax.specs.SourceSpelling.{typed_before, argument_terminals, type_terminals}
 use Rattle.syntax.specs.SourceReading.{expression, ends_at, method_at, initial_at, named_initial, modified_at, assigned_at, ended_at, entry_by, applied_at, argument_at, named_action, else_by}
-use Rattle.syntax.specs.SourceReading.{action_by, block_at, no_block, next_statement, statement_by, begins_statement, label_at, block_from, where_begins, each_at, closed, after_terminal}
-use Rattle.syntax.specs.SourceReading.{after_terminals, name_at}
+use Rattle.syntax.specs.SourceReading.{action_by, block_at, no_block, next_statement, statement_by, begins_statement, label_at, block_from, where_begins, each_at, closed_by, after_terminal}
+use Rattle.syntax.specs.SourceReading.{after_terminals, name_reader}
 use Rattle.syntax.specs.inside.Fits.{Fits, FitsInitial, FitsAction, FitsBlock}
 use Rattle.syntax.proofs.Complete.{typed_complete, Each, IsRead, each_complete}
 
@@ -211,7 +211,7 @@ next_ends action rest ends = ap (λ b. where_begins b (statement_by action rest)
 
 module _ (complete : (e : ExpressionTree) (rest : List Terminal) → Fits e → goes_on rest ≡ false → expression (expression_terminals e ++ rest) ≡ Some (e, rest)) where
   ended_complete : (e : ExpressionTree) (rest : List Terminal) → Fits e → ended_at (ended_before e rest) ≡ Some (e, rest)
-  ended_complete e rest fits = ap (λ r. r >>= closed (OfSymbol symbol.Semicolon ∷ [])) (complete e (OfSymbol symbol.Semicolon ∷ rest) fits refl)
+  ended_complete e rest fits = ap (λ r. r >>= closed_by (OfSymbol symbol.Semicolon ∷ [])) (complete e (OfSymbol symbol.Semicolon ∷ rest) fits refl)
 
   initial_complete : (i : InitialTree) (rest : List Terminal) → FitsInitial i → initial_at (initial_before i (OfSymbol symbol.Semicolon ∷ rest)) ≡ Some (i, OfSymbol symbol.Semicolon ∷ rest)
   initial_complete (NewSet size) rest fits = refl
@@ -223,13 +223,13 @@ module _ (complete : (e : ExpressionTree) (rest : List Terminal) → Fits e → 
       let behind : List Terminal = OfSymbol symbol.OpenParenthesis ∷ Name function ∷ OfSymbol symbol.Comma ∷ Name vector ∷ OfSymbol symbol.CloseParenthesis ∷ OfSymbol symbol.Semicolon ∷ rest in
       modified_initial edges ends.from ends.to behind
       ∙ ap (λ r. r >>= λ e. after_terminals (OfSymbol symbol.Dot ∷ OfKeyword keyword.ApplyModified ∷ OfSymbol symbol.OpenParenthesis ∷ []) e.1 >>= λ a.
-      name_at a >>= λ f. after_terminal (OfSymbol symbol.Comma) f.1 >>= λ b. name_at b >>= λ v.
-      closed (OfSymbol symbol.CloseParenthesis ∷ []) (ApplyModified edges e.0 f.0 v.0, v.1)) (modified_ends ends.from ends.to behind)
+      name_reader a >>= λ f. after_terminal (OfSymbol symbol.Comma) f.1 >>= λ b. name_reader b >>= λ v.
+      closed_by (OfSymbol symbol.CloseParenthesis ∷ []) (ApplyModified edges e.0 f.0 v.0, v.1)) (modified_ends ends.from ends.to behind)
   initial_complete (Value e) rest fits = value_initial (expression_terminals e ++ OfSymbol symbol.Semicolon ∷ rest) (OfSymbol symbol.Semicolon ∷ rest) e
       (complete e (OfSymbol symbol.Semicolon ∷ rest) fits refl)
 
   pub assigned_complete : (i : InitialTree) (rest : List Terminal) → FitsInitial i → assigned_at (assigned_before i rest) ≡ Some (i, rest)
-  assigned_complete i rest fits = ap (λ r. r >>= closed (OfSymbol symbol.Semicolon ∷ [])) (initial_complete i rest fits)
+  assigned_complete i rest fits = ap (λ r. r >>= closed_by (OfSymbol symbol.Semicolon ∷ [])) (initial_complete i rest fits)
 
   reduction_step : (name : Identifier) (r : Reduction) (ws : List Terminal)
       → named_action name (reduction_terminal r ∷ ws) ≡ (ended_at ws >>= λ e. Some (Reduce name r e.0, e.1))
@@ -274,18 +274,18 @@ module _ (complete : (e : ExpressionTree) (rest : List Terminal) → Fits e → 
     action_complete zero (While at test body) rest fits = absurd fits
     action_complete (suc d) (While at test body) rest fits =
         let behind : List Terminal = OfKeyword keyword.End ∷ rest in
-        ap (λ r. r >>= λ e. block_at d e.1 >>= λ b. closed (OfKeyword keyword.End ∷ []) (While at e.0 b.0, b.1))
+        ap (λ r. r >>= λ e. block_at d e.1 >>= λ b. closed_by (OfKeyword keyword.End ∷ []) (While at e.0 b.0, b.1))
         (complete test (block_before body behind) fits.0 (block_ends body behind refl))
-        ∙ ap (λ r. r >>= λ b. closed (OfKeyword keyword.End ∷ []) (While at test b.0, b.1)) (block_items d body behind (items_complete d body fits.1) refl)
+        ∙ ap (λ r. r >>= λ b. closed_by (OfKeyword keyword.End ∷ []) (While at test b.0, b.1)) (block_items d body behind (items_complete d body fits.1) refl)
     action_complete zero (For at name first last body) rest fits = absurd fits
     action_complete (suc d) (For at name first last body) rest fits =
         let behind : List Terminal = OfKeyword keyword.End ∷ rest in
         ap (λ r. r >>= λ e. after_terminal (OfSymbol symbol.Colon) e.1 >>= λ c. expression c >>= λ f. block_at d f.1 >>= λ b.
-        closed (OfKeyword keyword.End ∷ []) (For at name e.0 f.0 b.0, b.1))
+        closed_by (OfKeyword keyword.End ∷ []) (For at name e.0 f.0 b.0, b.1))
         (complete first (OfSymbol symbol.Colon ∷ (expression_terminals last ++ block_before body behind)) fits.0 refl)
-        ∙ ap (λ r. r >>= λ f. block_at d f.1 >>= λ b. closed (OfKeyword keyword.End ∷ []) (For at name first f.0 b.0, b.1))
+        ∙ ap (λ r. r >>= λ f. block_at d f.1 >>= λ b. closed_by (OfKeyword keyword.End ∷ []) (For at name first f.0 b.0, b.1))
         (complete last (block_before body behind) fits.1 (block_ends body behind refl))
-        ∙ ap (λ r. r >>= λ b. closed (OfKeyword keyword.End ∷ []) (For at name first last b.0, b.1))
+        ∙ ap (λ r. r >>= λ b. closed_by (OfKeyword keyword.End ∷ []) (For at name first last b.0, b.1))
         (block_items d body behind (items_complete d body fits.2) refl)
     action_complete zero (If at test body) rest fits = absurd fits
     action_complete (suc d) (If at test body) rest fits =
@@ -302,7 +302,7 @@ module _ (complete : (e : ExpressionTree) (rest : List Terminal) → Fits e → 
         (complete test (block_before body after) fits.0 (block_ends body after refl))
         ∙ ap (λ r. r >>= λ b. else_by (block_at d) at test b (after_terminal (OfKeyword keyword.Else) b.1))
         (block_items d body after (items_complete d body fits.1) refl)
-        ∙ ap (λ r. r >>= λ b. closed (OfKeyword keyword.End ∷ []) (IfElse at test body b.0, b.1))
+        ∙ ap (λ r. r >>= λ b. closed_by (OfKeyword keyword.End ∷ []) (IfElse at test body b.0, b.1))
         (block_items d otherwise behind (items_complete d otherwise fits.2) refl)
     action_complete d (Print at value) rest fits = ap (λ r. r >>= λ e. Some (Print at e.0, e.1)) (ended_complete value rest fits)
     action_complete d (Assign name value) rest fits = ap (λ r. r >>= λ i. Some (Assign name i.0, i.1)) (assigned_complete value rest fits)
@@ -319,13 +319,13 @@ module _ (complete : (e : ExpressionTree) (rest : List Terminal) → Fits e → 
         ∙ entry_step vector index reduction (ended_before value rest)
         ∙ ap (λ r. r >>= λ e. Some (ReduceEntry vector index reduction e.0, e.1)) (ended_complete value rest fits.1)
     action_complete d (AddVertex set vertex) rest fits =
-        ap (λ r. r >>= λ e. closed (OfSymbol symbol.CloseParenthesis ∷ OfSymbol symbol.Semicolon ∷ []) (AddVertex set e.0, e.1))
+        ap (λ r. r >>= λ e. closed_by (OfSymbol symbol.CloseParenthesis ∷ OfSymbol symbol.Semicolon ∷ []) (AddVertex set e.0, e.1))
         (complete vertex (OfSymbol symbol.CloseParenthesis ∷ OfSymbol symbol.Semicolon ∷ rest) fits refl)
     action_complete d (Apply target ends function) rest fits =
         let behind : List Terminal = OfSymbol symbol.OpenParenthesis ∷ Name function ∷ OfSymbol symbol.CloseParenthesis ∷ OfSymbol symbol.Semicolon ∷ rest in
         apply_step target ends.from ends.to behind
         ∙ ap (λ r. r >>= λ e. after_terminals (OfSymbol symbol.Dot ∷ OfKeyword keyword.Apply ∷ []) e.1 >>= λ a. argument_at a >>= λ f.
-        closed (OfSymbol symbol.Semicolon ∷ []) (Apply target e.0 f.0, f.1)) (apply_ends ends.from ends.to behind)
+        closed_by (OfSymbol symbol.Semicolon ∷ []) (Apply target e.0 f.0, f.1)) (apply_ends ends.from ends.to behind)
 
     pub items_complete : (d : ℕ) (b : BlockTree) → FitsBlock d b → Each (IsRead (next_statement (action_by (inner d))) statement_before) (items_of b)
     items_complete d Empty fits = tt

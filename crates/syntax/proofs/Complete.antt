@@ -11,7 +11,7 @@ use Rattle.apply_options.specs.declared.setting.Setting.TheVariants as setting
 use Rattle.syntax.specs.SourceTrees.{ParameterTree, CallTree, ChainTree}
 use Rattle.syntax.specs.SourceSpelling.{type_terminals, typed_before, each_before, next_parameter_before, next_text_before, call_before, next_call_before, chain_before, parameters_before}
 use Rattle.syntax.specs.SourceSpelling.{result_before, setting_keyword}
-use Rattle.syntax.specs.SourceReading.{type_at, typed_at, each_at, next_parameter, parameters_at, next_text, call_at, next_call, next_chain, closed}
+use Rattle.syntax.specs.SourceReading.{type_at, typed_at, each_at, next_parameter, parameters_at, next_text, call_at, next_call, next_chain, closed_by}
 
 type_complete : (t : DeclaredType) (rest : List Terminal) → type_at (type_terminals t ++ rest) ≡ Some (t, rest)
 type_complete type.Int rest = refl
@@ -83,22 +83,22 @@ pub parameters_complete : (ps : List ParameterTree) (rest : List Terminal)
     → parameters_at (OfSymbol symbol.OpenParenthesis ∷ parameters_before ps (OfSymbol symbol.CloseParenthesis ∷ rest)) ≡ Some (ps, rest)
 parameters_complete [] rest = refl
 parameters_complete (p ∷ others) rest =
-    ap (λ r. r >>= λ x. each_at next_parameter x.1 >>= λ more. closed (OfSymbol symbol.CloseParenthesis ∷ []) (x.0 ∷ more.0, more.1))
+    ap (λ r. r >>= λ x. each_at next_parameter x.1 >>= λ more. closed_by (OfSymbol symbol.CloseParenthesis ∷ []) (x.0 ∷ more.0, more.1))
     (typed_complete p (each_before next_parameter_before others (OfSymbol symbol.CloseParenthesis ∷ rest)))
-    ∙ ap (λ r. r >>= λ more. closed (OfSymbol symbol.CloseParenthesis ∷ []) (p ∷ more.0, more.1))
+    ∙ ap (λ r. r >>= λ more. closed_by (OfSymbol symbol.CloseParenthesis ∷ []) (p ∷ more.0, more.1))
     (each_complete next_parameter next_parameter_before next_parameter_longer others (OfSymbol symbol.CloseParenthesis ∷ rest) (every next_parameter_complete others) refl)
 
 -- the first terminals of a call
 setting_step : (setting : Setting) (at : ℕ) (first : List ℕ) (rest : List Terminal)
     → call_at (Opening (setting_keyword setting) at ∷ OfSymbol symbol.OpenParenthesis ∷ Text first ∷ rest)
-    ≡ (each_at next_text rest >>= λ more. closed (OfSymbol symbol.CloseParenthesis ∷ []) (record { at = at; setting = setting; first = first; more = more.0 }, more.1))
+    ≡ (each_at next_text rest >>= λ more. closed_by (OfSymbol symbol.CloseParenthesis ∷ []) (record { at = at; setting = setting; first = first; more = more.0 }, more.1))
 setting_step setting.Direction at first rest = refl
 setting_step _ at first rest = refl
 
 pub call_complete : (call : CallTree) (rest : List Terminal) → call_at (call_before call rest) ≡ Some (call, rest)
 call_complete call rest =
     setting_step call.setting call.at call.first (each_before next_text_before call.more (OfSymbol symbol.CloseParenthesis ∷ rest))
-    ∙ ap (λ r. r >>= λ more. closed (OfSymbol symbol.CloseParenthesis ∷ []) (record { at = call.at; setting = call.setting; first = call.first; more = more.0 }, more.1))
+    ∙ ap (λ r. r >>= λ more. closed_by (OfSymbol symbol.CloseParenthesis ∷ []) (record { at = call.at; setting = call.setting; first = call.first; more = more.0 }, more.1))
     (each_complete next_text next_text_before (λ t r. omega arith) call.more (OfSymbol symbol.CloseParenthesis ∷ rest)
     (every next_text_complete call.more) refl)
 
@@ -110,9 +110,9 @@ next_call_complete call rest = ap Some (call_complete call rest)
 
 pub next_chain_complete : (chain : ChainTree) (rest : List Terminal) → next_chain (chain_before chain rest) ≡ Some (Some (chain, rest))
 next_chain_complete chain rest =
-    ap (λ r. Some (r >>= λ c. each_at next_call c.1 >>= λ more. closed (OfSymbol symbol.Semicolon ∷ []) (record { first = c.0; more = more.0 }, more.1)))
+    ap (λ r. Some (r >>= λ c. each_at next_call c.1 >>= λ more. closed_by (OfSymbol symbol.Semicolon ∷ []) (record { first = c.0; more = more.0 }, more.1)))
     (call_complete chain.first (each_before next_call_before chain.more (OfSymbol symbol.Semicolon ∷ rest)))
-    ∙ ap (λ r. Some (r >>= λ more. closed (OfSymbol symbol.Semicolon ∷ []) (record { first = chain.first; more = more.0 }, more.1)))
+    ∙ ap (λ r. Some (r >>= λ more. closed_by (OfSymbol symbol.Semicolon ∷ []) (record { first = chain.first; more = more.0 }, more.1)))
     (each_complete next_call next_call_before call_longer chain.more (OfSymbol symbol.Semicolon ∷ rest) (every next_call_complete chain.more) refl)
 
 pub chain_longer : (chain : ChainTree) (rest : List Terminal) → length rest < length (chain_before chain rest)

@@ -15,7 +15,7 @@ use Rattle.syntax.specs.Terminals.{Terminal, OfKeyword, OfSymbol}
 use Rattle.syntax.specs.SourceTrees.{ExpressionTree, ConjunctionTree, ComparisonTree, SumTree, TermTree, UnaryTree, PrimaryTree, LastConjunction, ConjunctionThen, LastComparison, ComparisonThen}
 use Rattle.syntax.specs.SourceTrees.{OneSum, TwoSums, LastTerm, TermThen, LastUnary, UnaryThen, Bare, Signed, Variable}
 use Rattle.syntax.specs.ExpressionSpelling.{addition_terminal, multiplication_terminal, relation_terminal, prefix_terminal}
-use Rattle.syntax.specs.ExpressionEnds.{EndsExpression, EndsConjunction, EndsComparison, EndsSum, EndsTerm, EndsUnary, EndsPrimary, IsEnd}
+use Rattle.syntax.specs.ExpressionEnds.{EndsExpression, EndsConjunction, EndsComparison, EndsSum, EndsTerm, EndsUnary, EndsPrimary, IsExpressionEnd}
 use Rattle.syntax.specs.ExpressionReading.{addition, multiplication, relation, prefix, after_or, after_and, after_open_bracket, after_dot}
 
 -- an operator that is found is the first terminal
@@ -109,7 +109,7 @@ pub ends_conjunction : (c : ConjunctionTree) (rest : List Terminal) → after_op
 ends_conjunction (LastComparison c) rest bracket dot multiplies adds relates conjoins = (ends_comparison c rest bracket dot multiplies adds relates, conjoins)
 ends_conjunction (ComparisonThen c others) rest bracket dot multiplies adds relates conjoins = ends_conjunction others rest bracket dot multiplies adds relates conjoins
 
-pub ends_expression : (e : ExpressionTree) (rest : List Terminal) → IsEnd rest → EndsExpression e rest
+pub ends_expression : (e : ExpressionTree) (rest : List Terminal) → IsExpressionEnd rest → EndsExpression e rest
 ends_expression (LastConjunction c) rest end = (ends_conjunction c rest end.bracket end.dot end.multiplies end.adds end.relates end.conjoins, end.disjoins)
 ends_expression (ConjunctionThen c others) rest end = ends_expression others rest end
 

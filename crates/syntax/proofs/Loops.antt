@@ -4,7 +4,7 @@ use Rattle.std.proofs.lemmas.List.{append_assoc, append-nil, map-append}
 use Rattle.syntax.specs.declared.operators.Prefix.{Prefix}
 use Rattle.syntax.specs.Terminals.{Terminal}
 use Rattle.syntax.specs.SourceTrees.{UnaryTree, PrimaryTree, Bare, Signed}
-use Rattle.syntax.specs.ExpressionViews.{behind}
+use Rattle.syntax.specs.ExpressionViews.{signed_operand}
 use Rattle.syntax.specs.Nesting.{◌>>=◌}
 use Rattle.syntax.specs.ExpressionReading.{Reader, links_by, linked, chain_by, operand_by, after_by, signs_by, signed_by, prefix}
 
@@ -147,13 +147,13 @@ after_fails {A = A} item after m is found =
 
 -- what was read after signs, and the signs before it
 abbrev pub with_signs : List Prefix → Option (UnaryTree × List Terminal) → Option (UnaryTree × List Terminal)
-with_signs signs read = read >>= λ y. Some (behind signs y.0, y.1)
+with_signs signs read = read >>= λ y. Some (signed_operand signs y.0, y.1)
 
 with_no_signs : (read : Option (UnaryTree × List Terminal)) → with_signs [] read ≡ read
 with_no_signs None = refl
 with_no_signs (Some y) = refl
 
-behind_more : (signs : List Prefix) (sign : Prefix) (u : UnaryTree) → behind signs (Signed sign u) ≡ behind (signs ++ sign ∷ []) u
+behind_more : (signs : List Prefix) (sign : Prefix) (u : UnaryTree) → signed_operand signs (Signed sign u) ≡ signed_operand (signs ++ sign ∷ []) u
 behind_more [] sign u = refl
 behind_more (s ∷ signs) sign u = ap (Signed s) (behind_more signs sign u)
 

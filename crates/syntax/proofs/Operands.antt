@@ -13,7 +13,7 @@ use Rattle.syntax.specs.ExpressionEnds.{EndsExpression, EndsPrimary}
 use Rattle.syntax.specs.ExpressionBeginnings.{IsReading}
 use Rattle.syntax.specs.Nesting.{◌>>=◌}
 use Rattle.syntax.specs.ExpressionReading.{Reader, prefix, truth_of, after_open_bracket, after_close_bracket, after_open_parenthesis, after_close_parenthesis, after_dot, after_size, after_size_call}
-use Rattle.syntax.specs.ExpressionReading.{named_by, primary_by, signs_by, signed_by, unary_by}
+use Rattle.syntax.specs.ExpressionReading.{name_begins, primary_by, signs_by, signed_by, unary_by}
 use Rattle.syntax.proofs.FirstTerminals.{FrontAt, TerminalAt, prefix_at, prefix_found, bracket_ends, parenthesis_ends}
 use Rattle.syntax.proofs.ExpressionsExact.{At, Sound, Complete, then_at}
 use Rattle.syntax.proofs.Levels.{UnaryIs}
@@ -96,7 +96,7 @@ module _ (depth : ℕ) (e : Reader ExpressionTree) where
   named_sound : Sound (InnerIs depth) e → (name : Identifier) (rest : List Terminal)
       → (bracket dot : Option (List Terminal)) → TerminalAt (OfSymbol symbol.OpenBracket) rest bracket → TerminalAt (OfSymbol symbol.Dot) rest dot
       → after_open_bracket rest ≡ bracket → after_dot rest ≡ dot
-      → At (PrimaryIs depth) (Name name ∷ rest) (named_by e name rest bracket dot)
+      → At (PrimaryIs depth) (Name name ∷ rest) (name_begins e name rest bracket dot)
   named_sound sound name rest (Some after) dot opens dots is is' =
       then_at (InnerIs depth) (PrimaryIs depth) after (Name name ∷ rest) (λ x. after_close_bracket x.1 >>= λ behind. Some (Entry name x.0, behind)) (e after) (sound after)
       (λ x inside. at_terminal (PrimaryIs depth) (OfSymbol symbol.CloseBracket) (Name name ∷ rest) x.1 (λ behind. Some (Entry name x.0, behind)) (after_close_bracket x.1) (close_bracket_at x.1)
@@ -139,8 +139,8 @@ module _ (depth : ℕ) (e : Reader ExpressionTree) where
   primary_complete complete ws (Truth false) rest is = ap (primary_by e) is.whole
   primary_complete complete ws (Variable name) rest is =
       ap (primary_by e) is.whole
-      ∙ ap (λ b. named_by e name rest b (after_dot rest)) is.ends.0
-      ∙ ap (named_by e name rest None) is.ends.1
+      ∙ ap (λ b. name_begins e name rest b (after_dot rest)) is.ends.0
+      ∙ ap (name_begins e name rest None) is.ends.1
   primary_complete complete ws (Entry name index) rest is =
       ap (primary_by e) is.whole
       ∙ ap (λ r. r >>= λ x. after_close_bracket x.1 >>= λ behind. Some (Entry name x.0, behind))

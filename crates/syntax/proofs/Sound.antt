@@ -10,8 +10,8 @@ use Rattle.apply_options.specs.declared.setting.Setting.TheVariants as setting
 use Rattle.syntax.specs.SourceTrees.{ParameterTree, CallTree, ChainTree}
 use Rattle.syntax.specs.SourceSpelling.{type_terminals, typed_before, each_before, next_parameter_before, next_text_before, call_before, next_call_before, chain_before, parameters_before}
 use Rattle.syntax.specs.SourceSpelling.{result_before, setting_keyword}
-use Rattle.syntax.specs.SourceReading.{name_at, number_at, text_at, edge_ends, edgeset_at, edgeset_by, type_at, typed_at, each_at, next_parameter, parameters_at, parameters_by, result_by, next_text}
-use Rattle.syntax.specs.SourceReading.{call_at, next_call, chain_at, next_chain, closed, setting_at, after_terminal, after_terminals, in_braces, in_parentheses}
+use Rattle.syntax.specs.SourceReading.{name_reader, number_at, text_at, edge_ends, edgeset_at, edgeset_by, type_at, typed_at, each_at, next_parameter, parameters_at, parameters_by, result_by}
+use Rattle.syntax.specs.SourceReading.{next_text, call_at, next_call, chain_at, next_chain, closed_by, setting_at, after_terminal, after_terminals, in_braces, in_parentheses}
 use Rattle.syntax.proofs.TerminalLaws.{bind_some, after_terminal-sound, after_terminals-sound}
 
 -- the reader gives a tree only where its terminals stand
@@ -36,12 +36,12 @@ same_before {A = A} before a x r rest is = ap (λ o. let p : A × List Terminal 
 
 -- terminals that are closed by others: front is what stands before them
 pub closed-sound : {A : Type 0} (before : A → List Terminal → List Terminal) (front : List Terminal → List Terminal) (terminals : List Terminal) (a x : A) (ws rest : List Terminal)
-    → ((r : List Terminal) → front (terminals ++ r) ≡ before a r) → closed terminals (a, ws) ≡ Some (x, rest) → front ws ≡ before x rest
+    → ((r : List Terminal) → front (terminals ++ r) ≡ before a r) → closed_by terminals (a, ws) ≡ Some (x, rest) → front ws ≡ before x rest
 closed-sound before front terminals a x ws rest same is =
     let b = bind_some (after_terminals terminals ws) (λ r. Some (a, r)) (x, rest) is in
     ap front (after_terminals-sound terminals ws b.0 b.1) ∙ same b.0 ∙ same_before before a x b.0 rest b.2
 
-pub name_sound : IsSound name_at (λ n rest. Name n ∷ rest)
+pub name_sound : IsSound name_reader (λ n rest. Name n ∷ rest)
 name_sound (Name n ∷ ws) x rest is = same_before (λ n rest. Name n ∷ rest) n x ws rest is
 name_sound _ x rest is = cc is
 
@@ -82,7 +82,7 @@ type_sound _ t rest is = cc is
 
 pub typed_sound : IsSound typed_at typed_before
 typed_sound ws p rest is =
-    let n = bind_some (name_at ws) _ _ is in
+    let n = bind_some (name_reader ws) _ _ is in
     let c = bind_some (after_terminal (OfSymbol symbol.Colon) n.0.1) _ _ n.2 in
     let t = bind_some (type_at c.0) _ _ c.2 in
     name_sound ws n.0.0 n.0.1 n.1

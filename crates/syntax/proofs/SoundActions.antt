@@ -10,10 +10,10 @@ use Rattle.syntax.specs.ExpressionSpelling.{expression_terminals}
 use Rattle.apply_options.specs.declared.reduction.Reduction.TheVariants as reduction
 use Rattle.syntax.specs.SourceSpelling.{ends_before, initial_before, assigned_before, ended_before, end_terminals, reduction_terminal, label_terminals, action_before, block_before, each_before}
 use Rattle.syntax.specs.SourceSpelling.{typed_before, argument_terminals, parameters_before, result_before, declaration_before, chain_before, schedule_before, source_terminals}
-use Rattle.syntax.specs.SourceReading.{expression, value_at, name_at, number_at, end_at, end_by, ends_at, method_at, initial_at, named_initial, modified_at, assigned_at, ended_at, reduction_at}
-use Rattle.syntax.specs.SourceReading.{entry_by, added_at, applied_at, argument_at, reduced_at, named_action, method_by, else_by, action_by, block_by, block_at, block, no_block, next_statement}
-use Rattle.syntax.specs.SourceReading.{statement_by, begins_statement, label_at, block_from, where_begins, each_at, after_terminal, after_terminals, in_braces, in_parentheses, typed_at, parameters_at}
-use Rattle.syntax.specs.SourceReading.{result_by, declaration_by, next_declaration, begins_declaration, next_chain, schedule_by, whole, source_at, elements}
+use Rattle.syntax.specs.SourceReading.{expression, initial_reader, name_reader, number_at, end_at, end_by, ends_at, method_at, initial_at, named_initial, modified_at, assigned_at, ended_at}
+use Rattle.syntax.specs.SourceReading.{reduction_at, entry_by, added_at, applied_at, argument_at, read_reduction_at, named_action, method_by, else_by, action_by, block_by, block_at, block, no_block}
+use Rattle.syntax.specs.SourceReading.{next_statement, statement_by, begins_statement, label_at, block_from, where_begins, each_at, after_terminal, after_terminals, in_braces, in_parentheses}
+use Rattle.syntax.specs.SourceReading.{typed_at, parameters_at, result_by, declaration_by, next_declaration, begins_declaration, next_chain, schedule_by, whole_tree, source_at, elements}
 use Rattle.syntax.specs.Nesting.{limit}
 use Rattle.syntax.proofs.TerminalLaws.{bind_some, after_terminal-sound, after_terminals-sound}
 use Rattle.syntax.proofs.Sound.{IsSound, same_before, same_found, closed-sound, name_sound, number_sound, typed_sound, each_sound, parameters_sound, result_sound, next_chain_sound}
@@ -24,7 +24,7 @@ end_by-sound : (terminal : Terminal) (ws : List Terminal) (found : Option (List 
 end_by-sound terminal ws None there name rest is = same_before (λ n r. end_terminals terminal n ++ r) None name ws rest is
 end_by-sound terminal ws (Some after) there name rest is =
     let a = bind_some (after_terminal (OfSymbol symbol.OpenParenthesis) after) _ _ is in
-    let n = bind_some (name_at a.0) _ _ a.2 in
+    let n = bind_some (name_reader a.0) _ _ a.2 in
     let b = bind_some (after_terminal (OfSymbol symbol.CloseParenthesis) n.0.1) _ _ n.2 in
     after_terminals-sound (OfSymbol symbol.Dot ∷ terminal ∷ []) ws after there
     ∙ ap (λ r. OfSymbol symbol.Dot ∷ terminal ∷ r) (after_terminal-sound (OfSymbol symbol.OpenParenthesis) after a.0 a.1)
@@ -46,7 +46,7 @@ ends_sound ws ends rest is =
 argument_sound : IsSound argument_at (λ n rest. argument_terminals n ++ rest)
 argument_sound ws name rest is =
     let a = bind_some (after_terminal (OfSymbol symbol.OpenParenthesis) ws) _ _ is in
-    let n = bind_some (name_at a.0) _ _ a.2 in
+    let n = bind_some (name_reader a.0) _ _ a.2 in
     after_terminal-sound (OfSymbol symbol.OpenParenthesis) ws a.0 a.1
     ∙ ap (λ r. OfSymbol symbol.OpenParenthesis ∷ r) (name_sound a.0 n.0.0 n.0.1 n.1)
     ∙ closed-sound (λ n r. argument_terminals n ++ r) (λ r. OfSymbol symbol.OpenParenthesis ∷ Name n.0.0 ∷ r) (OfSymbol symbol.CloseParenthesis ∷ [])
@@ -56,9 +56,9 @@ modified_sound : (name : Identifier) (ws : List Terminal) (i : InitialTree) (res
 modified_sound name ws i rest is =
     let e = bind_some (ends_at ws) _ _ is in
     let a = bind_some (after_terminals (OfSymbol symbol.Dot ∷ OfKeyword keyword.ApplyModified ∷ OfSymbol symbol.OpenParenthesis ∷ []) e.0.1) _ _ e.2 in
-    let f = bind_some (name_at a.0) _ _ a.2 in
+    let f = bind_some (name_reader a.0) _ _ a.2 in
     let b = bind_some (after_terminal (OfSymbol symbol.Comma) f.0.1) _ _ f.2 in
-    let v = bind_some (name_at b.0) _ _ b.2 in
+    let v = bind_some (name_reader b.0) _ _ b.2 in
     let front : List Terminal → List Terminal = λ r. Name name ∷ ends_before e.0.0 (OfSymbol symbol.Dot ∷ OfKeyword keyword.ApplyModified ∷ OfSymbol symbol.OpenParenthesis ∷ r) in
     ap (λ r. Name name ∷ r) (ends_sound ws e.0.0 e.0.1 e.1)
     ∙ ap (λ r. Name name ∷ ends_before e.0.0 r) (after_terminals-sound (OfSymbol symbol.Dot ∷ OfKeyword keyword.ApplyModified ∷ OfSymbol symbol.OpenParenthesis ∷ []) e.0.1 a.0 a.1)
@@ -84,7 +84,7 @@ block_from-before [] rest = refl
 block_from-before (s ∷ others) rest = ap (λ r. label_terminals s.0 ++ action_before s.1 r) (block_from-before others rest)
 
 module _ (sound : IsSound expression (λ e rest. expression_terminals e ++ rest)) where
-  value_sound : IsSound value_at initial_before
+  value_sound : IsSound initial_reader initial_before
   value_sound ws i rest is =
       let e = bind_some (expression ws) _ _ is in
       sound ws e.0.0 e.0.1 e.1 ∙ same_before initial_before (Value e.0.0) i e.0.1 rest e.2
@@ -178,7 +178,7 @@ module _ (sound : IsSound expression (λ e rest. expression_terminals e ++ rest)
   method_sound name ws None there a rest is = applied_sound name ws a rest is
 
   reduce_sound : (name : Identifier) (ws : List Terminal) (a : StatementKindTree) (rest : List Terminal)
-      → reduced_at name ws ≡ Some (a, rest) → Name name ∷ ws ≡ action_before a rest
+      → read_reduction_at name ws ≡ Some (a, rest) → Name name ∷ ws ≡ action_before a rest
   reduce_sound name ws a rest is =
       let r = bind_some (reduction_at ws) _ _ is in
       let e = bind_some (ended_at r.0.1) _ _ r.2 in
@@ -224,7 +224,7 @@ module _ (sound : IsSound expression (λ e rest. expression_terminals e ++ rest)
         ∙ closed-sound action_before (λ r. Opening keyword.While at ∷ (expression_terminals e.0.0 ++ block_before b.0.0 r)) (OfKeyword keyword.End ∷ [])
         (While at e.0.0 b.0.0) a b.0.1 rest (λ r. refl) b.2
     action_sound (Opening keyword.For at ∷ ws) a rest is =
-        let n = bind_some (name_at ws) _ _ is in
+        let n = bind_some (name_reader ws) _ _ is in
         let i = bind_some (after_terminal (OfKeyword keyword.In) n.0.1) _ _ n.2 in
         let e = bind_some (expression i.0) _ _ i.2 in
         let c = bind_some (after_terminal (OfSymbol symbol.Colon) e.0.1) _ _ e.2 in
@@ -281,7 +281,7 @@ module _ (sound : IsSound expression (λ e rest. expression_terminals e ++ rest)
       ap (λ r. Opening keyword.Const at ∷ r) (typed_sound ws p.0.0 p.0.1 p.1 ∙ ap (typed_before p.0.0) (assigned_sound p.0.1 i.0.0 i.0.1 i.1))
       ∙ same_before declaration_before (Constant at p.0.0 i.0.0) d i.0.1 rest i.2
   declaration_sound (Opening keyword.Func at ∷ ws) d rest is =
-      let n = bind_some (name_at ws) _ _ is in
+      let n = bind_some (name_reader ws) _ _ is in
       let p = bind_some (parameters_at n.0.1) _ _ n.2 in
       let t = bind_some (result_by p.0.1 (after_terminal (OfSymbol symbol.Arrow) p.0.1)) _ _ p.2 in
       let b = bind_some (block t.0.1) _ _ t.2 in
@@ -311,7 +311,7 @@ module _ (sound : IsSound expression (λ e rest. expression_terminals e ++ rest)
       ∙ ap (λ r. OfKeyword keyword.Schedule ∷ OfSymbol symbol.Colon ∷ r) (each_sound next_chain chain_before next_chain_sound a.0 c.0.0 c.0.1 c.1)
       ∙ same_before schedule_before (Some c.0.0) s c.0.1 rest c.2
 
-  whole_sound : (s t : SourceTree) (rest : List Terminal) → whole (s, rest) ≡ Some t → (rest ≡ []) × (s ≡ t)
+  whole_sound : (s t : SourceTree) (rest : List Terminal) → whole_tree (s, rest) ≡ Some t → (rest ≡ []) × (s ≡ t)
   whole_sound s t [] is = (refl, cc is)
   whole_sound s t (terminal ∷ rest) is = cc is
 

@@ -7,7 +7,7 @@ use Rattle.syntax.specs.SourceTrees.{ExpressionTree, ParameterTree, Declare, Blo
 use Rattle.syntax.specs.Nesting.{◌>>=◌, limit}
 use Rattle.syntax.specs.ExpressionSpelling.{expression_terminals}
 use Rattle.syntax.specs.SourceSpelling.{assigned_before, block_before, result_before, declaration_before, chain_before, schedule_before, source_terminals}
-use Rattle.syntax.specs.SourceReading.{expression, assigned_at, block, result_by, next_declaration, closed, after_terminal, next_chain, schedule_by, whole, source_at}
+use Rattle.syntax.specs.SourceReading.{expression, assigned_at, block, result_by, next_declaration, closed_by, after_terminal, next_chain, schedule_by, whole_tree, source_at}
 use Rattle.syntax.specs.inside.Fits.{Fits, FitsDeclaration, FitDeclarations, FitsSource}
 use Rattle.syntax.proofs.Complete.{typed_complete, parameters_complete, next_chain_complete, parameters_longer, result_longer, chain_longer, Each, IsRead, every, each_complete}
 use Rattle.syntax.proofs.Actions.{goes_on, assigned_complete, block_items, items_complete, typed_longer, initial_longer, block_longer}
@@ -40,9 +40,9 @@ module _ (complete : (e : ExpressionTree) (rest : List Terminal) → Fits e → 
   declaration_complete (Function at name parameters result body) fits rest =
       let behind : List Terminal = block_before body (OfKeyword keyword.End ∷ rest) in
       ap (λ r. Some (r >>= λ p. result_by p.1 (after_terminal (OfSymbol symbol.Arrow) p.1) >>= λ t. block t.1 >>= λ b.
-      closed (OfKeyword keyword.End ∷ []) (Function at name p.0 t.0 b.0, b.1))) (parameters_complete parameters (result_before result behind))
-      ∙ ap (λ r. Some (r >>= λ t. block t.1 >>= λ b. closed (OfKeyword keyword.End ∷ []) (Function at name parameters t.0 b.0, b.1))) (result_complete result body rest)
-      ∙ ap (λ r. Some (r >>= λ b. closed (OfKeyword keyword.End ∷ []) (Function at name parameters result b.0, b.1)))
+      closed_by (OfKeyword keyword.End ∷ []) (Function at name p.0 t.0 b.0, b.1))) (parameters_complete parameters (result_before result behind))
+      ∙ ap (λ r. Some (r >>= λ t. block t.1 >>= λ b. closed_by (OfKeyword keyword.End ∷ []) (Function at name parameters t.0 b.0, b.1))) (result_complete result body rest)
+      ∙ ap (λ r. Some (r >>= λ b. closed_by (OfKeyword keyword.End ∷ []) (Function at name parameters result b.0, b.1)))
       (block_items complete limit body (OfKeyword keyword.End ∷ rest) (items_complete complete limit body fits) refl)
 
   declarations_complete : (ds : List DeclarationTree) → FitDeclarations ds → Each (IsRead next_declaration declaration_before) ds
@@ -58,6 +58,6 @@ module _ (complete : (e : ExpressionTree) (rest : List Terminal) → Fits e → 
   pub source_complete : (s : SourceTree) → FitsSource s → source_at (source_terminals s) ≡ Some s
   source_complete s fits =
       let behind : List Terminal = schedule_before s.schedule [] in
-      ap (λ r. r >>= λ d. schedule_by d.1 (after_terminal (OfKeyword keyword.Schedule) d.1) >>= λ t. whole (record { declarations = d.0; schedule = t.0 }, t.1))
+      ap (λ r. r >>= λ d. schedule_by d.1 (after_terminal (OfKeyword keyword.Schedule) d.1) >>= λ t. whole_tree (record { declarations = d.0; schedule = t.0 }, t.1))
       (each_complete next_declaration declaration_before declaration_longer s.declarations behind (declarations_complete s.declarations fits) (no_declaration s.schedule))
-      ∙ ap (λ r. r >>= λ t. whole (record { declarations = s.declarations; schedule = t.0 }, t.1)) (schedule_complete s.schedule)
+      ∙ ap (λ r. r >>= λ t. whole_tree (record { declarations = s.declarations; schedule = t.0 }, t.1)) (schedule_complete s.schedule)

@@ -5,7 +5,7 @@ use Rattle.lexer.specs.declared.symbol.Symbol.TheVariants as symbol
 use Rattle.syntax.specs.Terminals.{Terminal, OfKeyword, OfSymbol}
 use Rattle.syntax.specs.SourceTrees.{ExpressionTree, SourceTree}
 use Rattle.syntax.specs.ExpressionSpelling.{expression_terminals}
-use Rattle.syntax.specs.ExpressionEnds.{IsEnd}
+use Rattle.syntax.specs.ExpressionEnds.{IsExpressionEnd}
 use Rattle.syntax.specs.ExpressionBeginnings.{Begins}
 use Rattle.syntax.proofs.ExpressionsExact.{At}
 use Rattle.syntax.proofs.FirstTerminals.{ends_expression}
@@ -20,10 +20,10 @@ use Rattle.syntax.proofs.Sources.{source_complete}
 use Rattle.syntax.proofs.SoundActions.{source_sound}
 use Rattle.syntax.proofs.NestsActions.{source_fits}
 
-ends : IsEnd []
+ends : IsExpressionEnd []
 ends = record { bracket = refl; dot = refl; multiplies = refl; adds = refl; relates = refl; conjoins = refl; disjoins = refl }
 
-end_where : (rest : List Terminal) → goes_on rest ≡ false → IsEnd rest
+end_where : (rest : List Terminal) → goes_on rest ≡ false → IsExpressionEnd rest
 end_where [] is = ends
 end_where (OfSymbol symbol.Plus ∷ ws) is = cc is
 end_where (OfSymbol symbol.Minus ∷ ws) is = cc is

@@ -37,7 +37,7 @@ EndsExpression (LastConjunction c) rest = EndsConjunction c rest × (after_or re
 EndsExpression (ConjunctionThen c others) rest = EndsExpression others rest
 
 -- no operator, bracket or dot is the first of the terminals, so that no expression goes on with them
-pub record IsEnd (rest : List Terminal) : Type 0 where
+pub record IsExpressionEnd (rest : List Terminal) : Type 0 where
   pub bracket : after_open_bracket rest ≡ None
   pub dot : after_dot rest ≡ None
   pub multiplies : multiplication rest ≡ None

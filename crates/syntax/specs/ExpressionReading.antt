@@ -147,15 +147,15 @@ abbrev pub after_size_call : List Terminal → Option (List Terminal)
 after_size_call ws = after_size ws >>= λ call. after_open_parenthesis call >>= after_close_parenthesis
 
 -- what a name begins: a bracket or a dot after it decides
-abbrev pub named_by : Reader ExpressionTree → Identifier → List Terminal → Option (List Terminal) → Option (List Terminal)
+abbrev pub name_begins : Reader ExpressionTree → Identifier → List Terminal → Option (List Terminal) → Option (List Terminal)
     → Option (PrimaryTree × List Terminal)
-named_by e name rest (Some after) dot = e after >>= λ x. after_close_bracket x.1 >>= λ behind. Some (Entry name x.0, behind)
-named_by e name rest None (Some after) = after_size_call after >>= λ behind. Some (Size name, behind)
-named_by e name rest None None = Some (Variable name, rest)
+name_begins e name rest (Some after) dot = e after >>= λ x. after_close_bracket x.1 >>= λ behind. Some (Entry name x.0, behind)
+name_begins e name rest None (Some after) = after_size_call after >>= λ behind. Some (Size name, behind)
+name_begins e name rest None None = Some (Variable name, rest)
 
 abbrev pub primary_by : Reader ExpressionTree → Reader PrimaryTree
 primary_by e (Number n ∷ rest) = Some (Literal n, rest)
-primary_by e (Name name ∷ rest) = named_by e name rest (after_open_bracket rest) (after_dot rest)
+primary_by e (Name name ∷ rest) = name_begins e name rest (after_open_bracket rest) (after_dot rest)
 primary_by e (OfKeyword terminal ∷ rest) = truth_of terminal >>= λ b. Some (Truth b, rest)
 primary_by e (OfSymbol symbol.OpenParenthesis ∷ rest) = e rest >>= λ x. after_close_parenthesis x.1 >>= λ behind. Some (Parentheses x.0, behind)
 primary_by e _ = None

@@ -19,12 +19,12 @@ primary_of (primary.Size name) = Size name
 primary_of (primary.Parentheses inside) = Parentheses inside.value
 
 -- the operand with these signs before it
-abbrev pub behind : List Prefix → UnaryTree → UnaryTree
-behind [] u = u
-behind (sign ∷ signs) u = Signed sign (behind signs u)
+abbrev pub signed_operand : List Prefix → UnaryTree → UnaryTree
+signed_operand [] u = u
+signed_operand (sign ∷ signs) u = Signed sign (signed_operand signs u)
 
 abbrev pub unary_of : Unary → UnaryTree
-unary_of u = behind u.signs.items (Bare (primary_of u.primary))
+unary_of u = signed_operand u.signs.items (Bare (primary_of u.primary))
 
 abbrev pub term_from : UnaryTree → List (Multiplication × UnaryTree) → TermTree
 term_from u [] = LastUnary u

@@ -43,12 +43,12 @@ after_terminals [] ws = Some ws
 after_terminals (terminal ∷ terminals) ws = after_terminal terminal ws >>= after_terminals terminals
 
 -- a tree, where the terminal after it is this one
-abbrev pub closed : {A : Type 0} → List Terminal → A × List Terminal → Option (A × List Terminal)
-closed terminals x = after_terminals terminals x.1 >>= λ rest. Some (x.0, rest)
+abbrev pub closed_by : {A : Type 0} → List Terminal → A × List Terminal → Option (A × List Terminal)
+closed_by terminals x = after_terminals terminals x.1 >>= λ rest. Some (x.0, rest)
 
-abbrev pub name_at : Reader Identifier
-name_at (Name name ∷ rest) = Some (name, rest)
-name_at _ = None
+abbrev pub name_reader : Reader Identifier
+name_reader (Name name ∷ rest) = Some (name, rest)
+name_reader _ = None
 
 abbrev pub number_at : Reader ℤ
 number_at (Number n ∷ rest) = Some (n, rest)
@@ -69,8 +69,8 @@ edge_ends = in_braces (OfKeyword keyword.Edge)
 
 -- what ends it: `)`, or `, int)` where its edges have weights
 abbrev pub edgeset_by : List Terminal → Option (List Terminal) → Option (DeclaredType × List Terminal)
-edgeset_by ws None = closed (OfSymbol symbol.CloseParenthesis ∷ []) (type.EdgeSet, ws)
-edgeset_by ws (Some after) = closed (OfKeyword keyword.Int ∷ OfSymbol symbol.CloseParenthesis ∷ []) (type.WeightedEdgeSet, after)
+edgeset_by ws None = closed_by (OfSymbol symbol.CloseParenthesis ∷ []) (type.EdgeSet, ws)
+edgeset_by ws (Some after) = closed_by (OfKeyword keyword.Int ∷ OfSymbol symbol.CloseParenthesis ∷ []) (type.WeightedEdgeSet, after)
 
 abbrev pub edgeset_at : Reader DeclaredType
 edgeset_at ws = edgeset_by ws (after_terminal (OfSymbol symbol.Comma) ws)
@@ -79,23 +79,23 @@ abbrev pub type_at : Reader DeclaredType
 type_at (OfKeyword keyword.Int ∷ rest) = Some (type.Int, rest)
 type_at (OfKeyword keyword.Bool ∷ rest) = Some (type.Bool, rest)
 type_at (OfKeyword keyword.Vertex ∷ rest) = Some (type.Vertex, rest)
-type_at (OfKeyword keyword.VertexSet ∷ rest) = closed (in_braces (OfKeyword keyword.Vertex)) (type.VertexSet, rest)
+type_at (OfKeyword keyword.VertexSet ∷ rest) = closed_by (in_braces (OfKeyword keyword.Vertex)) (type.VertexSet, rest)
 type_at (OfKeyword keyword.Vector ∷ rest) =
-    closed (in_braces (OfKeyword keyword.Vertex) ++ in_parentheses (OfKeyword keyword.Int ∷ [])) (type.Vector, rest)
+    closed_by (in_braces (OfKeyword keyword.Vertex) ++ in_parentheses (OfKeyword keyword.Int ∷ [])) (type.Vector, rest)
 type_at (OfKeyword keyword.EdgeSet ∷ rest) = after_terminals edge_ends rest >>= edgeset_at
 type_at _ = None
 
 -- a name and its type
 abbrev pub typed_at : Reader ParameterTree
 typed_at ws =
-    name_at ws >>= λ n. after_terminal (OfSymbol symbol.Colon) n.1 >>= λ rest. type_at rest >>= λ t.
+    name_reader ws >>= λ n. after_terminal (OfSymbol symbol.Colon) n.1 >>= λ rest. type_at rest >>= λ t.
     Some (record { name = n.0; declared = t.0 }, t.1)
 
 -- the name in parentheses after the terminals that begin an end
 abbrev pub end_by : List Terminal → Option (List Terminal) → Option (Option Identifier × List Terminal)
 end_by ws None = Some (None, ws)
 end_by ws (Some after) =
-    after_terminal (OfSymbol symbol.OpenParenthesis) after >>= λ a. name_at a >>= λ n.
+    after_terminal (OfSymbol symbol.OpenParenthesis) after >>= λ a. name_reader a >>= λ n.
     after_terminal (OfSymbol symbol.CloseParenthesis) n.1 >>= λ b. Some (Some n.0, b)
 
 abbrev pub end_at : Terminal → Reader (Option Identifier)
@@ -114,48 +114,48 @@ method_at _ = None
 -- the name in parentheses
 abbrev pub argument_at : Reader Identifier
 argument_at ws =
-    after_terminal (OfSymbol symbol.OpenParenthesis) ws >>= λ a. name_at a >>= closed (OfSymbol symbol.CloseParenthesis ∷ [])
+    after_terminal (OfSymbol symbol.OpenParenthesis) ws >>= λ a. name_reader a >>= closed_by (OfSymbol symbol.CloseParenthesis ∷ [])
 
 -- what `applyModified` and its ends give
 abbrev pub modified_at : Identifier → Reader InitialTree
 modified_at name ws =
     ends_at ws >>= λ e. after_terminals (OfSymbol symbol.Dot ∷ OfKeyword keyword.ApplyModified ∷ OfSymbol symbol.OpenParenthesis ∷ []) e.1 >>= λ a.
-    name_at a >>= λ f. after_terminal (OfSymbol symbol.Comma) f.1 >>= λ b. name_at b >>= λ v.
-    closed (OfSymbol symbol.CloseParenthesis ∷ []) (ApplyModified name e.0 f.0 v.0, v.1)
+    name_reader a >>= λ f. after_terminal (OfSymbol symbol.Comma) f.1 >>= λ b. name_reader b >>= λ v.
+    closed_by (OfSymbol symbol.CloseParenthesis ∷ []) (ApplyModified name e.0 f.0 v.0, v.1)
 
-abbrev pub value_at : Reader InitialTree
-value_at ws = expression ws >>= λ e. Some (Value e.0, e.1)
+abbrev pub initial_reader : Reader InitialTree
+initial_reader ws = expression ws >>= λ e. Some (Value e.0, e.1)
 
 -- an initial value that begins with a name: the method that is called on it decides
 abbrev pub named_initial : Identifier → List Terminal → Option Keyword → Option (InitialTree × List Terminal)
 named_initial name ws (Some keyword.GetVertices) =
-    closed (OfSymbol symbol.Dot ∷ OfKeyword keyword.GetVertices ∷ in_parentheses []) (Vertices name, ws)
+    closed_by (OfSymbol symbol.Dot ∷ OfKeyword keyword.GetVertices ∷ in_parentheses []) (Vertices name, ws)
 named_initial name ws (Some keyword.GetOutDegrees) =
-    closed (OfSymbol symbol.Dot ∷ OfKeyword keyword.GetOutDegrees ∷ in_parentheses []) (OutDegrees name, ws)
+    closed_by (OfSymbol symbol.Dot ∷ OfKeyword keyword.GetOutDegrees ∷ in_parentheses []) (OutDegrees name, ws)
 named_initial name ws (Some keyword.Filter) =
     after_terminals (OfSymbol symbol.Dot ∷ OfKeyword keyword.Filter ∷ []) ws >>= λ a. argument_at a >>= λ n. Some (Filter name n.0, n.1)
 named_initial name ws (Some keyword.From) = modified_at name ws
 named_initial name ws (Some keyword.To) = modified_at name ws
 named_initial name ws (Some keyword.ApplyModified) = modified_at name ws
-named_initial name ws _ = value_at (Name name ∷ ws)
+named_initial name ws _ = initial_reader (Name name ∷ ws)
 
 abbrev pub initial_at : Reader InitialTree
 initial_at (OfKeyword keyword.New ∷ rest) =
     after_terminals (OfKeyword keyword.VertexSet ∷ (in_braces (OfKeyword keyword.Vertex) ++ OfSymbol symbol.OpenParenthesis ∷ [])) rest >>= λ a.
-    number_at a >>= λ n. closed (OfSymbol symbol.CloseParenthesis ∷ []) (NewSet n.0, n.1)
+    number_at a >>= λ n. closed_by (OfSymbol symbol.CloseParenthesis ∷ []) (NewSet n.0, n.1)
 initial_at (OfKeyword keyword.Load ∷ rest) =
     after_terminals (OfSymbol symbol.OpenParenthesis ∷ OfKeyword keyword.Argv ∷ OfSymbol symbol.OpenBracket ∷ []) rest >>= λ a.
-    number_at a >>= λ n. closed (OfSymbol symbol.CloseBracket ∷ OfSymbol symbol.CloseParenthesis ∷ []) (Load n.0, n.1)
+    number_at a >>= λ n. closed_by (OfSymbol symbol.CloseBracket ∷ OfSymbol symbol.CloseParenthesis ∷ []) (Load n.0, n.1)
 initial_at (Name name ∷ rest) = named_initial name rest (method_at rest)
-initial_at ws = value_at ws
+initial_at ws = initial_reader ws
 
 -- `=`, the value and `;`
 abbrev pub assigned_at : Reader InitialTree
-assigned_at ws = after_terminal (OfSymbol symbol.Assign) ws >>= λ a. initial_at a >>= closed (OfSymbol symbol.Semicolon ∷ [])
+assigned_at ws = after_terminal (OfSymbol symbol.Assign) ws >>= λ a. initial_at a >>= closed_by (OfSymbol symbol.Semicolon ∷ [])
 
 -- an expression and `;`
 abbrev pub ended_at : Reader ExpressionTree
-ended_at ws = expression ws >>= closed (OfSymbol symbol.Semicolon ∷ [])
+ended_at ws = expression ws >>= closed_by (OfSymbol symbol.Semicolon ∷ [])
 
 abbrev pub reduction_at : Reader Reduction
 reduction_at (OfSymbol symbol.MinAssign ∷ rest) = Some (reduction.Min, rest)
@@ -168,8 +168,8 @@ abbrev pub entry_by : Identifier → ExpressionTree → List Terminal → Option
 entry_by vector index ws (Some after) = ended_at after >>= λ e. Some (SetEntry vector index e.0, e.1)
 entry_by vector index ws None = reduction_at ws >>= λ r. ended_at r.1 >>= λ e. Some (ReduceEntry vector index r.0 e.0, e.1)
 
-abbrev pub entry_at : Identifier → Reader StatementKindTree
-entry_at vector ws =
+abbrev pub read_entry_at : Identifier → Reader StatementKindTree
+read_entry_at vector ws =
     expression ws >>= λ i. after_terminal (OfSymbol symbol.CloseBracket) i.1 >>= λ rest.
     entry_by vector i.0 rest (after_terminal (OfSymbol symbol.Assign) rest)
 
@@ -177,44 +177,44 @@ entry_at vector ws =
 abbrev pub added_at : Identifier → Reader StatementKindTree
 added_at set ws =
     after_terminal (OfSymbol symbol.OpenParenthesis) ws >>= λ a. expression a >>= λ e.
-    closed (OfSymbol symbol.CloseParenthesis ∷ OfSymbol symbol.Semicolon ∷ []) (AddVertex set e.0, e.1)
+    closed_by (OfSymbol symbol.CloseParenthesis ∷ OfSymbol symbol.Semicolon ∷ []) (AddVertex set e.0, e.1)
 
 -- the ends and the function of an apply
 abbrev pub applied_at : Identifier → Reader StatementKindTree
 applied_at target ws =
     ends_at ws >>= λ e. after_terminals (OfSymbol symbol.Dot ∷ OfKeyword keyword.Apply ∷ []) e.1 >>= λ a. argument_at a >>= λ f.
-    closed (OfSymbol symbol.Semicolon ∷ []) (Apply target e.0 f.0, f.1)
+    closed_by (OfSymbol symbol.Semicolon ∷ []) (Apply target e.0 f.0, f.1)
 
 abbrev pub method_by : Identifier → List Terminal → Option (List Terminal) → Option (StatementKindTree × List Terminal)
 method_by name ws (Some after) = added_at name after
 method_by name ws None = applied_at name ws
 
 -- the reduction and its value
-abbrev pub reduced_at : Identifier → Reader StatementKindTree
-reduced_at name ws = reduction_at ws >>= λ r. ended_at r.1 >>= λ e. Some (Reduce name r.0 e.0, e.1)
+abbrev pub read_reduction_at : Identifier → Reader StatementKindTree
+read_reduction_at name ws = reduction_at ws >>= λ r. ended_at r.1 >>= λ e. Some (Reduce name r.0 e.0, e.1)
 
 -- what a statement does that begins with a name: the next terminal decides
 abbrev pub named_action : Identifier → Reader StatementKindTree
 named_action name (OfSymbol symbol.Assign ∷ rest) = assigned_at (OfSymbol symbol.Assign ∷ rest) >>= λ i. Some (Assign name i.0, i.1)
-named_action name (OfSymbol symbol.OpenBracket ∷ rest) = entry_at name rest
+named_action name (OfSymbol symbol.OpenBracket ∷ rest) = read_entry_at name rest
 named_action name (OfSymbol symbol.Dot ∷ rest) =
     method_by name (OfSymbol symbol.Dot ∷ rest) (after_terminals (OfSymbol symbol.Dot ∷ OfKeyword keyword.AddVertex ∷ []) (OfSymbol symbol.Dot ∷ rest))
-named_action name ws = reduced_at name ws
+named_action name ws = read_reduction_at name ws
 
 -- what stands after the test and the body of an `if`
 abbrev pub else_by : Reader BlockTree → ℕ → ExpressionTree → BlockTree × List Terminal → Option (List Terminal) → Option (StatementKindTree × List Terminal)
-else_by block at test body None = closed (OfKeyword keyword.End ∷ []) (If at test body.0, body.1)
-else_by block at test body (Some after) = block after >>= λ b. closed (OfKeyword keyword.End ∷ []) (IfElse at test body.0 b.0, b.1)
+else_by block at test body None = closed_by (OfKeyword keyword.End ∷ []) (If at test body.0, body.1)
+else_by block at test body (Some after) = block after >>= λ b. closed_by (OfKeyword keyword.End ∷ []) (IfElse at test body.0 b.0, b.1)
 
 abbrev pub action_by : Reader BlockTree → Reader StatementKindTree
 action_by block (Opening keyword.Var at ∷ rest) =
     typed_at rest >>= λ n. assigned_at n.1 >>= λ i. Some (Declare at n.0 i.0, i.1)
 action_by block (Opening keyword.While at ∷ rest) =
-    expression rest >>= λ e. block e.1 >>= λ b. closed (OfKeyword keyword.End ∷ []) (While at e.0 b.0, b.1)
+    expression rest >>= λ e. block e.1 >>= λ b. closed_by (OfKeyword keyword.End ∷ []) (While at e.0 b.0, b.1)
 action_by block (Opening keyword.For at ∷ rest) =
-    name_at rest >>= λ n. after_terminal (OfKeyword keyword.In) n.1 >>= λ a. expression a >>= λ e.
+    name_reader rest >>= λ n. after_terminal (OfKeyword keyword.In) n.1 >>= λ a. expression a >>= λ e.
     after_terminal (OfSymbol symbol.Colon) e.1 >>= λ c. expression c >>= λ f. block f.1 >>= λ b.
-    closed (OfKeyword keyword.End ∷ []) (For at n.0 e.0 f.0 b.0, b.1)
+    closed_by (OfKeyword keyword.End ∷ []) (For at n.0 e.0 f.0 b.0, b.1)
 action_by block (Opening keyword.If at ∷ rest) =
     expression rest >>= λ e. block e.1 >>= λ b. else_by block at e.0 b (after_terminal (OfKeyword keyword.Else) b.1)
 action_by block (Opening keyword.Print at ∷ rest) = ended_at rest >>= λ e. Some (Print at e.0, e.1)
@@ -280,7 +280,8 @@ next_parameter ws = after_by typed_at (after_terminal (OfSymbol symbol.Comma) ws
 
 abbrev pub parameters_by : List Terminal → Option (List Terminal) → Option (List ParameterTree × List Terminal)
 parameters_by ws (Some after) = Some ([], after)
-parameters_by ws None = typed_at ws >>= λ p. each_at next_parameter p.1 >>= λ others. closed (OfSymbol symbol.CloseParenthesis ∷ []) (p.0 ∷ others.0, others.1)
+parameters_by ws None = typed_at ws >>= λ p. each_at next_parameter p.1 >>= λ others. closed_by (OfSymbol symbol.CloseParenthesis ∷ [])
+    (p.0 ∷ others.0, others.1)
 
 -- the parameters in parentheses
 abbrev pub parameters_at : Reader (List ParameterTree)
@@ -294,8 +295,8 @@ abbrev pub declaration_by : List Terminal → Option (DeclarationTree × List Te
 declaration_by (Opening keyword.Const at ∷ rest) =
     typed_at rest >>= λ n. assigned_at n.1 >>= λ i. Some (Constant at n.0 i.0, i.1)
 declaration_by (Opening keyword.Func at ∷ rest) =
-    name_at rest >>= λ n. parameters_at n.1 >>= λ p. result_by p.1 (after_terminal (OfSymbol symbol.Arrow) p.1) >>= λ r.
-    block r.1 >>= λ b. closed (OfKeyword keyword.End ∷ []) (Function at n.0 p.0 r.0 b.0, b.1)
+    name_reader rest >>= λ n. parameters_at n.1 >>= λ p. result_by p.1 (after_terminal (OfSymbol symbol.Arrow) p.1) >>= λ r.
+    block r.1 >>= λ b. closed_by (OfKeyword keyword.End ∷ []) (Function at n.0 p.0 r.0 b.0, b.1)
 declaration_by _ = None
 
 abbrev pub begins_declaration : List Terminal → Bool
@@ -322,7 +323,7 @@ next_text ws = after_by text_at (after_terminal (OfSymbol symbol.Comma) ws)
 abbrev pub call_at : Reader CallTree
 call_at ws =
     setting_at ws >>= λ s. after_terminal (OfSymbol symbol.OpenParenthesis) s.1 >>= λ a. text_at a >>= λ t. each_at next_text t.1 >>= λ more.
-    closed (OfSymbol symbol.CloseParenthesis ∷ []) (record { at = s.0.0; setting = s.0.1; first = t.0; more = more.0 }, more.1)
+    closed_by (OfSymbol symbol.CloseParenthesis ∷ []) (record { at = s.0.0; setting = s.0.1; first = t.0; more = more.0 }, more.1)
 
 -- the call after an arrow
 abbrev pub next_call : List Terminal → Option (Option (CallTree × List Terminal))
@@ -332,7 +333,7 @@ next_call ws = after_by call_at (after_terminal (OfSymbol symbol.Arrow) ws)
 abbrev pub chain_at : Reader ChainTree
 chain_at ws =
     after_terminal (OfSymbol symbol.Arrow) ws >>= λ a. call_at a >>= λ c. each_at next_call c.1 >>= λ more.
-    closed (OfSymbol symbol.Semicolon ∷ []) (record { first = c.0; more = more.0 }, more.1)
+    closed_by (OfSymbol symbol.Semicolon ∷ []) (record { first = c.0; more = more.0 }, more.1)
 
 -- the chain that begins with `program`
 abbrev pub next_chain : List Terminal → Option (Option (ChainTree × List Terminal))
@@ -343,9 +344,9 @@ schedule_by ws None = Some (None, ws)
 schedule_by ws (Some after) = after_terminal (OfSymbol symbol.Colon) after >>= λ a. each_at next_chain a >>= λ c. Some (Some c.0, c.1)
 
 -- the tree, where no terminal is left
-abbrev pub whole : {A : Type 0} → A × List Terminal → Option A
-whole (tree, []) = Some tree
-whole (tree, terminal ∷ rest) = None
+abbrev pub whole_tree : {A : Type 0} → A × List Terminal → Option A
+whole_tree (tree, []) = Some tree
+whole_tree (tree, terminal ∷ rest) = None
 
 -- `element Vertex end element Edge end`
 abbrev pub elements : List Terminal
@@ -356,4 +357,4 @@ elements =
 abbrev pub source_at : List Terminal → Option SourceTree
 source_at ws =
     after_terminals elements ws >>= λ a. each_at next_declaration a >>= λ d. schedule_by d.1 (after_terminal (OfKeyword keyword.Schedule) d.1) >>= λ s.
-    whole (record { declarations = d.0; schedule = s.0 }, s.1)
+    whole_tree (record { declarations = d.0; schedule = s.0 }, s.1)

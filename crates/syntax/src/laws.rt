@@ -3,7 +3,7 @@ ghost use Rattle.std.specs.Prelude.{◌≡◌, ℕ, List, [], ◌∷◌, ◌++�
 ghost use Rattle.syntax.specs.Terminals.{Terminal};
 ghost use Rattle.syntax.specs.SourceTrees.{ExpressionTree, SourceTree};
 ghost use Rattle.syntax.specs.ExpressionSpelling.{expression_terminals};
-ghost use Rattle.syntax.specs.ExpressionEnds.{EndsExpression, IsEnd};
+ghost use Rattle.syntax.specs.ExpressionEnds.{EndsExpression, IsExpressionEnd};
 ghost use Rattle.syntax.specs.ExpressionBeginnings.{Begins};
 ghost use Rattle.syntax.specs.Nesting.{limit, StaysWithin};
 ghost use Rattle.syntax.specs.SourceReading.{source_at};
@@ -34,7 +34,7 @@ pub fn reading_is_exact()
 /// end of all terminals; where it ends, no expression has its terminals and all that are after them; and where
 /// it does not end before a terminal, some expression has its terminals and then this terminal.
 pub fn what_ends_goes_no_further()
-    ensures ends { (tree : ExpressionTree) (rest : List Terminal) → IsEnd rest → EndsExpression tree rest }
+    ensures ends { (tree : ExpressionTree) (rest : List Terminal) → IsExpressionEnd rest → EndsExpression tree rest }
     ensures last { (tree : ExpressionTree) → EndsExpression tree [] }
     ensures longest { (tree longer : ExpressionTree) (rest : List Terminal)
         → EndsExpression tree rest → expression_terminals longer ≡ expression_terminals tree ++ rest → rest ≡ [] }

@@ -8,10 +8,10 @@ use Rattle.tail_codec.specs.declared.operation.MapOperation.{MapOperation}
 use Rattle.tail_codec.specs.declared.operation.MapOperation.TheVariants.{Union, UnionKeepingFirst, Difference}
 
 -- the entries of the answer
-abbrev pub combined : {V : Type 0} → MapOperation → List (ℕ × V) → List (ℕ × V) → List (ℕ × V)
-combined Union xs ys = union_keeping_second xs ys
-combined UnionKeepingFirst xs ys = union_keeping_first xs ys
-combined Difference xs ys = without_keys xs (keys_of ys)
+abbrev pub combined_maps : {V : Type 0} → MapOperation → List (ℕ × V) → List (ℕ × V) → List (ℕ × V)
+combined_maps Union xs ys = union_keeping_second xs ys
+combined_maps UnionKeepingFirst xs ys = union_keeping_first xs ys
+combined_maps Difference xs ys = without_keys xs (keys_of ys)
 
 -- the operation on the keys alone
 abbrev pub on_keys : MapOperation → Operation

@@ -6,7 +6,7 @@ ghost use Rattle.ascending_lists.specs.Ascending.{Ascends};
 ghost use Rattle.ascending_lists.specs.Operations.{most};
 ghost use Rattle.ascending_lists.specs.inside.Operations.{takes_second};
 ghost use Rattle.tail_codec.specs.Columns.{entries_in};
-ghost use Rattle.tail_codec.specs.Operations.{combined};
+ghost use Rattle.tail_codec.specs.Operations.{combined_maps};
 ghost use Rattle.tail_codec.specs.inside.Merging.{IsMerged, merged, merged_keys};
 
 use crate::entries::Entries;
@@ -28,7 +28,7 @@ pub fn merge_entries(
 ) -> Result<EntryList, AllocError>
     requires first { Ascends None (keys_of first.now) }
     requires second { Ascends None (keys_of second.now) }
-    ensures { IfOk result (λ l. l ≡ combined operation first.now second.now) }
+    ensures { IfOk result (λ l. l ≡ combined_maps operation first.now second.now) }
 {
     match operation {
         MapOperation::Union => merge_keeping_second(alloc, Operation::Union, first, second),

@@ -10,21 +10,21 @@ use Rattle.ascending_lists.specs.Maps.{lookup}
 use Rattle.weighted_edges.specs.Edge.{Edge}
 use Rattle.pages.specs.Vertices.{neighbours_of}
 use Rattle.pages.proofs.Ranks.{none_below}
-use Rattle.vertex_blocks.specs.Blocks.{Block, AreNeighbourLists, edge_total, numbered, lists_of}
-use Rattle.tree_batch.specs.Edge.{Ends, ends_of, index, weight_in, Rises, edges_from}
+use Rattle.vertex_blocks.specs.Blocks.{Block, AreNeighbourLists, edge_total, numbered_vertices, lists_of}
+use Rattle.tree_batch.specs.Edge.{Ends, ends_of, index, weight_in, EdgesRise, edges_from}
 use Rattle.tree_batch.specs.Neighbours.{destinations_of, edges_of}
 use Rattle.tree_batch.specs.inside.Neighbours.{weight_between}
 use Rattle.tree_batch.proofs.Rising.{weight_in-append, rises_from, rises_joined}
 use Rattle.tree_batch.proofs.Deciding.{option_or-none}
 
 -- the edges from a vertex to ascending neighbours rise
-pub rises_from_list : (u low : ℕ) (xs : List (ℕ × ℤ)) → low ≤ 2 ^ 32 → AscendsFrom low (keys_of xs) → Rises (index (u, low)) ((u + 1) * 2 ^ 32) (edges_from u xs)
+pub rises_from_list : (u low : ℕ) (xs : List (ℕ × ℤ)) → low ≤ 2 ^ 32 → AscendsFrom low (keys_of xs) → EdgesRise (index (u, low)) ((u + 1) * 2 ^ 32) (edges_from u xs)
 rises_from_list u low [] le s = omega arith
 rises_from_list u low (x ∷ xs) le s =
     (omega (arith, s.0), s.1, rises_from (index (u, x.0 + 1)) (index (u, x.0) + 1) ((u + 1) * 2 ^ 32) (edges_from u xs) (omega arith) (rises_from_list u (x.0 + 1) xs (omega (arith, s.1)) s.2))
 
 -- the edges rise
-pub rises_edges : (low high : ℕ) (es : List (ℕ × List (ℕ × ℤ))) → maps.Rises low high es → AreNeighbourLists es → Rises (low * 2 ^ 32) (high * 2 ^ 32) (edges_of es)
+pub rises_edges : (low high : ℕ) (es : List (ℕ × List (ℕ × ℤ))) → maps.Rises low high es → AreNeighbourLists es → EdgesRise (low * 2 ^ 32) (high * 2 ^ 32) (edges_of es)
 rises_edges low high [] s ok = omega (arith, s)
 rises_edges low high (e ∷ es) s ok =
     rises_joined (low * 2 ^ 32) ((e.0 + 1) * 2 ^ 32) (high * 2 ^ 32) (edges_from e.0 e.1) (edges_of es)
@@ -60,9 +60,9 @@ length_from u [] = refl
 length_from u (x ∷ xs) = omega (arith, length_from u xs)
 
 -- the edges of a block, and those of others
-block_edges : (k : ℕ) (es : Block) (rest : List (ℕ × List (ℕ × ℤ))) → length (edges_of (numbered k es ++ rest)) ≡ edge_total es + length (edges_of rest)
+block_edges : (k : ℕ) (es : Block) (rest : List (ℕ × List (ℕ × ℤ))) → length (edges_of (numbered_vertices k es ++ rest)) ≡ edge_total es + length (edges_of rest)
 block_edges k [] rest = omega arith
-block_edges k (e ∷ es) rest = length-append (edges_from (64 * k + e.0) e.1) (edges_of (numbered k es ++ rest)) ∙ omega (arith, length_from (64 * k + e.0) e.1, block_edges k es rest)
+block_edges k (e ∷ es) rest = length-append (edges_from (64 * k + e.0) e.1) (edges_of (numbered_vertices k es ++ rest)) ∙ omega (arith, length_from (64 * k + e.0) e.1, block_edges k es rest)
 
 -- there are as many edges as the blocks have
 pub edges_weigh : (bs : List (ℕ × Block)) → length (edges_of (lists_of bs)) ≡ total_weight edge_total bs
@@ -92,6 +92,6 @@ destinations_are low high u (e ∷ es) s = elim (cases_eq e.0 u) [
 ]
 
 -- how many edges there is room for
-pub rises_room : (low high : ℕ) (es : List Edge) → Rises low high es → low + length es ≤ high
+pub rises_room : (low high : ℕ) (es : List Edge) → EdgesRise low high es → low + length es ≤ high
 rises_room low high [] s = omega arith
 rises_room low high (e ∷ es) s = omega (arith, s.0, rises_room (index (ends_of e) + 1) high es s.2)

@@ -6,7 +6,7 @@ use Rattle.std.proofs.lemmas.Grind.{flat_map-append}
 use Rattle.std.specs.List.{flat_map, list_any}
 use Rattle.weighted_edges.specs.Edge.{Edge}
 use Rattle.tree_batch.specs.declared.batch.Entry.{Entry}
-use Rattle.tree_batch.specs.Edge.{Ends, index, ends_eq, weight_in, edge_at, Rises, IsAscending, IsWithin, numbers_from, ends_from, all_ends, decision, vertices_after, misfits, weight_after}
+use Rattle.tree_batch.specs.Edge.{Ends, index, ends_eq, weight_in, edge_at, EdgesRise, IsAscending, IsWithin, numbers_from, ends_from, all_ends, decision, vertices_after, misfits, weight_after}
 use Rattle.tree_batch.specs.inside.Entry.{AreEdgesAfter}
 use Rattle.tree_batch.specs.Digraph.{Digraph, IsDigraph, is_vertex_count, graph_after}
 use Rattle.tree_batch.proofs.Rising.{ends_eq-refl, ends_eq-true, rises_from, rises_wider, rises_joined, same_edges}
@@ -21,13 +21,13 @@ abbrev pub are_among : List Ends → Ends → Bool
 are_among ps p = list_any (λ q. ends_eq q p) ps
 
 -- an edge in front, if there is one
-rises_one : (low high : ℕ) (p : Ends) (o : Option ℤ) (es : List Edge) → low ≤ index p → p.1 < 2 ^ 32 → Rises (index p + 1) high es → Rises low high (edge_at p o ++ es)
+rises_one : (low high : ℕ) (p : Ends) (o : Option ℤ) (es : List Edge) → low ≤ index p → p.1 < 2 ^ 32 → EdgesRise (index p + 1) high es → EdgesRise low high (edge_at p o ++ es)
 rises_one low high p None es le small h = rises_from (index p + 1) low high es (omega arith) h
 rises_one low high p (Some w) es le small h = (le, small, h)
 
 module _ (f : Ends → Option ℤ) where
   -- a row of edges rises
-  rises_row : (u a k : ℕ) → a + k ≤ 2 ^ 32 → Rises (index (u, a)) (index (u, a) + k) (weighed f (ends_from u (numbers_from a k)))
+  rises_row : (u a k : ℕ) → a + k ≤ 2 ^ 32 → EdgesRise (index (u, a)) (index (u, a) + k) (weighed f (ends_from u (numbers_from a k)))
   rises_row u a zero fits = omega arith
   rises_row u a (suc k) fits =
       rises_one (index (u, a)) (index (u, a) + suc k) (u, a) (f (u, a)) (weighed f (ends_from u (numbers_from (a + 1) k))) (omega arith) (omega arith)
@@ -37,10 +37,10 @@ module _ (f : Ends → Option ℤ) where
   abbrev rows : ℕ → ℕ → ℕ → List Ends
   rows n u k = flat_map (λ v. ends_from v (numbers_from 0 n)) (numbers_from u k)
 
-  rises_rows : (n u k : ℕ) → n ≤ 2 ^ 32 → Rises (u * 2 ^ 32) ((u + k) * 2 ^ 32) (weighed f (rows n u k))
+  rises_rows : (n u k : ℕ) → n ≤ 2 ^ 32 → EdgesRise (u * 2 ^ 32) ((u + k) * 2 ^ 32) (weighed f (rows n u k))
   rises_rows n u zero fits = omega arith
   rises_rows n u (suc k) fits =
-      subst (Rises (u * 2 ^ 32) ((u + suc k) * 2 ^ 32)) (sym (flat_map-append (λ p. edge_at p (f p)) (ends_from u (numbers_from 0 n)) (rows n (u + 1) k)))
+      subst (EdgesRise (u * 2 ^ 32) ((u + suc k) * 2 ^ 32)) (sym (flat_map-append (λ p. edge_at p (f p)) (ends_from u (numbers_from 0 n)) (rows n (u + 1) k)))
       (rises_joined (u * 2 ^ 32) ((u + 1) * 2 ^ 32) ((u + suc k) * 2 ^ 32) (weighed f (ends_from u (numbers_from 0 n))) (weighed f (rows n (u + 1) k))
       (rises_from (index (u, 0)) (u * 2 ^ 32) ((u + 1) * 2 ^ 32) _ (omega arith) (rises_wider (index (u, 0)) (index (u, 0) + n) ((u + 1) * 2 ^ 32) _ (omega arith) (rises_row u 0 n (omega arith))))
       (rises_wider ((u + 1) * 2 ^ 32) ((u + 1 + k) * 2 ^ 32) ((u + suc k) * 2 ^ 32) _ (omega arith) (rises_rows n (u + 1) k fits)))

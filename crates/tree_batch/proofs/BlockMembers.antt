@@ -34,7 +34,7 @@ named_before low (u ∷ us) e s lt =
 
 -- what the updates of a vertex decide of its neighbours is what all of its block decide of the edge
 decided_in_block : (k low : ℕ) (us : List (EdgeUpdate × ℤ)) (e : Ends) (b : Option ℤ) → EdgesAscend low us → AreOfBlock k us → e.0 / 64 ≡ k
-    → pages.decided e.1 (updates_of (e.0 % 64) us) b ≡ unwrap_or (decided_weight us e) b
+    → pages.weight_decided e.1 (updates_of (e.0 % 64) us) b ≡ unwrap_or (decided_weight us e) b
 decided_in_block k low [] e b s of at = refl
 decided_in_block k low (u ∷ us) e b s of at = elim (cases_eq (vertex_of u.0) e.0) [
   | inl same ↦
@@ -44,7 +44,7 @@ decided_in_block k low (u ∷ us) e b s of at = elim (cases_eq (vertex_of u.0) e
             let last : decided_weight us e ≡ None = named_before (key_in_page u.0 + 1) us e s.1 (omega (arith, ap (λ v. v % 64 * 2 ^ 24) same, here)) in
             rw (eq-eqb (vertex_in_page u.0) (e.0 % 64) in_page, eq-eqb (neighbour_of u.0) e.1 here, last, eq-eqb (vertex_of u.0) e.0 same) refl
         | inr other ↦
-            let skip : pages.decided e.1 (updates_of (e.0 % 64) (u ∷ us)) b ≡ pages.decided e.1 (updates_of (e.0 % 64) us) b =
+            let skip : pages.weight_decided e.1 (updates_of (e.0 % 64) (u ∷ us)) b ≡ pages.weight_decided e.1 (updates_of (e.0 % 64) us) b =
             rw (eq-eqb (vertex_in_page u.0) (e.0 % 64) in_page, ne_eqb (neighbour_of u.0) e.1 other) refl in
             skip ∙ (decided_in_block k (key_in_page u.0 + 1) us e b s.1 of.1 at ∙ ap (λ o. unwrap_or o b) (sym (silent (λ v n. other n))))
       ]

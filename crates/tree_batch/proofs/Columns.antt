@@ -7,7 +7,7 @@ use Rattle.ascending_lists.specs.Maps.{lookup}
 use Rattle.ascending_lists.proofs.MapKeys.{entries_rise}
 use Rattle.ascending_lists.proofs.MapValues as values
 use Rattle.weighted_edges.specs.Edge.{Edge}
-use Rattle.tree_batch.specs.Edge.{ends_of, index, weight_in, Rises}
+use Rattle.tree_batch.specs.Edge.{ends_of, index, weight_in, EdgesRise}
 use Rattle.tree_batch.specs.Neighbours.{destinations_of, sources_of}
 use Rattle.tree_batch.proofs.Rising.{rises_within}
 
@@ -36,7 +36,7 @@ source_weight (e ∷ es) u v = elim (cases_Bool (e.1 == v)) [
 ]
 
 -- sources ascend where the edges rise
-pub sources_ascend : (v low high least : ℕ) (es : List Edge) → high ≤ 2 ^ 64 → Rises low high es → ((w : ℕ) → low ≤ w * 2 ^ 32 + v → least ≤ w) → AscendsFrom least (keys_of (sources_of v es))
+pub sources_ascend : (v low high least : ℕ) (es : List Edge) → high ≤ 2 ^ 64 → EdgesRise low high es → ((w : ℕ) → low ≤ w * 2 ^ 32 + v → least ≤ w) → AscendsFrom least (keys_of (sources_of v es))
 sources_ascend v low high least [] top s from = tt
 sources_ascend v low high least (e ∷ es) top s from = elim (cases_Bool (e.1 == v)) [
   | inl at ↦

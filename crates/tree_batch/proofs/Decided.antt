@@ -9,7 +9,7 @@ use Rattle.ascending_lists.proofs.MapOrder.{rises_to, rises_joined, lookup_here}
 use Rattle.edge_updates.specs.declared.edge_update.EdgeUpdate.{EdgeUpdate}
 use Rattle.edge_updates.specs.EdgeUpdate.{vertex_of}
 use Rattle.edge_updates.specs.Updates.{FollowAscending, Ascend}
-use Rattle.weighted_updates.specs.WeightedUpdates.{one_decided, decided_weight}
+use Rattle.weighted_updates.specs.WeightedUpdates.{one_weight_decided, decided_weight}
 use Rattle.std.specs.Map.{keys_of}
 use Rattle.pages.specs.Updates.{AreOfBlock, EdgesAscend}
 use Rattle.pages.proofs.UpdateRuns.{ascend_in_page}
@@ -21,14 +21,14 @@ use Rattle.tree_batch.specs.inside.BlockCuts.{IsCutAt, block_decided, AreCut, Be
 use Rattle.tree_batch.proofs.Deciding.{option_or-none, option_or-assoc, decision-pushed}
 
 -- an update says of edges what its entry says
-one_says : (u : EdgeUpdate × ℤ) (x : Entry) (e : Ends) → IsUpdateOf x (Some u) → one_decided u e ≡ entry_decision x e
+one_says : (u : EdgeUpdate × ℤ) (x : Entry) (e : Ends) → IsUpdateOf x (Some u) → one_weight_decided u e ≡ entry_decision x e
 one_says u x e says = rw (says.0, says.1) refl
 
 -- an update at the end decides before the others
-decided_pushed : (ds : List (EdgeUpdate × ℤ)) (d : EdgeUpdate × ℤ) (e : Ends) → decided_weight (ds ++ d ∷ []) e ≡ option_or (one_decided d e) (decided_weight ds e)
-decided_pushed [] d e = sym (option_or-none (one_decided d e))
+decided_pushed : (ds : List (EdgeUpdate × ℤ)) (d : EdgeUpdate × ℤ) (e : Ends) → decided_weight (ds ++ d ∷ []) e ≡ option_or (one_weight_decided d e) (decided_weight ds e)
+decided_pushed [] d e = sym (option_or-none (one_weight_decided d e))
 decided_pushed (x ∷ xs) d e =
-    ap (λ o. option_or o (one_decided x e)) (decided_pushed xs d e) ∙ option_or-assoc (one_decided d e) (decided_weight xs e) (one_decided x e)
+    ap (λ o. option_or o (one_weight_decided x e)) (decided_pushed xs d e) ∙ option_or-assoc (one_weight_decided d e) (decided_weight xs e) (one_weight_decided x e)
 
 -- updates of the first entries, and what one more says
 pub decided_more : (xs : List Entry) (i : ℕ) (d : Entry) (us vs : List (EdgeUpdate × ℤ)) (o : Option (EdgeUpdate × ℤ)) → i < length xs → IsUpdateOf (get_or xs i d) o → vs ≡ us ++ option_to_list o
@@ -48,7 +48,7 @@ decided_more xs i d us vs o lt says is same e =
 -- later updates decide before earlier ones
 pub decided_append : (xs ys : List (EdgeUpdate × ℤ)) (e : Ends) → decided_weight (xs ++ ys) e ≡ option_or (decided_weight ys e) (decided_weight xs e)
 decided_append [] ys e = sym (option_or-none (decided_weight ys e))
-decided_append (x ∷ xs) ys e = ap (λ o. option_or o (one_decided x e)) (decided_append xs ys e) ∙ option_or-assoc (decided_weight ys e) (decided_weight xs e) (one_decided x e)
+decided_append (x ∷ xs) ys e = ap (λ o. option_or o (one_weight_decided x e)) (decided_append xs ys e) ∙ option_or-assoc (decided_weight ys e) (decided_weight xs e) (one_weight_decided x e)
 
 -- one more update of a block
 pub cut_longer : (k : ℕ) (ds : List (EdgeUpdate × ℤ)) (i : ℕ) (d : EdgeUpdate × ℤ) → i < length ds → vertex_of (get_or ds i d).0 / 64 ≡ k → AreOfBlock k (take i ds) → AreOfBlock k (take (i + 1) ds)

@@ -7,10 +7,10 @@ use Rattle.ascending_lists.proofs.MapOrder.{lookup_below}
 use Rattle.ascending_lists.specs.Ascending.{AscendsFrom}
 use Rattle.std.specs.Map.{keys_of}
 use Rattle.pages.specs.Vertices.{neighbours_of}
-use Rattle.vertex_blocks.specs.Blocks.{Block, IsBlock, AreNeighbourLists, numbered, lists_of, AreBlocks}
+use Rattle.vertex_blocks.specs.Blocks.{Block, IsBlock, AreNeighbourLists, numbered_vertices, lists_of, AreBlocks}
 
 -- their lists are lists of neighbours
-numbered_lists : (k : ℕ) (es : Block) (rest : List (ℕ × List (ℕ × ℤ))) → AreNeighbourLists es → AreNeighbourLists rest → AreNeighbourLists (numbered k es ++ rest)
+numbered_lists : (k : ℕ) (es : Block) (rest : List (ℕ × List (ℕ × ℤ))) → AreNeighbourLists es → AreNeighbourLists rest → AreNeighbourLists (numbered_vertices k es ++ rest)
 numbered_lists k [] rest s t = t
 numbered_lists k (e ∷ es) rest s t = (s.0, numbered_lists k es rest s.1 t)
 

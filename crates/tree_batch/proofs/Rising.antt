@@ -3,7 +3,7 @@ use Rattle.std.proofs.Common.{◌≡◌, ℕ, ◌+◌, ◌^◌, ◌<◌, ◌≤�
 use Rattle.std.proofs.lemmas.Bool.{cases_Bool, cases_lt, and_parts, and_from, eqb-true, eq-eqb, false_from_ne_true}
 use Rattle.std.specs.Option.{option_or}
 use Rattle.weighted_edges.specs.Edge.{Edge}
-use Rattle.tree_batch.specs.Edge.{Ends, ends_of, index, ends_eq, weight_in, Rises}
+use Rattle.tree_batch.specs.Edge.{Ends, ends_of, index, ends_eq, weight_in, EdgesRise}
 
 pub ends_eq-refl : (p : Ends) → ends_eq p p ≡ true
 ends_eq-refl p = and_from _ _ (eq-eqb p.0 p.0 refl) (eq-eqb p.1 p.1 refl)
@@ -41,24 +41,24 @@ weight_in-append (x ∷ xs) ys p = elim (cases_Bool (ends_eq (ends_of x) p)) [
   | inr not_here ↦ rw (not_here) (weight_in-append xs ys p)
 ]
 
-pub rises_within : (low high : ℕ) (es : List Edge) → Rises low high es → low ≤ high
+pub rises_within : (low high : ℕ) (es : List Edge) → EdgesRise low high es → low ≤ high
 rises_within low high [] h = h
 rises_within low high (e ∷ es) h = omega (arith, h.0, rises_within (index (ends_of e) + 1) high es h.2)
 
-pub rises_from : (low lower high : ℕ) (es : List Edge) → lower ≤ low → Rises low high es → Rises lower high es
+pub rises_from : (low lower high : ℕ) (es : List Edge) → lower ≤ low → EdgesRise low high es → EdgesRise lower high es
 rises_from low lower high [] le h = omega arith
 rises_from low lower high (e ∷ es) le h = (omega (arith, h.0), h.1, h.2)
 
-pub rises_wider : (low high higher : ℕ) (es : List Edge) → high ≤ higher → Rises low high es → Rises low higher es
+pub rises_wider : (low high higher : ℕ) (es : List Edge) → high ≤ higher → EdgesRise low high es → EdgesRise low higher es
 rises_wider low high higher [] le h = omega arith
 rises_wider low high higher (e ∷ es) le h = (h.0, h.1, rises_wider (index (ends_of e) + 1) high higher es le h.2)
 
-pub rises_joined : (low mid high : ℕ) (xs ys : List Edge) → Rises low mid xs → Rises mid high ys → Rises low high (xs ++ ys)
+pub rises_joined : (low mid high : ℕ) (xs ys : List Edge) → EdgesRise low mid xs → EdgesRise mid high ys → EdgesRise low high (xs ++ ys)
 rises_joined low mid high [] ys h k = rises_from mid low high ys h k
 rises_joined low mid high (x ∷ xs) ys h k = (h.0, h.1, rises_joined (index (ends_of x) + 1) mid high xs ys h.2 k)
 
 -- edges below low are not there
-pub weight_in-below : (low high : ℕ) (es : List Edge) (p : Ends) → Rises low high es → index p < low → weight_in p es ≡ None
+pub weight_in-below : (low high : ℕ) (es : List Edge) (p : Ends) → EdgesRise low high es → index p < low → weight_in p es ≡ None
 weight_in-below low high [] p h lt = refl
 weight_in-below low high (x ∷ xs) p h lt =
     rw (ends_eq-apart (ends_of x) p (λ same. omega (arith, h.0))) (weight_in-below (index (ends_of x) + 1) high xs p h.2 (omega (arith, h.0)))
@@ -74,14 +74,16 @@ some_same : (v w : ℤ) → Some v ≡ Some w → v ≡ w
 some_same v w e = cc
 
 -- the first of the one stands no earlier than the first of the other
-no_earlier : (x y : Edge) (xs ys : List Edge) (high : ℕ) → Rises (index (ends_of y)) high (y ∷ ys) → ((p : Ends) → weight_in p (x ∷ xs) ≡ weight_in p (y ∷ ys)) → index (ends_of y) ≤ index (ends_of x)
+no_earlier : (x y : Edge) (xs ys : List Edge) (high : ℕ) → EdgesRise (index (ends_of y)) high (y ∷ ys) → ((p : Ends) → weight_in p (x ∷ xs) ≡ weight_in p (y ∷ ys))
+    → index (ends_of y) ≤ index (ends_of x)
 no_earlier x y xs ys high rises same = elim (cases_lt (index (ends_of x)) (index (ends_of y))) [
   | inl lt ↦ absurd (some_none x.2 (sym (weight_in-head x xs) ∙ same (ends_of x) ∙ weight_in-below (index (ends_of y)) high (y ∷ ys) (ends_of x) rises lt))
   | inr le ↦ le
 ]
 
 -- without their first edge too, the two give the same weights
-same_rest : (x : Edge) (xs ys : List Edge) (low high : ℕ) → Rises (index (ends_of x) + 1) low xs → Rises (index (ends_of x) + 1) high ys → ((p : Ends) → weight_in p (x ∷ xs) ≡ weight_in p (x ∷ ys))
+same_rest : (x : Edge) (xs ys : List Edge) (low high : ℕ) → EdgesRise (index (ends_of x) + 1) low xs → EdgesRise (index (ends_of x) + 1) high ys
+    → ((p : Ends) → weight_in p (x ∷ xs) ≡ weight_in p (x ∷ ys))
     → (p : Ends) → weight_in p xs ≡ weight_in p ys
 same_rest x xs ys low high h k same p = elim (cases_Bool (ends_eq (ends_of x) p)) [
   | inl here ↦
@@ -92,7 +94,7 @@ same_rest x xs ys low high h k same p = elim (cases_Bool (ends_eq (ends_of x) p)
 ]
 
 -- edges that rise are determined by the weights that they give
-pub same_edges : (low lower high higher : ℕ) (xs ys : List Edge) → Rises low high xs → Rises lower higher ys → ((p : Ends) → weight_in p xs ≡ weight_in p ys) → xs ≡ ys
+pub same_edges : (low lower high higher : ℕ) (xs ys : List Edge) → EdgesRise low high xs → EdgesRise lower higher ys → ((p : Ends) → weight_in p xs ≡ weight_in p ys) → xs ≡ ys
 same_edges low lower high higher [] [] h k same = refl
 same_edges low lower high higher [] (y ∷ ys) h k same = absurd (some_none y.2 (sym (weight_in-head y ys) ∙ sym (same (ends_of y))))
 same_edges low lower high higher (x ∷ xs) [] h k same = absurd (some_none x.2 (sym (weight_in-head x xs) ∙ same (ends_of x)))
@@ -104,5 +106,5 @@ same_edges low lower high higher (x ∷ xs) (y ∷ ys) h k same =
     let is : x ≡ y = same_edge x y ends weight in
     let Same : Edge → Type 0 = λ z. (p : Ends) → weight_in p (x ∷ xs) ≡ weight_in p (z ∷ ys) in
     let same_x : Same x = subst Same (sym is) same in
-    let rises_y : Rises (index (ends_of x) + 1) higher ys = subst (λ (z : Edge). Rises (index (ends_of z) + 1) higher ys) (sym is) k.2 in
+    let rises_y : EdgesRise (index (ends_of x) + 1) higher ys = subst (λ (z : Edge). EdgesRise (index (ends_of z) + 1) higher ys) (sym is) k.2 in
     λ i. is i ∷ same_edges (index (ends_of x) + 1) (index (ends_of x) + 1) high higher xs ys h.2 rises_y (same_rest x xs ys high higher h.2 rises_y same_x) i

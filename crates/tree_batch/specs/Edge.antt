@@ -33,13 +33,13 @@ abbrev pub IsWithin : ℕ → Ends → Type 0
 IsWithin n p = (p.0 < n) × (p.1 < n)
 
 -- the edges stand in order, each once, at indices from low up to high
-abbrev pub Rises : ℕ → ℕ → List Edge → Type 0
-Rises low high [] = low ≤ high
-Rises low high (e ∷ es) = (low ≤ index (ends_of e)) × (e.1 < 2 ^ 32) × Rises (index (ends_of e) + 1) high es
+abbrev pub EdgesRise : ℕ → ℕ → List Edge → Type 0
+EdgesRise low high [] = low ≤ high
+EdgesRise low high (e ∷ es) = (low ≤ index (ends_of e)) × (e.1 < 2 ^ 32) × EdgesRise (index (ends_of e) + 1) high es
 
 -- each edge stands after the one before it
 abbrev pub IsAscending : List Edge → Type 0
-IsAscending es = Rises 0 (2 ^ 64) es
+IsAscending es = EdgesRise 0 (2 ^ 64) es
 
 -- the k numbers from a on
 abbrev pub numbers_from : ℕ → ℕ → List ℕ

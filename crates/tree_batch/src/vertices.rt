@@ -23,12 +23,12 @@ pub(crate) struct AdjacencyIter<'a> {
 
 impl<'a> Model for AdjacencyIter<'a> {
     ghost use Rattle.std.specs.Prelude.{ℕ, ℤ, List, ◌++◌};
-    ghost use Rattle.vertex_blocks.specs.Blocks.{vertices_at, numbered, lists_of};
+    ghost use Rattle.vertex_blocks.specs.Blocks.{vertices_at, numbered_vertices, lists_of};
     ghost use Rattle.tree_batch.specs.inside.VertexBlocks.{AreBlocksLeft};
 
     ghost Value = { List (ℕ × List (ℕ × ℤ)) };
 
-    ghost view = { λ i. numbered i.number (vertices_at i.vertices) ++ lists_of i.rest };
+    ghost view = { λ i. numbered_vertices i.number (vertices_at i.vertices) ++ lists_of i.rest };
 
     ghost invariant = { λ i. AreBlocksLeft i.number (vertices_at i.vertices) i.rest };
 }

@@ -17,11 +17,11 @@ use Rattle.expression_types.specs.declared.scope.Entity.{Entity}
 use Rattle.expression_types.specs.declared.scope.Entity.TheVariants as entity
 use Rattle.expression_types.specs.declared.scope.Inside.{Inside}
 use Rattle.expression_types.specs.declared.scope.Inside.TheVariants as inside
-use Rattle.expression_types.specs.Expression.{as_size, as_vector, entry_of, used, vector_index}
+use Rattle.expression_types.specs.Expression.{as_size, as_vector, entry_of, used_name, vector_index}
 use Rattle.expression_types.specs.Faults.{fault_at, sure}
 use Rattle.expression_types.specs.Operators.{IntegersTree, Integers, MixedIntegers, ErrorIntegers, ConditionsTree, Conditions, MixedConditions, ErrorConditions, beside_condition, beside_integer}
-use Rattle.expression_types.specs.Operators.{compared, condition_index, entry_value, equated, first_condition, first_integer, function_entry, given, grouped_conditions, grouped_integers, main_entry}
-use Rattle.expression_types.specs.Operators.{related_value, signed_value}
+use Rattle.expression_types.specs.Operators.{compared, condition_index, entry_value, equated, first_condition, first_integer, function_entry, given_or_fault, grouped_conditions, grouped_integers}
+use Rattle.expression_types.specs.Operators.{main_entry, related_value, signed_value}
 use Rattle.expression_types.specs.ScopeTree.{ScopeTree}
 use Rattle.expression_types.specs.ValueTree.{ValueTree, Integer, Condition, Vertex, Set, ErrorValue, named_value, reads_entry, condition_reads_entry}
 use Rattle.type_laws.proofs.Faultless.{no_left, no_right, not_empty}
@@ -92,7 +92,7 @@ grouped_conditions_clear at MixedConditions clear none = absurd (not_empty _ _ n
 grouped_conditions_clear at ErrorConditions clear none = clear
 
 -- relations and signs
-given_clear : (at : ℕ) (rule : TypeRule) (o : Option ValueTree) → MaybeClear o → (given at rule o).faults ≡ [] → IsClear (given at rule o).value
+given_clear : (at : ℕ) (rule : TypeRule) (o : Option ValueTree) → MaybeClear o → (given_or_fault at rule o).faults ≡ [] → IsClear (given_or_fault at rule o).value
 given_clear at rule None clear none = absurd (not_empty _ _ none)
 given_clear at rule (Some v) clear none = clear
 
@@ -134,8 +134,8 @@ values_related_clear relation.LessOrEqual a b first second = values_compared_cle
 values_related_clear relation.Greater a b first second = values_compared_clear comparison.Greater a b first second
 values_related_clear relation.GreaterOrEqual a b first second = values_compared_clear comparison.GreaterOrEqual a b first second
 
-pub related_clear : (at : ℕ) (r : Relation) (a b : ValueTree) → IsClear a → IsClear b → (given at rule.WrongType (related_value r a b)).faults ≡ []
-    → IsClear (given at rule.WrongType (related_value r a b)).value
+pub related_clear : (at : ℕ) (r : Relation) (a b : ValueTree) → IsClear a → IsClear b → (given_or_fault at rule.WrongType (related_value r a b)).faults ≡ []
+    → IsClear (given_or_fault at rule.WrongType (related_value r a b)).value
 related_clear at r a b first second none = given_clear at rule.WrongType (related_value r a b) (values_related_clear r a b first second) none
 
 value_signed_clear : (sign : Prefix) (v : ValueTree) → IsClear v → MaybeClear (signed_value sign v)
@@ -150,8 +150,8 @@ value_signed_clear prefix.Not (Vertex p) clear = tt
 value_signed_clear prefix.Not (Set slot) clear = tt
 value_signed_clear prefix.Not ErrorValue clear = clear
 
-pub signed_clear : (at : ℕ) (sign : Prefix) (v : ValueTree) → IsClear v → (given at rule.WrongType (signed_value sign v)).faults ≡ []
-    → IsClear (given at rule.WrongType (signed_value sign v)).value
+pub signed_clear : (at : ℕ) (sign : Prefix) (v : ValueTree) → IsClear v → (given_or_fault at rule.WrongType (signed_value sign v)).faults ≡ []
+    → IsClear (given_or_fault at rule.WrongType (signed_value sign v)).value
 signed_clear at sign v clear none = given_clear at rule.WrongType (signed_value sign v) (value_signed_clear sign v clear) none
 
 -- names
@@ -168,8 +168,8 @@ entity_clear At name (entity.Parameter p) known = tt
 entity_clear At name entity.Weight known = tt
 entity_clear At name _ known = tt
 
-pub named_clear : (At : Vertices) (at : ℕ) (name : List ℕ) (e : Entity) → EntityIsKnown At name e → (given at rule.WrongType (named_value e)).faults ≡ []
-    → IsClear (given at rule.WrongType (named_value e)).value
+pub named_clear : (At : Vertices) (at : ℕ) (name : List ℕ) (e : Entity) → EntityIsKnown At name e → (given_or_fault at rule.WrongType (named_value e)).faults ≡ []
+    → IsClear (given_or_fault at rule.WrongType (named_value e)).value
 named_clear At at name e known none = given_clear at rule.WrongType (named_value e) (entity_clear At name e known) none
 
 pub size_clear : (At : Vertices) (at : ℕ) (name : List ℕ) (e : Entity) → EntityIsKnown At name e → (as_size at e).faults ≡ [] → IsClear (as_size at e).value
@@ -191,7 +191,7 @@ vector_is_there At at name _ known none = absurd (not_empty _ _ none)
 pub vector_there : (At : Vertices) (i : Inside) (scope : ScopeTree) (at : ℕ) (name : Identifier) → IsKnown At i scope → (vector_index scope at name).faults ≡ []
     → IsThere (vector_index scope at name).value
 vector_there At i scope at name known none =
-    let e = used scope name in
+    let e = used_name scope name in
     vector_is_there At at name.bytes e.value (used_known At i scope name known (no_left e.faults _ none)) (no_right e.faults _ none)
 
 -- the faults of an entry, if its index has no faulty part

@@ -6,8 +6,8 @@ use Rattle.std.proofs.lemmas.Slice.Eq.{bytes_eq-Decides}
 use Rattle.syntax.specs.Terminals.{Identifier}
 use Rattle.syntax.specs.SourceTrees as source
 use Rattle.syntax.specs.SourceTrees.{ParameterTree, DeclarationTree}
-use Rattle.types.specs.Declaration.{DeclaredTree, FunctionKindTree, MainKind, EdgeKind, VertexKind, FilterKind, NoKind, declaration_typed, declarations_typed, declare_function, is_bool, is_vertex}
-use Rattle.types.specs.Declaration.{kind_of, main_bytes, main_declared, steps_declared, takes_nothing, is_int}
+use Rattle.types.specs.Declaration.{DeclaredTree, FunctionKindTree, MainKind, EdgeKind, VertexKind, FilterKind, NoKind, declaration_typed, declarations_typed, declare_function, is_bool_type}
+use Rattle.types.specs.Declaration.{is_vertex_type, kind_of, main_bytes, main_declared, steps_declared, takes_nothing, is_int_type}
 use Rattle.type_laws.proofs.Faultless.{no_left, no_right}
 
 -- what holds of each declaration, where something is known before it and after it
@@ -35,11 +35,11 @@ if_user false k is = tt
 
 pub user_kind : (parameters : List ParameterTree) (result : Option ParameterTree) → IsUserKind (kind_of parameters result)
 user_kind [] result = tt
-user_kind (v ∷ []) None = if_user (is_vertex v.declared) VertexKind tt
-user_kind (v ∷ []) (Some result) = if_user (is_vertex v.declared && is_bool result.declared) FilterKind tt
-user_kind (src ∷ dst ∷ []) None = if_user (is_vertex src.declared && is_vertex dst.declared) (EdgeKind false) tt
+user_kind (v ∷ []) None = if_user (is_vertex_type v.declared) VertexKind tt
+user_kind (v ∷ []) (Some result) = if_user (is_vertex_type v.declared && is_bool_type result.declared) FilterKind tt
+user_kind (src ∷ dst ∷ []) None = if_user (is_vertex_type src.declared && is_vertex_type dst.declared) (EdgeKind false) tt
 user_kind (src ∷ dst ∷ []) (Some result) = tt
-user_kind (src ∷ dst ∷ w ∷ []) None = if_user (is_vertex src.declared && is_vertex dst.declared && is_int w.declared) (EdgeKind true) tt
+user_kind (src ∷ dst ∷ w ∷ []) None = if_user (is_vertex_type src.declared && is_vertex_type dst.declared && is_int_type w.declared) (EdgeKind true) tt
 user_kind (src ∷ dst ∷ w ∷ []) (Some result) = tt
 user_kind (a ∷ b ∷ c ∷ d ∷ others) result = tt
 

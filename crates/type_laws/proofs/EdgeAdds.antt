@@ -19,7 +19,7 @@ use Rattle.expression_types.specs.declared.scope.Inside.TheVariants as inside
 use Rattle.expression_types.specs.Expression.{index_value, value_of, vector_index}
 use Rattle.expression_types.specs.ScopeTree.{found}
 use Rattle.expression_types.specs.ValueTree.{ValueTree, Integer, Condition, Vertex, Set, ErrorValue}
-use Rattle.types.specs.Checker.{CheckerTree, labelled, new_label, condition_in, integer_in}
+use Rattle.types.specs.Checker.{CheckerTree, with_label, new_label, condition_in, integer_in}
 use Rattle.types.specs.Initial.{InitializerTree, initializer_of}
 use Rattle.types.specs.Step.{at_own, declare_step_as, may_reduce, one_reduction, own_vertex, reduce_entry_step, reduced_as, reduction_step, same_endpoint, same_reduction, step_after, step_typed}
 use Rattle.types.specs.Step.{steps_after, steps_typed, written_at, written_with}
@@ -90,7 +90,7 @@ new_label_writes : (c : CheckerTree) (label : Identifier) (index : Option ℕ) �
 new_label_writes c label None = refl
 new_label_writes c label (Some index) = refl
 
-labelled_writes : (c : CheckerTree) (label : Option Identifier) → (labelled c label).value.1.writes ≡ c.writes
+labelled_writes : (c : CheckerTree) (label : Option Identifier) → (with_label c label).value.1.writes ≡ c.writes
 labelled_writes c None = refl
 labelled_writes c (Some label) = new_label_writes c label (found label.bytes c.labels)
 
@@ -175,7 +175,7 @@ module _ {At : Vertices} {Read Write : ExpressionTree → Type 0} (body : Body A
         → Adds start c.writes (steps_write so_far) → Adds start (steps_typed c so_far block).value.1.writes (steps_write (steps_typed c so_far block).value.0)
     steps_add start c so_far source.Empty known none adds = adds
     steps_add start c so_far (source.Then label action others) known none adds =
-        let l = labelled c label in
+        let l = with_label c label in
         let s = step_typed l.value.1 action in
         let rest = steps_typed s.value.1 (step_after so_far s.value.0) others in
         let both = no_right l.faults (s.faults ++ rest.faults) none in

@@ -13,15 +13,15 @@ use Rattle.expression_types.specs.declared.fault.TypeRule.TheVariants as rule
 use Rattle.expression_types.specs.declared.scope.Entity.TheVariants as entity
 use Rattle.expression_types.specs.declared.scope.Inside.{Inside}
 use Rattle.expression_types.specs.declared.scope.Inside.TheVariants as inside
-use Rattle.expression_types.specs.Expression.{index_lacks_value, index_value, no_vertex, used, value_of, vector_index}
+use Rattle.expression_types.specs.Expression.{index_lacks_value, index_value, no_vertex, used_name, value_of, vector_index}
 use Rattle.expression_types.specs.Faults.{WithFaults, fault_at, sure}
 use Rattle.expression_types.specs.Operators.{entry_value, function_entry, main_entry}
 use Rattle.expression_types.specs.ScopeTree.{ScopeTree}
 use Rattle.expression_types.specs.ValueTree.{ValueTree, Integer, Condition, Vertex, Set, ErrorValue, condition_reads_entry, reads_entry}
-use Rattle.types.specs.Block.{action_typed, behind, closed, statements_typed}
-use Rattle.types.specs.Checker.{CheckerTree, counted, declared_in, integer_slot, labelled, restarted, as_index, condition_in, integer_in, no_index}
-use Rattle.types.specs.Declaration.{DeclaredTree, FunctionKindTree, MainKind, EdgeKind, VertexKind, FilterKind, NoKind, declaration_typed, declarations_typed, inside_of, is_bool, is_vertex, kind_fits}
-use Rattle.types.specs.Declaration.{kind_of, main_declared, opened, steps_declared, takes_nothing, is_int, takes_weight}
+use Rattle.types.specs.Block.{action_typed, then_statement, closed, statements_typed}
+use Rattle.types.specs.Checker.{CheckerTree, counted, declared_in, integer_slot, with_label, restarted, as_index, condition_in, integer_in, no_index}
+use Rattle.types.specs.Declaration.{DeclaredTree, FunctionKindTree, MainKind, EdgeKind, VertexKind, FilterKind, NoKind, declaration_typed, declarations_typed, inside_of, is_bool_type, is_vertex_type}
+use Rattle.types.specs.Declaration.{kind_fits, kind_of, main_declared, opened, steps_declared, takes_nothing, is_int_type, takes_weight}
 use Rattle.type_laws.specs.EntryAccess.{AccessesEntriesWell, AccessesOwnVertices, ActionAccesses, BlockAccesses, ExpressionReadsAt, HasNoEntry, InitialReadsAt, IsNameAmong}
 use Rattle.types.specs.Initial.{initializer_of}
 use Rattle.types.specs.Program.{opening, program_of, set_count}
@@ -89,10 +89,10 @@ mutual
   step_accesses body c (source.Print at e) known none = absurd (not_empty _ _ none)
   step_accesses body c (source.Assign name initial) known none =
       let all = no_left (assign_step c name.at name initial).faults [] none in
-      initializer_reads c name.at (body.reads c.scope name.at known) initial (no_left (initializer_of c name.at initial).faults _ (no_right (used c.scope name).faults _ all))
+      initializer_reads c name.at (body.reads c.scope name.at known) initial (no_left (initializer_of c name.at initial).faults _ (no_right (used_name c.scope name).faults _ all))
   step_accesses body c (source.Reduce name by e) known none =
       let all = no_left (reduce_step c.scope name.at name by e).faults [] none in
-      (expression_reads c.scope name.at (body.reads c.scope name.at known) e (no_left (value_of c.scope name.at e).faults _ (no_right (used c.scope name).faults _ all))).0
+      (expression_reads c.scope name.at (body.reads c.scope name.at known) e (no_left (value_of c.scope name.at e).faults _ (no_right (used_name c.scope name).faults _ all))).0
   step_accesses body c (source.SetEntry vector subscript e) known none =
       let index = vector_index c.scope vector.at vector in
       let v = index_value c.scope vector.at subscript in
@@ -119,7 +119,7 @@ mutual
       → IsKnown At i c.scope → (steps_typed c so_far block).faults ≡ [] → BlockAccesses Read Write block
   steps_access body c so_far source.Empty known none = tt
   steps_access {At = At} {i = i} body c so_far (source.Then label action others) known none =
-      let l = labelled c label in
+      let l = with_label c label in
       let s = step_typed l.value.1 action in
       let rest = steps_typed s.value.1 (step_after so_far s.value.0) others in
       let both = no_right l.faults (s.faults ++ rest.faults) none in
@@ -217,10 +217,10 @@ mutual
       (expression_reads c.scope at (main_reads c.scope at known) e (no_left (value_of c.scope at e).faults _ (no_left (print c.scope at e).faults [] none))).0
   action_accesses c (source.Assign name initial) known none =
       let all = no_left (assign c name.at name initial).faults [] none in
-      initializer_reads c name.at (main_reads c.scope name.at known) initial (no_left (initializer_of c name.at initial).faults _ (no_right (used c.scope name).faults _ all))
+      initializer_reads c name.at (main_reads c.scope name.at known) initial (no_left (initializer_of c name.at initial).faults _ (no_right (used_name c.scope name).faults _ all))
   action_accesses c (source.Reduce name by e) known none =
       let all = no_left (reduce c.scope name.at name by e).faults [] none in
-      (expression_reads c.scope name.at (main_reads c.scope name.at known) e (no_left (value_of c.scope name.at e).faults _ (no_right (used c.scope name).faults _ all))).0
+      (expression_reads c.scope name.at (main_reads c.scope name.at known) e (no_left (value_of c.scope name.at e).faults _ (no_right (used_name c.scope name).faults _ all))).0
   action_accesses c (source.SetEntry vector subscript e) known none =
       let index = vector_index c.scope vector.at vector in
       let v = value_of c.scope vector.at subscript in
@@ -241,17 +241,17 @@ mutual
       )
   action_accesses c (source.AddVertex set e) known none =
       let all = no_left (add_vertex c.scope set.at set e).faults [] none in
-      (expression_reads c.scope set.at (main_reads c.scope set.at known) e (no_left (value_of c.scope set.at e).faults _ (no_right (used c.scope set).faults _ all))).0
+      (expression_reads c.scope set.at (main_reads c.scope set.at known) e (no_left (value_of c.scope set.at e).faults _ (no_right (used_name c.scope set).faults _ all))).0
   action_accesses c (source.Apply target ends function) known none = tt
 
   statements_access : (c : CheckerTree) (so_far : BlockTree) (block : source.BlockTree) → IsKnown nowhere inside.Main c.scope → (statements_typed c so_far block).faults ≡ []
       → BlockAccesses HasNoEntry HasNoEntry block
   statements_access c so_far source.Empty known none = tt
   statements_access c so_far (source.Then label action others) known none =
-      let l = labelled c label in
+      let l = with_label c label in
       let d = counted l.value.1 in
       let a = action_typed d action in
-      let more = behind so_far (suc l.value.1.statements) l.value.0 a.value.0 in
+      let more = then_statement so_far (suc l.value.1.statements) l.value.0 a.value.0 in
       let rest = statements_typed a.value.1 more others in
       let both = no_right l.faults (a.faults ++ rest.faults) none in
       let here = subst (λ scope. IsKnown nowhere inside.Main scope) (sym (labelled_scope c label)) known in
@@ -354,32 +354,33 @@ steps_declared_access {At = At} d at kind name parameters result body may fit fi
     let first = opened_known At d.checker kind parameters result fit fits known (no_left c.faults _ inner) in
     steps_access may c.value NoStep body first (no_left b.faults _ (no_right c.faults _ inner))
 
-vertex_function_accesses : (d : DeclaredTree) (at : ℕ) (name : Identifier) (v : ParameterTree) (body : source.BlockTree) (b : Bool) → is_vertex v.declared ≡ b → AllKnown d
+vertex_function_accesses : (d : DeclaredTree) (at : ℕ) (name : Identifier) (v : ParameterTree) (body : source.BlockTree) (b : Bool) → is_vertex_type v.declared ≡ b → AllKnown d
     → (steps_declared d at (if b then VertexKind else NoKind) name (v ∷ []) None body).faults ≡ [] → AccessesOwnVertices (v ∷ []) body
 vertex_function_accesses d at name v body true is known none =
     steps_declared_access d at VertexKind name (v ∷ []) None body (vertex_body inside.VertexFunction v.name.bytes tt) (inl (is, refl), tt) tt known none
 vertex_function_accesses d at name v body false is known none = absurd (not_empty _ _ none)
 
-filter_accesses : (d : DeclaredTree) (at : ℕ) (name : Identifier) (v result : ParameterTree) (body : source.BlockTree) (b : Bool) → (is_vertex v.declared && is_bool result.declared) ≡ b
+filter_accesses : (d : DeclaredTree) (at : ℕ) (name : Identifier) (v result : ParameterTree) (body : source.BlockTree) (b : Bool) → (is_vertex_type v.declared && is_bool_type result.declared) ≡ b
     → AllKnown d → (steps_declared d at (if b then FilterKind else NoKind) name (v ∷ []) (Some result) body).faults ≡ [] → AccessesOwnVertices (v ∷ []) body
 filter_accesses d at name v result body true is known none =
-    let vertex = (both_true (is_vertex v.declared) (is_bool result.declared) is).0 in
+    let vertex = (both_true (is_vertex_type v.declared) (is_bool_type result.declared) is).0 in
     steps_declared_access d at FilterKind name (v ∷ []) (Some result) body (vertex_body inside.Filter v.name.bytes tt) (inl (vertex, refl), tt) tt known none
 filter_accesses d at name v result body false is known none = absurd (not_empty _ _ none)
 
-edge_function_accesses : (d : DeclaredTree) (at : ℕ) (name : Identifier) (src dst : ParameterTree) (body : source.BlockTree) (b : Bool) → (is_vertex src.declared && is_vertex dst.declared) ≡ b
+edge_function_accesses : (d : DeclaredTree) (at : ℕ) (name : Identifier) (src dst : ParameterTree) (body : source.BlockTree) (b : Bool)
+    → (is_vertex_type src.declared && is_vertex_type dst.declared) ≡ b
     → AllKnown d → (steps_declared d at (if b then EdgeKind false else NoKind) name (src ∷ dst ∷ []) None body).faults ≡ [] → AccessesOwnVertices (src ∷ dst ∷ []) body
 edge_function_accesses d at name src dst body true is known none =
-    let vertices = both_true (is_vertex src.declared) (is_vertex dst.declared) is in
+    let vertices = both_true (is_vertex_type src.declared) (is_vertex_type dst.declared) is in
     steps_declared_access d at (EdgeKind false) name (src ∷ dst ∷ []) None body (edge_body src.name.bytes dst.name.bytes) (inl (vertices.0, refl), (inl (vertices.1, refl), tt)) tt known none
 edge_function_accesses d at name src dst body false is known none = absurd (not_empty _ _ none)
 
 weighted_function_accesses : (d : DeclaredTree) (at : ℕ) (name : Identifier) (src dst w : ParameterTree) (body : source.BlockTree) (b : Bool)
-    → (is_vertex src.declared && is_vertex dst.declared && is_int w.declared) ≡ b
+    → (is_vertex_type src.declared && is_vertex_type dst.declared && is_int_type w.declared) ≡ b
     → AllKnown d → (steps_declared d at (if b then EdgeKind true else NoKind) name (src ∷ dst ∷ w ∷ []) None body).faults ≡ [] → AccessesOwnVertices (src ∷ dst ∷ w ∷ []) body
 weighted_function_accesses d at name src dst w body true is known none =
-    let types = both_true (is_vertex src.declared && is_vertex dst.declared) (is_int w.declared) is in
-    let vertices = both_true (is_vertex src.declared) (is_vertex dst.declared) types.0 in
+    let types = both_true (is_vertex_type src.declared && is_vertex_type dst.declared) (is_int_type w.declared) is in
+    let vertices = both_true (is_vertex_type src.declared) (is_vertex_type dst.declared) types.0 in
     steps_declared_access d at (EdgeKind true) name (src ∷ dst ∷ w ∷ []) None body (edge_body src.name.bytes dst.name.bytes)
     (inl (vertices.0, refl), (inl (vertices.1, refl), (inr (refl, types.1), tt))) tt known none
 weighted_function_accesses d at name src dst w body false is known none = absurd (not_empty _ _ none)
@@ -387,14 +388,14 @@ weighted_function_accesses d at name src dst w body false is known none = absurd
 user_function_accesses : (d : DeclaredTree) (at : ℕ) (name : Identifier) (parameters : List ParameterTree) (result : Option ParameterTree) (body : source.BlockTree) → AllKnown d
     → (steps_declared d at (kind_of parameters result) name parameters result body).faults ≡ [] → AccessesOwnVertices parameters body
 user_function_accesses d at name [] result body known none = absurd (not_empty _ _ none)
-user_function_accesses d at name (v ∷ []) None body known none = vertex_function_accesses d at name v body (is_vertex v.declared) refl known none
+user_function_accesses d at name (v ∷ []) None body known none = vertex_function_accesses d at name v body (is_vertex_type v.declared) refl known none
 user_function_accesses d at name (v ∷ []) (Some result) body known none =
-    filter_accesses d at name v result body (is_vertex v.declared && is_bool result.declared) refl known none
+    filter_accesses d at name v result body (is_vertex_type v.declared && is_bool_type result.declared) refl known none
 user_function_accesses d at name (src ∷ dst ∷ []) None body known none =
-    edge_function_accesses d at name src dst body (is_vertex src.declared && is_vertex dst.declared) refl known none
+    edge_function_accesses d at name src dst body (is_vertex_type src.declared && is_vertex_type dst.declared) refl known none
 user_function_accesses d at name (src ∷ dst ∷ []) (Some result) body known none = absurd (not_empty _ _ none)
 user_function_accesses d at name (src ∷ dst ∷ w ∷ []) None body known none =
-    weighted_function_accesses d at name src dst w body (is_vertex src.declared && is_vertex dst.declared && is_int w.declared) refl known none
+    weighted_function_accesses d at name src dst w body (is_vertex_type src.declared && is_vertex_type dst.declared && is_int_type w.declared) refl known none
 user_function_accesses d at name (src ∷ dst ∷ w ∷ []) (Some result) body known none = absurd (not_empty _ _ none)
 user_function_accesses d at name (x ∷ y ∷ z ∷ u ∷ others) result body known none = absurd (not_empty _ _ none)
 

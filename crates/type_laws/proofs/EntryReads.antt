@@ -7,8 +7,8 @@ use Rattle.syntax.specs.SourceTrees.{ExpressionTree, ConjunctionTree, Comparison
 use Rattle.typed_tree.specs.declared.expression.Connective.TheVariants as connective
 use Rattle.expression_types.specs.declared.scope.Inside.{Inside}
 use Rattle.expression_types.specs.Expression.{comparison_value, conjunction_value, conjuncts, disjuncts, factors, index_as, index_lacks_value, index_value, no_vertex, primary_value, sum_value}
-use Rattle.expression_types.specs.Expression.{summands, term_value, unary_value, used, value_of, vector_index}
-use Rattle.expression_types.specs.Operators.{ConditionsTree, IntegersTree, added, beside_condition, beside_integer, entry_value, first_condition, first_integer, multiplied}
+use Rattle.expression_types.specs.Expression.{summands, term_value, unary_value, used_name, value_of, vector_index}
+use Rattle.expression_types.specs.Operators.{ConditionsTree, IntegersTree, addition_operator, beside_condition, beside_integer, entry_value, first_condition, first_integer, multiplied}
 use Rattle.expression_types.specs.Faults.{WithFaults, sure}
 use Rattle.expression_types.specs.ScopeTree.{ScopeTree}
 use Rattle.expression_types.specs.ValueTree.{ValueTree}
@@ -116,12 +116,12 @@ mutual
   summands_read scope at r left o (tree.LastTerm t) clear none =
       let x = term_value scope at t in
       let first = term_reads scope at r t (no_left x.faults [] none) in
-      (first.0, beside_integer_clear (added o) left (first_integer x.value) clear (first_integer_clear x.value first.1))
+      (first.0, beside_integer_clear (addition_operator o) left (first_integer x.value) clear (first_integer_clear x.value first.1))
   summands_read scope at r left o (tree.TermThen t next others) clear none =
       let x = term_value scope at t in
       let first = term_reads scope at r t (no_left x.faults _ none) in
-      let both = beside_integer_clear (added o) left (first_integer x.value) clear (first_integer_clear x.value first.1) in
-      let more = summands_read scope at r (beside_integer (added o) left (first_integer x.value)) next others both (no_right x.faults _ none) in
+      let both = beside_integer_clear (addition_operator o) left (first_integer x.value) clear (first_integer_clear x.value first.1) in
+      let more = summands_read scope at r (beside_integer (addition_operator o) left (first_integer x.value)) next others both (no_right x.faults _ none) in
       ((first.0, more.0), more.1)
 
   term_reads : {At : Vertices} {i : Inside} {Index : ExpressionTree → Type 0} (scope : ScopeTree) (at : ℕ) → Reads At i Index scope at → (t : TermTree)
@@ -161,10 +161,10 @@ mutual
   primary_reads scope at r (tree.Literal n) none = (tt, tt)
   primary_reads scope at r (tree.Truth b) none = (tt, tt)
   primary_reads {At = At} {i = i} scope at r (tree.Variable name) none =
-      let e = used scope name in
+      let e = used_name scope name in
       (tt, named_clear At at name.bytes e.value (used_known At i scope name r.known (no_left e.faults _ none)) (no_right e.faults _ none))
   primary_reads {At = At} {i = i} scope at r (tree.Entry vector subscript) none =
-      let e = used scope vector in
+      let e = used_name scope vector in
       let index = vector_index scope at vector in
       let v = index_value scope at subscript in
       let behind = no_right e.faults _ none in
@@ -176,6 +176,6 @@ mutual
         entry_clear scope.inside at index.value v.value there clear parts.1,
       )
   primary_reads {At = At} {i = i} scope at r (tree.Size set) none =
-      let e = used scope set in
+      let e = used_name scope set in
       (tt, size_clear At at set.bytes e.value (used_known At i scope set r.known (no_left e.faults _ none)) (no_right e.faults _ none))
   primary_reads scope at r (tree.Parentheses inside) none = expression_reads scope at r inside none

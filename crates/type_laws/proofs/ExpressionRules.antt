@@ -28,12 +28,12 @@ use Rattle.expression_types.specs.declared.scope.Entity.TheVariants as entity
 use Rattle.expression_types.specs.declared.scope.Inside.{Inside}
 use Rattle.expression_types.specs.declared.scope.Inside.TheVariants as inside
 use Rattle.expression_types.specs.Expression.{as_size, comparison_value, conjunction_value, conjuncts, disjuncts, entry_of, factors, index_lacks_value, index_value, no_vertex, primary_value}
-use Rattle.expression_types.specs.Expression.{sum_value, summands, term_value, unary_value, used, used_as, value_of}
+use Rattle.expression_types.specs.Expression.{sum_value, summands, term_value, unary_value, used_name, used_as, value_of}
 use Rattle.expression_types.specs.ScopeTree.{found, ScopeTree}
-use Rattle.expression_types.specs.Operators.{ConditionsTree, Conditions, MixedConditions, ErrorConditions, IntegersTree, Integers, MixedIntegers, ErrorIntegers, added, beside_condition}
-use Rattle.expression_types.specs.Operators.{beside_integer, compared_value, condition_index, equated_value, first_condition, first_integer, given, grouped_conditions, grouped_integers, multiplied}
-use Rattle.expression_types.specs.Operators.{related_value, signed_value}
-use Rattle.expression_types.specs.ValueTree.{ValueTree, Integer, Condition, Vertex, Set, ErrorValue, condition_reads_entry, is_error, named_set, named_value, named_vector, reads_entry}
+use Rattle.expression_types.specs.Operators.{ConditionsTree, Conditions, MixedConditions, ErrorConditions, IntegersTree, Integers, MixedIntegers, ErrorIntegers, addition_operator, beside_condition}
+use Rattle.expression_types.specs.Operators.{beside_integer, compared_value, condition_index, equated_value, first_condition, first_integer, given_or_fault, grouped_conditions, grouped_integers}
+use Rattle.expression_types.specs.Operators.{multiplied, related_value, signed_value}
+use Rattle.expression_types.specs.ValueTree.{ValueTree, Integer, Condition, Vertex, Set, ErrorValue, condition_reads_entry, is_error, entity_set, named_value, named_vector, reads_entry}
 use Rattle.expression_types.specs.Faults.{WithFaults, fault_at, sure}
 use Rattle.types.specs.Initial.{names_error}
 use Rattle.type_laws.specs.ExpressionRules.{all_bools, all_ints, is_bool, is_int, may_be_index, own_faults, takes, takes_index, takes_sign}
@@ -129,12 +129,12 @@ summands_ints : (scope : ScopeTree) (at : ℕ) (left : IntegersTree) (o : Additi
     → has_ints (summands scope at left o s).value ≡ (has_ints left && all_ints scope at (summands_of s))
 summands_ints scope at left o (tree.LastTerm t) =
     let x = term_value scope at t in
-    beside_int (added o) left x.value ∙ ap (λ b. has_ints left && b) (sym (and_true (is_int x.value)))
+    beside_int (addition_operator o) left x.value ∙ ap (λ b. has_ints left && b) (sym (and_true (is_int x.value)))
 summands_ints scope at left o (tree.TermThen t next others) =
     let x = term_value scope at t in
     let rest = all_ints scope at (summands_of others) in
-    summands_ints scope at (beside_integer (added o) left (first_integer x.value)) next others
-    ∙ ap (λ b. b && rest) (beside_int (added o) left x.value) ∙ and_assoc (has_ints left) (is_int x.value) rest
+    summands_ints scope at (beside_integer (addition_operator o) left (first_integer x.value)) next others
+    ∙ ap (λ b. b && rest) (beside_int (addition_operator o) left x.value) ∙ and_assoc (has_ints left) (is_int x.value) rest
 
 factors_ints : (scope : ScopeTree) (at : ℕ) (left : IntegersTree) (o : Multiplication) (t : TermTree)
     → has_ints (factors scope at left o t).value ≡ (has_ints left && all_ints scope at (factors_of t))
@@ -181,7 +181,8 @@ part_own fs own wanted is = ap (λ ys. fs ++ ys) is ∙ ap (λ xs. xs ++ wanted)
 parts_own : (first second own wanted : List Fault) → own ≡ wanted → first ++ (second ++ own) ≡ (first ++ (second ++ [])) ++ wanted
 parts_own first second own wanted is = ap (λ fs. first ++ fs) (part_own second own wanted is) ∙ sym (append_assoc first (second ++ []) wanted)
 
-compared_own : (at : ℕ) (o : ComparisonOperator) (a b : ValueTree) → (given at rule.WrongType (compared_value o a b)).faults ≡ if_sound at (is_error a || (is_error b || false)) (is_int a && is_int b)
+compared_own : (at : ℕ) (o : ComparisonOperator) (a b : ValueTree) → (given_or_fault at rule.WrongType (compared_value o a b)).faults ≡ if_sound at (is_error a || (is_error b || false))
+    (is_int a && is_int b)
 compared_own at o (Integer a) (Integer b) = refl
 compared_own at o (Integer a) (Condition b) = refl
 compared_own at o (Integer a) (Vertex b) = refl
@@ -205,7 +206,7 @@ compared_own at o (Set a) ErrorValue = refl
 compared_own at o ErrorValue b = refl
 
 equated_own : (at : ℕ) (o : Connective) (p : ComparisonOperator) (a b : ValueTree)
-    → (given at rule.WrongType (equated_value o p a b)).faults ≡ if_sound at (is_error a || (is_error b || false)) (is_int a && is_int b || is_bool a && is_bool b)
+    → (given_or_fault at rule.WrongType (equated_value o p a b)).faults ≡ if_sound at (is_error a || (is_error b || false)) (is_int a && is_int b || is_bool a && is_bool b)
 equated_own at o p (Integer a) (Integer b) = refl
 equated_own at o p (Integer a) (Condition b) = refl
 equated_own at o p (Integer a) (Vertex b) = refl
@@ -228,7 +229,7 @@ equated_own at o p (Set a) (Set b) = refl
 equated_own at o p (Set a) ErrorValue = refl
 equated_own at o p ErrorValue b = refl
 
-related_own : (at : ℕ) (r : Relation) (a b : ValueTree) → (given at rule.WrongType (related_value r a b)).faults ≡ if_sound at (is_error a || (is_error b || false)) (takes r a b)
+related_own : (at : ℕ) (r : Relation) (a b : ValueTree) → (given_or_fault at rule.WrongType (related_value r a b)).faults ≡ if_sound at (is_error a || (is_error b || false)) (takes r a b)
 related_own at relation.Equal a b = equated_own at connective.Equal comparison.Equal a b
 related_own at relation.NotEqual a b = equated_own at connective.NotEqual comparison.NotEqual a b
 related_own at relation.Less a b = compared_own at comparison.Less a b
@@ -236,7 +237,7 @@ related_own at relation.LessOrEqual a b = compared_own at comparison.LessOrEqual
 related_own at relation.Greater a b = compared_own at comparison.Greater a b
 related_own at relation.GreaterOrEqual a b = compared_own at comparison.GreaterOrEqual a b
 
-signed_own : (at : ℕ) (sign : Prefix) (v : ValueTree) → (given at rule.WrongType (signed_value sign v)).faults ≡ if_sound at (is_error v || false) (takes_sign sign v)
+signed_own : (at : ℕ) (sign : Prefix) (v : ValueTree) → (given_or_fault at rule.WrongType (signed_value sign v)).faults ≡ if_sound at (is_error v || false) (takes_sign sign v)
 signed_own at prefix.Minus (Integer e) = refl
 signed_own at prefix.Minus (Condition c) = refl
 signed_own at prefix.Minus (Vertex p) = refl
@@ -248,11 +249,11 @@ signed_own at prefix.Not (Vertex p) = refl
 signed_own at prefix.Not (Set slot) = refl
 signed_own at prefix.Not ErrorValue = refl
 
-named_own : (at : ℕ) (e : Entity) → (given at rule.WrongType (named_value e)).faults ≡ if_sound at (names_error e || false) (is_some (named_value e))
+named_own : (at : ℕ) (e : Entity) → (given_or_fault at rule.WrongType (named_value e)).faults ≡ if_sound at (names_error e || false) (is_some (named_value e))
 named_own at entity.Error = refl
 named_own at _ = refl
 
-size_own : (at : ℕ) (e : Entity) → (as_size at e).faults ≡ if_sound at (names_error e || false) (is_some (named_set e))
+size_own : (at : ℕ) (e : Entity) → (as_size at e).faults ≡ if_sound at (names_error e || false) (is_some (entity_set e))
 size_own at entity.Error = refl
 size_own at _ = refl
 
@@ -386,13 +387,13 @@ rules_and_parts scope at (Unary (tree.Signed sign u)) =
 rules_and_parts scope at (Primary (tree.Literal n)) = refl
 rules_and_parts scope at (Primary (tree.Truth b)) = refl
 rules_and_parts scope at (Primary (tree.Variable name)) =
-    let e = used scope name in part_own e.faults _ _ (named_own at e.value)
+    let e = used_name scope name in part_own e.faults _ _ (named_own at e.value)
 rules_and_parts scope at (Primary (tree.Entry vector index)) =
-    let e = used scope vector in
+    let e = used_name scope vector in
     let v = index_value scope at index in
     parts_own e.faults v.faults _ _ (entry_own scope.inside at e.value v.value)
 rules_and_parts scope at (Primary (tree.Size set)) =
-    let e = used scope set in part_own e.faults _ _ (size_own at e.value)
+    let e = used_name scope set in part_own e.faults _ _ (size_own at e.value)
 rules_and_parts scope at (Primary (tree.Parentheses inner)) = let m = value_of scope at inner in one_own m.faults (is_error m.value || false)
 rules_and_parts scope at (Index index) = index_own scope at index (index_lacks_value scope.inside scope index)
 rules_and_parts scope at (Name name) = used_own name (found name.bytes scope.visible)

@@ -23,11 +23,11 @@ use Rattle.expression_types.specs.declared.scope.Entity.TheVariants as entity
 use Rattle.expression_types.specs.declared.scope.Inside.{Inside}
 use Rattle.expression_types.specs.declared.scope.Inside.TheVariants as inside
 use Rattle.expression_types.specs.Expression.{as_size, as_vector, comparison_value, conjunction_value, conjuncts, disjuncts, factors, index_lacks_value, index_value, no_vertex, primary_value}
-use Rattle.expression_types.specs.Expression.{sum_value, summands, term_value, unary_value, used, used_as, value_of, vector_index}
+use Rattle.expression_types.specs.Expression.{sum_value, summands, term_value, unary_value, used_name, used_as, value_of, vector_index}
 use Rattle.expression_types.specs.ScopeTree.{found, ScopeTree}
-use Rattle.expression_types.specs.Operators.{ConditionsTree, Conditions, MixedConditions, ErrorConditions, IntegersTree, Integers, MixedIntegers, ErrorIntegers, added, beside_condition}
-use Rattle.expression_types.specs.Operators.{beside_integer, compared, compared_value, condition_index, entry_value, equated, equated_value, first_condition, first_integer, function_entry, given}
-use Rattle.expression_types.specs.Operators.{grouped_conditions, grouped_integers, main_entry, multiplied, related_value, signed_value}
+use Rattle.expression_types.specs.Operators.{ConditionsTree, Conditions, MixedConditions, ErrorConditions, IntegersTree, Integers, MixedIntegers, ErrorIntegers, addition_operator, beside_condition}
+use Rattle.expression_types.specs.Operators.{beside_integer, compared, compared_value, condition_index, entry_value, equated, equated_value, first_condition, first_integer, function_entry}
+use Rattle.expression_types.specs.Operators.{given_or_fault, grouped_conditions, grouped_integers, main_entry, multiplied, related_value, signed_value}
 use Rattle.expression_types.specs.ValueTree as value
 use Rattle.expression_types.specs.ValueTree.{ValueTree, condition_reads_entry, named_value, reads_entry}
 use Rattle.expression_types.specs.Faults.{WithFaults, fault_at, sure}
@@ -62,7 +62,7 @@ found_clear name (x ∷ others) meant e is error = at_test (bytes_eq name x.0) i
     at_test true is rest = meant.0 (entity_is x.1 e is ∙ error)
     at_test false is rest = rest is
 
-pub used_meant : (scope : ScopeTree) (name : Identifier) → AreMeant scope.visible → (used scope name).faults ≡ [] → IsMeant (meanings_of scope.visible) name (used scope name).value
+pub used_meant : (scope : ScopeTree) (name : Identifier) → AreMeant scope.visible → (used_name scope name).faults ≡ [] → IsMeant (meanings_of scope.visible) name (used_name scope name).value
 used_meant scope name meant none = at_found (found name.bytes scope.visible) refl none
   where
     at_found : (o : Option Entity) → found name.bytes scope.visible ≡ o → (used_as name o).faults ≡ [] → IsMeant (meanings_of scope.visible) name (used_as name o).value
@@ -101,8 +101,8 @@ typed_clear : {m : WithFaults ValueTree} {Has : ExpressionType → Type 0} → T
 typed_clear {m = m} t = of_type_clear t.type m.value t.is
 
 -- names
-named_typed : (at : ℕ) (e : Entity) → (e ≡ entity.Error → ⊥) → (given at rule.WrongType (named_value e)).faults ≡ []
-    → Typed (given at rule.WrongType (named_value e)) (λ type. type_named (Some (meaning_of e)) ≡ Some type)
+named_typed : (at : ℕ) (e : Entity) → (e ≡ entity.Error → ⊥) → (given_or_fault at rule.WrongType (named_value e)).faults ≡ []
+    → Typed (given_or_fault at rule.WrongType (named_value e)) (λ type. type_named (Some (meaning_of e)) ≡ Some type)
 named_typed at (entity.Edges weights) clear none = absurd (not_empty _ _ none)
 named_typed at (entity.Vector index) clear none = absurd (not_empty _ _ none)
 named_typed at (entity.ConstantSet slot) clear none = record { type = Set; has = refl; is = tt }
@@ -146,7 +146,7 @@ vector_typed at names name entity.Error m none = absurd (m.clear refl)
 pub vector_found : (scope : ScopeTree) (at : ℕ) (name : Identifier) → AreMeant scope.visible → (vector_index scope at name).faults ≡ []
     → VectorFound (vector_index scope at name) (meanings_of scope.visible) name
 vector_found scope at name meant none =
-    let e = used scope name in
+    let e = used_name scope name in
     let x = vector_typed at (meanings_of scope.visible) name e.value (used_meant scope name meant (no_left e.faults _ none)) (no_right e.faults _ none) in
     record { vector = x.vector; means = x.means; index = x.index }
 
@@ -268,8 +268,8 @@ pub record BothIntegers (m : WithFaults ValueTree) (a b : IntegersTree) : Type 0
   pub second : AreIntegers b
   pub is : IsOf Truth m.value
 
-compared_are : (at : ℕ) (o : ComparisonOperator) (a b : IntegersTree) → NoErrors a → NoErrors b → (given at rule.WrongType (compared o a b)).faults ≡ []
-    → BothIntegers (given at rule.WrongType (compared o a b)) a b
+compared_are : (at : ℕ) (o : ComparisonOperator) (a b : IntegersTree) → NoErrors a → NoErrors b → (given_or_fault at rule.WrongType (compared o a b)).faults ≡ []
+    → BothIntegers (given_or_fault at rule.WrongType (compared o a b)) a b
 compared_are at o (Integers a) (Integers b) first second none = record { first = tt; second = tt; is = tt }
 compared_are at o (Integers a) MixedIntegers first second none = absurd (not_empty _ _ none)
 compared_are at o (Integers a) ErrorIntegers first second none = absurd second
@@ -283,8 +283,8 @@ pub record BothConditions (m : WithFaults ValueTree) (a b : ConditionsTree) : Ty
   pub second : AreConditions b
   pub is : IsOf Truth m.value
 
-equated_are : (at : ℕ) (o : Connective) (a b : ConditionsTree) → NoError a → NoError b → (given at rule.WrongType (equated o a b)).faults ≡ []
-    → BothConditions (given at rule.WrongType (equated o a b)) a b
+equated_are : (at : ℕ) (o : Connective) (a b : ConditionsTree) → NoError a → NoError b → (given_or_fault at rule.WrongType (equated o a b)).faults ≡ []
+    → BothConditions (given_or_fault at rule.WrongType (equated o a b)) a b
 equated_are at o (Conditions a) (Conditions b) first second none = record { first = tt; second = tt; is = tt }
 equated_are at o (Conditions a) MixedConditions first second none = absurd (not_empty _ _ none)
 equated_are at o (Conditions a) ErrorConditions first second none = absurd second
@@ -297,13 +297,13 @@ equated_are at o ErrorConditions b first second none = absurd first
 abbrev AreRelated : Relation → WithFaults ValueTree → ValueTree → ValueTree → Type 0
 AreRelated r m a b = BothIntegers m (first_integer a) (first_integer b) ⊎ (IsEquality r × BothConditions m (first_condition a) (first_condition b))
 
-values_compared : (at : ℕ) (o : ComparisonOperator) (a b : ValueTree) → NoErrors (first_integer a) → NoErrors (first_integer b) → (given at rule.WrongType (compared_value o a b)).faults ≡ []
-    → BothIntegers (given at rule.WrongType (compared_value o a b)) (first_integer a) (first_integer b)
+values_compared : (at : ℕ) (o : ComparisonOperator) (a b : ValueTree) → NoErrors (first_integer a) → NoErrors (first_integer b) → (given_or_fault at rule.WrongType (compared_value o a b)).faults ≡ []
+    → BothIntegers (given_or_fault at rule.WrongType (compared_value o a b)) (first_integer a) (first_integer b)
 values_compared at o a b first second none = compared_are at o (first_integer a) (first_integer b) first second none
 
 values_equated : (r : Relation) (at : ℕ) (c : Connective) (o : ComparisonOperator) (a b : ValueTree) → IsEquality r → NoError (first_condition a) → NoError (first_condition b)
     → NoErrors (first_integer a)
-    → NoErrors (first_integer b) → (given at rule.WrongType (equated_value c o a b)).faults ≡ [] → AreRelated r (given at rule.WrongType (equated_value c o a b)) a b
+    → NoErrors (first_integer b) → (given_or_fault at rule.WrongType (equated_value c o a b)).faults ≡ [] → AreRelated r (given_or_fault at rule.WrongType (equated_value c o a b)) a b
 values_equated r at c o (value.Integer a) b equality x y first second none = inl (values_compared at o (value.Integer a) b first second none)
 values_equated r at c o (value.Condition a) b equality x y first second none = inr (equality, equated_are at c (Conditions a) (first_condition b) x y none)
 values_equated r at c o (value.Vertex p) b equality x y first second none = inl (values_compared at o (value.Vertex p) b first second none)
@@ -311,7 +311,7 @@ values_equated r at c o (value.Set slot) b equality x y first second none = inl 
 values_equated r at c o value.ErrorValue b equality x y first second none = absurd first
 
 values_related : (at : ℕ) (r : Relation) (a b : ValueTree) → NoError (first_condition a) → NoError (first_condition b) → NoErrors (first_integer a) → NoErrors (first_integer b)
-    → (given at rule.WrongType (related_value r a b)).faults ≡ [] → AreRelated r (given at rule.WrongType (related_value r a b)) a b
+    → (given_or_fault at rule.WrongType (related_value r a b)).faults ≡ [] → AreRelated r (given_or_fault at rule.WrongType (related_value r a b)) a b
 values_related at relation.Equal a b x y first second none = values_equated relation.Equal at connective.Equal comparison.Equal a b tt x y first second none
 values_related at relation.NotEqual a b x y first second none = values_equated relation.NotEqual at connective.NotEqual comparison.NotEqual a b tt x y first second none
 values_related at relation.Less a b x y first second none = inl (values_compared at comparison.Less a b first second none)
@@ -320,16 +320,17 @@ values_related at relation.Greater a b x y first second none = inl (values_compa
 values_related at relation.GreaterOrEqual a b x y first second none = inl (values_compared at comparison.GreaterOrEqual a b first second none)
 
 -- signs
-negative_typed : (Has : ExpressionType → Type 0) (at : ℕ) (type : ExpressionType) (v : ValueTree) → Has type → IsOf type v → (given at rule.WrongType (signed_value prefix.Minus v)).faults ≡ []
-    → ReadsAsNumber Has × IsOf Number (given at rule.WrongType (signed_value prefix.Minus v)).value
+negative_typed : (Has : ExpressionType → Type 0) (at : ℕ) (type : ExpressionType) (v : ValueTree) → Has type → IsOf type v
+    → (given_or_fault at rule.WrongType (signed_value prefix.Minus v)).faults ≡ []
+    → ReadsAsNumber Has × IsOf Number (given_or_fault at rule.WrongType (signed_value prefix.Minus v)).value
 negative_typed Has at type (value.Integer e) has is none = (number_type Has type (value.Integer e) has is tt, tt)
 negative_typed Has at type (value.Condition c) has is none = absurd (not_empty _ _ none)
 negative_typed Has at type (value.Vertex p) has is none = (number_type Has type (value.Vertex p) has is tt, tt)
 negative_typed Has at type (value.Set slot) has is none = absurd (not_empty _ _ none)
 negative_typed Has at type value.ErrorValue has is none = absurd ((first_no_error type value.ErrorValue is).0)
 
-negated_typed : (Has : ExpressionType → Type 0) (at : ℕ) (type : ExpressionType) (v : ValueTree) → Has type → IsOf type v → (given at rule.WrongType (signed_value prefix.Not v)).faults ≡ []
-    → Has Truth × IsOf Truth (given at rule.WrongType (signed_value prefix.Not v)).value
+negated_typed : (Has : ExpressionType → Type 0) (at : ℕ) (type : ExpressionType) (v : ValueTree) → Has type → IsOf type v → (given_or_fault at rule.WrongType (signed_value prefix.Not v)).faults ≡ []
+    → Has Truth × IsOf Truth (given_or_fault at rule.WrongType (signed_value prefix.Not v)).value
 negated_typed Has at type (value.Integer e) has is none = absurd (not_empty _ _ none)
 negated_typed Has at type (value.Condition c) has is none = (subst Has (truth_type type (value.Condition c) is tt) has, tt)
 negated_typed Has at type (value.Vertex p) has is none = absurd (not_empty _ _ none)
@@ -535,17 +536,17 @@ mutual
   summands_typed scope at meant left o (tree.LastTerm t) error none =
       let x = term_value scope at t in
       let first = term_typed scope at meant t (no_left x.faults [] none) in (
-        beside_no_errors (added o) left (first_integer x.value) error (first_no_error first.type x.value first.is).1,
-        λ are. let both = both_integers (added o) left (first_integer x.value) are in
+        beside_no_errors (addition_operator o) left (first_integer x.value) error (first_no_error first.type x.value first.is).1,
+        λ are. let both = both_integers (addition_operator o) left (first_integer x.value) are in
             (both.0, as_number x (TermHas (meanings_of scope.visible) scope.inside t) first both.1),
       )
   summands_typed scope at meant left o (tree.TermThen t next others) error none =
       let x = term_value scope at t in
       let first = term_typed scope at meant t (no_left x.faults _ none) in
-      let both = beside_no_errors (added o) left (first_integer x.value) error (first_no_error first.type x.value first.is).1 in
-      let more = summands_typed scope at meant (beside_integer (added o) left (first_integer x.value)) next others both (no_right x.faults _ none) in (
+      let both = beside_no_errors (addition_operator o) left (first_integer x.value) error (first_no_error first.type x.value first.is).1 in
+      let more = summands_typed scope at meant (beside_integer (addition_operator o) left (first_integer x.value)) next others both (no_right x.faults _ none) in (
         more.0,
-        λ are. let further = more.1 are in let two = both_integers (added o) left (first_integer x.value) further.0 in
+        λ are. let further = more.1 are in let two = both_integers (addition_operator o) left (first_integer x.value) further.0 in
             (two.0, inl (refl, as_number x (TermHas (meanings_of scope.visible) scope.inside t) first two.1, further.1)),
       )
 
@@ -602,12 +603,12 @@ mutual
   primary_typed scope at meant (tree.Literal n) none = record { type = Number; has = refl; is = tt }
   primary_typed scope at meant (tree.Truth b) none = record { type = Truth; has = refl; is = tt }
   primary_typed scope at meant (tree.Variable name) none =
-      let e = used scope name in
+      let e = used_name scope name in
       let m = used_meant scope name meant (no_left e.faults _ none) in
       let t = named_typed at e.value m.clear (no_right e.faults _ none) in
       record { type = t.type; has = subst (λ o. type_named o ≡ Some t.type) (sym m.means) t.has; is = t.is }
   primary_typed scope at meant (tree.Entry vector subscript) none =
-      let e = used scope vector in
+      let e = used_name scope vector in
       let x = index_value scope at subscript in
       let behind = no_right e.faults _ none in
       let sound = no_left x.faults _ behind in
@@ -617,7 +618,7 @@ mutual
       let all = entry_typed scope at v.vector (vector_index scope at vector).value subscript v.index (expression_typed scope at meant subscript) sound parts.1 in
       record { type = Number; has = (refl, record { vector = v.vector; means = v.means }, all.0); is = all.1 }
   primary_typed scope at meant (tree.Size set) none =
-      let e = used scope set in
+      let e = used_name scope set in
       let m = used_meant scope set meant (no_left e.faults _ none) in
       let t = size_typed at e.value m.clear (no_right e.faults _ none) in
       record { type = Number; has = (refl, subst (λ o. type_named o ≡ Some Set) (sym m.means) t.0); is = t.1 }

@@ -22,19 +22,19 @@ use Rattle.expression_types.specs.declared.scope.Entity.{Entity}
 use Rattle.expression_types.specs.declared.scope.Entity.TheVariants as entity
 use Rattle.expression_types.specs.declared.scope.Inside.{Inside}
 use Rattle.expression_types.specs.declared.scope.Inside.TheVariants as inside
-use Rattle.expression_types.specs.Expression.{used, value_of}
+use Rattle.expression_types.specs.Expression.{used_name, value_of}
 use Rattle.expression_types.specs.ValueTree as value
-use Rattle.expression_types.specs.ValueTree.{ValueTree, is_error, named_set}
+use Rattle.expression_types.specs.ValueTree.{ValueTree, is_error, entity_set}
 use Rattle.expression_types.specs.Faults.{WithFaults, fault_at, sure}
 use Rattle.types.specs.Block.{statements_typed}
-use Rattle.types.specs.Checker.{CheckerTree, condition_slot, declared_in, restarted, with_scope}
+use Rattle.types.specs.Checker.{CheckerTree, condition_slot, declared_in, restarted, in_scope}
 use Rattle.types.specs.Declaration.{DeclaredTree, EdgeKind, FilterKind, MainKind, NoKind, VertexKind, begins, declaration_typed, declarations_typed, declare_constant_as, declare_function}
-use Rattle.types.specs.Declaration.{declare_name, has_all, is_bool, is_vertex, kind_of, literal_or_fault, loads, main_bytes, main_declared, next_name, only_edges, opened, parameter, steps_declared}
-use Rattle.types.specs.Declaration.{takes_nothing, wanted, is_int}
+use Rattle.types.specs.Declaration.{declare_name, has_all, is_bool_type, is_vertex_type, kind_of, literal_or_fault, loads, main_bytes, main_declared, next_name, only_edges, opened, parameter}
+use Rattle.types.specs.Declaration.{steps_declared, takes_nothing, wanted, is_int_type}
 use Rattle.types.specs.Initial as initial_value
-use Rattle.types.specs.Initial.{ApplyEndTree, Degrees, ErrorInitializer, InitializerTree, Loaded, end_of, edge_function, ends_given, filter_function, filtered, filtered_by, initializer_of, is_all}
-use Rattle.types.specs.Initial.{is_degrees, is_edges, is_error_end, is_loaded, is_sound, is_wrong, loaded, modified, modified_by, names_error, new_set, of_edges, vector_of, writes_vector}
-use Rattle.types.specs.Initial.{lacks_weights}
+use Rattle.types.specs.Initial.{ApplyEndTree, Degrees, ErrorInitializer, InitializerTree, Loaded, apply_end_of, edge_function, ends_given, filter_function, filtered_set, filtered_by, initializer_of}
+use Rattle.types.specs.Initial.{is_all, is_degrees, is_edges, is_error_end, is_loaded, is_sound, is_wrong, loaded, initial_modified, modified_by, names_error, new_set, of_edges, vector_of}
+use Rattle.types.specs.Initial.{writes_vector, lacks_weights}
 use Rattle.types.specs.Literal.{literal_condition, literal_integer}
 use Rattle.types.specs.Program.{main_of, opening, program_of, set_count}
 use Rattle.types.specs.Step.{steps_typed}
@@ -42,7 +42,7 @@ use Rattle.type_laws.specs.ExpressionTypes.{ExpressionType, Number, Set, Truth, 
 use Rattle.type_laws.specs.KeptRules.{ConstantKeeps, DeclarationKeeps, Declarations, DeclarationsKeep, FunctionKeeps, KeepsRules, MainKeeps, after_declaration, after_function, after_main}
 use Rattle.type_laws.specs.KeptRules.{constant_meaning, known_at_vertex, known_in_filter, known_in_main, known_on_edge, nothing_declared, known_on_weighted_edge, BlockKeeps}
 use Rattle.type_laws.specs.Meanings as meaning
-use Rattle.type_laws.specs.Meanings.{IsNew, Known, closed_known, known_after, with_name}
+use Rattle.type_laws.specs.Meanings.{IsNew, Known, closed_known, known_after, with_meaning}
 use Rattle.type_laws.proofs.Booleans.{false_is_not_true}
 use Rattle.type_laws.proofs.Faultless.{no_left, no_right, not_empty}
 use Rattle.type_laws.proofs.MainFunction.{MainTakesNothing, mains_take_nothing}
@@ -119,9 +119,9 @@ filtered_by_plain at None f = (refl, refl, refl)
 filtered_by_plain at (Some slot) None = (refl, refl, refl)
 filtered_by_plain at (Some slot) (Some index) = (refl, refl, refl)
 
-filtered_plain : (at : ℕ) (s f : Entity) → Plain (filtered at s f).value
+filtered_plain : (at : ℕ) (s f : Entity) → Plain (filtered_set at s f).value
 filtered_plain at s f =
-    if_plain (names_error s || names_error f) (sure ErrorInitializer) (filtered_by at (named_set s) (filter_function f)) (refl, refl, refl) (filtered_by_plain at (named_set s) (filter_function f))
+    if_plain (names_error s || names_error f) (sure ErrorInitializer) (filtered_by at (entity_set s) (filter_function f)) (refl, refl, refl) (filtered_by_plain at (entity_set s) (filter_function f))
 
 modified_by_plain : (c : CheckerTree) (at : ℕ) (ends : ApplyEnds) (f v : Option ℕ) → Plain (modified_by c at ends f v).value
 modified_by_plain c at ends None v = (refl, refl, refl)
@@ -130,7 +130,7 @@ modified_by_plain c at ends (Some function) (Some vector) =
     if_plain (writes_vector c.written function vector) (sure (initial_value.Members (set.Modified ends function vector))) (fault_at at rule.WrongType ErrorInitializer) (refl, refl, refl)
     (refl, refl, refl)
 
-modified_plain : (c : CheckerTree) (at : ℕ) (e : Entity) (a b : ApplyEndTree) (f v : Entity) → Plain (modified c at e a b f v).value
+modified_plain : (c : CheckerTree) (at : ℕ) (e : Entity) (a b : ApplyEndTree) (f v : Entity) → Plain (initial_modified c at e a b f v).value
 modified_plain c at e a b f v =
     let inner = if is_wrong a || is_wrong b || lacks_weights e f then fault_at at rule.WrongType ErrorInitializer else modified_by c at (ends_given a b) (edge_function f) (vector_of v) in
     if_plain (names_error e || is_error_end a || is_error_end b || names_error f || names_error v) (sure ErrorInitializer) (if is_edges e then inner else fault_at at rule.WrongType ErrorInitializer)
@@ -169,10 +169,11 @@ vertices_wanted d k s at (source.Load argument) none all =
 vertices_wanted d k s at (source.OutDegrees edges) none all =
     never (is_all (initializer_of d.checker at (source.OutDegrees edges)).value)
     (ap is_all (initial_gives inside.Main d.checker (record k.known { reduced = d.checker.writes }) (checker_sees d.checker k.known s.agrees.checker s.some) at (source.OutDegrees edges) none).1) all
-vertices_wanted d k s at (source.Filter x f) none all = never _ (filtered_plain at (used d.checker.scope x).value (used d.checker.scope f).value).0 all
+vertices_wanted d k s at (source.Filter x f) none all = never _ (filtered_plain at (used_name d.checker.scope x).value (used_name d.checker.scope f).value).0 all
 vertices_wanted d k s at (source.ApplyModified edges ends f v) none all =
-    never _ (modified_plain d.checker at (used d.checker.scope edges).value (end_of d.checker.scope ends.from).value (end_of d.checker.scope ends.to).value (used d.checker.scope f).value
-    (used d.checker.scope v).value).0 all
+    never _ (modified_plain d.checker at (used_name d.checker.scope edges).value (apply_end_of d.checker.scope ends.from).value (apply_end_of d.checker.scope ends.to).value
+    (used_name d.checker.scope f).value
+    (used_name d.checker.scope v).value).0 all
 vertices_wanted d k s at (source.Value e) none all = false_is_not_true all
 
 -- the edges, where there were none
@@ -193,10 +194,11 @@ loaded_wanted d k s at (source.OutDegrees edges) none all before =
     never (is_loaded (initializer_of d.checker at (source.OutDegrees edges)).value)
     (ap is_loaded (initial_gives inside.Main d.checker (record k.known { reduced = d.checker.writes }) (checker_sees d.checker k.known s.agrees.checker s.some) at
     (source.OutDegrees edges) none).1) all
-loaded_wanted d k s at (source.Filter x f) none all before = never _ (filtered_plain at (used d.checker.scope x).value (used d.checker.scope f).value).1 all
+loaded_wanted d k s at (source.Filter x f) none all before = never _ (filtered_plain at (used_name d.checker.scope x).value (used_name d.checker.scope f).value).1 all
 loaded_wanted d k s at (source.ApplyModified edges ends f v) none all before =
-    never _ (modified_plain d.checker at (used d.checker.scope edges).value (end_of d.checker.scope ends.from).value (end_of d.checker.scope ends.to).value (used d.checker.scope f).value
-    (used d.checker.scope v).value).1 all
+    never _ (modified_plain d.checker at (used_name d.checker.scope edges).value (apply_end_of d.checker.scope ends.from).value (apply_end_of d.checker.scope ends.to).value
+    (used_name d.checker.scope f).value
+    (used_name d.checker.scope v).value).1 all
 loaded_wanted d k s at (source.Value e) none all before = false_is_not_true all
 
 -- a vector begins with a literal, where it does not begin with degrees
@@ -228,11 +230,12 @@ vector_wanted d k s at (source.Vertices edges) none wanted = begins_literal at (
     (source.Vertices edges) none).1) wanted
 vector_wanted d k s at (source.Filter x f) none wanted = begins_literal at (initializer_of d.checker at (source.Filter x f)).value (source.Filter x f)
     (given_sound d.checker (record k.known { reduced = d.checker.writes }) (checker_sees d.checker k.known s.agrees.checker s.some) at (source.Filter x f) none)
-    (filtered_plain at (used d.checker.scope x).value (used d.checker.scope f).value).2 wanted
+    (filtered_plain at (used_name d.checker.scope x).value (used_name d.checker.scope f).value).2 wanted
 vector_wanted d k s at (source.ApplyModified edges ends f v) none wanted = begins_literal at (initializer_of d.checker at (source.ApplyModified edges ends f v)).value
     (source.ApplyModified edges ends f v) (given_sound d.checker (record k.known { reduced = d.checker.writes }) (checker_sees d.checker k.known s.agrees.checker s.some) at
-    (source.ApplyModified edges ends f v) none) (modified_plain d.checker at (used d.checker.scope edges).value (end_of d.checker.scope ends.from).value (end_of d.checker.scope ends.to).value
-    (used d.checker.scope f).value (used d.checker.scope v).value).2 wanted
+    (source.ApplyModified edges ends f v) none) (modified_plain d.checker at (used_name d.checker.scope edges).value (apply_end_of d.checker.scope ends.from).value
+    (apply_end_of d.checker.scope ends.to).value
+    (used_name d.checker.scope f).value (used_name d.checker.scope v).value).2 wanted
 vector_wanted d k s at (source.Value e) none wanted = begins_literal at (initializer_of d.checker at (source.Value e)).value (source.Value e)
     (given_sound d.checker (record k.known { reduced = d.checker.writes }) (checker_sees d.checker k.known s.agrees.checker s.some) at (source.Value e) none) refl wanted
 
@@ -321,7 +324,7 @@ constant_keeps d k s at p initial declared.WeightedEdgeSet none =
     )
 
 -- types of parameters
-vertex_declared : (type : DeclaredType) → is_vertex type ≡ true → type ≡ declared.Vertex
+vertex_declared : (type : DeclaredType) → is_vertex_type type ≡ true → type ≡ declared.Vertex
 vertex_declared declared.Vertex is = refl
 vertex_declared declared.Int is = absurd cc
 vertex_declared declared.Bool is = absurd cc
@@ -330,7 +333,7 @@ vertex_declared declared.Vector is = absurd cc
 vertex_declared declared.EdgeSet is = absurd cc
 vertex_declared declared.WeightedEdgeSet is = absurd cc
 
-bool_declared : (type : DeclaredType) → is_bool type ≡ true → type ≡ declared.Bool
+bool_declared : (type : DeclaredType) → is_bool_type type ≡ true → type ≡ declared.Bool
 bool_declared declared.Bool is = refl
 bool_declared declared.Int is = absurd cc
 bool_declared declared.Vertex is = absurd cc
@@ -349,9 +352,9 @@ begun_sees c k i a some = record { matches = begun_matches c k i a; some = some 
 
 -- the name of a function is new after what is in it
 function_is_new : (i : Inside) (d : DeclaredTree) (k : Declarations) → SeesAll d k → (c : CheckerTree) (after : Known) → Sees i c after → (name : Identifier) (e : Entity)
-    → (declared_in (with_scope c d.checker.scope) name e).faults ≡ [] → IsNew k.known name
+    → (declared_in (in_scope c d.checker.scope) name e).faults ≡ [] → IsNew k.known name
 function_is_new i d k s c after inner name e none =
-    name_is_new (with_scope c d.checker.scope) (closed_known k.known after) (left_agrees i d.checker c k.known after s.agrees.checker inner.matches) s.some name e none
+    name_is_new (in_scope c d.checker.scope) (closed_known k.known after) (left_agrees i d.checker c k.known after s.agrees.checker inner.matches) s.some name e none
 
 vertex_function_keeps : (d : DeclaredTree) (k : Declarations) → SeesAll d k → (at : ℕ) (name : Identifier) (v : ParameterTree) (body : source.BlockTree) → v.declared ≡ declared.Vertex
     → (steps_declared d at VertexKind name (v ∷ []) None body).faults ≡ [] → IsNew k.known name × FunctionKeeps k.known (v ∷ []) None body
@@ -369,8 +372,8 @@ vertex_function_keeps d k s at name v body is none =
     let keeps = steps_keep inside.VertexFunction o.value (known_at_vertex k.known v) tt within NoStep body (no_left b.faults _ after_o) in
     let after = steps_kept inside.VertexFunction o.value (known_at_vertex k.known v) tt within.matches NoStep body keeps in
     let f = entity.VertexFunction (length d.vertex_functions) in
-    let e = declared_in (with_scope b.value.1 d.checker.scope) name f in (
-      name_is_new (with_scope b.value.1 d.checker.scope) (closed_known k.known (known_after inside.VertexFunction (known_at_vertex k.known v) body))
+    let e = declared_in (in_scope b.value.1 d.checker.scope) name f in (
+      name_is_new (in_scope b.value.1 d.checker.scope) (closed_known k.known (known_after inside.VertexFunction (known_at_vertex k.known v) body))
           (left_agrees inside.VertexFunction d.checker b.value.1 k.known (known_after inside.VertexFunction (known_at_vertex k.known v) body) s.agrees.checker after.1) s.some name f
           (no_left e.faults [] (no_left (e.faults ++ []) [] (no_right b.faults _ after_o))),
       (is, new, keeps),
@@ -401,8 +404,8 @@ filter_keeps d k s at name v test body is also none =
     let keeps = steps_keep inside.Filter o.value (known_in_filter k.known v test) tt within NoStep body (no_left b.faults _ after_o) in
     let after = steps_kept inside.Filter o.value (known_in_filter k.known v test) tt within.matches NoStep body keeps in
     let f = entity.Filter (length d.filters) in
-    let e = declared_in (with_scope b.value.1 d.checker.scope) name f in (
-      name_is_new (with_scope b.value.1 d.checker.scope) (closed_known k.known (known_after inside.Filter (known_in_filter k.known v test) body))
+    let e = declared_in (in_scope b.value.1 d.checker.scope) name f in (
+      name_is_new (in_scope b.value.1 d.checker.scope) (closed_known k.known (known_after inside.Filter (known_in_filter k.known v test) body))
           (left_agrees inside.Filter d.checker b.value.1 k.known (known_after inside.Filter (known_in_filter k.known v test) body) s.agrees.checker after.1) s.some name f
           (no_left e.faults [] (no_left (e.faults ++ []) [] (no_right b.faults _ after_o))),
       (is, also, new, result_new, keeps),
@@ -420,8 +423,8 @@ edge_body_keeps d k s at name weighted parameters start body opens some none =
     let keeps = steps_keep inside.EdgeFunction o.value start tt within NoStep body (no_left b.faults _ after_o) in
     let after = steps_kept inside.EdgeFunction o.value start tt within.matches NoStep body keeps in
     let f = entity.EdgeFunction (length d.edge_functions) weighted in
-    let e = declared_in (with_scope b.value.1 d.checker.scope) name f in (
-      name_is_new (with_scope b.value.1 d.checker.scope) (closed_known k.known (known_after inside.EdgeFunction start body))
+    let e = declared_in (in_scope b.value.1 d.checker.scope) name f in (
+      name_is_new (in_scope b.value.1 d.checker.scope) (closed_known k.known (known_after inside.EdgeFunction start body))
           (left_agrees inside.EdgeFunction d.checker b.value.1 k.known (known_after inside.EdgeFunction start body) s.agrees.checker after.1) s.some name f
           (no_left e.faults [] (no_left (e.faults ++ []) [] (no_right b.faults _ after_o))),
       keeps,
@@ -474,27 +477,28 @@ weighted_function_keeps d k s at name src dst w body is also int none =
     (all.0, (is, also, int, new, second, third, all.1))
 
 -- the kind of a function that has no fault
-fits_one : (d : DeclaredTree) (k : Declarations) → SeesAll d k → (at : ℕ) (name : Identifier) (v : ParameterTree) (body : source.BlockTree) (b : Bool) → is_vertex v.declared ≡ b
+fits_one : (d : DeclaredTree) (k : Declarations) → SeesAll d k → (at : ℕ) (name : Identifier) (v : ParameterTree) (body : source.BlockTree) (b : Bool) → is_vertex_type v.declared ≡ b
     → (declare_function d at name (v ∷ []) None body (if b then VertexKind else NoKind)).faults ≡ [] → IsNew k.known name × FunctionKeeps k.known (v ∷ []) None body
 fits_one d k s at name v body true is none = vertex_function_keeps d k s at name v body (vertex_declared v.declared is) none
 fits_one d k s at name v body false is none = absurd (not_empty _ _ none)
 
-fits_filter : (d : DeclaredTree) (k : Declarations) → SeesAll d k → (at : ℕ) (name : Identifier) (v test : ParameterTree) (body : source.BlockTree) (a b : Bool) → is_vertex v.declared ≡ a
-    → is_bool test.declared ≡ b
+fits_filter : (d : DeclaredTree) (k : Declarations) → SeesAll d k → (at : ℕ) (name : Identifier) (v test : ParameterTree) (body : source.BlockTree) (a b : Bool) → is_vertex_type v.declared ≡ a
+    → is_bool_type test.declared ≡ b
     → (declare_function d at name (v ∷ []) (Some test) body (if a && b then FilterKind else NoKind)).faults ≡ [] → IsNew k.known name × FunctionKeeps k.known (v ∷ []) (Some test) body
 fits_filter d k s at name v test body true true is also none = filter_keeps d k s at name v test body (vertex_declared v.declared is) (bool_declared test.declared also) none
 fits_filter d k s at name v test body true false is also none = absurd (not_empty _ _ none)
 fits_filter d k s at name v test body false b is also none = absurd (not_empty _ _ none)
 
-fits_edge : (d : DeclaredTree) (k : Declarations) → SeesAll d k → (at : ℕ) (name : Identifier) (src dst : ParameterTree) (body : source.BlockTree) (a b : Bool) → is_vertex src.declared ≡ a
-    → is_vertex dst.declared ≡ b
+fits_edge : (d : DeclaredTree) (k : Declarations) → SeesAll d k → (at : ℕ) (name : Identifier) (src dst : ParameterTree) (body : source.BlockTree) (a b : Bool) → is_vertex_type src.declared ≡ a
+    → is_vertex_type dst.declared ≡ b
     → (declare_function d at name (src ∷ dst ∷ []) None body (if a && b then EdgeKind false else NoKind)).faults ≡ [] → IsNew k.known name × FunctionKeeps k.known (src ∷ dst ∷ []) None body
 fits_edge d k s at name src dst body true true is also none = edge_function_keeps d k s at name src dst body (vertex_declared src.declared is) (vertex_declared dst.declared also) none
 fits_edge d k s at name src dst body true false is also none = absurd (not_empty _ _ none)
 fits_edge d k s at name src dst body false b is also none = absurd (not_empty _ _ none)
 
-fits_weighted : (d : DeclaredTree) (k : Declarations) → SeesAll d k → (at : ℕ) (name : Identifier) (src dst w : ParameterTree) (body : source.BlockTree) (a b c : Bool) → is_vertex src.declared ≡ a
-    → is_vertex dst.declared ≡ b → is_int w.declared ≡ c
+fits_weighted : (d : DeclaredTree) (k : Declarations) → SeesAll d k → (at : ℕ) (name : Identifier) (src dst w : ParameterTree) (body : source.BlockTree) (a b c : Bool)
+    → is_vertex_type src.declared ≡ a
+    → is_vertex_type dst.declared ≡ b → is_int_type w.declared ≡ c
     → (declare_function d at name (src ∷ dst ∷ w ∷ []) None body (if a && b && c then EdgeKind true else NoKind)).faults ≡ [] → IsNew k.known name
     × FunctionKeeps k.known (src ∷ dst ∷ w ∷ []) None body
 fits_weighted d k s at name src dst w body true true true is also int none =
@@ -506,12 +510,12 @@ fits_weighted d k s at name src dst w body false b c is also int none = absurd (
 user_function_keeps : (d : DeclaredTree) (k : Declarations) → SeesAll d k → (at : ℕ) (name : Identifier) (parameters : List ParameterTree) (result : Option ParameterTree) (body : source.BlockTree)
     → (declare_function d at name parameters result body (kind_of parameters result)).faults ≡ [] → IsNew k.known name × FunctionKeeps k.known parameters result body
 user_function_keeps d k s at name [] result body none = absurd (not_empty _ _ none)
-user_function_keeps d k s at name (v ∷ []) None body none = fits_one d k s at name v body (is_vertex v.declared) refl none
-user_function_keeps d k s at name (v ∷ []) (Some test) body none = fits_filter d k s at name v test body (is_vertex v.declared) (is_bool test.declared) refl refl none
-user_function_keeps d k s at name (src ∷ dst ∷ []) None body none = fits_edge d k s at name src dst body (is_vertex src.declared) (is_vertex dst.declared) refl refl none
+user_function_keeps d k s at name (v ∷ []) None body none = fits_one d k s at name v body (is_vertex_type v.declared) refl none
+user_function_keeps d k s at name (v ∷ []) (Some test) body none = fits_filter d k s at name v test body (is_vertex_type v.declared) (is_bool_type test.declared) refl refl none
+user_function_keeps d k s at name (src ∷ dst ∷ []) None body none = fits_edge d k s at name src dst body (is_vertex_type src.declared) (is_vertex_type dst.declared) refl refl none
 user_function_keeps d k s at name (src ∷ dst ∷ []) (Some result) body none = absurd (not_empty _ _ none)
 user_function_keeps d k s at name (src ∷ dst ∷ w ∷ []) None body none =
-    fits_weighted d k s at name src dst w body (is_vertex src.declared) (is_vertex dst.declared) (is_int w.declared) refl refl refl none
+    fits_weighted d k s at name src dst w body (is_vertex_type src.declared) (is_vertex_type dst.declared) (is_int_type w.declared) refl refl refl none
 user_function_keeps d k s at name (src ∷ dst ∷ w ∷ []) (Some result) body none = absurd (not_empty _ _ none)
 user_function_keeps d k s at name (x ∷ y ∷ z ∷ u ∷ others) result body none = absurd (not_empty _ _ none)
 
@@ -527,8 +531,8 @@ plain_main_keeps d k s name body none =
     let b = statements_typed c Empty body in
     let keeps = statements_keep c (known_in_main k.known) within Empty body (no_left b.faults _ none) in
     let after = statements_kept c (known_in_main k.known) within.matches Empty body keeps in
-    let e = declared_in (with_scope b.value.1 d.checker.scope) name entity.Main in (
-      name_is_new (with_scope b.value.1 d.checker.scope) (closed_known k.known (known_after inside.Main (known_in_main k.known) body))
+    let e = declared_in (in_scope b.value.1 d.checker.scope) name entity.Main in (
+      name_is_new (in_scope b.value.1 d.checker.scope) (closed_known k.known (known_after inside.Main (known_in_main k.known) body))
           (left_agrees inside.Main d.checker b.value.1 k.known (known_after inside.Main (known_in_main k.known) body) s.agrees.checker after.1) s.some name entity.Main
           (no_left e.faults [] (no_left (e.faults ++ []) [] (no_right b.faults _ none))),
       (refl, refl, keeps),

@@ -23,29 +23,29 @@ use Rattle.expression_types.specs.declared.scope.Entity.{Entity}
 use Rattle.expression_types.specs.declared.scope.Entity.TheVariants as entity
 use Rattle.expression_types.specs.declared.scope.Inside.{Inside}
 use Rattle.expression_types.specs.declared.scope.Inside.TheVariants as inside
-use Rattle.expression_types.specs.Expression.{used, value_of, vector_index}
+use Rattle.expression_types.specs.Expression.{used_name, value_of, vector_index}
 use Rattle.expression_types.specs.ScopeTree.{found, ScopeTree, declared_over}
 use Rattle.expression_types.specs.Operators.{first_condition, first_integer}
 use Rattle.expression_types.specs.ValueTree as value
-use Rattle.expression_types.specs.ValueTree.{ValueTree, condition_reads_entry, named_set, reads_entry}
+use Rattle.expression_types.specs.ValueTree.{ValueTree, condition_reads_entry, entity_set, reads_entry}
 use Rattle.expression_types.specs.Faults.{WithFaults, fault_at, sure}
-use Rattle.types.specs.Block.{action_typed, behind, closed, statements_typed}
-use Rattle.types.specs.Checker.{CheckerTree, condition_slot, counted, declared_in, integer_slot, labelled, new_label, set_slot, as_condition, as_index, as_integer, as_members, condition_in}
+use Rattle.types.specs.Block.{action_typed, then_statement, closed, statements_typed}
+use Rattle.types.specs.Checker.{CheckerTree, condition_slot, counted, declared_in, integer_slot, with_label, new_label, set_slot, condition_wanted, as_index, integer_wanted, as_members, condition_in}
 use Rattle.types.specs.Checker.{integer_in, no_index}
 use Rattle.types.specs.Initial as initial_value
-use Rattle.types.specs.Initial.{Absent, ApplyEndTree, Degrees, ErrorEnd, ErrorInitializer, InitializerTree, Loaded, Wrong, edge_function, end_of, ends_given, filter_function, filter_named, filtered}
-use Rattle.types.specs.Initial.{filtered_by, initializer_condition, initializer_integer, initializer_members, initializer_of, is_edges, is_error_end, is_wrong, lacks_weights, loaded, modified}
-use Rattle.types.specs.Initial.{modified_by, names_error, new_set, of_edges, reads_weight, vector_of, writes_vector}
-use Rattle.types.specs.Statement.{add_vertex, added, apply, applied, assign, assigned, declare_variable, edges_applied, has_ends, print, printed, reduce, reduce_entry, reduced, set_applied, set_entry}
-use Rattle.types.specs.Statement.{vertices_applied}
+use Rattle.types.specs.Initial.{Absent, ApplyEndTree, Degrees, ErrorEnd, ErrorInitializer, InitializerTree, Loaded, Wrong, edge_function, apply_end_of, ends_given, filter_function, filter_named}
+use Rattle.types.specs.Initial.{filtered_set, filtered_by, initializer_condition, initializer_integer, initializer_members, initializer_of, is_edges, is_error_end, is_wrong, lacks_weights, loaded}
+use Rattle.types.specs.Initial.{initial_modified, modified_by, names_error, new_set, of_edges, takes_edge_weight, vector_of, writes_vector}
+use Rattle.types.specs.Statement.{add_vertex, added_to_set, apply, applied, assign, assigned, declare_variable, edges_applied, has_ends, print, printed, reduce, reduce_entry, reduced, set_applied}
+use Rattle.types.specs.Statement.{set_entry, vertices_applied}
 use Rattle.types.specs.Statement as statement
 use Rattle.type_laws.specs.EntryAccess.{HasNoEntry}
-use Rattle.type_laws.specs.ExpressionTypes.{ExpressionHas, ExpressionType, IsNumber, IsTruth, NameHas, Number, Set, Truth, Vertex, type_named}
+use Rattle.type_laws.specs.ExpressionTypes.{ExpressionHas, ExpressionType, IsNumberExpression, IsTruth, NameHas, Number, Set, Truth, Vertex, type_named}
 use Rattle.type_laws.specs.KeptRules.{ActionKeeps, AppliesEdges, AppliesVertices, ApplyFits, AssignFits, AssignsNumber, AssignsSet, AssignsTruth, BlockKeeps, EndFits, EndsFit, GivesMembers}
 use Rattle.type_laws.specs.KeptRules.{GivesNumber, GivesTruth, Modifies, SeesWeights, VariableFits}
 use Rattle.type_laws.specs.Meanings as meaning
 use Rattle.type_laws.specs.ScopeMeanings.{AreMeant, meaning_of, meanings_of}
-use Rattle.type_laws.specs.Meanings.{IsNew, Known, LabelIsNew, Meaning, Meanings, MeansEdges, closed_known, known_after, known_behind, labelled_known, reduced_in, variable_meaning, with_name}
+use Rattle.type_laws.specs.Meanings.{IsNew, Known, LabelIsNew, Meaning, Meanings, MeansEdges, closed_known, known_after, known_behind, labelled_known, reduced_in, variable_meaning, with_meaning}
 use Rattle.type_laws.proofs.Booleans.{both_false, false_is_not_true, neither_true}
 use Rattle.type_laws.proofs.Faultless.{no_left, no_right, not_empty}
 use Rattle.type_laws.proofs.PlainIndexes.{IsPlain, expression_plain}
@@ -110,14 +110,14 @@ not_error Truth is = is
 not_error (Vertex p) is = is
 not_error Set is = is
 
-pub integer_of : (at : ℕ) (type : ExpressionType) (v : ValueTree) → IsOf type v → (as_integer at v).faults ≡ [] → AreIntegers (first_integer v)
+pub integer_of : (at : ℕ) (type : ExpressionType) (v : ValueTree) → IsOf type v → (integer_wanted at v).faults ≡ [] → AreIntegers (first_integer v)
 integer_of at type (value.Integer e) is none = tt
 integer_of at type (value.Condition c) is none = absurd (not_empty _ _ none)
 integer_of at type (value.Vertex p) is none = tt
 integer_of at type (value.Set slot) is none = absurd (not_empty _ _ none)
 integer_of at type value.ErrorValue is none = absurd (not_error type is)
 
-pub condition_of : (at : ℕ) (type : ExpressionType) (v : ValueTree) → IsOf type v → (as_condition at v).faults ≡ [] → AreConditions (first_condition v)
+pub condition_of : (at : ℕ) (type : ExpressionType) (v : ValueTree) → IsOf type v → (condition_wanted at v).faults ≡ [] → AreConditions (first_condition v)
 condition_of at type (value.Integer e) is none = absurd (not_empty _ _ none)
 condition_of at type (value.Condition c) is none = tt
 condition_of at type (value.Vertex p) is none = absurd (not_empty _ _ none)
@@ -138,27 +138,31 @@ set_of at type (value.Set slot) is none = set_type type slot is
 set_of at type value.ErrorValue is none = absurd (not_error type is)
 
 pub value_number : (i : Inside) (c : CheckerTree) (k : Known) → Sees i c k → (at : ℕ) (e : ExpressionTree) → (value_of c.scope at e).faults ≡ []
-    → (as_integer at (value_of c.scope at e).value).faults ≡ []
-    → IsNumber k.names i e
+    → (integer_wanted at (value_of c.scope at e).value).faults ≡ []
+    → IsNumberExpression k.names i e
 value_number i c k s at e none wanted =
     let t = value_typed i c k s at e none in as_number (value_of c.scope at e) (ExpressionHas k.names i e) t (integer_of at t.type (value_of c.scope at e).value t.is wanted)
 
 pub value_truth : (i : Inside) (c : CheckerTree) (k : Known) → Sees i c k → (at : ℕ) (e : ExpressionTree) → (value_of c.scope at e).faults ≡ []
-    → (as_condition at (value_of c.scope at e).value).faults ≡ []
+    → (condition_wanted at (value_of c.scope at e).value).faults ≡ []
     → IsTruth k.names i e
 value_truth i c k s at e none wanted =
     let t = value_typed i c k s at e none in as_truth (value_of c.scope at e) (ExpressionHas k.names i e) t (condition_of at t.type (value_of c.scope at e).value t.is wanted)
 
-pub integer_number : (i : Inside) (c : CheckerTree) (k : Known) → Sees i c k → (at : ℕ) (e : ExpressionTree) → (integer_in c.scope at e).faults ≡ [] → IsNumber k.names i e
+pub integer_number : (i : Inside) (c : CheckerTree) (k : Known) → Sees i c k → (at : ℕ) (e : ExpressionTree) → (integer_in c.scope at e).faults ≡ [] → IsNumberExpression k.names i e
 integer_number i c k s at e none = value_number i c k s at e (no_left (value_of c.scope at e).faults _ none) (no_right (value_of c.scope at e).faults _ none)
 
 pub condition_truth : (i : Inside) (c : CheckerTree) (k : Known) → Sees i c k → (at : ℕ) (e : ExpressionTree) → (condition_in c.scope at e).faults ≡ [] → IsTruth k.names i e
 condition_truth i c k s at e none = value_truth i c k s at e (no_left (value_of c.scope at e).faults _ none) (no_right (value_of c.scope at e).faults _ none)
 
 -- names
-pub used_is : (i : Inside) (c : CheckerTree) (k : Known) → Sees i c k → (name : Identifier) → (used c.scope name).faults ≡ [] → IsMeant k.names name (used c.scope name).value
+pub used_is : (i : Inside) (c : CheckerTree) (k : Known) → Sees i c k → (name : Identifier) → (used_name c.scope name).faults ≡ [] → IsMeant k.names name (used_name c.scope name).value
 used_is i c k s name none =
-    let m = used_meant c.scope name (meant i c k s) none in record { means = subst (λ n. found name.bytes n ≡ Some (meaning_of (used c.scope name).value)) s.matches.names m.means; clear = m.clear }
+    let m = used_meant c.scope name (meant i c k s) none in record {
+      means = subst (λ n. found name.bytes n ≡ Some (meaning_of (used_name c.scope name).value)) s.matches.names m.means;
+      clear =
+          m.clear;
+    }
 
 pub vector_is_found : (i : Inside) (c : CheckerTree) (k : Known) → Sees i c k → (at : ℕ) (name : Identifier) → (vector_index c.scope at name).faults ≡ []
     → VectorFound (vector_index c.scope at name) k.names name
@@ -171,7 +175,7 @@ clear_no_error entity.Error clear = absurd (clear refl)
 clear_no_error _ clear = refl
 
 -- the meanings of what is found
-set_means : (e : Entity) (slot : VarRef) → named_set e ≡ Some slot → type_named (Some (meaning_of e)) ≡ Some Set
+set_means : (e : Entity) (slot : VarRef) → entity_set e ≡ Some slot → type_named (Some (meaning_of e)) ≡ Some Set
 set_means (entity.ConstantSet x) slot is = refl
 set_means (entity.SetVariable x) slot is = refl
 set_means _ slot is = absurd cc
@@ -193,7 +197,7 @@ weights_are_seen true true lacks = refl
 weights_are_seen false true lacks = absurd (false_is_not_true (sym lacks))
 weights_are_seen weights false lacks = tt
 
-function_fits_edges : (weights : Bool) (f : Entity) (index : ℕ) → edge_function f ≡ Some index → (not weights && reads_weight f) ≡ false → EdgesFit (entity.Edges weights) f index
+function_fits_edges : (weights : Bool) (f : Entity) (index : ℕ) → edge_function f ≡ Some index → (not weights && takes_edge_weight f) ≡ false → EdgesFit (entity.Edges weights) f index
 function_fits_edges weights (entity.EdgeFunction x weighted) index is lacks = record {
   weights = weights;
   weighted = weighted;
@@ -239,28 +243,29 @@ pub record Filters (m : WithFaults InitializerTree) (s f : Entity) : Type 0 wher
   pub filter : meaning_of f ≡ meaning.Filter
   pub members : AreMembers m.value
 
-filtered_by_is : (at : ℕ) (s f : Entity) (a : Option VarRef) (b : Option ℕ) → named_set s ≡ a → filter_function f ≡ b → (filtered_by at a b).faults ≡ [] → Filters (filtered_by at a b) s f
+filtered_by_is : (at : ℕ) (s f : Entity) (a : Option VarRef) (b : Option ℕ) → entity_set s ≡ a → filter_function f ≡ b → (filtered_by at a b).faults ≡ [] → Filters (filtered_by at a b) s f
 filtered_by_is at s f None b one other none = absurd (not_empty _ _ none)
 filtered_by_is at s f (Some slot) None one other none = absurd (not_empty _ _ none)
 filtered_by_is at s f (Some slot) (Some index) one other none = record { set = set_means s slot one; filter = filter_means f index other; members = tt }
 
-filtered_is : (at : ℕ) (s f : Entity) → (s ≡ entity.Error → ⊥) → (f ≡ entity.Error → ⊥) → (filtered at s f).faults ≡ [] → Filters (filtered at s f) s f
+filtered_is : (at : ℕ) (s f : Entity) → (s ≡ entity.Error → ⊥) → (f ≡ entity.Error → ⊥) → (filtered_set at s f).faults ≡ [] → Filters (filtered_set at s f) s f
 filtered_is at s f clear also none =
     let neither = neither_true (names_error s) (names_error f) (clear_no_error s clear) (clear_no_error f also) in
-    subst (λ m. Filters m s f) (sym (at_test neither)) (filtered_by_is at s f (named_set s) (filter_function f) refl refl
+    subst (λ m. Filters m s f) (sym (at_test neither)) (filtered_by_is at s f (entity_set s) (filter_function f) refl refl
     (subst (λ (m : WithFaults InitializerTree). m.faults ≡ []) (at_test neither) none))
   where
-    at_test : (names_error s || names_error f) ≡ false → filtered at s f ≡ filtered_by at (named_set s) (filter_function f)
-    at_test is = ap (λ b. if b then sure ErrorInitializer else filtered_by at (named_set s) (filter_function f)) is
+    at_test : (names_error s || names_error f) ≡ false → filtered_set at s f ≡ filtered_by at (entity_set s) (filter_function f)
+    at_test is = ap (λ b. if b then sure ErrorInitializer else filtered_by at (entity_set s) (filter_function f)) is
 
 -- ends of applies
 named_end_is_clear : (e : Entity) → (e ≡ entity.Error → ⊥) → is_error_end (filter_named e) ≡ false
 named_end_is_clear entity.Error clear = absurd (clear refl)
 named_end_is_clear _ clear = refl
 
-pub end_is_clear : (i : Inside) (c : CheckerTree) (k : Known) → Sees i c k → (name : Option Identifier) → (end_of c.scope name).faults ≡ [] → is_error_end (end_of c.scope name).value ≡ false
+pub end_is_clear : (i : Inside) (c : CheckerTree) (k : Known) → Sees i c k → (name : Option Identifier) → (apply_end_of c.scope name).faults ≡ []
+    → is_error_end (apply_end_of c.scope name).value ≡ false
 end_is_clear i c k s None none = refl
-end_is_clear i c k s (Some name) none = named_end_is_clear (used c.scope name).value (used_is i c k s name (no_left (used c.scope name).faults [] none)).clear
+end_is_clear i c k s (Some name) none = named_end_is_clear (used_name c.scope name).value (used_is i c k s name (no_left (used_name c.scope name).faults [] none)).clear
 
 named_end_fits : (names : Meanings) (name : Identifier) (e : Entity) → IsMeant names name e → is_wrong (filter_named e) ≡ false → NameHas names name Set
     ⊎ (found name.bytes names ≡ Some meaning.Filter)
@@ -270,10 +275,10 @@ named_end_fits names name (entity.Filter index) is right = inr is.means
 named_end_fits names name entity.Error is right = absurd (is.clear refl)
 named_end_fits names name _ is right = absurd cc
 
-pub end_fits : (i : Inside) (c : CheckerTree) (k : Known) → Sees i c k → (name : Option Identifier) → (end_of c.scope name).faults ≡ [] → is_wrong (end_of c.scope name).value ≡ false
+pub end_fits : (i : Inside) (c : CheckerTree) (k : Known) → Sees i c k → (name : Option Identifier) → (apply_end_of c.scope name).faults ≡ [] → is_wrong (apply_end_of c.scope name).value ≡ false
     → EndFits k.names name
 end_fits i c k s None none right = tt
-end_fits i c k s (Some name) none right = named_end_fits k.names name (used c.scope name).value (used_is i c k s name (no_left (used c.scope name).faults [] none)) right
+end_fits i c k s (Some name) none right = named_end_fits k.names name (used_name c.scope name).value (used_is i c k s name (no_left (used_name c.scope name).faults [] none)) right
 
 -- the members that an apply modifies
 pub record ModifiesBy (m : WithFaults InitializerTree) (c : CheckerTree) (e f v : Entity) (a b : ApplyEndTree) : Type 0 where
@@ -336,7 +341,7 @@ modified_where c at e f v a b false true false clear are is none =
 
 modified_is : (c : CheckerTree) (at : ℕ) (e f v : Entity) (a b : ApplyEndTree) → (e ≡ entity.Error → ⊥) → (f ≡ entity.Error → ⊥) → (v ≡ entity.Error → ⊥) → is_error_end a ≡ false
     → is_error_end b ≡ false
-    → (modified c at e a b f v).faults ≡ [] → ModifiesBy (modified c at e a b f v) c e f v a b
+    → (initial_modified c at e a b f v).faults ≡ [] → ModifiesBy (initial_modified c at e a b f v) c e f v a b
 modified_is c at e f v a b clear_e clear_f clear_v clear_a clear_b none =
     let all = neither_true (names_error e || is_error_end a || is_error_end b || names_error f) (names_error v)
     (neither_true (names_error e || is_error_end a || is_error_end b) (names_error f)
@@ -370,29 +375,29 @@ pub initial_gives : (i : Inside) (c : CheckerTree) (k : Known) → Sees i c k �
 initial_gives i c k s at (source.NewSet size) none = new_set_is at size none
 initial_gives i c k s at (source.Load argument) none = loaded_is at argument none
 initial_gives i c k s at (source.Vertices edges) none =
-    let e = used c.scope edges in
+    let e = used_name c.scope edges in
     let m = used_is i c k s edges (no_left e.faults _ none) in
     let x = of_edges_is at (initial_value.Members set.All) e.value m.clear (no_right e.faults _ none) in
     ((x.0.0, means_as k.names edges e.value (meaning.Edges x.0.0) m x.0.1), x.1)
 initial_gives i c k s at (source.OutDegrees edges) none =
-    let e = used c.scope edges in
+    let e = used_name c.scope edges in
     let m = used_is i c k s edges (no_left e.faults _ none) in
     let x = of_edges_is at Degrees e.value m.clear (no_right e.faults _ none) in
     ((x.0.0, means_as k.names edges e.value (meaning.Edges x.0.0) m x.0.1), x.1)
 initial_gives i c k s at (source.Filter set test) none =
-    let e = used c.scope set in
-    let f = used c.scope test in
-    let behind = no_right e.faults _ none in
+    let e = used_name c.scope set in
+    let f = used_name c.scope test in
+    let then_statement = no_right e.faults _ none in
     let m = used_is i c k s set (no_left e.faults _ none) in
-    let n = used_is i c k s test (no_left f.faults _ behind) in
-    let x = filtered_is at e.value f.value m.clear n.clear (no_right f.faults _ behind) in
+    let n = used_is i c k s test (no_left f.faults _ then_statement) in
+    let x = filtered_is at e.value f.value m.clear n.clear (no_right f.faults _ then_statement) in
     ((has_as k.names set e.value Set m x.set, means_as k.names test f.value meaning.Filter n x.filter), x.members)
 initial_gives i c k s at (source.ApplyModified edges ends f v) none =
-    let e = used c.scope edges in
-    let a = end_of c.scope ends.from in
-    let b = end_of c.scope ends.to in
-    let g = used c.scope f in
-    let w = used c.scope v in
+    let e = used_name c.scope edges in
+    let a = apply_end_of c.scope ends.from in
+    let b = apply_end_of c.scope ends.to in
+    let g = used_name c.scope f in
+    let w = used_name c.scope v in
     let after_e = no_right e.faults _ none in
     let after_a = no_right a.faults _ after_e in
     let after_b = no_right b.faults _ after_a in
@@ -539,37 +544,37 @@ assigned_fits c k s at name initial given _ is none = absurd (not_empty _ _ none
 assign_keeps : (c : CheckerTree) (k : Known) → Sees inside.Main c k → (at : ℕ) (name : Identifier) (initial : InitialTree) → (assign c at name initial).faults ≡ []
     → AssignFits inside.Main k name initial
 assign_keeps c k s at name initial none =
-    let u = used c.scope name in
+    let u = used_name c.scope name in
     let g = initializer_of c at initial in
     let after_u = no_right u.faults _ none in
     assigned_fits c k s at name initial (no_left g.faults _ after_u) u.value (used_is inside.Main c k s name (no_left u.faults _ none)) (no_right g.faults _ after_u)
 
 -- reductions, and vertices that are added
 reduced_is : (names : Meanings) (at : ℕ) (name : Identifier) (by : Reduction) (v : ValueTree) (e : Entity) → IsMeant names name e → (reduced at by v e).faults ≡ []
-    → (found name.bytes names ≡ Some meaning.NumberVariable) × ((as_integer at v).faults ≡ [])
-reduced_is names at name by v (entity.IntegerVariable slot) is none = (is.means, no_left (as_integer at v).faults [] none)
+    → (found name.bytes names ≡ Some meaning.NumberVariable) × ((integer_wanted at v).faults ≡ [])
+reduced_is names at name by v (entity.IntegerVariable slot) is none = (is.means, no_left (integer_wanted at v).faults [] none)
 reduced_is names at name by v entity.Error is none = absurd (is.clear refl)
 reduced_is names at name by v _ is none = absurd (not_empty _ _ none)
 
 reduce_keeps : (c : CheckerTree) (k : Known) → Sees inside.Main c k → (at : ℕ) (name : Identifier) (by : Reduction) (e : ExpressionTree) → (reduce c.scope at name by e).faults ≡ []
-    → (found name.bytes k.names ≡ Some meaning.NumberVariable) × IsNumber k.names inside.Main e
+    → (found name.bytes k.names ≡ Some meaning.NumberVariable) × IsNumberExpression k.names inside.Main e
 reduce_keeps c k s at name by e none =
-    let u = used c.scope name in
+    let u = used_name c.scope name in
     let v = value_of c.scope at e in
     let after_u = no_right u.faults _ none in
     let x = reduced_is k.names at name by v.value u.value (used_is inside.Main c k s name (no_left u.faults _ none)) (no_right v.faults _ after_u) in
     (x.0, value_number inside.Main c k s at e (no_left v.faults _ after_u) x.1)
 
-added_is : (names : Meanings) (at : ℕ) (name : Identifier) (v : ValueTree) (e : Entity) → IsMeant names name e → (added at v e).faults ≡ []
-    → (found name.bytes names ≡ Some meaning.SetVariable) × ((as_integer at v).faults ≡ [])
-added_is names at name v (entity.SetVariable slot) is none = (is.means, no_left (as_integer at v).faults [] none)
+added_is : (names : Meanings) (at : ℕ) (name : Identifier) (v : ValueTree) (e : Entity) → IsMeant names name e → (added_to_set at v e).faults ≡ []
+    → (found name.bytes names ≡ Some meaning.SetVariable) × ((integer_wanted at v).faults ≡ [])
+added_is names at name v (entity.SetVariable slot) is none = (is.means, no_left (integer_wanted at v).faults [] none)
 added_is names at name v entity.Error is none = absurd (is.clear refl)
 added_is names at name v _ is none = absurd (not_empty _ _ none)
 
 add_keeps : (c : CheckerTree) (k : Known) → Sees inside.Main c k → (at : ℕ) (name : Identifier) (e : ExpressionTree) → (add_vertex c.scope at name e).faults ≡ []
-    → (found name.bytes k.names ≡ Some meaning.SetVariable) × IsNumber k.names inside.Main e
+    → (found name.bytes k.names ≡ Some meaning.SetVariable) × IsNumberExpression k.names inside.Main e
 add_keeps c k s at name e none =
-    let u = used c.scope name in
+    let u = used_name c.scope name in
     let v = value_of c.scope at e in
     let after_u = no_right u.faults _ none in
     let x = added_is k.names at name v.value u.value (used_is inside.Main c k s name (no_left u.faults _ none)) (no_right v.faults _ after_u) in
@@ -594,9 +599,9 @@ index_is at type value.ErrorValue is none = absurd (not_error type is)
 pub record KeepsEntry (k : Known) (name : Identifier) (index e : ExpressionTree) : Type 0 where
   pub vector : ℕ
   pub means : found name.bytes k.names ≡ Some (meaning.Vector vector)
-  pub number : IsNumber k.names inside.Main index
+  pub number : IsNumberExpression k.names inside.Main index
   pub plain : HasNoEntry index
-  pub value : IsNumber k.names inside.Main e
+  pub value : IsNumberExpression k.names inside.Main e
 
 entry_keeps : (c : CheckerTree) (k : Known) → Sees inside.Main c k → (at : ℕ) (name : Identifier) (subscript e : ExpressionTree)
     → (vector_index c.scope at name).faults ++ ((value_of c.scope at subscript).faults ++ ((as_index at (value_of c.scope at subscript).value).faults ++ ((integer_in c.scope at e).faults ++ []))) ≡ []
@@ -628,7 +633,8 @@ printed_is at type (value.Vertex p) is none = inl tt
 printed_is at type (value.Set slot) is none = absurd (not_empty _ _ none)
 printed_is at type value.ErrorValue is none = absurd (not_error type is)
 
-print_keeps : (c : CheckerTree) (k : Known) → Sees inside.Main c k → (at : ℕ) (e : ExpressionTree) → (print c.scope at e).faults ≡ [] → IsNumber k.names inside.Main e ⊎ IsTruth k.names inside.Main e
+print_keeps : (c : CheckerTree) (k : Known) → Sees inside.Main c k → (at : ℕ) (e : ExpressionTree) → (print c.scope at e).faults ≡ [] → IsNumberExpression k.names inside.Main e
+    ⊎ IsTruth k.names inside.Main e
 print_keeps c k s at e none =
     let v = value_of c.scope at e in
     let t = value_typed inside.Main c k s at e (no_left v.faults _ none) in
@@ -651,7 +657,7 @@ vertex_function_there : (at : ℕ) (slot : VarRef) (f : Entity) (o : Option ℕ)
 vertex_function_there at slot f None is none = absurd (not_empty _ _ none)
 vertex_function_there at slot f (Some index) is none = vertex_function_means f index is
 
-set_applies : (at : ℕ) (t f : Entity) (a b : ApplyEndTree) (ends : Bool) (o : Option VarRef) → names_error f ≡ false → named_set t ≡ o → (set_applied at ends f o).faults ≡ [] → AppliesTo t f a b ends
+set_applies : (at : ℕ) (t f : Entity) (a b : ApplyEndTree) (ends : Bool) (o : Option VarRef) → names_error f ≡ false → entity_set t ≡ o → (set_applied at ends f o).faults ≡ [] → AppliesTo t f a b ends
 set_applies at t f a b ends None clear is none = absurd (not_empty _ _ none)
 set_applies at t f a b true (Some slot) clear is none = absurd (not_empty _ _ none)
 set_applies at t f a b false (Some slot) clear is none = record {
@@ -666,10 +672,10 @@ set_applies at t f a b false (Some slot) clear is none = record {
 applied_where : (at : ℕ) (t f : Entity) (a b : ApplyEndTree) (ends : Bool) (error edges wrong : Bool) → error ≡ false → names_error f ≡ false → is_edges t ≡ edges
     → (is_wrong a || is_wrong b || lacks_weights t f) ≡ wrong
     → (if error then sure statement.no_action else (if edges then (if wrong then fault_at at rule.WrongType statement.no_action else edges_applied at a b (names_error f)
-    (edge_function f)) else set_applied at ends f (named_set t))).faults ≡ []
+    (edge_function f)) else set_applied at ends f (entity_set t))).faults ≡ []
     → AppliesTo t f a b ends
 applied_where at t f a b ends true edges wrong clear also are is none = absurd cc
-applied_where at t f a b ends false false wrong clear also are is none = set_applies at t f a b ends (named_set t) also refl none
+applied_where at t f a b ends false false wrong clear also are is none = set_applies at t f a b ends (entity_set t) also refl none
 applied_where at t f a b ends false true true clear also are is none = absurd (not_empty _ _ none)
 applied_where at t f a b ends false true false clear also are is none =
     let all = both_false (is_wrong a || is_wrong b) (lacks_weights t f) is in
@@ -685,10 +691,10 @@ no_end (Some from) to is = absurd cc
 apply_keeps : (c : CheckerTree) (k : Known) → Sees inside.Main c k → (at : ℕ) (target : Identifier) (ends : EndsTree) (function : Identifier) → (apply c.scope at target ends function).faults ≡ []
     → ApplyFits k target ends function
 apply_keeps c k s at target ends function none =
-    let t = used c.scope target in
-    let a = end_of c.scope ends.from in
-    let b = end_of c.scope ends.to in
-    let f = used c.scope function in
+    let t = used_name c.scope target in
+    let a = apply_end_of c.scope ends.from in
+    let b = apply_end_of c.scope ends.to in
+    let f = used_name c.scope function in
     let after_t = no_right t.faults _ none in
     let after_a = no_right a.faults _ after_t in
     let after_b = no_right b.faults _ after_a in
@@ -720,7 +726,7 @@ contained_nowhere label labels none there =
     let same : bytes_eq label (get_or (labels_named labels) there.0 label) ≡ true = (bytes_eq-Decides label (get_or (labels_named labels) there.0 label)).1 (sym there.2) in
     false_is_not_true (sym (found_nowhere label labels none) ∙ list_any_at (bytes_eq label) (labels_named labels) there.0 label there.1 same)
 
-label_keeps : (i : Inside) (c : CheckerTree) (k : Known) → Matches i c k → (label : Option Identifier) → (labelled c label).faults ≡ [] → LabelIsNew k label
+label_keeps : (i : Inside) (c : CheckerTree) (k : Known) → Matches i c k → (label : Option Identifier) → (with_label c label).faults ≡ [] → LabelIsNew k label
 label_keeps i c k m None none = tt
 label_keeps i c k m (Some label) none = subst (λ ls. Contains ls label.bytes → ⊥) m.labels (at_found (found label.bytes c.labels) refl none)
   where
@@ -762,8 +768,8 @@ label_some : (k : Known) (label : Option Identifier) → AreSome k.names → Are
 label_some k None some = some
 label_some k (Some label) some = some
 
-pub labelled_sees : (i : Inside) (c : CheckerTree) (k : Known) → Sees i c k → (label : Option Identifier) → (labelled c label).faults ≡ [] → LabelIsNew k label
-    × Sees i (labelled c label).value.1 (labelled_known k label)
+pub labelled_sees : (i : Inside) (c : CheckerTree) (k : Known) → Sees i c k → (label : Option Identifier) → (with_label c label).faults ≡ [] → LabelIsNew k label
+    × Sees i (with_label c label).value.1 (labelled_known k label)
 labelled_sees i c k s label none =
     let new = label_keeps i c k s.matches label none in
     (new, record { matches = (labelled_kept i c k s.matches label new).1; some = label_some k label s.some })
@@ -784,13 +790,13 @@ mutual
       let after_a = no_right a.faults _ none in
       let after_z = no_right z.faults _ after_a in
       let new = declares_new inside.Main c k s name e (no_left d.faults _ after_z) in
-      let inner : Sees inside.Main d.value (with_name k name meaning.LoopName) =
+      let inner : Sees inside.Main d.value (with_meaning k name meaning.LoopName) =
       record { matches = (declared_kept inside.Main c k s.matches name e meaning.LoopName refl new).1; some = more_some k.names name.bytes meaning.LoopName s.some tt } in (
         tt,
         integer_number inside.Main c k s at first (no_left a.faults _ none),
         integer_number inside.Main c k s at limit (no_left z.faults _ after_a),
         new,
-        statements_keep d.value (with_name k name meaning.LoopName) inner Empty body (no_left b.faults [] (no_right d.faults _ after_z)),
+        statements_keep d.value (with_meaning k name meaning.LoopName) inner Empty body (no_left b.faults [] (no_right d.faults _ after_z)),
       )
   action_keeps c k s (source.If at test body) none =
       let t = condition_in c.scope at test in
@@ -826,7 +832,7 @@ mutual
       → BlockKeeps inside.Main k block
   statements_keep c k s so_far source.Empty none = tt
   statements_keep c k s so_far (source.Then label action others) none =
-      let l = labelled c label in
+      let l = with_label c label in
       let d = counted l.value.1 in
       let a = action_typed d action in
       let after_l = no_right l.faults _ none in
@@ -835,5 +841,9 @@ mutual
       let here : Sees inside.Main d known = record { matches = counted_kept inside.Main l.value.1 known labels.1.matches; some = labels.1.some } in
       let keeps = action_keeps d known here action (no_left a.faults _ after_l) in
       let next : Sees inside.Main a.value.1 (known_behind inside.Main known action) =
-      record { matches = (action_kept d known here.matches action keeps).1; some = after_some inside.Main known action here.some keeps } in
-      (labels.0, keeps, statements_keep a.value.1 (known_behind inside.Main known action) next (behind so_far (suc l.value.1.statements) l.value.0 a.value.0) others (no_right a.faults _ after_l))
+      record { matches = (action_kept d known here.matches action keeps).1; some = after_some inside.Main known action here.some keeps } in (
+        labels.0,
+        keeps,
+        statements_keep a.value.1 (known_behind inside.Main known action) next (then_statement so_far (suc l.value.1.statements) l.value.0 a.value.0) others
+            (no_right a.faults _ after_l),
+      )

@@ -15,16 +15,16 @@ use Rattle.expression_types.specs.declared.scope.Entity.{Entity}
 use Rattle.expression_types.specs.declared.scope.Entity.TheVariants as entity
 use Rattle.expression_types.specs.declared.scope.Inside.{Inside}
 use Rattle.expression_types.specs.declared.scope.Inside.TheVariants as inside
-use Rattle.expression_types.specs.Expression.{index_lacks_value, index_value, no_vertex, used, value_of, vector_index}
+use Rattle.expression_types.specs.Expression.{index_lacks_value, index_value, no_vertex, used_name, value_of, vector_index}
 use Rattle.expression_types.specs.ScopeTree.{found}
 use Rattle.expression_types.specs.ValueTree as value
 use Rattle.expression_types.specs.ValueTree.{ValueTree}
 use Rattle.expression_types.specs.Faults.{WithFaults, sure}
-use Rattle.types.specs.Checker.{CheckerTree, condition_slot, declared_in, integer_slot, labelled, as_integer, condition_in, integer_in}
+use Rattle.types.specs.Checker.{CheckerTree, condition_slot, declared_in, integer_slot, with_label, integer_wanted, condition_in, integer_in}
 use Rattle.types.specs.Initial.{initializer_condition, initializer_integer, initializer_of}
 use Rattle.types.specs.Step.{assign_step, assigned_step, at_own, declare_step, may_reduce, may_set, own_vertex, reduce_entry_step, reduce_step, reduced_as, reduced_step, same_endpoint, same_reduction}
 use Rattle.types.specs.Step.{set_entry_step, step_after, step_typed, steps_after, steps_typed, written_at, written_with}
-use Rattle.type_laws.specs.ExpressionTypes.{ExpressionHas, ExpressionType, IsNumber, Number, Set, Truth, Vertex}
+use Rattle.type_laws.specs.ExpressionTypes.{ExpressionHas, ExpressionType, IsNumberExpression, Number, Set, Truth, Vertex}
 use Rattle.type_laws.specs.KeptRules.{ActionKeeps, AgreesWith, AssignFits, AssignsNumber, AssignsTruth, BlockKeeps, MayReduce, MaySet, ReducesEntry, VariableFits, WrittenAt}
 use Rattle.type_laws.specs.Meanings as meaning
 use Rattle.type_laws.specs.Meanings.{IsNew, Known, Meanings, closed_known, known_after, known_behind, labelled_known}
@@ -74,21 +74,21 @@ assigned_step_fits i c k s at name initial given _ is none = absurd (not_empty _
 assign_step_keeps : (i : Inside) (c : CheckerTree) (k : Known) → Sees i c k → (at : ℕ) (name : Identifier) (initial : InitialTree) → (assign_step c at name initial).faults ≡ []
     → AssignFits i k name initial
 assign_step_keeps i c k s at name initial none =
-    let u = used c.scope name in
+    let u = used_name c.scope name in
     let g = initializer_of c at initial in
     let after_u = no_right u.faults _ none in
     assigned_step_fits i c k s at name initial (no_left g.faults _ after_u) u.value (used_is i c k s name (no_left u.faults _ none)) (no_right g.faults _ after_u)
 
 reduced_step_is : (names : Meanings) (at : ℕ) (name : Identifier) (by : Reduction) (v : ValueTree) (e : Entity) → IsMeant names name e → (reduced_step at by v e).faults ≡ []
-    → (found name.bytes names ≡ Some meaning.NumberVariable) × ((as_integer at v).faults ≡ [])
-reduced_step_is names at name by v (entity.IntegerVariable slot) is none = (is.means, no_left (as_integer at v).faults [] none)
+    → (found name.bytes names ≡ Some meaning.NumberVariable) × ((integer_wanted at v).faults ≡ [])
+reduced_step_is names at name by v (entity.IntegerVariable slot) is none = (is.means, no_left (integer_wanted at v).faults [] none)
 reduced_step_is names at name by v entity.Error is none = absurd (is.clear refl)
 reduced_step_is names at name by v _ is none = absurd (not_empty _ _ none)
 
 reduce_step_keeps : (i : Inside) (c : CheckerTree) (k : Known) → Sees i c k → (at : ℕ) (name : Identifier) (by : Reduction) (e : ExpressionTree) → (reduce_step c.scope at name by e).faults ≡ []
-    → (found name.bytes k.names ≡ Some meaning.NumberVariable) × IsNumber k.names i e
+    → (found name.bytes k.names ≡ Some meaning.NumberVariable) × IsNumberExpression k.names i e
 reduce_step_keeps i c k s at name by e none =
-    let u = used c.scope name in
+    let u = used_name c.scope name in
     let v = value_of c.scope at e in
     let after_u = no_right u.faults _ none in
     let x = reduced_step_is k.names at name by v.value u.value (used_is i c k s name (no_left u.faults _ none)) (no_right v.faults _ after_u) in
@@ -179,7 +179,7 @@ reduced_at inside.Filter k vector by index user may has = absurd may
 -- the index and the value of an entry that is written
 index_and_value_keep : (i : Inside) (c : CheckerTree) (k : Known) → Sees i c k → (at : ℕ) (index e : ExpressionTree)
     → (index_value c.scope at index).faults ++ ((written_at at (own_vertex c.scope.inside) (index_value c.scope at index).value).faults ++ ((integer_in c.scope at e).faults ++ [])) ≡ []
-    → ExpressionHas k.names i index (Vertex (own_vertex i)) × IsNumber k.names i e
+    → ExpressionHas k.names i index (Vertex (own_vertex i)) × IsNumberExpression k.names i e
 index_and_value_keep i c k s at index e none =
     let v = index_value c.scope at index in
     let w = written_at at (own_vertex c.scope.inside) v.value in
@@ -248,7 +248,7 @@ mutual
       → BlockKeeps i k block
   steps_keep i c k user s so_far source.Empty none = tt
   steps_keep i c k user s so_far (source.Then label action others) none =
-      let l = labelled c label in
+      let l = with_label c label in
       let a = step_typed l.value.1 action in
       let after_l = no_right l.faults _ none in
       let labels = labelled_sees i c k s label (no_left l.faults _ none) in

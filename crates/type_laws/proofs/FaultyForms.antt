@@ -18,12 +18,12 @@ use Rattle.expression_types.specs.declared.scope.Entity.TheVariants as entity
 use Rattle.expression_types.specs.declared.scope.Inside.{Inside}
 use Rattle.expression_types.specs.declared.scope.Inside.TheVariants as inside
 use Rattle.expression_types.specs.Expression.{as_size, as_vector, comparison_value, conjunction_value, conjuncts, disjuncts, entry_of, factors, index_lacks_value, index_value, no_vertex}
-use Rattle.expression_types.specs.Expression.{primary_value, size_of, sum_value, summands, term_value, unary_value, used, used_as, value_of, vector_at}
+use Rattle.expression_types.specs.Expression.{primary_value, size_of, sum_value, summands, term_value, unary_value, used_name, used_as, value_of, vector_at}
 use Rattle.expression_types.specs.ScopeTree.{found, ScopeTree}
-use Rattle.expression_types.specs.Operators.{ConditionsTree, Conditions, MixedConditions, ErrorConditions, IntegersTree, Integers, MixedIntegers, ErrorIntegers, added, beside_condition}
-use Rattle.expression_types.specs.Operators.{beside_integer, condition_index, entry_value, first_condition, first_integer, function_entry, given, grouped_conditions, grouped_integers, main_entry}
-use Rattle.expression_types.specs.Operators.{multiplied, related_value, signed_value}
-use Rattle.expression_types.specs.ValueTree.{ValueTree, Integer, Condition, Vertex, Set, ErrorValue, condition_reads_entry, is_error, named_set, named_value, named_vector, reads_entry}
+use Rattle.expression_types.specs.Operators.{ConditionsTree, Conditions, MixedConditions, ErrorConditions, IntegersTree, Integers, MixedIntegers, ErrorIntegers, addition_operator, beside_condition}
+use Rattle.expression_types.specs.Operators.{beside_integer, condition_index, entry_value, first_condition, first_integer, function_entry, given_or_fault, grouped_conditions, grouped_integers}
+use Rattle.expression_types.specs.Operators.{main_entry, multiplied, related_value, signed_value}
+use Rattle.expression_types.specs.ValueTree.{ValueTree, Integer, Condition, Vertex, Set, ErrorValue, condition_reads_entry, is_error, entity_set, named_value, named_vector, reads_entry}
 use Rattle.expression_types.specs.Faults.{WithFaults, fault_at, sure, ◌>>=◌}
 use Rattle.types.specs.Initial.{names_error}
 use Rattle.type_laws.specs.ExpressionParts.{Form, Expression, Conjunction, Comparison, Sum, Term, Unary, Primary, Index, Name, any_faulty, conjuncts_of, disjuncts_of, factors_of, form_faults}
@@ -47,7 +47,7 @@ or_true : (a : Bool) → (a || true) ≡ true
 or_true true = refl
 or_true false = refl
 
-given_faulty : (at : ℕ) (o : Option ValueTree) → FaultyOrNone is_error (given at rule.WrongType o)
+given_faulty : (at : ℕ) (o : Option ValueTree) → FaultyOrNone is_error (given_or_fault at rule.WrongType o)
 given_faulty at None = inr refl
 given_faulty at (Some v) = inl refl
 
@@ -66,7 +66,7 @@ used_faulty : (name : Identifier) (o : Option Entity) → FaultyOrNone names_err
 used_faulty name None = inr refl
 used_faulty name (Some e) = inl refl
 
-name_faulty : (scope : ScopeTree) (name : Identifier) → FaultyOrNone names_error (used scope name)
+name_faulty : (scope : ScopeTree) (name : Identifier) → FaultyOrNone names_error (used_name scope name)
 name_faulty scope name = used_faulty name (found name.bytes scope.visible)
 
 size_of_faulty : (at : ℕ) (o : Option VarRef) → FaultyOrNone is_error (size_of at o)
@@ -75,7 +75,7 @@ size_of_faulty at (Some slot) = inl refl
 
 size_faulty : (at : ℕ) (e : Entity) → FaultyOrNone is_error (as_size at e)
 size_faulty at entity.Error = inl refl
-size_faulty at e = size_of_faulty at (named_set e)
+size_faulty at e = size_of_faulty at (entity_set e)
 
 -- entries
 abbrev is_no_vector : Option ℕ → Bool
@@ -205,9 +205,9 @@ mutual
       let a = sum_value scope at left in
       let b = sum_value scope at right in
       let related = related_value relation a.value b.value in
-      then_faulty is_error is_error a (λ a. sum_value scope at right >>= λ b. given at rule.WrongType (related_value relation a b)) (sum_faulty scope at left)
+      then_faulty is_error is_error a (λ a. sum_value scope at right >>= λ b. given_or_fault at rule.WrongType (related_value relation a b)) (sum_faulty scope at left)
       (λ is. (given_silent at related (related_silent relation a.value b.value (ap (λ x. x || is_error b.value) is))).1)
-      (then_faulty is_error is_error b (λ b. given at rule.WrongType (related_value relation a.value b)) (sum_faulty scope at right)
+      (then_faulty is_error is_error b (λ b. given_or_fault at rule.WrongType (related_value relation a.value b)) (sum_faulty scope at right)
       (λ is. (given_silent at related (related_silent relation a.value b.value (ap (λ x. is_error a.value || x) is ∙ or_true (is_error a.value)))).1) (given_faulty at related))
 
   sum_faulty : (scope : ScopeTree) (at : ℕ) (s : SumTree) → FaultyOrNone is_error (sum_value scope at s)
@@ -223,12 +223,13 @@ mutual
   summands_faulty : (scope : ScopeTree) (at : ℕ) (left : IntegersTree) (o : Addition) (s : SumTree) → FaultyOrNone is_error_integers (summands scope at left o s)
   summands_faulty scope at left o (tree.LastTerm t) =
       let x = term_value scope at t in
-      then_faulty is_error is_error_integers x (λ v. sure (beside_integer (added o) left (first_integer v))) (term_faulty scope at t) (beside_number_stays (added o) left x.value) (inl refl)
+      then_faulty is_error is_error_integers x (λ v. sure (beside_integer (addition_operator o) left (first_integer v))) (term_faulty scope at t)
+      (beside_number_stays (addition_operator o) left x.value) (inl refl)
   summands_faulty scope at left o (tree.TermThen t p others) =
       let x = term_value scope at t in
-      let next = beside_integer (added o) left (first_integer x.value) in
-      then_faulty is_error is_error_integers x (λ v. summands scope at (beside_integer (added o) left (first_integer v)) p others) (term_faulty scope at t)
-      (λ is. summands_stay scope at next p others (beside_number_stays (added o) left x.value is)) (summands_faulty scope at next p others)
+      let next = beside_integer (addition_operator o) left (first_integer x.value) in
+      then_faulty is_error is_error_integers x (λ v. summands scope at (beside_integer (addition_operator o) left (first_integer v)) p others) (term_faulty scope at t)
+      (λ is. summands_stay scope at next p others (beside_number_stays (addition_operator o) left x.value is)) (summands_faulty scope at next p others)
 
   term_faulty : (scope : ScopeTree) (at : ℕ) (t : TermTree) → FaultyOrNone is_error (term_value scope at t)
   term_faulty scope at (tree.LastUnary u) = unary_faulty scope at u
@@ -254,17 +255,17 @@ mutual
   unary_faulty scope at (tree.Bare e) = primary_faulty scope at e
   unary_faulty scope at (tree.Signed sign u) =
       let x = unary_value scope at u in
-      then_faulty is_error is_error x (λ v. given at rule.WrongType (signed_value sign v)) (unary_faulty scope at u) (λ is. (signed_silent at sign x.value is).1)
+      then_faulty is_error is_error x (λ v. given_or_fault at rule.WrongType (signed_value sign v)) (unary_faulty scope at u) (λ is. (signed_silent at sign x.value is).1)
       (given_faulty at (signed_value sign x.value))
 
   primary_faulty : (scope : ScopeTree) (at : ℕ) (e : PrimaryTree) → FaultyOrNone is_error (primary_value scope at e)
   primary_faulty scope at (tree.Literal n) = inl refl
   primary_faulty scope at (tree.Truth b) = inl refl
   primary_faulty scope at (tree.Variable name) =
-      let e = used scope name in
-      then_faulty names_error is_error e (λ e. given at rule.WrongType (named_value e)) (name_faulty scope name) (λ is. (named_silent at e.value is).1) (given_faulty at (named_value e.value))
+      let e = used_name scope name in
+      then_faulty names_error is_error e (λ e. given_or_fault at rule.WrongType (named_value e)) (name_faulty scope name) (λ is. (named_silent at e.value is).1) (given_faulty at (named_value e.value))
   primary_faulty scope at (tree.Entry vector index) =
-      let e = used scope vector in
+      let e = used_name scope vector in
       let v = index_value scope at index in
       then_faulty names_error is_error e (λ e. index_value scope at index >>= λ v. entry_of scope.inside at e v) (name_faulty scope vector)
       (λ is. (entry_silent scope.inside at e.value v.value (ap (λ x. x || is_error v.value) is)).1)
@@ -272,7 +273,7 @@ mutual
       (λ is. (entry_silent scope.inside at e.value v.value (ap (λ x. names_error e.value || x) is ∙ or_true (names_error e.value))).1)
       (entry_of_faulty scope.inside at e.value v.value))
   primary_faulty scope at (tree.Size set) =
-      let e = used scope set in
+      let e = used_name scope set in
       then_faulty names_error is_error e (as_size at) (name_faulty scope set) (λ is. (size_silent at e.value is).1) (size_faulty at e.value)
   primary_faulty scope at (tree.Parentheses inner) = value_faulty scope at inner
 

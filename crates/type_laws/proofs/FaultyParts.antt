@@ -23,15 +23,15 @@ use Rattle.expression_types.specs.declared.scope.Entity.TheVariants as entity
 use Rattle.expression_types.specs.declared.scope.Inside.{Inside}
 use Rattle.expression_types.specs.declared.scope.Inside.TheVariants as inside
 use Rattle.expression_types.specs.Expression.{as_size, as_vector, comparison_value, conjunction_value, conjuncts, disjuncts, entry_of, factors, index_lacks_value, index_value, no_vertex}
-use Rattle.expression_types.specs.Expression.{primary_value, sum_value, summands, term_value, unary_value, used, value_of}
-use Rattle.expression_types.specs.Operators.{ConditionsTree, Conditions, MixedConditions, ErrorConditions, IntegersTree, Integers, MixedIntegers, ErrorIntegers, added, beside_condition}
-use Rattle.expression_types.specs.Operators.{beside_integer, compared_value, entry_value, equated_value, first_condition, first_integer, given, grouped_conditions, grouped_integers, multiplied}
-use Rattle.expression_types.specs.Operators.{related_value, signed_value}
+use Rattle.expression_types.specs.Expression.{primary_value, sum_value, summands, term_value, unary_value, used_name, value_of}
+use Rattle.expression_types.specs.Operators.{ConditionsTree, Conditions, MixedConditions, ErrorConditions, IntegersTree, Integers, MixedIntegers, ErrorIntegers, addition_operator, beside_condition}
+use Rattle.expression_types.specs.Operators.{beside_integer, compared_value, entry_value, equated_value, first_condition, first_integer, given_or_fault, grouped_conditions, grouped_integers}
+use Rattle.expression_types.specs.Operators.{multiplied, related_value, signed_value}
 use Rattle.expression_types.specs.ScopeTree.{ScopeTree}
 use Rattle.expression_types.specs.ValueTree.{ValueTree, Integer, Condition, Vertex, Set, ErrorValue, is_error, named_value}
 use Rattle.expression_types.specs.Faults.{WithFaults, sure}
 use Rattle.types.specs.Checker.{CheckerTree}
-use Rattle.types.specs.Initial.{ErrorInitializer, InitializerTree, end_of, filter_named, initializer_of, is_error_end, is_sound, names_error}
+use Rattle.types.specs.Initial.{ErrorInitializer, InitializerTree, apply_end_of, filter_named, initializer_of, is_error_end, is_sound, names_error}
 use Rattle.type_laws.specs.SourceParts.{initial_forms, name_before}
 use Rattle.type_laws.specs.ExpressionParts.{Form, Expression, Conjunction, Comparison, Sum, Term, Unary, Primary, Index, Name, any_faulty, conjuncts_of, disjuncts_of, factors_of, faults_of_all}
 use Rattle.type_laws.specs.ExpressionParts.{form_faults, is_faulty, parts, summands_of}
@@ -150,10 +150,10 @@ related_silent relation.LessOrEqual a b is = compared_silent comparison.LessOrEq
 related_silent relation.Greater a b is = compared_silent comparison.Greater a b is
 related_silent relation.GreaterOrEqual a b is = compared_silent comparison.GreaterOrEqual a b is
 
-pub given_silent : (at : ℕ) (o : Option ValueTree) → o ≡ Some ErrorValue → IsSilent (given at rule.WrongType o)
-given_silent at o is = subst (λ o. IsSilent (given at rule.WrongType o)) (sym is) (refl, refl)
+pub given_silent : (at : ℕ) (o : Option ValueTree) → o ≡ Some ErrorValue → IsSilent (given_or_fault at rule.WrongType o)
+given_silent at o is = subst (λ o. IsSilent (given_or_fault at rule.WrongType o)) (sym is) (refl, refl)
 
-pub signed_silent : (at : ℕ) (sign : Prefix) (v : ValueTree) → is_error v ≡ true → IsSilent (given at rule.WrongType (signed_value sign v))
+pub signed_silent : (at : ℕ) (sign : Prefix) (v : ValueTree) → is_error v ≡ true → IsSilent (given_or_fault at rule.WrongType (signed_value sign v))
 signed_silent at prefix.Minus ErrorValue is = (refl, refl)
 signed_silent at prefix.Not ErrorValue is = (refl, refl)
 signed_silent at sign (Integer e) is = absurd cc
@@ -166,8 +166,8 @@ error_name : (e : Entity) → names_error e ≡ true → e ≡ entity.Error
 error_name entity.Error is = refl
 error_name _ is = absurd cc
 
-pub named_silent : (at : ℕ) (e : Entity) → names_error e ≡ true → IsSilent (given at rule.WrongType (named_value e))
-named_silent at e is = subst (λ e. IsSilent (given at rule.WrongType (named_value e))) (sym (error_name e is)) (refl, refl)
+pub named_silent : (at : ℕ) (e : Entity) → names_error e ≡ true → IsSilent (given_or_fault at rule.WrongType (named_value e))
+named_silent at e is = subst (λ e. IsSilent (given_or_fault at rule.WrongType (named_value e))) (sym (error_name e is)) (refl, refl)
 
 pub size_silent : (at : ℕ) (e : Entity) → names_error e ≡ true → IsSilent (as_size at e)
 size_silent at e is = subst (λ e. IsSilent (as_size at e)) (sym (error_name e is)) (refl, refl)
@@ -238,18 +238,18 @@ pub summands_faults : (scope : ScopeTree) (at : ℕ) (left : IntegersTree) (o : 
 summands_faults scope at left o (tree.LastTerm t) = refl
 summands_faults scope at left o (tree.TermThen t next others) =
     let x = term_value scope at t in
-    ap (λ fs. x.faults ++ fs) (summands_faults scope at (beside_integer (added o) left (first_integer x.value)) next others)
+    ap (λ fs. x.faults ++ fs) (summands_faults scope at (beside_integer (addition_operator o) left (first_integer x.value)) next others)
 
 pub summands_error : (scope : ScopeTree) (at : ℕ) (left : IntegersTree) (o : Addition) (s : SumTree)
     → is_error_integers (summands scope at left o s).value ≡ (is_error_integers left || any_faulty scope at (summands_of s))
 summands_error scope at left o (tree.LastTerm t) =
     let x = term_value scope at t in
-    beside_number (added o) left x.value ∙ ap (λ b. is_error_integers left || b) (sym (or_false (is_error x.value)))
+    beside_number (addition_operator o) left x.value ∙ ap (λ b. is_error_integers left || b) (sym (or_false (is_error x.value)))
 summands_error scope at left o (tree.TermThen t next others) =
     let x = term_value scope at t in
     let rest = any_faulty scope at (summands_of others) in
-    summands_error scope at (beside_integer (added o) left (first_integer x.value)) next others
-    ∙ ap (λ b. b || rest) (beside_number (added o) left x.value) ∙ or_assoc (is_error_integers left) (is_error x.value) rest
+    summands_error scope at (beside_integer (addition_operator o) left (first_integer x.value)) next others
+    ∙ ap (λ b. b || rest) (beside_number (addition_operator o) left x.value) ∙ or_assoc (is_error_integers left) (is_error x.value) rest
 
 pub factors_faults : (scope : ScopeTree) (at : ℕ) (left : IntegersTree) (o : Multiplication) (t : TermTree) → (factors scope at left o t).faults ≡ faults_of_all scope at (factors_of t)
 factors_faults scope at left o (tree.LastUnary u) = refl
@@ -329,16 +329,16 @@ faulty_parts scope at (Unary (tree.Signed sign u)) is =
 faulty_parts scope at (Primary (tree.Literal n)) is = absurd cc
 faulty_parts scope at (Primary (tree.Truth b)) is = absurd cc
 faulty_parts scope at (Primary (tree.Variable name)) is =
-    let e = used scope name in
+    let e = used_name scope name in
     let silent = named_silent at e.value (sym (or_false (names_error e.value)) ∙ is) in
     (ap (λ fs. e.faults ++ fs) silent.0, silent.1)
 faulty_parts scope at (Primary (tree.Entry vector index)) is =
-    let e = used scope vector in
+    let e = used_name scope vector in
     let v = index_value scope at index in
     let silent = entry_silent scope.inside at e.value v.value (ap (λ x. names_error e.value || x) (sym (or_false (is_error v.value))) ∙ is) in
     (ap (λ fs. e.faults ++ (v.faults ++ fs)) silent.0, silent.1)
 faulty_parts scope at (Primary (tree.Size set)) is =
-    let e = used scope set in
+    let e = used_name scope set in
     let silent = size_silent at e.value (sym (or_false (names_error e.value)) ∙ is) in
     (ap (λ fs. e.faults ++ fs) silent.0, silent.1)
 faulty_parts scope at (Primary (tree.Parentheses inner)) is = one_part (value_of scope at inner) is
@@ -351,9 +351,9 @@ if_error true m is = refl
 if_error false m is = absurd cc
 
 pub end_faulty : (scope : ScopeTree) (at : ℕ) (o : Option Identifier) (others : List Form) (b : Bool) → any_faulty scope at others ≡ b
-    → any_faulty scope at (name_before o others) ≡ (is_error_end (end_of scope o).value || b)
+    → any_faulty scope at (name_before o others) ≡ (is_error_end (apply_end_of scope o).value || b)
 end_faulty scope at None others b is = is
-end_faulty scope at (Some name) others b is = ap (λ x. names_error (used scope name).value || x) is ∙ ap (λ x. x || b) (named (used scope name).value)
+end_faulty scope at (Some name) others b is = ap (λ x. names_error (used_name scope name).value || x) is ∙ ap (λ x. x || b) (named (used_name scope name).value)
   where
     named : (e : Entity) → names_error e ≡ is_error_end (filter_named e)
     named entity.Error = refl
@@ -370,18 +370,18 @@ or_left false false false false false = refl
 pub initial_not_sound : (c : CheckerTree) (at : ℕ) (x : InitialTree) → any_faulty c.scope at (initial_forms x) ≡ true → is_sound (initializer_of c at x).value ≡ false
 initial_not_sound c at (source.NewSet size) is = absurd cc
 initial_not_sound c at (source.Load argument) is = absurd cc
-initial_not_sound c at (source.Vertices edges) is = let e = used c.scope edges in if_error (names_error e.value) _ (sym (or_false (names_error e.value)) ∙ is)
-initial_not_sound c at (source.OutDegrees edges) is = let e = used c.scope edges in if_error (names_error e.value) _ (sym (or_false (names_error e.value)) ∙ is)
+initial_not_sound c at (source.Vertices edges) is = let e = used_name c.scope edges in if_error (names_error e.value) _ (sym (or_false (names_error e.value)) ∙ is)
+initial_not_sound c at (source.OutDegrees edges) is = let e = used_name c.scope edges in if_error (names_error e.value) _ (sym (or_false (names_error e.value)) ∙ is)
 initial_not_sound c at (source.Filter set test) is =
-    let s = used c.scope set in
-    let f = used c.scope test in
+    let s = used_name c.scope set in
+    let f = used_name c.scope test in
     if_error (names_error s.value || names_error f.value) _ (ap (λ b. names_error s.value || b) (sym (or_false (names_error f.value))) ∙ is)
 initial_not_sound c at (source.ApplyModified edges sides function vector) is =
-    let e = used c.scope edges in
-    let a = end_of c.scope sides.from in
-    let b = end_of c.scope sides.to in
-    let f = used c.scope function in
-    let v = used c.scope vector in
+    let e = used_name c.scope edges in
+    let a = apply_end_of c.scope sides.from in
+    let b = apply_end_of c.scope sides.to in
+    let f = used_name c.scope function in
+    let v = used_name c.scope vector in
     let forms = Name function ∷ Name vector ∷ [] in
     if_error (names_error e.value || is_error_end a.value || is_error_end b.value || names_error f.value || names_error v.value) _
     (sym (or_left (names_error e.value) (is_error_end a.value) (is_error_end b.value) (names_error f.value) (names_error v.value))

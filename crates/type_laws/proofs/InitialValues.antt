@@ -7,9 +7,9 @@ use Rattle.syntax.specs.SourceTrees.{InitialTree, ParameterTree, DeclarationTree
 use Rattle.typed_tree.specs.BlockTree.{BlockTree, Empty}
 use Rattle.typed_tree.specs.FunctionStatementTree.{FunctionStatementsTree, NoStep}
 use Rattle.expression_types.specs.declared.scope.Entity.TheVariants as entity
-use Rattle.expression_types.specs.Expression.{used}
-use Rattle.types.specs.Block.{action_typed, behind, closed, statements_typed}
-use Rattle.types.specs.Checker.{CheckerTree, counted, declared_in, integer_slot, labelled, restarted, condition_in, integer_in}
+use Rattle.expression_types.specs.Expression.{used_name}
+use Rattle.types.specs.Block.{action_typed, then_statement, closed, statements_typed}
+use Rattle.types.specs.Checker.{CheckerTree, counted, declared_in, integer_slot, with_label, restarted, condition_in, integer_in}
 use Rattle.types.specs.Declaration.{DeclaredTree, FunctionKindTree, MainKind, EdgeKind, VertexKind, FilterKind, NoKind, declaration_typed, declarations_typed, declare_function, kind, kind_fits}
 use Rattle.types.specs.Declaration.{main_declared, opened, steps_declared}
 use Rattle.types.specs.Initial.{initializer_of, loaded, new_set}
@@ -60,7 +60,7 @@ mutual
   step_initials_fit c (source.Print at e) none = tt
   step_initials_fit c (source.Assign name initial) none =
       let all = no_left (assign_step c name.at name initial).faults [] none in
-      initializer_fits c name.at initial (no_left (initializer_of c name.at initial).faults _ (no_right (used c.scope name).faults _ all))
+      initializer_fits c name.at initial (no_left (initializer_of c name.at initial).faults _ (no_right (used_name c.scope name).faults _ all))
   step_initials_fit c (source.Reduce name by e) none = tt
   step_initials_fit c (source.SetEntry vector index e) none = tt
   step_initials_fit c (source.ReduceEntry vector index by e) none = tt
@@ -70,7 +70,7 @@ mutual
   steps_initials_fit : (c : CheckerTree) (so_far : FunctionStatementsTree) (block : source.BlockTree) → (steps_typed c so_far block).faults ≡ [] → BlockInitialsFit block
   steps_initials_fit c so_far source.Empty none = tt
   steps_initials_fit c so_far (source.Then label action others) none =
-      let l = labelled c label in
+      let l = with_label c label in
       let s = step_typed l.value.1 action in
       let rest = steps_typed s.value.1 (step_after so_far s.value.0) others in
       let both = no_right l.faults (s.faults ++ rest.faults) none in (
@@ -104,7 +104,7 @@ mutual
   action_initials_fit c (source.Print at e) none = tt
   action_initials_fit c (source.Assign name initial) none =
       let all = no_left (assign c name.at name initial).faults [] none in
-      initializer_fits c name.at initial (no_left (initializer_of c name.at initial).faults _ (no_right (used c.scope name).faults _ all))
+      initializer_fits c name.at initial (no_left (initializer_of c name.at initial).faults _ (no_right (used_name c.scope name).faults _ all))
   action_initials_fit c (source.Reduce name by e) none = tt
   action_initials_fit c (source.SetEntry vector index e) none = tt
   action_initials_fit c (source.ReduceEntry vector index by e) none = tt
@@ -114,9 +114,9 @@ mutual
   statements_initials_fit : (c : CheckerTree) (so_far : BlockTree) (block : source.BlockTree) → (statements_typed c so_far block).faults ≡ [] → BlockInitialsFit block
   statements_initials_fit c so_far source.Empty none = tt
   statements_initials_fit c so_far (source.Then label action others) none =
-      let l = labelled c label in
+      let l = with_label c label in
       let a = action_typed (counted l.value.1) action in
-      let more = behind so_far (suc l.value.1.statements) l.value.0 a.value.0 in
+      let more = then_statement so_far (suc l.value.1.statements) l.value.0 a.value.0 in
       let rest = statements_typed a.value.1 more others in
       let both = no_right l.faults (a.faults ++ rest.faults) none in (
         action_initials_fit (counted l.value.1) action (no_left a.faults rest.faults both),

@@ -12,7 +12,7 @@ use Rattle.typed_tree.specs.declared.statement.SetValue.TheVariants as set
 use Rattle.expression_types.specs.declared.scope.Entity.{Entity}
 use Rattle.expression_types.specs.declared.scope.Entity.TheVariants as entity
 use Rattle.expression_types.specs.declared.scope.Inside.TheVariants as inside
-use Rattle.expression_types.specs.Expression.{primary_value, unary_value, used, value_of}
+use Rattle.expression_types.specs.Expression.{primary_value, unary_value, used_name, value_of}
 use Rattle.expression_types.specs.ScopeTree.{ScopeTree}
 use Rattle.expression_types.specs.Faults.{WithFaults, sure}
 use Rattle.typed_tree.specs.declared.program.InitialValue.TheVariants as beginning
@@ -23,7 +23,7 @@ use Rattle.types.specs.Literal.{expression_integer, expression_truth, literal_co
 use Rattle.type_laws.specs.KeptRules.{ConstantKeeps, Declarations, after_constant}
 use Rattle.type_laws.specs.Meanings as meaning
 use Rattle.type_laws.specs.ScopeMeanings.{meaning_of, meanings_of}
-use Rattle.type_laws.specs.Meanings.{IsNew, Known, closed_known, known_after, known_behind, labelled_known, with_name}
+use Rattle.type_laws.specs.Meanings.{IsNew, Known, closed_known, known_after, known_behind, labelled_known, with_meaning}
 use Rattle.type_laws.proofs.Booleans.{false_is_not_true}
 use Rattle.type_laws.proofs.KeptNames.{Matches, declared_kept, labels_named, used_kept}
 use Rattle.type_laws.proofs.KeptStatements.{of_edges_fine}
@@ -51,7 +51,7 @@ pub as_matches : (c : CheckerTree) (k : Known) → CheckerAgrees c k → Matches
 as_matches c k a = record { names = a.names; labels = a.labels; reduced = refl; written = a.written; inside = a.inside }
 
 pub checker_declared : (c : CheckerTree) (k : Known) → CheckerAgrees c k → (name : Identifier) (e : Entity) (n : meaning.Meaning) → meaning_of e ≡ n → IsNew k name
-    → ((declared_in c name e).faults ≡ []) × CheckerAgrees (declared_in c name e).value (with_name k name n)
+    → ((declared_in c name e).faults ≡ []) × CheckerAgrees (declared_in c name e).value (with_meaning k name n)
 checker_declared c k a name e n is new =
     let d = declared_kept inside.Main c (record k { reduced = c.writes }) (as_matches c k a) name e n is new in
     (d.0, record { names = d.1.names; labels = d.1.labels; written = d.1.written; inside = d.1.inside })
@@ -132,7 +132,7 @@ literal_there at sound other None is = absurd (false_is_not_true is)
 
 -- a constant
 constant_declared : (d : DeclaredTree) (k : Declarations) → Agrees d k → (name : Identifier) (e : Entity) (n : meaning.Meaning) → meaning_of e ≡ n → IsNew k.known name
-    → ((declare_name d name e).faults ≡ []) × CheckerAgrees (declare_name d name e).value.checker (with_name k.known name n)
+    → ((declare_name d name e).faults ≡ []) × CheckerAgrees (declare_name d name e).value.checker (with_meaning k.known name n)
 constant_declared d k a name e n is new =
     let c = checker_declared d.checker k.known a.checker name e n is new in (both_none (declared_in d.checker name e).faults [] c.0 refl, c.1)
 
@@ -188,7 +188,7 @@ first_edges name index None is = (refl, refl)
 first_edges name index (Some x) is = absurd cc
 
 abbrev behind_edges : Declarations → ParameterTree → (weights : Bool) → Declarations
-behind_edges k p weights = record { known = with_name k.known p.name (meaning.Edges weights); vectors = k.vectors; edges = true; main = k.main }
+behind_edges k p weights = record { known = with_meaning k.known p.name (meaning.Edges weights); vectors = k.vectors; edges = true; main = k.main }
 
 edges_constant : (d : DeclaredTree) (k : Declarations) → Agrees d k → (weights : Bool) (at : ℕ) (p : ParameterTree) → k.edges ≡ false → IsNew k.known p.name
     → Fits (declare_edges weights d at p.name Loaded) (behind_edges k p weights)
@@ -249,8 +249,9 @@ constant_kept d k a at p declared.Vertex initial type keeps new = absurd keeps
 constant_kept d k a at p declared.VertexSet (source.Vertices edges) type keeps new =
     let c = d.checker in
     let e = used_kept inside.Main c (record k.known { reduced = c.writes }) (as_matches c k.known a.checker) edges (meaning.Edges keeps.0) keeps.1 in
-    let x = of_edges_fine at (used c.scope edges).value keeps.0 e.1 (Members set.All) in
-    known_given d k at p (source.Vertices edges) declared.VertexSet (Members set.All) (both_none (used c.scope edges).faults _ e.0 x.0) x.1 (set_constant d k a at p (source.Vertices edges) type new)
+    let x = of_edges_fine at (used_name c.scope edges).value keeps.0 e.1 (Members set.All) in
+    known_given d k at p (source.Vertices edges) declared.VertexSet (Members set.All) (both_none (used_name c.scope edges).faults _ e.0 x.0) x.1
+    (set_constant d k a at p (source.Vertices edges) type new)
 constant_kept d k a at p declared.VertexSet (source.NewSet size) type keeps new = absurd keeps
 constant_kept d k a at p declared.VertexSet (source.Load argument) type keeps new = absurd keeps
 constant_kept d k a at p declared.VertexSet (source.OutDegrees edges) type keeps new = absurd keeps
@@ -260,8 +261,8 @@ constant_kept d k a at p declared.VertexSet (source.Value e) type keeps new = ab
 constant_kept d k a at p declared.Vector (source.OutDegrees edges) type keeps new =
     let c = d.checker in
     let e = used_kept inside.Main c (record k.known { reduced = c.writes }) (as_matches c k.known a.checker) edges (meaning.Edges keeps.0) keeps.1 in
-    let x = of_edges_fine at (used c.scope edges).value keeps.0 e.1 Degrees in
-    known_given d k at p (source.OutDegrees edges) declared.Vector Degrees (both_none (used c.scope edges).faults _ e.0 x.0) x.1
+    let x = of_edges_fine at (used_name c.scope edges).value keeps.0 e.1 Degrees in
+    known_given d k at p (source.OutDegrees edges) declared.Vector Degrees (both_none (used_name c.scope edges).faults _ e.0 x.0) x.1
     (vector_constant d k a at p (source.OutDegrees edges) Degrees type refl new)
 constant_kept d k a at p declared.Vector (source.NewSet size) type keeps new = literal_vector d k a at p (source.NewSet size) type keeps new
 constant_kept d k a at p declared.Vector (source.Load argument) type keeps new = literal_vector d k a at p (source.Load argument) type keeps new

@@ -11,15 +11,15 @@ use Rattle.typed_tree.specs.declared.expression.VarRef.{VarRef}
 use Rattle.expression_types.specs.declared.scope.Entity.{Entity}
 use Rattle.expression_types.specs.declared.scope.Entity.TheVariants as entity
 use Rattle.expression_types.specs.declared.scope.Inside.{Inside}
-use Rattle.expression_types.specs.Expression.{used, used_as, value_of, vector_index}
+use Rattle.expression_types.specs.Expression.{used_name, used_as, value_of, vector_index}
 use Rattle.expression_types.specs.ScopeTree.{found, declared_over}
 use Rattle.expression_types.specs.ValueTree as value
-use Rattle.expression_types.specs.ValueTree.{ValueTree, named_set}
-use Rattle.types.specs.Checker.{CheckerTree, counted, declared_in, labelled, new_label, with_scope, as_condition, as_integer, condition_in, integer_in}
-use Rattle.type_laws.specs.ExpressionTypes.{ExpressionHas, ExpressionType, IsNumber, IsTruth, NameHas, Set, Truth, type_named}
+use Rattle.expression_types.specs.ValueTree.{ValueTree, entity_set}
+use Rattle.types.specs.Checker.{CheckerTree, counted, declared_in, with_label, new_label, in_scope, condition_wanted, integer_wanted, condition_in, integer_in}
+use Rattle.type_laws.specs.ExpressionTypes.{ExpressionHas, ExpressionType, IsNumberExpression, IsTruth, NameHas, Set, Truth, type_named}
 use Rattle.type_laws.specs.Meanings as meaning
 use Rattle.type_laws.specs.ScopeMeanings.{meaning_of, meanings_of}
-use Rattle.type_laws.specs.Meanings.{IsNew, Known, LabelIsNew, Meaning, Meanings, closed_known, labelled_known, with_name}
+use Rattle.type_laws.specs.Meanings.{IsNew, Known, LabelIsNew, Meaning, Meanings, closed_known, labelled_known, with_meaning}
 use Rattle.type_laws.proofs.TypedExpressions.{Fine, IsNumeric, IsOf, NumericFine, expression_fine, found_meaning, numeric_fine, used_means, vector_fine}
 use Rattle.type_laws.proofs.Faultless.{both_none}
 
@@ -40,24 +40,24 @@ pub expression_kept : (i : Inside) (c : CheckerTree) (k : Known) → Matches i c
 expression_kept i c k m at e type has =
     expression_fine c.scope at e type (subst (λ j. ExpressionHas (meanings_of c.scope.visible) j e type) (sym m.inside) (subst (λ n. ExpressionHas n i e type) (sym m.names) has))
 
-pub number_value : (i : Inside) (c : CheckerTree) (k : Known) → Matches i c k → (at : ℕ) (e : ExpressionTree) → IsNumber k.names i e → NumericFine (value_of c.scope at e)
+pub number_value : (i : Inside) (c : CheckerTree) (k : Known) → Matches i c k → (at : ℕ) (e : ExpressionTree) → IsNumberExpression k.names i e → NumericFine (value_of c.scope at e)
 number_value i c k m at e has = numeric_fine (value_of c.scope at e) (ExpressionHas k.names i e) (expression_kept i c k m at e) has
 
-pub numeric_integer : (at : ℕ) (v : ValueTree) → IsNumeric v → (as_integer at v).faults ≡ []
+pub numeric_integer : (at : ℕ) (v : ValueTree) → IsNumeric v → (integer_wanted at v).faults ≡ []
 numeric_integer at (value.Integer e) is = refl
 numeric_integer at (value.Condition c) is = absurd is
 numeric_integer at (value.Vertex p) is = refl
 numeric_integer at (value.Set slot) is = absurd is
 numeric_integer at value.ErrorValue is = absurd is
 
-pub truth_condition : (at : ℕ) (v : ValueTree) → IsOf Truth v → (as_condition at v).faults ≡ []
+pub truth_condition : (at : ℕ) (v : ValueTree) → IsOf Truth v → (condition_wanted at v).faults ≡ []
 truth_condition at (value.Integer e) is = absurd is
 truth_condition at (value.Condition c) is = refl
 truth_condition at (value.Vertex p) is = absurd is
 truth_condition at (value.Set slot) is = absurd is
 truth_condition at value.ErrorValue is = absurd is
 
-pub number_kept : (i : Inside) (c : CheckerTree) (k : Known) → Matches i c k → (at : ℕ) (e : ExpressionTree) → IsNumber k.names i e → (integer_in c.scope at e).faults ≡ []
+pub number_kept : (i : Inside) (c : CheckerTree) (k : Known) → Matches i c k → (at : ℕ) (e : ExpressionTree) → IsNumberExpression k.names i e → (integer_in c.scope at e).faults ≡ []
 number_kept i c k m at e has =
     let x = number_value i c k m at e has in both_none (value_of c.scope at e).faults _ x.none (numeric_integer at (value_of c.scope at e).value x.is)
 
@@ -67,7 +67,7 @@ truth_kept i c k m at e has =
 
 -- names
 pub used_kept : (i : Inside) (c : CheckerTree) (k : Known) → Matches i c k → (name : Identifier) (n : Meaning) → found name.bytes k.names ≡ Some n
-    → ((used c.scope name).faults ≡ []) × (meaning_of (used c.scope name).value ≡ n)
+    → ((used_name c.scope name).faults ≡ []) × (meaning_of (used_name c.scope name).value ≡ n)
 used_kept i c k m name n is = used_means c.scope name n (subst (λ ns. found name.bytes ns ≡ Some n) (sym m.names) is)
 
 pub vector_kept : (i : Inside) (c : CheckerTree) (k : Known) → Matches i c k → (at : ℕ) (name : Identifier) (vector : ℕ) → found name.bytes k.names ≡ Some (meaning.Vector vector)
@@ -83,7 +83,7 @@ set_used name None has = absurd (no_type_set Set has)
 set_used name (Some e) has = (refl, has)
 
 pub set_kept : (i : Inside) (c : CheckerTree) (k : Known) → Matches i c k → (name : Identifier) → NameHas k.names name Set
-    → ((used c.scope name).faults ≡ []) × (type_named (Some (meaning_of (used c.scope name).value)) ≡ Some Set)
+    → ((used_name c.scope name).faults ≡ []) × (type_named (Some (meaning_of (used_name c.scope name).value)) ≡ Some Set)
 set_kept i c k m name has =
     set_used name (found name.bytes c.scope.visible)
     (subst (λ o. type_named o ≡ Some Set) (found_meaning name.bytes c.scope.visible) (subst (λ ns. type_named (found name.bytes ns) ≡ Some Set) (sym m.names) has))
@@ -135,12 +135,12 @@ new_name i c k m name new =
     none_found (found name.bytes c.scope.visible) (subst (λ o. o ≡ None) (found_meaning name.bytes c.scope.visible) (subst (λ ns. found name.bytes ns ≡ None) (sym m.names) new))
 
 pub declared_kept : (i : Inside) (c : CheckerTree) (k : Known) → Matches i c k → (name : Identifier) (e : Entity) (n : Meaning) → meaning_of e ≡ n → IsNew k name
-    → ((declared_in c name e).faults ≡ []) × Matches i (declared_in c name e).value (with_name k name n)
+    → ((declared_in c name e).faults ≡ []) × Matches i (declared_in c name e).value (with_meaning k name n)
 declared_kept i c k m name e n is new = at_found (found name.bytes c.scope.visible) (new_name i c k m name new)
   where
     at_found : (o : Option Entity) → o ≡ None
         → (((declared_over o name e c.scope).faults ++ []) ≡ [])
-        × Matches i (record c { scope = (declared_over o name e c.scope).value; names = c.names ++ name.bytes ∷ [] }) (with_name k name n)
+        × Matches i (record c { scope = (declared_over o name e c.scope).value; names = c.names ++ name.bytes ∷ [] }) (with_meaning k name n)
     at_found None none = (
       refl,
       record {
@@ -175,7 +175,7 @@ new_label_there labels label new = at_any (list_any (bytes_eq label) (labels_nam
     at_any false is = not_there label labels is
 
 pub labelled_kept : (i : Inside) (c : CheckerTree) (k : Known) → Matches i c k → (label : Option Identifier) → LabelIsNew k label
-    → ((labelled c label).faults ≡ []) × Matches i (labelled c label).value.1 (labelled_known k label)
+    → ((with_label c label).faults ≡ []) × Matches i (with_label c label).value.1 (labelled_known k label)
 labelled_kept i c k m None new = (refl, m)
 labelled_kept i c k m (Some label) new =
     at_found (found label.bytes c.labels) (new_label_there c.labels label.bytes (subst (λ ls. Contains ls label.bytes → ⊥) (sym m.labels) new))
@@ -197,5 +197,5 @@ pub counted_kept : (i : Inside) (c : CheckerTree) (k : Known) → Matches i c k 
 counted_kept i c k m = record { names = m.names; labels = m.labels; reduced = m.reduced; written = m.written; inside = m.inside }
 
 -- after a block the old names stand again
-pub closed_kept : (i j : Inside) (c d : CheckerTree) (k inner : Known) → Matches i c k → Matches j d inner → Matches i (with_scope d c.scope) (closed_known k inner)
+pub closed_kept : (i j : Inside) (c d : CheckerTree) (k inner : Known) → Matches i c k → Matches j d inner → Matches i (in_scope d c.scope) (closed_known k inner)
 closed_kept i j c d k inner m further = record { names = m.names; labels = further.labels; reduced = further.reduced; written = further.written; inside = m.inside }

@@ -19,16 +19,16 @@ use Rattle.expression_types.specs.declared.scope.Inside.TheVariants as inside
 use Rattle.expression_types.specs.ScopeTree.{entered}
 use Rattle.expression_types.specs.Faults.{WithFaults}
 use Rattle.types.specs.Block.{statements_typed}
-use Rattle.types.specs.Checker.{CheckerTree, condition_slot, declared_in, restarted, with_scope}
-use Rattle.types.specs.Declaration.{DeclaredTree, EdgeKind, FilterKind, MainKind, NoKind, VertexKind, declaration_typed, declarations_typed, declare_function, declare_name, is_bool, is_vertex}
-use Rattle.types.specs.Declaration.{kind_of, main_bytes, main_declared, opened, parameter, steps_declared, takes_nothing, is_int}
+use Rattle.types.specs.Checker.{CheckerTree, condition_slot, declared_in, restarted, in_scope}
+use Rattle.types.specs.Declaration.{DeclaredTree, EdgeKind, FilterKind, MainKind, NoKind, VertexKind, declaration_typed, declarations_typed, declare_function, declare_name, is_bool_type}
+use Rattle.types.specs.Declaration.{is_vertex_type, kind_of, main_bytes, main_declared, opened, parameter, steps_declared, takes_nothing, is_int_type}
 use Rattle.types.specs.Program.{main_of, opening, program_of, set_count}
 use Rattle.types.specs.Step.{steps_typed, with_writes}
 use Rattle.type_laws.specs.KeptRules.{BlockKeeps, DeclarationKeeps, Declarations, DeclarationsKeep, FunctionKeeps, KeepsRules, MainKeeps, after_declaration, after_function, after_main}
 use Rattle.type_laws.specs.KeptRules.{known_at_vertex, known_in_filter, known_in_main, known_on_edge, nothing_declared, known_on_weighted_edge, edge_function_after}
 use Rattle.type_laws.specs.Meanings as meaning
 use Rattle.type_laws.specs.ScopeMeanings.{meaning_of}
-use Rattle.type_laws.specs.Meanings.{IsNew, Known, closed_known, known_after, known_behind, labelled_known, reduced_in, with_name}
+use Rattle.type_laws.specs.Meanings.{IsNew, Known, closed_known, known_after, known_behind, labelled_known, reduced_in, with_meaning}
 use Rattle.type_laws.proofs.KeptNames.{Matches, declared_kept}
 use Rattle.type_laws.proofs.KeptStatements.{statements_kept}
 use Rattle.type_laws.proofs.KeptSteps.{steps_kept}
@@ -44,7 +44,7 @@ mutual
   behind_written : (i : Inside) (k : Known) (action : source.StatementKindTree) → (known_behind i k action).written ≡ k.written
   behind_written i k (source.Declare at p initial) = refl
   behind_written i k (source.While at test body) = after_written i k body
-  behind_written i k (source.For at name first limit body) = after_written i (with_name k name meaning.LoopName) body
+  behind_written i k (source.For at name first limit body) = after_written i (with_meaning k name meaning.LoopName) body
   behind_written i k (source.If at test body) = after_written i k body
   behind_written i k (source.IfElse at test body otherwise) = after_written i (closed_known k (known_after i k body)) otherwise ∙ after_written i k body
   behind_written i k (source.Print at e) = refl
@@ -65,13 +65,13 @@ mutual
 
 -- at the first parameter of a function nothing is reduced
 abbrev pub begun : CheckerTree → Inside → CheckerTree
-begun c i = with_writes (with_scope c (entered i c.scope)) []
+begun c i = with_writes (in_scope c (entered i c.scope)) []
 
 pub begun_matches : (c : CheckerTree) (k : Known) (i : Inside) → CheckerAgrees c k → Matches i (begun c i) (known_in_main k)
 begun_matches c k i a = record { names = a.names; labels = a.labels; reduced = refl; written = a.written; inside = refl }
 
 -- after a function the scope before it stands again
-pub left_agrees : (i : Inside) (c d : CheckerTree) (k after : Known) → CheckerAgrees c k → Matches i d after → CheckerAgrees (with_scope d c.scope) (closed_known k after)
+pub left_agrees : (i : Inside) (c d : CheckerTree) (k after : Known) → CheckerAgrees c k → Matches i d after → CheckerAgrees (in_scope d c.scope) (closed_known k after)
 left_agrees i c d k after a m = record { names = a.names; labels = m.labels; written = m.written; inside = a.inside }
 
 -- parameters are vertices
@@ -85,7 +85,7 @@ abbrev pub Opens : Inside → WithFaults CheckerTree → Known → Type 0
 Opens i m k = (m.faults ≡ []) × Matches i m.value k
 
 pub parameter_opens : (weighted : Bool) (i : Inside) (c : CheckerTree) (k : Known) → Matches i c k → (p : Endpoint) (v : ParameterTree) → v.declared ≡ declared.Vertex → IsNew k v.name
-    → Opens i (declared_in c v.name (parameter weighted p v.declared)) (with_name k v.name (meaning.Parameter p))
+    → Opens i (declared_in c v.name (parameter weighted p v.declared)) (with_meaning k v.name (meaning.Parameter p))
 parameter_opens weighted i c k m p v is new = declared_kept i c k m v.name (parameter weighted p v.declared) (meaning.Parameter p) (parameter_is weighted p v.declared is) new
 
 pub vertex_opens : (c : CheckerTree) (k : Known) → CheckerAgrees c k → (v : ParameterTree) → v.declared ≡ declared.Vertex → IsNew k v.name
@@ -132,7 +132,7 @@ weighted_edge_opens c k a src dst w is also int new further last =
 
 -- the name of a function, after what is in it
 name_declared : (d : DeclaredTree) (k : Known) → CheckerAgrees d.checker k → (name : Identifier) (e : Entity) (n : meaning.Meaning) → meaning_of e ≡ n → IsNew k name
-    → ((declare_name d name e).faults ≡ []) × CheckerAgrees (declare_name d name e).value.checker (with_name k name n)
+    → ((declare_name d name e).faults ≡ []) × CheckerAgrees (declare_name d name e).value.checker (with_meaning k name n)
 name_declared d k a name e n is new = let c = checker_declared d.checker k a name e n is new in (both_none (declared_in d.checker name e).faults [] c.0 refl, c.1)
 
 vertex_function_kept : (d : DeclaredTree) (k : Declarations) → Agrees d k → (at : ℕ) (name : Identifier) (v : ParameterTree) (body : source.BlockTree) → IsNew k.known name
@@ -143,7 +143,7 @@ vertex_function_kept d k a at name v body new keeps =
     let b = steps_typed o.value NoStep body in
     let inner = steps_kept inside.VertexFunction o.value (known_at_vertex k.known v) tt opens.1 NoStep body keeps.2 in
     let after = known_after inside.VertexFunction (known_at_vertex k.known v) body in
-    let e = record d { checker = with_scope b.value.1 d.checker.scope } in
+    let e = record d { checker = in_scope b.value.1 d.checker.scope } in
     let f = entity.VertexFunction (length d.vertex_functions) in
     let named = name_declared e (closed_known k.known after) (left_agrees inside.VertexFunction d.checker b.value.1 k.known after a.checker inner.1) name f meaning.VertexFunction refl new in (
       both_none o.faults _ opens.0 (both_none b.faults _ inner.0 (both_none (declare_name e name f).faults [] named.0 refl)),
@@ -165,7 +165,7 @@ filter_kept d k a at name v test body new keeps =
     let b = steps_typed o.value NoStep body in
     let inner = steps_kept inside.Filter o.value (known_in_filter k.known v test) tt opens.1 NoStep body keeps.4 in
     let after = known_after inside.Filter (known_in_filter k.known v test) body in
-    let e = record d { checker = with_scope b.value.1 d.checker.scope } in
+    let e = record d { checker = in_scope b.value.1 d.checker.scope } in
     let f = entity.Filter (length d.filters) in
     let named = name_declared e (closed_known k.known after) (left_agrees inside.Filter d.checker b.value.1 k.known after a.checker inner.1) name f meaning.Filter refl new in (
       both_none o.faults _ opens.0 (both_none b.faults _ inner.0 (both_none (declare_name e name f).faults [] named.0 refl)),
@@ -181,7 +181,7 @@ edge_function_fits d k a at name weighted parameters start body opens written ne
     let b = steps_typed o.value NoStep body in
     let inner = steps_kept inside.EdgeFunction o.value start tt opens.1 NoStep body keeps in
     let after = known_after inside.EdgeFunction start body in
-    let e = record d { checker = with_scope b.value.1 d.checker.scope } in
+    let e = record d { checker = in_scope b.value.1 d.checker.scope } in
     let f = entity.EdgeFunction (length d.edge_functions) weighted in
     let named = name_declared e (closed_known k.known after) (left_agrees inside.EdgeFunction d.checker b.value.1 k.known after a.checker inner.1) name f
     (meaning.EdgeFunction (length k.known.written) weighted) (ap (λ n. meaning.EdgeFunction n weighted) a.functions) new in (
@@ -233,31 +233,32 @@ main_kept d k a name parameters result body new keeps =
               refl;
         }) Empty body within in
         let after = known_after inside.Main (known_in_main k.known) body in
-        let e = record d { checker = with_scope b.value.1 d.checker.scope } in
+        let e = record d { checker = in_scope b.value.1 d.checker.scope } in
         let named = name_declared e (closed_known k.known after) (left_agrees inside.Main d.checker b.value.1 k.known after a.checker inner.1) name entity.Main meaning.Main refl new in (
           both_none b.faults _ inner.0 (both_none (declare_name e name entity.Main).faults [] named.0 refl),
           record { checker = named.1; vectors = a.vectors; functions = a.functions ∙ ap length (sym (after_written inside.Main (known_in_main k.known) body)); edges = a.edges; main = refl },
         )
 
 -- the kind of a function that keeps the rules
-pub vertex_kind : (v : DeclaredType) → v ≡ declared.Vertex → (if is_vertex v then VertexKind else NoKind) ≡ VertexKind
-vertex_kind v is = subst (λ t. (if is_vertex t then VertexKind else NoKind) ≡ VertexKind) (sym is) refl
+pub vertex_kind : (v : DeclaredType) → v ≡ declared.Vertex → (if is_vertex_type v then VertexKind else NoKind) ≡ VertexKind
+vertex_kind v is = subst (λ t. (if is_vertex_type t then VertexKind else NoKind) ≡ VertexKind) (sym is) refl
 
-pub filter_kind : (v test : DeclaredType) → v ≡ declared.Vertex → test ≡ declared.Bool → (if is_vertex v && is_bool test then FilterKind else NoKind) ≡ FilterKind
+pub filter_kind : (v test : DeclaredType) → v ≡ declared.Vertex → test ≡ declared.Bool → (if is_vertex_type v && is_bool_type test then FilterKind else NoKind) ≡ FilterKind
 filter_kind v test is also =
-    subst (λ t. (if is_vertex t && is_bool test then FilterKind else NoKind) ≡ FilterKind) (sym is) (subst (λ t. (if is_bool t then FilterKind else NoKind) ≡ FilterKind) (sym also) refl)
+    subst (λ t. (if is_vertex_type t && is_bool_type test then FilterKind else NoKind) ≡ FilterKind) (sym is)
+    (subst (λ t. (if is_bool_type t then FilterKind else NoKind) ≡ FilterKind) (sym also) refl)
 
-pub edge_kind : (src dst : DeclaredType) → src ≡ declared.Vertex → dst ≡ declared.Vertex → (if is_vertex src && is_vertex dst then EdgeKind false else NoKind) ≡ EdgeKind false
+pub edge_kind : (src dst : DeclaredType) → src ≡ declared.Vertex → dst ≡ declared.Vertex → (if is_vertex_type src && is_vertex_type dst then EdgeKind false else NoKind) ≡ EdgeKind false
 edge_kind src dst is also =
-    subst (λ t. (if is_vertex t && is_vertex dst then EdgeKind false else NoKind) ≡ EdgeKind false) (sym is)
-    (subst (λ t. (if is_vertex t then EdgeKind false else NoKind) ≡ EdgeKind false) (sym also) refl)
+    subst (λ t. (if is_vertex_type t && is_vertex_type dst then EdgeKind false else NoKind) ≡ EdgeKind false) (sym is)
+    (subst (λ t. (if is_vertex_type t then EdgeKind false else NoKind) ≡ EdgeKind false) (sym also) refl)
 
 pub weighted_kind : (src dst w : DeclaredType) → src ≡ declared.Vertex → dst ≡ declared.Vertex → w ≡ declared.Int
-    → (if is_vertex src && is_vertex dst && is_int w then EdgeKind true else NoKind) ≡ EdgeKind true
+    → (if is_vertex_type src && is_vertex_type dst && is_int_type w then EdgeKind true else NoKind) ≡ EdgeKind true
 weighted_kind src dst w is also int =
-    subst (λ t. (if is_vertex t && is_vertex dst && is_int w then EdgeKind true else NoKind) ≡ EdgeKind true) (sym is)
-    (subst (λ t. (if is_vertex t && is_int w then EdgeKind true else NoKind) ≡ EdgeKind true) (sym also)
-    (subst (λ t. (if is_int t then EdgeKind true else NoKind) ≡ EdgeKind true) (sym int) refl))
+    subst (λ t. (if is_vertex_type t && is_vertex_type dst && is_int_type w then EdgeKind true else NoKind) ≡ EdgeKind true) (sym is)
+    (subst (λ t. (if is_vertex_type t && is_int_type w then EdgeKind true else NoKind) ≡ EdgeKind true) (sym also)
+    (subst (λ t. (if is_int_type t then EdgeKind true else NoKind) ≡ EdgeKind true) (sym int) refl))
 
 user_function_kept : (d : DeclaredTree) (k : Declarations) → Agrees d k → (at : ℕ) (name : Identifier) (parameters : List ParameterTree) (result : Option ParameterTree) (body : source.BlockTree)
     → IsNew k.known name → FunctionKeeps k.known parameters result body

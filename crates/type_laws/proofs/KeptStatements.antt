@@ -16,24 +16,25 @@ use Rattle.expression_types.specs.declared.scope.Entity.{Entity}
 use Rattle.expression_types.specs.declared.scope.Entity.TheVariants as entity
 use Rattle.expression_types.specs.declared.scope.Inside.{Inside}
 use Rattle.expression_types.specs.declared.scope.Inside.TheVariants as inside
-use Rattle.expression_types.specs.Expression.{used, value_of, vector_index}
+use Rattle.expression_types.specs.Expression.{used_name, value_of, vector_index}
 use Rattle.expression_types.specs.ScopeTree.{found}
 use Rattle.expression_types.specs.ValueTree as value
-use Rattle.expression_types.specs.ValueTree.{ValueTree, named_set, reads_entry}
+use Rattle.expression_types.specs.ValueTree.{ValueTree, entity_set, reads_entry}
 use Rattle.expression_types.specs.Faults.{WithFaults, fault_at, sure}
-use Rattle.types.specs.Block.{action_typed, behind, closed, in_place, statements_typed}
-use Rattle.types.specs.Checker.{CheckerTree, condition_slot, counted, declared_in, integer_slot, labelled, set_slot, as_index, as_integer, as_members, condition_in, integer_in, unread}
+use Rattle.types.specs.Block.{action_typed, then_statement, closed, in_place, statements_typed}
+use Rattle.types.specs.Checker.{CheckerTree, condition_slot, counted, declared_in, integer_slot, with_label, set_slot, as_index, integer_wanted, as_members, condition_in, integer_in, unread}
 use Rattle.types.specs.Initial as initial_value
-use Rattle.types.specs.Initial.{ApplyEndTree, Absent, Wrong, ErrorEnd, InitializerTree, edge_function, end_of, ends_given, filter_named, filtered, initializer_condition, initializer_integer}
-use Rattle.types.specs.Initial.{initializer_members, initializer_of, is_edges, is_error_end, is_wrong, modified, modified_by, names_error, new_set, of_edges, vector_of, writes_vector}
-use Rattle.types.specs.Statement.{add_vertex, added, apply, applied, edges_applied, no_action, assign, assigned, declare_variable, has_ends, print, printed, reduce, reduce_entry, reduced, set_entry}
+use Rattle.types.specs.Initial.{ApplyEndTree, Absent, Wrong, ErrorEnd, InitializerTree, edge_function, apply_end_of, ends_given, filter_named, filtered_set, initializer_condition, initializer_integer}
+use Rattle.types.specs.Initial.{initializer_members, initializer_of, is_edges, is_error_end, is_wrong, initial_modified, modified_by, names_error, new_set, of_edges, vector_of, writes_vector}
+use Rattle.types.specs.Statement.{add_vertex, added_to_set, apply, applied, edges_applied, no_action, assign, assigned, declare_variable, has_ends, print, printed, reduce, reduce_entry, reduced}
+use Rattle.types.specs.Statement.{set_entry}
 use Rattle.type_laws.specs.EntryAccess.{HasNoEntry}
-use Rattle.type_laws.specs.ExpressionTypes.{IsNumber, IsTruth, Set, Truth, type_named}
+use Rattle.type_laws.specs.ExpressionTypes.{IsNumberExpression, IsTruth, Set, Truth, type_named}
 use Rattle.type_laws.specs.KeptRules.{ActionKeeps, AppliesEdges, AppliesVertices, ApplyFits, AssignFits, AssignsNumber, AssignsSet, AssignsTruth, BlockKeeps, EndFits, EndsFit, GivesMembers}
 use Rattle.type_laws.specs.KeptRules.{GivesNumber, GivesTruth, Modifies, SeesWeights, VariableFits}
 use Rattle.type_laws.specs.Meanings as meaning
 use Rattle.type_laws.specs.ScopeMeanings.{meaning_of}
-use Rattle.type_laws.specs.Meanings.{IsNew, Known, closed_known, known_after, known_behind, labelled_known, variable_meaning, with_name}
+use Rattle.type_laws.specs.Meanings.{IsNew, Known, closed_known, known_after, known_behind, labelled_known, variable_meaning, with_meaning}
 use Rattle.type_laws.proofs.PlainEntries.{ReadsNone, expression_reads_none}
 use Rattle.type_laws.proofs.TypedExpressions.{IsNumeric, IsOf}
 use Rattle.type_laws.proofs.KeptNames.{Matches, closed_kept, counted_kept, declared_kept, edge_function_entity, edges_are, expression_kept, filter_entity, labelled_kept, number_kept, number_value}
@@ -76,14 +77,14 @@ new_set_fine at size is = subst (λ z. GivesSet at (new_set at z)) (sym is) (ref
 pub of_edges_fine : (at : ℕ) (e : Entity) (weights : Bool) → meaning_of e ≡ meaning.Edges weights → (x : InitializerTree) → ((of_edges at x e).faults ≡ []) × ((of_edges at x e).value ≡ x)
 of_edges_fine at e weights is x = subst (λ e. ((of_edges at x e).faults ≡ []) × ((of_edges at x e).value ≡ x)) (sym (edges_are e weights is)) (refl, refl)
 
-set_passes : (at : ℕ) (s : Entity) (index : ℕ) → type_named (Some (meaning_of s)) ≡ Some Set → GivesSet at (filtered at s (entity.Filter index))
+set_passes : (at : ℕ) (s : Entity) (index : ℕ) → type_named (Some (meaning_of s)) ≡ Some Set → GivesSet at (filtered_set at s (entity.Filter index))
 set_passes at (entity.ConstantSet slot) index is = (refl, refl)
 set_passes at (entity.SetVariable slot) index is = (refl, refl)
 set_passes at _ index is = absurd cc
 
-filtered_fine : (at : ℕ) (s f : Entity) → type_named (Some (meaning_of s)) ≡ Some Set → meaning_of f ≡ meaning.Filter → GivesSet at (filtered at s f)
+filtered_fine : (at : ℕ) (s f : Entity) → type_named (Some (meaning_of s)) ≡ Some Set → meaning_of f ≡ meaning.Filter → GivesSet at (filtered_set at s f)
 filtered_fine at s f set filter =
-    let is = filter_entity f filter in subst (λ f. GivesSet at (filtered at s f)) (sym is.1) (set_passes at s is.0 set)
+    let is = filter_entity f filter in subst (λ f. GivesSet at (filtered_set at s f)) (sym is.1) (set_passes at s is.0 set)
 
 -- an end that fits
 abbrev pub IsGood : ApplyEndTree → Type 0
@@ -102,12 +103,12 @@ filter_end (entity.Filter index) is = tt
 filter_end _ is = absurd cc
 
 pub end_kept : (i : Inside) (c : CheckerTree) (k : Known) → Matches i c k → (name : Option Identifier) → EndFits k.names name
-    → ((end_of c.scope name).faults ≡ []) × IsGood (end_of c.scope name).value
+    → ((apply_end_of c.scope name).faults ≡ []) × IsGood (apply_end_of c.scope name).value
 end_kept i c k m None fits = (refl, tt)
 end_kept i c k m (Some name) fits =
     elim fits [
-      | inl set ↦ let s = set_kept i c k m name set in (both_none (used c.scope name).faults [] s.0 refl, set_end (used c.scope name).value s.1)
-      | inr filter ↦ let f = used_kept i c k m name meaning.Filter filter in (both_none (used c.scope name).faults [] f.0 refl, filter_end (used c.scope name).value f.1)
+      | inl set ↦ let s = set_kept i c k m name set in (both_none (used_name c.scope name).faults [] s.0 refl, set_end (used_name c.scope name).value s.1)
+      | inr filter ↦ let f = used_kept i c k m name meaning.Filter filter in (both_none (used_name c.scope name).faults [] f.0 refl, filter_end (used_name c.scope name).value f.1)
     ]
 
 -- the members that an apply modifies
@@ -127,7 +128,7 @@ if_seen at m true is fine = absurd cc
 if_seen at m false is fine = fine
 
 modified_good : (c : CheckerTree) (at : ℕ) (a b : ApplyEndTree) (weights : Bool) (index : ℕ) (weighted : Bool) (vector : ℕ) → IsGood a → IsGood b → SeesWeights weights weighted
-    → writes_vector c.written index vector ≡ true → GivesSet at (modified c at (entity.Edges weights) a b (entity.EdgeFunction index weighted) (entity.Vector vector))
+    → writes_vector c.written index vector ≡ true → GivesSet at (initial_modified c at (entity.Edges weights) a b (entity.EdgeFunction index weighted) (entity.Vector vector))
 modified_good c at Absent Absent weights index weighted vector first second sees writes =
     if_seen at (modified_by c at (ends_given Absent Absent) (Some index) (Some vector)) (not weights && weighted) (weights_seen weights weighted sees)
     (if_writes at (initial_value.Members (set.Modified (ends_given Absent Absent) index vector)) (writes_vector c.written index vector) writes refl)
@@ -155,17 +156,18 @@ modified_fine i c k m at edges ends f v fit modifies =
     let b = end_kept i c k m ends.to fit.1 in
     let g = used_kept i c k m f (meaning.EdgeFunction modifies.index modifies.weighted) modifies.function_means in
     let w = used_kept i c k m v (meaning.Vector modifies.written) modifies.vector_means in
-    let x = (end_of c.scope ends.from).value in
-    let y = (end_of c.scope ends.to).value in
+    let x = (apply_end_of c.scope ends.from).value in
+    let y = (apply_end_of c.scope ends.to).value in
     let writes : writes_vector c.written modifies.index modifies.written ≡ true =
     ap is_some (subst (λ ws. lookup (nat_eq modifies.written) (slice_index_or ws modifies.index []) ≡ Some modifies.by) (sym m.written) modifies.writes) in
-    let all = subst (λ e. GivesSet at (modified c at e x y (used c.scope f).value (used c.scope v).value)) (sym (edges_are (used c.scope edges).value modifies.weights e.1))
-    (subst (λ g. GivesSet at (modified c at (entity.Edges modifies.weights) x y g (used c.scope v).value)) (sym (edge_function_entity (used c.scope f).value modifies.index modifies.weighted g.1))
-    (subst (λ w. GivesSet at (modified c at (entity.Edges modifies.weights) x y (entity.EdgeFunction modifies.index modifies.weighted) w))
-    (sym (vector_entity (used c.scope v).value modifies.written w.1))
+    let all = subst (λ e. GivesSet at (initial_modified c at e x y (used_name c.scope f).value (used_name c.scope v).value)) (sym (edges_are (used_name c.scope edges).value modifies.weights e.1))
+    (subst (λ g. GivesSet at (initial_modified c at (entity.Edges modifies.weights) x y g (used_name c.scope v).value))
+    (sym (edge_function_entity (used_name c.scope f).value modifies.index modifies.weighted g.1))
+    (subst (λ w. GivesSet at (initial_modified c at (entity.Edges modifies.weights) x y (entity.EdgeFunction modifies.index modifies.weighted) w))
+    (sym (vector_entity (used_name c.scope v).value modifies.written w.1))
     (modified_good c at x y modifies.weights modifies.index modifies.weighted modifies.written a.1 b.1 modifies.sees writes))) in (
-      both_none (used c.scope edges).faults _ e.0 (both_none (end_of c.scope ends.from).faults _ a.0 (both_none (end_of c.scope ends.to).faults _ b.0
-          (both_none (used c.scope f).faults _ g.0 (both_none (used c.scope v).faults _ w.0 all.0)))),
+      both_none (used_name c.scope edges).faults _ e.0 (both_none (apply_end_of c.scope ends.from).faults _ a.0 (both_none (apply_end_of c.scope ends.to).faults _ b.0
+          (both_none (used_name c.scope f).faults _ g.0 (both_none (used_name c.scope v).faults _ w.0 all.0)))),
       all.1,
     )
 
@@ -181,14 +183,14 @@ given_members i c k m at (source.NewSet size) gives = new_set_fine at size gives
 given_members i c k m at (source.Load argument) gives = absurd gives
 given_members i c k m at (source.Vertices edges) gives =
     let e = used_kept i c k m edges (meaning.Edges gives.0) gives.1 in
-    let x = of_edges_fine at (used c.scope edges).value gives.0 e.1 (initial_value.Members set.All) in
-    (both_none (used c.scope edges).faults _ e.0 x.0, subst (λ g. (initializer_members at g).faults ≡ []) (sym x.1) refl)
+    let x = of_edges_fine at (used_name c.scope edges).value gives.0 e.1 (initial_value.Members set.All) in
+    (both_none (used_name c.scope edges).faults _ e.0 x.0, subst (λ g. (initializer_members at g).faults ≡ []) (sym x.1) refl)
 given_members i c k m at (source.OutDegrees edges) gives = absurd gives
 given_members i c k m at (source.Filter s f) gives =
     let x = set_kept i c k m s gives.0 in
     let y = used_kept i c k m f meaning.Filter gives.1 in
-    let all = filtered_fine at (used c.scope s).value (used c.scope f).value x.1 y.1 in
-    (both_none (used c.scope s).faults _ x.0 (both_none (used c.scope f).faults _ y.0 all.0), all.1)
+    let all = filtered_fine at (used_name c.scope s).value (used_name c.scope f).value x.1 y.1 in
+    (both_none (used_name c.scope s).faults _ x.0 (both_none (used_name c.scope f).faults _ y.0 all.0), all.1)
 given_members i c k m at (source.ApplyModified edges ends f v) gives = modified_fine i c k m at edges ends f v gives.0 gives.1
 given_members i c k m at (source.Value e) gives =
     let x = expression_kept i c k m at e Set gives in
@@ -200,12 +202,12 @@ Keeps i m k = (m.faults ≡ []) × Matches i m.value.1 k
 
 pub declares : {A X : Type 0} (i : Inside) (c : CheckerTree) (k : Known) → Matches i c k → (name : Identifier) (e : Entity) (n : meaning.Meaning) → meaning_of e ≡ n → IsNew k name
     → (x : WithFaults X) → x.faults ≡ [] → (a : X → A)
-    → Keeps i (record { faults = x.faults ++ ((declared_in c name e).faults ++ []); value = (a x.value, (declared_in c name e).value) }) (with_name k name n)
+    → Keeps i (record { faults = x.faults ++ ((declared_in c name e).faults ++ []); value = (a x.value, (declared_in c name e).value) }) (with_meaning k name n)
 declares i c k m name e n is new x none a =
     let d = declared_kept i c k m name e n is new in (both_none x.faults _ none (both_none (declared_in c name e).faults [] d.0 refl), d.1)
 
 declare_kept : (c : CheckerTree) (k : Known) → Matches inside.Main c k → (at : ℕ) (name : Identifier) (initial : InitialTree) (type : DeclaredType) → VariableFits inside.Main k type initial
-    → IsNew k name → Keeps inside.Main (declare_variable c at name type initial) (with_name k name (variable_meaning type))
+    → IsNew k name → Keeps inside.Main (declare_variable c at name type initial) (with_meaning k name (variable_meaning type))
 declare_kept c k m at name initial declared.Int fits new =
     let g = initializer_of c at initial in
     let x = given_number inside.Main c k m at initial fits in
@@ -230,35 +232,35 @@ assign_kept : (c : CheckerTree) (k : Known) → Matches inside.Main c k → (at 
     → (assign c at name initial).faults ≡ []
 assign_kept c k m at name initial (AssignsNumber means gives) =
     let u = used_kept inside.Main c k m name meaning.NumberVariable means in
-    let is = number_variable (used c.scope name).value u.1 in
+    let is = number_variable (used_name c.scope name).value u.1 in
     let g = initializer_of c at initial in
     let x = given_number inside.Main c k m at initial gives in
-    both_none (used c.scope name).faults _ u.0 (both_none g.faults _ x.0
+    both_none (used_name c.scope name).faults _ u.0 (both_none g.faults _ x.0
     (subst (λ e. (assigned at g.value e).faults ≡ []) (sym is.1) (both_none (initializer_integer at g.value).faults [] x.1 refl)))
 assign_kept c k m at name initial (AssignsTruth means gives) =
     let u = used_kept inside.Main c k m name meaning.TruthVariable means in
-    let is = truth_variable (used c.scope name).value u.1 in
+    let is = truth_variable (used_name c.scope name).value u.1 in
     let g = initializer_of c at initial in
     let x = given_truth inside.Main c k m at initial gives in
-    both_none (used c.scope name).faults _ u.0 (both_none g.faults _ x.0
+    both_none (used_name c.scope name).faults _ u.0 (both_none g.faults _ x.0
     (subst (λ e. (assigned at g.value e).faults ≡ []) (sym is.1) (both_none (initializer_condition at g.value).faults [] x.1 refl)))
 assign_kept c k m at name initial (AssignsSet means may gives) =
     let u = used_kept inside.Main c k m name meaning.SetVariable means in
-    let is = set_variable (used c.scope name).value u.1 in
+    let is = set_variable (used_name c.scope name).value u.1 in
     let g = initializer_of c at initial in
     let x = given_members inside.Main c k m at initial gives in
-    both_none (used c.scope name).faults _ u.0 (both_none g.faults _ x.0
+    both_none (used_name c.scope name).faults _ u.0 (both_none g.faults _ x.0
     (subst (λ e. (assigned at g.value e).faults ≡ []) (sym is.1) (both_none (initializer_members at g.value).faults [] x.1 refl)))
 
 reduce_kept : (c : CheckerTree) (k : Known) → Matches inside.Main c k → (at : ℕ) (name : Identifier) (by : Reduction) (e : ExpressionTree) → found name.bytes k.names ≡ Some meaning.NumberVariable
-    → IsNumber k.names inside.Main e → (reduce c.scope at name by e).faults ≡ []
+    → IsNumberExpression k.names inside.Main e → (reduce c.scope at name by e).faults ≡ []
 reduce_kept c k m at name by e means number =
     let u = used_kept inside.Main c k m name meaning.NumberVariable means in
-    let is = number_variable (used c.scope name).value u.1 in
+    let is = number_variable (used_name c.scope name).value u.1 in
     let v = value_of c.scope at e in
     let x = number_value inside.Main c k m at e number in
-    both_none (used c.scope name).faults _ u.0 (both_none v.faults _ x.none
-    (subst (λ n. (reduced at by v.value n).faults ≡ []) (sym is.1) (both_none (as_integer at v.value).faults [] (numeric_integer at v.value x.is) refl)))
+    both_none (used_name c.scope name).faults _ u.0 (both_none v.faults _ x.none
+    (subst (λ n. (reduced at by v.value n).faults ≡ []) (sym is.1) (both_none (integer_wanted at v.value).faults [] (numeric_integer at v.value x.is) refl)))
 
 -- an index of main at which an entry is written
 unread_fine : (at : ℕ) (e : IntExpressionTree) → reads_entry e ≡ false → (unread at e).faults ≡ []
@@ -273,7 +275,7 @@ index_fits at value.ErrorValue is plain = absurd is
 
 -- a vector, an index and a value
 entry_kept : (c : CheckerTree) (k : Known) → Matches inside.Main c k → (at : ℕ) (name : Identifier) (vector : ℕ) (index e : ExpressionTree) → found name.bytes k.names ≡ Some (meaning.Vector vector)
-    → IsNumber k.names inside.Main index → HasNoEntry index → IsNumber k.names inside.Main e
+    → IsNumberExpression k.names inside.Main index → HasNoEntry index → IsNumberExpression k.names inside.Main e
     → (vector_index c.scope at name).faults ++ ((value_of c.scope at index).faults ++ ((as_index at (value_of c.scope at index).value).faults ++ ((integer_in c.scope at e).faults ++ []))) ≡ []
 entry_kept c k m at name vector index e means number plain gives =
     let v = value_of c.scope at index in
@@ -283,14 +285,14 @@ entry_kept c k m at name vector index e means number plain gives =
     (both_none (integer_in c.scope at e).faults [] (number_kept inside.Main c k m at e gives) refl)))
 
 add_kept : (c : CheckerTree) (k : Known) → Matches inside.Main c k → (at : ℕ) (name : Identifier) (e : ExpressionTree) → found name.bytes k.names ≡ Some meaning.SetVariable
-    → IsNumber k.names inside.Main e → (add_vertex c.scope at name e).faults ≡ []
+    → IsNumberExpression k.names inside.Main e → (add_vertex c.scope at name e).faults ≡ []
 add_kept c k m at name e means number =
     let u = used_kept inside.Main c k m name meaning.SetVariable means in
-    let is = set_variable (used c.scope name).value u.1 in
+    let is = set_variable (used_name c.scope name).value u.1 in
     let v = value_of c.scope at e in
     let x = number_value inside.Main c k m at e number in
-    both_none (used c.scope name).faults _ u.0 (both_none v.faults _ x.none
-    (subst (λ s. (added at v.value s).faults ≡ []) (sym is.1) (both_none (as_integer at v.value).faults [] (numeric_integer at v.value x.is) refl)))
+    both_none (used_name c.scope name).faults _ u.0 (both_none v.faults _ x.none
+    (subst (λ s. (added_to_set at v.value s).faults ≡ []) (sym is.1) (both_none (integer_wanted at v.value).faults [] (numeric_integer at v.value x.is) refl)))
 
 number_printed : (at : ℕ) (v : ValueTree) → IsNumeric v → (printed at v).faults ≡ []
 number_printed at (value.Integer e) is = refl
@@ -306,7 +308,8 @@ truth_printed at (value.Vertex p) is = refl
 truth_printed at (value.Set slot) is = absurd is
 truth_printed at value.ErrorValue is = refl
 
-print_kept : (c : CheckerTree) (k : Known) → Matches inside.Main c k → (at : ℕ) (e : ExpressionTree) → IsNumber k.names inside.Main e ⊎ IsTruth k.names inside.Main e → (print c.scope at e).faults ≡ []
+print_kept : (c : CheckerTree) (k : Known) → Matches inside.Main c k → (at : ℕ) (e : ExpressionTree) → IsNumberExpression k.names inside.Main e ⊎ IsTruth k.names inside.Main e
+    → (print c.scope at e).faults ≡ []
 print_kept c k m at e has =
     let v = value_of c.scope at e in
     elim has [
@@ -353,24 +356,25 @@ apply_kept c k m at target ends function (AppliesEdges weights index weighted ed
     let a = end_kept inside.Main c k m ends.from fit.0 in
     let b = end_kept inside.Main c k m ends.to fit.1 in
     let f = used_kept inside.Main c k m function (meaning.EdgeFunction index weighted) means in
-    let x = (end_of c.scope ends.from).value in
-    let y = (end_of c.scope ends.to).value in
-    both_none (used c.scope target).faults _ t.0 (both_none (end_of c.scope ends.from).faults _ a.0 (both_none (end_of c.scope ends.to).faults _ b.0 (both_none (used c.scope function).faults _ f.0
-    (subst (λ t. (applied at t x y (has_ends ends) (used c.scope function).value).faults ≡ []) (sym (edges_are (used c.scope target).value weights t.1))
-    (subst (λ f. (applied at (entity.Edges weights) x y (has_ends ends) f).faults ≡ []) (sym (edge_function_entity (used c.scope function).value index weighted f.1))
+    let x = (apply_end_of c.scope ends.from).value in
+    let y = (apply_end_of c.scope ends.to).value in
+    both_none (used_name c.scope target).faults _ t.0 (both_none (apply_end_of c.scope ends.from).faults _ a.0
+    (both_none (apply_end_of c.scope ends.to).faults _ b.0 (both_none (used_name c.scope function).faults _ f.0
+    (subst (λ t. (applied at t x y (has_ends ends) (used_name c.scope function).value).faults ≡ []) (sym (edges_are (used_name c.scope target).value weights t.1))
+    (subst (λ f. (applied at (entity.Edges weights) x y (has_ends ends) f).faults ≡ []) (sym (edge_function_entity (used_name c.scope function).value index weighted f.1))
     (edges_applied_fine at x y (has_ends ends) weights index weighted a.1 b.1 sees))))))
 apply_kept c k m at target ends function (AppliesVertices set from to means) =
     let t = set_kept inside.Main c k m target set in
     let f = used_kept inside.Main c k m function meaning.VertexFunction means in
-    let is = vertex_function_entity (used c.scope function).value f.1 in
-    let x = (end_of c.scope ends.from).value in
-    let y = (end_of c.scope ends.to).value in
-    both_none (used c.scope target).faults _ t.0
-    (both_none (end_of c.scope ends.from).faults _ (subst (λ o. (end_of c.scope o).faults ≡ []) (sym from) refl)
-    (both_none (end_of c.scope ends.to).faults _ (subst (λ o. (end_of c.scope o).faults ≡ []) (sym to) refl) (both_none (used c.scope function).faults _ f.0
-    (subst (λ f. (applied at (used c.scope target).value x y (has_ends ends) f).faults ≡ []) (sym is.1)
-    (subst (λ has. (applied at (used c.scope target).value x y has (entity.VertexFunction is.0)).faults ≡ []) (sym (no_ends ends.from ends.to from to))
-    (set_applied_fine at (used c.scope target).value x y is.0 t.1))))))
+    let is = vertex_function_entity (used_name c.scope function).value f.1 in
+    let x = (apply_end_of c.scope ends.from).value in
+    let y = (apply_end_of c.scope ends.to).value in
+    both_none (used_name c.scope target).faults _ t.0
+    (both_none (apply_end_of c.scope ends.from).faults _ (subst (λ o. (apply_end_of c.scope o).faults ≡ []) (sym from) refl)
+    (both_none (apply_end_of c.scope ends.to).faults _ (subst (λ o. (apply_end_of c.scope o).faults ≡ []) (sym to) refl) (both_none (used_name c.scope function).faults _ f.0
+    (subst (λ f. (applied at (used_name c.scope target).value x y (has_ends ends) f).faults ≡ []) (sym is.1)
+    (subst (λ has. (applied at (used_name c.scope target).value x y has (entity.VertexFunction is.0)).faults ≡ []) (sym (no_ends ends.from ends.to from to))
+    (set_applied_fine at (used_name c.scope target).value x y is.0 t.1))))))
 
 -- a statement that declares nothing
 in_place_kept : (c : CheckerTree) (k : Known) → Matches inside.Main c k → (action : WithFaults StatementKindTree) → action.faults ≡ [] → Keeps inside.Main (in_place c action) k
@@ -389,11 +393,11 @@ mutual
       let e = entity.LoopVariable (integer_slot c) in
       let d = declared_kept inside.Main c k m name e meaning.LoopName refl keeps.3 in
       let inner = (declared_in c name e).value in
-      let b = statements_kept inner (with_name k name meaning.LoopName) d.1 Empty body keeps.4 in (
+      let b = statements_kept inner (with_meaning k name meaning.LoopName) d.1 Empty body keeps.4 in (
         both_none (integer_in c.scope at first).faults _ (number_kept inside.Main c k m at first keeps.1)
             (both_none (integer_in c.scope at limit).faults _ (number_kept inside.Main c k m at limit keeps.2)
             (both_none (declared_in c name e).faults _ d.0 (both_none (statements_typed inner Empty body).faults [] b.0 refl))),
-        closed_kept inside.Main inside.Main c (statements_typed inner Empty body).value.1 k (known_after inside.Main (with_name k name meaning.LoopName) body) m b.1,
+        closed_kept inside.Main inside.Main c (statements_typed inner Empty body).value.1 k (known_after inside.Main (with_meaning k name meaning.LoopName) body) m b.1,
       )
   action_kept c k m (source.If at test body) keeps =
       let b = statements_kept c k m Empty body keeps.1 in (
@@ -426,10 +430,10 @@ mutual
   statements_kept c k m so_far source.Empty keeps = (refl, m)
   statements_kept c k m so_far (source.Then label action others) keeps =
       let l = labelled_kept inside.Main c k m label keeps.0 in
-      let d = counted (labelled c label).value.1 in
-      let here = counted_kept inside.Main (labelled c label).value.1 (labelled_known k label) l.1 in
+      let d = counted (with_label c label).value.1 in
+      let here = counted_kept inside.Main (with_label c label).value.1 (labelled_known k label) l.1 in
       let a = action_kept d (labelled_known k label) here action keeps.1 in
       let x = (action_typed d action).value in
-      let more = behind so_far (suc (labelled c label).value.1.statements) (labelled c label).value.0 x.0 in
+      let more = then_statement so_far (suc (with_label c label).value.1.statements) (with_label c label).value.0 x.0 in
       let rest = statements_kept x.1 (known_behind inside.Main (labelled_known k label) action) a.1 more others keeps.2 in
-      (both_none (labelled c label).faults _ l.0 (both_none (action_typed d action).faults _ a.0 rest.0), rest.1)
+      (both_none (with_label c label).faults _ l.0 (both_none (action_typed d action).faults _ a.0 rest.0), rest.1)

@@ -14,21 +14,21 @@ use Rattle.typed_tree.specs.declared.expression.Endpoint.TheVariants as endpoint
 use Rattle.expression_types.specs.declared.scope.Entity.TheVariants as entity
 use Rattle.expression_types.specs.declared.scope.Inside.{Inside}
 use Rattle.expression_types.specs.declared.scope.Inside.TheVariants as inside
-use Rattle.expression_types.specs.Expression.{index_value, used, value_of, vector_index}
+use Rattle.expression_types.specs.Expression.{index_value, used_name, value_of, vector_index}
 use Rattle.expression_types.specs.ScopeTree.{found}
 use Rattle.expression_types.specs.ValueTree as value
 use Rattle.expression_types.specs.ValueTree.{ValueTree}
 use Rattle.expression_types.specs.Faults.{WithFaults}
-use Rattle.types.specs.Checker.{CheckerTree, condition_slot, integer_slot, labelled, as_integer, condition_in, integer_in}
+use Rattle.types.specs.Checker.{CheckerTree, condition_slot, integer_slot, with_label, integer_wanted, condition_in, integer_in}
 use Rattle.types.specs.Initial.{initializer_condition, initializer_integer, initializer_of}
 use Rattle.types.specs.Step.{assign_step, assigned_step, at_own, declare_step, may_reduce, may_set, one_reduction, own_vertex, reduce_entry_step, reduce_step, reduced_as, reduced_step, same_endpoint}
 use Rattle.types.specs.Step.{same_reduction, set_entry_step, step_after, step_in_place, step_typed, steps_after, steps_typed, with_writes, written_at, written_with}
-use Rattle.type_laws.specs.ExpressionTypes.{ExpressionHas, IsNumber, Vertex}
+use Rattle.type_laws.specs.ExpressionTypes.{ExpressionHas, IsNumberExpression, Vertex}
 use Rattle.type_laws.specs.KeptRules.{ActionKeeps, AgreesWith, AssignFits, AssignsNumber, AssignsSet, AssignsTruth, BlockKeeps, IsMain, MayHoldSets, MayReduce, MaySet, ReducesEntry, VariableFits}
 use Rattle.type_laws.specs.KeptRules.{WrittenAt}
 use Rattle.type_laws.specs.Meanings as meaning
 use Rattle.type_laws.specs.ScopeMeanings.{meanings_of}
-use Rattle.type_laws.specs.Meanings.{IsNew, Known, closed_known, known_after, known_behind, labelled_known, reduced_in, reduced_with, variable_meaning, with_name, with_reduction}
+use Rattle.type_laws.specs.Meanings.{IsNew, Known, closed_known, known_after, known_behind, labelled_known, reduced_in, meanings_reduced_with, variable_meaning, with_meaning, with_reduction}
 use Rattle.type_laws.proofs.TypedExpressions.{IsOf, index_is_value}
 use Rattle.type_laws.proofs.KeptNames.{Matches, closed_kept, expression_kept, labelled_kept, number_kept, number_value, number_variable, numeric_integer, truth_kept, truth_variable, used_kept}
 use Rattle.type_laws.proofs.KeptNames.{vector_kept}
@@ -52,7 +52,7 @@ no_sets inside.VertexFunction user may = absurd may
 no_sets inside.Filter user may = absurd may
 
 declare_step_kept : (i : Inside) (c : CheckerTree) (k : Known) → IsUser i → Matches i c k → (at : ℕ) (name : Identifier) (initial : InitialTree) (type : DeclaredType) → VariableFits i k type initial
-    → IsNew k name → StepKeeps i (declare_step c at name type initial) (with_name k name (variable_meaning type))
+    → IsNew k name → StepKeeps i (declare_step c at name type initial) (with_meaning k name (variable_meaning type))
 declare_step_kept i c k user m at name initial declared.Int fits new =
     let g = initializer_of c at initial in
     let x = given_number i c k m at initial fits in
@@ -73,30 +73,30 @@ assign_step_kept : (i : Inside) (c : CheckerTree) (k : Known) → IsUser i → M
     → (assign_step c at name initial).faults ≡ []
 assign_step_kept i c k user m at name initial (AssignsNumber means gives) =
     let u = used_kept i c k m name meaning.NumberVariable means in
-    let is = number_variable (used c.scope name).value u.1 in
+    let is = number_variable (used_name c.scope name).value u.1 in
     let g = initializer_of c at initial in
     let x = given_number i c k m at initial gives in
-    both_none (used c.scope name).faults _ u.0 (both_none g.faults _ x.0
+    both_none (used_name c.scope name).faults _ u.0 (both_none g.faults _ x.0
     (subst (λ e. (assigned_step at g.value e).faults ≡ []) (sym is.1) (both_none (initializer_integer at g.value).faults [] x.1 refl)))
 assign_step_kept i c k user m at name initial (AssignsTruth means gives) =
     let u = used_kept i c k m name meaning.TruthVariable means in
-    let is = truth_variable (used c.scope name).value u.1 in
+    let is = truth_variable (used_name c.scope name).value u.1 in
     let g = initializer_of c at initial in
     let x = given_truth i c k m at initial gives in
-    both_none (used c.scope name).faults _ u.0 (both_none g.faults _ x.0
+    both_none (used_name c.scope name).faults _ u.0 (both_none g.faults _ x.0
     (subst (λ e. (assigned_step at g.value e).faults ≡ []) (sym is.1) (both_none (initializer_condition at g.value).faults [] x.1 refl)))
 assign_step_kept i c k user m at name initial (AssignsSet means may gives) = no_sets i user may
 
 reduce_step_kept : (i : Inside) (c : CheckerTree) (k : Known) → Matches i c k → (at : ℕ) (name : Identifier) (by : Reduction) (e : ExpressionTree)
     → found name.bytes k.names ≡ Some meaning.NumberVariable
-    → IsNumber k.names i e → (reduce_step c.scope at name by e).faults ≡ []
+    → IsNumberExpression k.names i e → (reduce_step c.scope at name by e).faults ≡ []
 reduce_step_kept i c k m at name by e means number =
     let u = used_kept i c k m name meaning.NumberVariable means in
-    let is = number_variable (used c.scope name).value u.1 in
+    let is = number_variable (used_name c.scope name).value u.1 in
     let v = value_of c.scope at e in
     let x = number_value i c k m at e number in
-    both_none (used c.scope name).faults _ u.0 (both_none v.faults _ x.none
-    (subst (λ n. (reduced_step at by v.value n).faults ≡ []) (sym is.1) (both_none (as_integer at v.value).faults [] (numeric_integer at v.value x.is) refl)))
+    both_none (used_name c.scope name).faults _ u.0 (both_none v.faults _ x.none
+    (subst (λ n. (reduced_step at by v.value n).faults ≡ []) (sym is.1) (both_none (integer_wanted at v.value).faults [] (numeric_integer at v.value x.is) refl)))
 
 -- an entry is written at the function's own vertex
 same_end : (at : ℕ) (own : Endpoint) → (at_own at (same_endpoint own own)).faults ≡ []
@@ -111,7 +111,8 @@ written_fine at own (value.Set slot) is = absurd is
 written_fine at own value.ErrorValue is = absurd is
 
 -- the index and the value of an entry that is written
-index_and_value : (i : Inside) (c : CheckerTree) (k : Known) → Matches i c k → (at : ℕ) (index e : ExpressionTree) → ExpressionHas k.names i index (Vertex (own_vertex i)) → IsNumber k.names i e
+index_and_value : (i : Inside) (c : CheckerTree) (k : Known) → Matches i c k → (at : ℕ) (index e : ExpressionTree) → ExpressionHas k.names i index (Vertex (own_vertex i))
+    → IsNumberExpression k.names i e
     → (index_value c.scope at index).faults ++ ((written_at at (own_vertex c.scope.inside) (index_value c.scope at index).value).faults ++ ((integer_in c.scope at e).faults ++ [])) ≡ []
 index_and_value i c k m at index e has number =
     let v = expression_kept i c k m at index (Vertex (own_vertex i)) has in
@@ -137,7 +138,7 @@ may_set_fine at inside.VertexFunction may = refl
 may_set_fine at inside.Filter may = absurd may
 
 set_entry_kept : (i : Inside) (c : CheckerTree) (k : Known) → IsUser i → Matches i c k → (at : ℕ) (name : Identifier) (vector : ℕ) (index e : ExpressionTree) → MaySet i
-    → found name.bytes k.names ≡ Some (meaning.Vector vector) → WrittenAt i k.names index → IsNumber k.names i e → (set_entry_step c.scope at name index e).faults ≡ []
+    → found name.bytes k.names ≡ Some (meaning.Vector vector) → WrittenAt i k.names index → IsNumberExpression k.names i e → (set_entry_step c.scope at name index e).faults ≡ []
 set_entry_kept i c k user m at name vector index e may means written number =
     both_none (may_set at c.scope.inside).faults _ (subst (λ j. (may_set at j).faults ≡ []) (sym m.inside) (may_set_fine at i may))
     (both_none (vector_index c.scope at name).faults _ (vector_kept i c k m at name vector means).0
@@ -165,7 +166,7 @@ reduces : (i : Inside) (k : Known) (at vector : ℕ) (name : Identifier) (by : R
     → Reduced (may_reduce at i (Some vector) by k.reduced) (reduced_in i k name by).reduced
 reduces inside.Main k at vector name by user means may = absurd user
 reduces inside.EdgeFunction k at vector name by user means may =
-    subst (λ o. Reduced (one_reduction at (Some vector) by k.reduced) (reduced_with o by k.reduced)) (sym means) (agreeing at vector by k.reduced (lookup (nat_eq vector) k.reduced) may)
+    subst (λ o. Reduced (one_reduction at (Some vector) by k.reduced) (meanings_reduced_with o by k.reduced)) (sym means) (agreeing at vector by k.reduced (lookup (nat_eq vector) k.reduced) may)
 reduces inside.VertexFunction k at vector name by user means may = record { none = refl; writes_are = refl }
 reduces inside.Filter k at vector name by user means may = absurd may
 
@@ -236,8 +237,8 @@ mutual
   steps_kept i c k user m so_far source.Empty keeps = (refl, m)
   steps_kept i c k user m so_far (source.Then label action others) keeps =
       let l = labelled_kept i c k m label keeps.0 in
-      let d = (labelled c label).value.1 in
+      let d = (with_label c label).value.1 in
       let s = step_kept i d (labelled_known k label) user l.1 action keeps.1 in
       let x = (step_typed d action).value in
       let rest = steps_kept i x.1 (known_behind i (labelled_known k label) action) user s.1 (step_after so_far x.0) others keeps.2 in
-      (both_none (labelled c label).faults _ l.0 (both_none (step_typed d action).faults _ s.0 rest.0), rest.1)
+      (both_none (with_label c label).faults _ l.0 (both_none (step_typed d action).faults _ s.0 rest.0), rest.1)

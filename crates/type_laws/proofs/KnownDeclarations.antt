@@ -15,10 +15,10 @@ use Rattle.expression_types.specs.declared.scope.Inside.{Inside}
 use Rattle.expression_types.specs.declared.scope.Inside.TheVariants as inside
 use Rattle.expression_types.specs.ScopeTree.{entered}
 use Rattle.types.specs.Block.{statements_typed}
-use Rattle.types.specs.Checker.{CheckerTree, condition_slot, declared_in, restarted, with_scope}
+use Rattle.types.specs.Checker.{CheckerTree, condition_slot, declared_in, restarted, in_scope}
 use Rattle.types.specs.Declaration.{DeclaredTree, FunctionKindTree, MainKind, EdgeKind, VertexKind, FilterKind, NoKind, begins, declaration_typed, declare_constant_as, declare_function, declare_name}
-use Rattle.types.specs.Declaration.{function_declared, has_all, inside_of, is_vertex, kind, kind_fits, literal_or_fault, loads, main_declared, next_name, only_edges, opened, parameter}
-use Rattle.types.specs.Declaration.{parameters_declared, result_declared, steps_declared, with_main, takes_weight, is_int}
+use Rattle.types.specs.Declaration.{function_declared, has_all, inside_of, is_vertex_type, kind, kind_fits, literal_or_fault, loads, main_declared, next_name, only_edges, opened, parameter}
+use Rattle.types.specs.Declaration.{parameters_declared, result_declared, steps_declared, with_main_block, takes_weight, is_int_type}
 use Rattle.types.specs.Initial.{InitializerTree, initializer_of, is_sound}
 use Rattle.types.specs.Literal.{literal_condition, literal_integer}
 use Rattle.types.specs.Step.{steps_typed, with_writes}
@@ -29,7 +29,7 @@ use Rattle.type_laws.proofs.KnownScopes.{EntityIsKnown, IsKnown, Vertices, becom
 
 -- parameters, which are vertices, or the weight
 abbrev pub ParameterFits : Bool → Vertices → Endpoint → ParameterTree → Type 0
-ParameterFits w At p v = ((is_vertex v.declared ≡ true) × At p v.name.bytes) ⊎ ((w ≡ true) × (is_int v.declared ≡ true))
+ParameterFits w At p v = ((is_vertex_type v.declared ≡ true) × At p v.name.bytes) ⊎ ((w ≡ true) × (is_int_type v.declared ≡ true))
 
 abbrev pub ParametersFit : Bool → Vertices → Endpoint → List ParameterTree → Type 0
 ParametersFit w At p [] = Unit {0}
@@ -39,7 +39,7 @@ vertex_known : (At : Vertices) (p : Endpoint) (name : List ℕ) (b : Bool) (othe
 vertex_known At p name true other is there = there
 vertex_known At p name false other is there = absurd cc
 
-pub int_type : (type : DeclaredType) → is_int type ≡ true → type ≡ declared.Int
+pub int_type : (type : DeclaredType) → is_int_type type ≡ true → type ≡ declared.Int
 int_type declared.Int is = refl
 int_type declared.Bool is = absurd (false_is_not_true is)
 int_type declared.Vertex is = absurd (false_is_not_true is)
@@ -55,7 +55,7 @@ weight_known w At p name type is int =
 parameter_known : (w : Bool) (At : Vertices) (p : Endpoint) (v : ParameterTree) → ParameterFits w At p v → EntityIsKnown At v.name.bytes (parameter w p v.declared)
 parameter_known w At p v fits =
     elim fits [
-      | inl vertex ↦ vertex_known At p v.name.bytes (is_vertex v.declared) (if w && is_int v.declared then entity.Weight else entity.Error) vertex.0 vertex.1
+      | inl vertex ↦ vertex_known At p v.name.bytes (is_vertex_type v.declared) (if w && is_int_type v.declared then entity.Weight else entity.Error) vertex.0 vertex.1
       | inr weight ↦ weight_known w At p v.name.bytes v.declared weight.0 (int_type v.declared weight.1)
     ]
 
@@ -91,7 +91,7 @@ pub opened_known : (At : Vertices) (c : CheckerTree) (kind : FunctionKindTree) (
     → ParametersFit (takes_weight kind) At endpoint.Source parameters
     → ResultFits kind result → IsKnown nowhere inside.Main c.scope → (opened c kind parameters result).faults ≡ [] → IsKnown At (inside_of kind) (opened c kind parameters result).value.scope
 opened_known At c kind parameters result fit fits known none =
-    let e = with_writes (with_scope c (entered (inside_of kind) c.scope)) [] in
+    let e = with_writes (in_scope c (entered (inside_of kind) c.scope)) [] in
     let d = parameters_declared (takes_weight kind) e endpoint.Source parameters in
     let r = result_declared d.value kind result in
     let first = parameters_known (takes_weight kind) At (inside_of kind) e endpoint.Source parameters fit (refl, becomes_known At c.scope.visible known.1) (no_left d.faults r.faults none) in
@@ -146,12 +146,12 @@ steps_known d at kind name parameters result body user known none =
     let f = kind_fits at kind in
     let c = opened d.checker kind parameters result in
     let b = steps_typed c.value NoStep body in
-    let around = record d { checker = with_scope b.value.1 d.checker.scope } in
+    let around = record d { checker = in_scope b.value.1 d.checker.scope } in
     let g = function_declared around kind name b.value.0 in
     let behind = no_right c.faults (b.faults ++ g.faults) (no_right f.faults (c.faults ++ (b.faults ++ g.faults)) none) in
     function_known around at kind name b.value.0 user (no_left f.faults (c.faults ++ (b.faults ++ g.faults)) none) known (no_right b.faults g.faults behind)
 
-with_main_known : (e : DeclaredTree) (fits : Bool) (main : BlockTree) → AllKnown e → AllKnown (with_main e fits main)
+with_main_known : (e : DeclaredTree) (fits : Bool) (main : BlockTree) → AllKnown e → AllKnown (with_main_block e fits main)
 with_main_known e true main known = known
 with_main_known e false main known = known
 
@@ -160,7 +160,7 @@ main_known : (d : DeclaredTree) (fits : Bool) (name : Identifier) (parameters : 
 main_known d fits name parameters result body known none =
     let c = opened (restarted d.checker) (MainKind fits) parameters result in
     let b = statements_typed c.value Empty body in
-    let around = record d { checker = with_scope b.value.1 d.checker.scope } in
+    let around = record d { checker = in_scope b.value.1 d.checker.scope } in
     let e = declare_name around name entity.Main in
     let both = no_right c.faults (b.faults ++ (e.faults ++ [])) none in
     with_main_known e.value fits b.value.0 (name_known around name entity.Main known tt (no_left e.faults [] (no_right b.faults (e.faults ++ []) both)))

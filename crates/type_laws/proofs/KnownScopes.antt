@@ -11,10 +11,10 @@ use Rattle.typed_tree.specs.declared.expression.Endpoint.{Endpoint}
 use Rattle.expression_types.specs.declared.scope.Entity.{Entity}
 use Rattle.expression_types.specs.declared.scope.Entity.TheVariants as entity
 use Rattle.expression_types.specs.declared.scope.Inside.{Inside}
-use Rattle.expression_types.specs.Expression.{used, used_as}
+use Rattle.expression_types.specs.Expression.{used_name, used_as}
 use Rattle.expression_types.specs.ScopeTree.{found, ScopeTree, declared_over}
 use Rattle.types.specs.Block.{action_typed}
-use Rattle.types.specs.Checker.{CheckerTree, condition_slot, declared_in, integer_slot, labelled, new_label, set_slot}
+use Rattle.types.specs.Checker.{CheckerTree, condition_slot, declared_in, integer_slot, with_label, new_label, set_slot}
 use Rattle.types.specs.Initial.{InitializerTree, initializer_condition, initializer_of, initializer_integer, initializer_members}
 use Rattle.types.specs.Statement.{declare_as}
 use Rattle.types.specs.Step.{declare_step_as, step_typed}
@@ -76,8 +76,8 @@ used_among At name [] known none = absurd (not_empty _ _ none)
 used_among At name (x ∷ others) known none =
     used_first At name x.0 (bytes_eq name.bytes x.0) x.1 (found name.bytes others) refl none known.0 (used_among At name others known.1)
 
-pub used_known : (At : Vertices) (i : Inside) (scope : ScopeTree) (name : Identifier) → IsKnown At i scope → (used scope name).faults ≡ []
-    → EntityIsKnown At name.bytes (used scope name).value
+pub used_known : (At : Vertices) (i : Inside) (scope : ScopeTree) (name : Identifier) → IsKnown At i scope → (used_name scope name).faults ≡ []
+    → EntityIsKnown At name.bytes (used_name scope name).value
 used_known At i scope name known none = used_among At name scope.visible known.1 none
 
 -- a declaration
@@ -97,7 +97,7 @@ new_label_scope : (c : CheckerTree) (label : Identifier) (index : Option ℕ) �
 new_label_scope c label None = refl
 new_label_scope c label (Some index) = refl
 
-pub labelled_scope : (c : CheckerTree) (label : Option Identifier) → (labelled c label).value.1.scope ≡ c.scope
+pub labelled_scope : (c : CheckerTree) (label : Option Identifier) → (with_label c label).value.1.scope ≡ c.scope
 labelled_scope c None = refl
 labelled_scope c (Some label) = new_label_scope c label (found label.bytes c.labels)
 

@@ -18,11 +18,11 @@ use Rattle.typed_tree.specs.BlockTree.{BlockTree, Empty}
 use Rattle.typed_tree.specs.FunctionStatementTree.{FunctionStatementsTree, NoStep}
 use Rattle.expression_types.specs.declared.scope.Entity.TheVariants as entity
 use Rattle.expression_types.specs.ScopeTree.{found, entered}
-use Rattle.types.specs.Block.{action_typed, behind, closed, statements_typed}
-use Rattle.types.specs.Checker.{CheckerTree, counted, declared_in, integer_slot, labelled, new_label, restarted, with_scope, without_ends, condition_in, integer_in}
+use Rattle.types.specs.Block.{action_typed, then_statement, closed, statements_typed}
+use Rattle.types.specs.Checker.{CheckerTree, counted, declared_in, integer_slot, with_label, new_label, restarted, in_scope, without_ends, condition_in, integer_in}
 use Rattle.types.specs.Declaration.{DeclaredTree, FunctionKindTree, MainKind, EdgeKind, VertexKind, FilterKind, NoKind, declaration_typed, declarations_typed, declare_constant_as, declare_function}
-use Rattle.types.specs.Declaration.{declare_name, function_declared, inside_of, kind, kind_fits, main_declared, opened, parameter, parameters_declared, result_declared, steps_declared, with_main}
-use Rattle.types.specs.Declaration.{takes_weight}
+use Rattle.types.specs.Declaration.{declare_name, function_declared, inside_of, kind, kind_fits, main_declared, opened, parameter, parameters_declared, result_declared, steps_declared}
+use Rattle.types.specs.Declaration.{with_main_block, takes_weight}
 use Rattle.types.specs.Initial.{InitializerTree, initializer_of}
 use Rattle.type_laws.specs.Labels.{block_labels, inner_labels, labels_of, own_label}
 use Rattle.types.specs.Program.{opening, program_of, set_count}
@@ -77,10 +77,10 @@ meets_then c d e xs ys first second = record {
 -- the same, where the scopes differ
 meets_like : (c d b e : CheckerTree) (xs : List (List ℕ)) → b.labels ≡ c.labels → b.label_names ≡ c.label_names → e.labels ≡ d.labels → e.label_names ≡ d.label_names
     → Meets c d xs → Meets b e xs
-meets_like c d b e xs before before_names behind after_names all = record {
-  all = ap (λ ls. map (λ x. x.0) ls) behind ∙ all.all ∙ ap (λ ls. map (λ x. x.0) ls ++ xs) (sym before);
+meets_like c d b e xs before before_names then_statement after_names all = record {
+  all = ap (λ ls. map (λ x. x.0) ls) then_statement ∙ all.all ∙ ap (λ ls. map (λ x. x.0) ls ++ xs) (sym before);
   names = after_names ∙ all.names ∙ ap (λ ls. ls ++ map without_ends xs) (sym before_names);
-  distinct = λ distinct. subst (λ ls. IsDistinct bytes_eq (map (λ x. x.0) ls)) (sym behind)
+  distinct = λ distinct. subst (λ ls. IsDistinct bytes_eq (map (λ x. x.0) ls)) (sym then_statement)
       (all.distinct (subst (λ ls. IsDistinct bytes_eq (map (λ x. x.0) ls)) before distinct));
 }
 
@@ -94,7 +94,7 @@ new_label_meets c label None is none = record {
 }
 new_label_meets c label (Some index) is none = absurd (not_empty _ _ none)
 
-labelled_meets : (c : CheckerTree) (label : Option Identifier) → (labelled c label).faults ≡ [] → Meets c (labelled c label).value.1 (own_label label)
+labelled_meets : (c : CheckerTree) (label : Option Identifier) → (with_label c label).faults ≡ [] → Meets c (with_label c label).value.1 (own_label label)
 labelled_meets c None none = meets_none c
 labelled_meets c (Some label) none = new_label_meets c label (found label.bytes c.labels) refl none
 
@@ -121,8 +121,8 @@ declare_meets c at name initializer declared.EdgeSet = meets_nothing c _ refl re
 declare_meets c at name initializer declared.WeightedEdgeSet = meets_nothing c _ refl refl
 
 -- after a block
-meets_inside : (c d : CheckerTree) (xs : List (List ℕ)) → Meets c d xs → Meets c (with_scope d c.scope) xs
-meets_inside c d xs all = meets_like c d c (with_scope d c.scope) xs refl refl refl refl all
+meets_inside : (c d : CheckerTree) (xs : List (List ℕ)) → Meets c d xs → Meets c (in_scope d c.scope) xs
+meets_inside c d xs all = meets_like c d c (in_scope d c.scope) xs refl refl refl refl all
 
 mutual
   step_meets : (c : CheckerTree) (action : source.StatementKindTree) → (step_typed c action).faults ≡ [] → Meets c (step_typed c action).value.1 (inner_labels action)
@@ -152,7 +152,7 @@ mutual
       → Meets c (steps_typed c so_far block).value.1 (block_labels block)
   steps_meet c so_far source.Empty none = meets_none c
   steps_meet c so_far (source.Then label action others) none =
-      let l = labelled c label in
+      let l = with_label c label in
       let s = step_typed l.value.1 action in
       let rest = steps_typed s.value.1 (step_after so_far s.value.0) others in
       let both = no_right l.faults (s.faults ++ rest.faults) none in
@@ -195,10 +195,10 @@ mutual
       → Meets c (statements_typed c so_far block).value.1 (block_labels block)
   statements_meet c so_far source.Empty none = meets_none c
   statements_meet c so_far (source.Then label action others) none =
-      let l = labelled c label in
+      let l = with_label c label in
       let d = counted l.value.1 in
       let a = action_typed d action in
-      let more = behind so_far (suc l.value.1.statements) l.value.0 a.value.0 in
+      let more = then_statement so_far (suc l.value.1.statements) l.value.0 a.value.0 in
       let rest = statements_typed a.value.1 more others in
       let both = no_right l.faults (a.faults ++ rest.faults) none in
       let first = meets_like c l.value.1 c d (own_label label) refl refl refl refl (labelled_meets c label (no_left l.faults (a.faults ++ rest.faults) none)) in
@@ -219,7 +219,7 @@ result_meets c kind (Some result) = meets_nothing c _ refl refl
 
 opened_meets : (c : CheckerTree) (kind : FunctionKindTree) (parameters : List ParameterTree) (result : Option ParameterTree) → Meets c (opened c kind parameters result).value []
 opened_meets c kind parameters result =
-    let e = with_writes (with_scope c (entered (inside_of kind) c.scope)) [] in
+    let e = with_writes (in_scope c (entered (inside_of kind) c.scope)) [] in
     let d = (parameters_declared (takes_weight kind) e endpoint.Source parameters).value in
     let all = meets_then e d (result_declared d kind result).value [] [] (parameters_meet (takes_weight kind) e endpoint.Source parameters) (result_meets d kind result) in
     meets_like e (result_declared d kind result).value c (result_declared d kind result).value [] refl refl refl refl all
@@ -236,7 +236,7 @@ steps_declared_meet : (d : DeclaredTree) (at : ℕ) (kind : FunctionKindTree) (n
 steps_declared_meet d at kind name parameters result body none =
     let c = opened d.checker kind parameters result in
     let b = steps_typed c.value NoStep body in
-    let around = record d { checker = with_scope b.value.1 d.checker.scope } in
+    let around = record d { checker = in_scope b.value.1 d.checker.scope } in
     let f = function_declared around kind name b.value.0 in
     let inside = no_right (kind_fits at kind).faults (c.faults ++ (b.faults ++ f.faults)) none in
     let clear = no_left b.faults f.faults (no_right c.faults (b.faults ++ f.faults) inside) in
@@ -244,7 +244,7 @@ steps_declared_meet d at kind name parameters result body none =
     let last = meets_like around.checker f.value.checker b.value.1 f.value.checker [] refl refl refl refl (function_meets around kind name b.value.0) in
     subst (λ ls. Meets d.checker f.value.checker ls) (append-nil (block_labels body)) (meets_then d.checker b.value.1 f.value.checker (block_labels body) [] first last)
 
-with_main_meets : (e : DeclaredTree) (fits : Bool) (main : BlockTree) → Meets e.checker (with_main e fits main).checker []
+with_main_meets : (e : DeclaredTree) (fits : Bool) (main : BlockTree) → Meets e.checker (with_main_block e fits main).checker []
 with_main_meets e true main = meets_none e.checker
 with_main_meets e false main = meets_none e.checker
 
@@ -253,14 +253,14 @@ main_meets : (d : DeclaredTree) (fits : Bool) (name : Identifier) (parameters : 
 main_meets d fits name parameters result body none =
     let c = opened (restarted d.checker) (MainKind fits) parameters result in
     let b = statements_typed c.value Empty body in
-    let around = record d { checker = with_scope b.value.1 d.checker.scope } in
+    let around = record d { checker = in_scope b.value.1 d.checker.scope } in
     let e = declare_name around name entity.Main in
     let clear = no_left b.faults (e.faults ++ []) (no_right c.faults (b.faults ++ (e.faults ++ [])) none) in
     let start = meets_like (restarted d.checker) c.value d.checker c.value [] refl refl refl refl (opened_meets (restarted d.checker) (MainKind fits) parameters result) in
     let first = meets_then d.checker c.value b.value.1 [] (block_labels body) start (statements_meet c.value Empty body clear) in
     let named = meets_like d.checker b.value.1 d.checker e.value.checker (block_labels body) refl refl refl refl first in
-    subst (λ ls. Meets d.checker (with_main e.value fits b.value.0).checker ls) (append-nil (block_labels body))
-    (meets_then d.checker e.value.checker (with_main e.value fits b.value.0).checker (block_labels body) [] named (with_main_meets e.value fits b.value.0))
+    subst (λ ls. Meets d.checker (with_main_block e.value fits b.value.0).checker ls) (append-nil (block_labels body))
+    (meets_then d.checker e.value.checker (with_main_block e.value fits b.value.0).checker (block_labels body) [] named (with_main_meets e.value fits b.value.0))
 
 each_function_meets : (d : DeclaredTree) (at : ℕ) (name : Identifier) (parameters : List ParameterTree) (result : Option ParameterTree) (body : source.BlockTree) (kind : FunctionKindTree)
     → (declare_function d at name parameters result body kind).faults ≡ [] → Meets d.checker (declare_function d at name parameters result body kind).value.checker (block_labels body)

@@ -14,10 +14,10 @@ use Rattle.expression_types.specs.declared.scope.Entity.TheVariants as entity
 use Rattle.expression_types.specs.declared.scope.Inside.TheVariants as inside
 use Rattle.expression_types.specs.ScopeTree.{entered, integers_of}
 use Rattle.types.specs.Block.{statements_typed}
-use Rattle.types.specs.Checker.{CheckerTree, declared_in, restarted, with_scope}
+use Rattle.types.specs.Checker.{CheckerTree, declared_in, restarted, in_scope}
 use Rattle.types.specs.Declaration.{DeclaredTree, FunctionKindTree, MainKind, EdgeKind, VertexKind, FilterKind, NoKind, begins, declaration_typed, declarations_typed, declare_constant_as}
-use Rattle.types.specs.Declaration.{declare_function, declare_name, function_declared, has_all, is_int, is_vertex, kind, kind_fits, literal_or_fault, loads, main_declared, next_name, only_edges}
-use Rattle.types.specs.Declaration.{opened, parameter, parameters_declared, result_declared, steps_declared, with_main}
+use Rattle.types.specs.Declaration.{declare_function, declare_name, function_declared, has_all, is_int_type, is_vertex_type, kind, kind_fits, literal_or_fault, loads, main_declared, next_name}
+use Rattle.types.specs.Declaration.{only_edges, opened, parameter, parameters_declared, result_declared, steps_declared, with_main_block}
 use Rattle.types.specs.Initial.{InitializerTree, initializer_of, is_sound}
 use Rattle.types.specs.Literal.{literal_condition, literal_integer}
 use Rattle.types.specs.Program.{main_of, opening, program_of, set_count}
@@ -75,7 +75,7 @@ function_fits d NoKind name steps none all = name_declared d name entity.Error n
 
 -- after the statements of a function the scope around it is visible again
 abbrev around : DeclaredTree → CheckerTree → DeclaredTree
-around d c = record d { checker = with_scope c d.checker.scope }
+around d c = record d { checker = in_scope c d.checker.scope }
 
 steps_fit : (d : DeclaredTree) (at : ℕ) (kind : FunctionKindTree) (name : Identifier) (parameters : List ParameterTree) (result : Option ParameterTree) (body : source.BlockTree)
     → (steps_declared d at kind name parameters result body).faults ≡ [] → DeclaredFits d → DeclaredFits (steps_declared d at kind name parameters result body).value
@@ -104,8 +104,9 @@ parameters_fit w c at (x ∷ others) none fits =
     let e = parameter w at x.declared in
     let d = declared_in c x.name e in
     let rest = parameters_declared w d.value endpoint.Destination others in
-    let weight = w && is_int x.declared in
-    let first = other_declared [] 0 c x.name e (no_left d.faults rest.faults none) fits (parameter_integers at (is_vertex x.declared) weight) (parameter_outside at (is_vertex x.declared) weight) in
+    let weight = w && is_int_type x.declared in
+    let first = other_declared [] 0 c x.name e (no_left d.faults rest.faults none) fits (parameter_integers at (is_vertex_type x.declared) weight)
+    (parameter_outside at (is_vertex_type x.declared) weight) in
     parameters_fit w d.value endpoint.Destination others (no_right d.faults rest.faults none) first
 
 result_fits : (c : CheckerTree) (fits : Bool) (result : Option ParameterTree) → (result_declared c (MainKind fits) result).faults ≡ [] → LoopsFit [] 0 c.scope
@@ -116,13 +117,13 @@ result_fits c fits (Some result) none all = other_declared [] 0 c result.name en
 main_opened : (c : CheckerTree) (fits : Bool) (parameters : List ParameterTree) (result : Option ParameterTree) → (opened c (MainKind fits) parameters result).faults ≡ []
     → LoopsFit [] 0 c.scope → LoopsFit [] 0 (opened c (MainKind fits) parameters result).value.scope
 main_opened c fits parameters result none all =
-    let e = with_writes (with_scope c (entered inside.Main c.scope)) [] in
+    let e = with_writes (in_scope c (entered inside.Main c.scope)) [] in
     let d = parameters_declared false e endpoint.Source parameters in
     let r = result_declared d.value (MainKind fits) result in
     let start : LoopsFit [] 0 e.scope = record { count = all.count; below = tt; known = all.known } in
     result_fits d.value fits result (no_right d.faults r.faults none) (parameters_fit false e endpoint.Source parameters (no_left d.faults r.faults none) start)
 
-with_main_fits : (e : DeclaredTree) (fits : Bool) (main : BlockTree) → DeclaredFits e → KeepsLoops 0 [] main → DeclaredFits (with_main e fits main)
+with_main_fits : (e : DeclaredTree) (fits : Bool) (main : BlockTree) → DeclaredFits e → KeepsLoops 0 [] main → DeclaredFits (with_main_block e fits main)
 with_main_fits e true main all keeps = (all.0, keeps)
 with_main_fits e false main all keeps = all
 

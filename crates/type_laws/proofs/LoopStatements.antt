@@ -11,17 +11,17 @@ use Rattle.typed_tree.specs.BlockTree.{StatementKindTree, BlockTree, Empty, Then
 use Rattle.typed_tree.specs.IntExpressionTree.{IntExpressionTree}
 use Rattle.expression_types.specs.declared.scope.Entity.{Entity}
 use Rattle.expression_types.specs.declared.scope.Entity.TheVariants as entity
-use Rattle.expression_types.specs.Expression.{used, value_of, vector_index}
+use Rattle.expression_types.specs.Expression.{used_name, value_of, vector_index}
 use Rattle.expression_types.specs.ScopeTree.{found, ScopeTree, declared_over, integers_of}
 use Rattle.expression_types.specs.Faults.{WithFaults}
 use Rattle.expression_types.specs.ValueTree as value
-use Rattle.expression_types.specs.ValueTree.{ValueTree, named_set}
-use Rattle.types.specs.Block.{action_typed, behind, closed, statements_typed}
-use Rattle.types.specs.Checker.{CheckerTree, condition_slot, counted, declared_in, integer_slot, labelled, set_slot, as_index, condition_in, integer_in}
-use Rattle.types.specs.Initial.{ApplyEndTree, InitializerTree, edge_function, end_of, initializer_condition, initializer_integer, initializer_members, initializer_of, is_edges, is_error_end, is_wrong}
-use Rattle.types.specs.Initial.{lacks_weights, names_error, vertex_function}
-use Rattle.types.specs.Statement.{add_vertex, added, applied, apply, assign, assigned, declare_as, edges_applied, entry_reduced, entry_set, has_ends, print, printed, reduce, reduce_entry, reduced}
-use Rattle.types.specs.Statement.{set_applied, set_entry, vertices_applied}
+use Rattle.expression_types.specs.ValueTree.{ValueTree, entity_set}
+use Rattle.types.specs.Block.{action_typed, then_statement, closed, statements_typed}
+use Rattle.types.specs.Checker.{CheckerTree, condition_slot, counted, declared_in, integer_slot, with_label, set_slot, as_index, condition_in, integer_in}
+use Rattle.types.specs.Initial.{ApplyEndTree, InitializerTree, edge_function, apply_end_of, initializer_condition, initializer_integer, initializer_members, initializer_of, is_edges, is_error_end}
+use Rattle.types.specs.Initial.{is_wrong, lacks_weights, names_error, vertex_function}
+use Rattle.types.specs.Statement.{add_vertex, added_to_set, applied, apply, assign, assigned, declare_as, edges_applied, entry_reduced, entry_set, has_ends, print, printed, reduce, reduce_entry}
+use Rattle.types.specs.Statement.{reduced, set_applied, set_entry, vertices_applied}
 use Rattle.type_laws.specs.LoopVariables.{IsOutside, KeepsInside, KeepsLoops, integers_behind}
 use Rattle.type_laws.proofs.Faultless.{no_left, no_right, not_empty}
 use Rattle.type_laws.proofs.KnownScopes.{labelled_scope}
@@ -96,7 +96,7 @@ loop_declared : (is : List ℕ) (n : ℕ) (c : CheckerTree) (name : Identifier) 
 loop_declared is n c name none fits =
     declared_fits is (n ∷ is) n (n + 2) c name (entity.LoopVariable (integer_slot c)) none fits refl (entity_in_loop is n) (omega arith, below_more is n (n + 2) (omega arith) fits.below) tt
 
-used_outside : (is : List ℕ) (n : ℕ) (scope : ScopeTree) (name : Identifier) → LoopsFit is n scope → EntityIsOutside is n (used scope name).value
+used_outside : (is : List ℕ) (n : ℕ) (scope : ScopeTree) (name : Identifier) → LoopsFit is n scope → EntityIsOutside is n (used_name scope name).value
 used_outside is n scope name fits = used_among (EntityIsOutside is n) tt name scope.visible fits.known
 
 -- a statement that declares nothing and has no block
@@ -116,7 +116,7 @@ module _ (is : List ℕ) (n : ℕ) where
   reduced_plain at by x (entity.IntegerVariable slot) outside = (outside.1, refl)
   reduced_plain at by x _ outside = (tt, refl)
 
-  added_plain : (at : ℕ) (x : ValueTree) (e : Entity) → Plain is n (added at x e).value
+  added_plain : (at : ℕ) (x : ValueTree) (e : Entity) → Plain is n (added_to_set at x e).value
   added_plain at x (entity.Edges weights) = (tt, refl)
   added_plain at x _ = (tt, refl)
 
@@ -154,7 +154,7 @@ module _ (is : List ℕ) (n : ℕ) where
   applied_plain : (at : ℕ) (t : Entity) (a b : ApplyEndTree) (ends : Bool) (f : Entity) → Plain is n (applied at t a b ends f).value
   applied_plain at t a b ends f =
       if_plain (names_error t) _ _ (tt, refl) (if_plain (is_edges t) _ _
-      (if_plain (is_wrong a || is_wrong b || lacks_weights t f) _ _ (tt, refl) (edges_plain at a b (names_error f) (edge_function f))) (set_applied_plain at ends f (named_set t)))
+      (if_plain (is_wrong a || is_wrong b || lacks_weights t f) _ _ (tt, refl) (edges_plain at a b (names_error f) (edge_function f))) (set_applied_plain at ends f (entity_set t)))
 
 -- a block with one statement more
 abbrev pub all_after : BlockTree → ℕ → ℕ
@@ -162,12 +162,12 @@ all_after Empty n = n
 all_after (Then number label action others) n = all_after others (integers_behind action n)
 
 keeps_then : (is : List ℕ) (n : ℕ) (so_far : BlockTree) (number : ℕ) (label : Option ℕ) (action : StatementKindTree) → KeepsLoops n is so_far → KeepsInside (all_after so_far n) is action
-    → KeepsLoops n is (behind so_far number label action)
+    → KeepsLoops n is (then_statement so_far number label action)
 keeps_then is n Empty number label action keeps own = (own, tt)
 keeps_then is n (Then m l a others) number label action keeps own = (keeps.0, keeps_then is (integers_behind a n) others number label action keeps.1 own)
 
 after_then : (n : ℕ) (so_far : BlockTree) (number : ℕ) (label : Option ℕ) (action : StatementKindTree)
-    → all_after (behind so_far number label action) n ≡ integers_behind action (all_after so_far n)
+    → all_after (then_statement so_far number label action) n ≡ integers_behind action (all_after so_far n)
 after_then n Empty number label action = refl
 after_then n (Then m l a others) number label action = after_then (integers_behind a n) others number label action
 
@@ -224,10 +224,10 @@ mutual
   action_fits is n c (source.Print at e) none fits = plain_fits is n c (print c.scope at e).value fits (printed_plain is n at (value_of c.scope at e).value)
   action_fits is n c (source.Assign name initial) none fits =
       plain_fits is n c (assign c name.at name initial).value fits
-      (assigned_plain is n name.at (initializer_of c name.at initial).value (used c.scope name).value (used_outside is n c.scope name fits))
+      (assigned_plain is n name.at (initializer_of c name.at initial).value (used_name c.scope name).value (used_outside is n c.scope name fits))
   action_fits is n c (source.Reduce name by e) none fits =
       plain_fits is n c (reduce c.scope name.at name by e).value fits
-      (reduced_plain is n name.at by (value_of c.scope name.at e).value (used c.scope name).value (used_outside is n c.scope name fits))
+      (reduced_plain is n name.at by (value_of c.scope name.at e).value (used_name c.scope name).value (used_outside is n c.scope name fits))
   action_fits is n c (source.SetEntry vector subscript e) none fits =
       plain_fits is n c (set_entry c.scope vector.at vector subscript e).value fits
       (set_plain is n (vector_index c.scope vector.at vector).value (as_index vector.at (value_of c.scope vector.at subscript).value).value (integer_in c.scope vector.at e).value)
@@ -235,20 +235,20 @@ mutual
       plain_fits is n c (reduce_entry c.scope vector.at vector subscript by e).value fits
       (entry_plain is n (vector_index c.scope vector.at vector).value (as_index vector.at (value_of c.scope vector.at subscript).value).value by (integer_in c.scope vector.at e).value)
   action_fits is n c (source.AddVertex set e) none fits =
-      plain_fits is n c (add_vertex c.scope set.at set e).value fits (added_plain is n set.at (value_of c.scope set.at e).value (used c.scope set).value)
+      plain_fits is n c (add_vertex c.scope set.at set e).value fits (added_plain is n set.at (value_of c.scope set.at e).value (used_name c.scope set).value)
   action_fits is n c (source.Apply target ends function) none fits =
       plain_fits is n c (apply c.scope target.at target ends function).value fits
-      (applied_plain is n target.at (used c.scope target).value (end_of c.scope ends.from).value (end_of c.scope ends.to).value (has_ends ends) (used c.scope function).value)
+      (applied_plain is n target.at (used_name c.scope target).value (apply_end_of c.scope ends.from).value (apply_end_of c.scope ends.to).value (has_ends ends) (used_name c.scope function).value)
 
   pub statements_fit : (is : List ℕ) (n : ℕ) (c : CheckerTree) (so_far : BlockTree) (block : source.BlockTree) → (statements_typed c so_far block).faults ≡ []
       → KeepsLoops n is so_far → LoopsFit is (all_after so_far n) c.scope → BlockFits is n (statements_typed c so_far block).value
   statements_fit is n c so_far source.Empty none keeps fits = (keeps, fits)
   statements_fit is n c so_far (source.Then label action others) none keeps fits =
-      let l = labelled c label in
+      let l = with_label c label in
       let d = counted l.value.1 in
       let a = action_typed d action in
       let number = suc l.value.1.statements in
-      let next = behind so_far number l.value.0 a.value.0 in
+      let next = then_statement so_far number l.value.0 a.value.0 in
       let rest = statements_typed a.value.1 next others in
       let here = all_after so_far n in
       let both = no_right l.faults (a.faults ++ rest.faults) none in

@@ -11,9 +11,9 @@ use Rattle.syntax.specs.SourceTrees.{ParameterTree, InitialTree, DeclarationTree
 use Rattle.typed_tree.specs.BlockTree.{BlockTree, Empty}
 use Rattle.expression_types.specs.declared.scope.Entity.TheVariants as entity
 use Rattle.types.specs.Block.{statements_typed}
-use Rattle.types.specs.Checker.{restarted, with_scope}
+use Rattle.types.specs.Checker.{restarted, in_scope}
 use Rattle.types.specs.Declaration.{DeclaredTree, FunctionKindTree, MainKind, EdgeKind, VertexKind, FilterKind, NoKind, declaration_typed, declarations_typed, declare_constant_as, declare_function}
-use Rattle.types.specs.Declaration.{declare_name, kind_of, main_bytes, opened, takes_nothing, with_main}
+use Rattle.types.specs.Declaration.{declare_name, kind_of, main_bytes, opened, takes_nothing, with_main_block}
 use Rattle.types.specs.Initial.{InitializerTree, initializer_of}
 use Rattle.type_laws.specs.MainFunction.{DeclaresMain, IsMain, functions_named}
 use Rattle.type_laws.specs.NewNames.{DeclarationsDeclareNew, IsNew}
@@ -38,7 +38,7 @@ constant_main d at name initial declared.EdgeSet initializer = refl
 constant_main d at name initial declared.WeightedEdgeSet initializer = refl
 
 -- main stands, or was there before
-taken : (d : DeclaredTree) (fits : Bool) (main : BlockTree) → IsThere (with_main d fits main).main → (fits ≡ true) ⊎ IsThere d.main
+taken : (d : DeclaredTree) (fits : Bool) (main : BlockTree) → IsThere (with_main_block d fits main).main → (fits ≡ true) ⊎ IsThere d.main
 taken d true main there = inl refl
 taken d false main there = inr there
 
@@ -62,7 +62,7 @@ function_main : (d : DeclaredTree) (at : ℕ) (name : Identifier) (parameters : 
 function_main d at name parameters result body true test there =
     let fits = takes_nothing parameters result in
     let b = (statements_typed (opened (restarted d.checker) (MainKind fits) parameters result).value Empty body).value in
-    let e = (declare_name (record d { checker = with_scope b.1 d.checker.scope }) name entity.Main).value in
+    let e = (declare_name (record d { checker = in_scope b.1 d.checker.scope }) name entity.Main).value in
     elim (taken e fits b.0 there) [
       | inl is ↦ let all = nothing_taken parameters result is in inl ((bytes_eq-Decides name.bytes main_bytes).0 test, all.0, all.1)
       | inr before ↦ inr before

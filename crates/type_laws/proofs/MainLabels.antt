@@ -12,19 +12,19 @@ use Rattle.typed_tree.specs.IntExpressionTree.{IntExpressionTree}
 use Rattle.typed_tree.specs.BlockTree.{StatementKindTree, BlockTree, Empty, Then}
 use Rattle.expression_types.specs.declared.scope.Entity.{Entity}
 use Rattle.expression_types.specs.declared.scope.Entity.TheVariants as entity
-use Rattle.expression_types.specs.Expression.{used, value_of, vector_index}
+use Rattle.expression_types.specs.Expression.{used_name, value_of, vector_index}
 use Rattle.expression_types.specs.ScopeTree.{found}
 use Rattle.expression_types.specs.Faults.{WithFaults}
 use Rattle.expression_types.specs.ValueTree as value
-use Rattle.expression_types.specs.ValueTree.{ValueTree, named_set}
-use Rattle.types.specs.Block.{action_typed, behind, closed, statements_typed}
-use Rattle.types.specs.Checker.{CheckerTree, counted, declared_in, integer_slot, labelled, new_label, restarted, with_scope, as_index, condition_in, integer_in}
+use Rattle.expression_types.specs.ValueTree.{ValueTree, entity_set}
+use Rattle.types.specs.Block.{action_typed, then_statement, closed, statements_typed}
+use Rattle.types.specs.Checker.{CheckerTree, counted, declared_in, integer_slot, with_label, new_label, restarted, in_scope, as_index, condition_in, integer_in}
 use Rattle.types.specs.Declaration.{DeclaredTree, FunctionKindTree, MainKind, EdgeKind, VertexKind, FilterKind, NoKind, declaration_typed, declarations_typed, declare_constant_as, declare_function}
-use Rattle.types.specs.Declaration.{declare_name, kind, opened, with_main}
-use Rattle.types.specs.Initial.{ApplyEndTree, InitializerTree, edge_function, end_of, initializer_of, is_edges, names_error, is_error_end, is_wrong, vertex_function, lacks_weights}
+use Rattle.types.specs.Declaration.{declare_name, kind, opened, with_main_block}
+use Rattle.types.specs.Initial.{ApplyEndTree, InitializerTree, edge_function, apply_end_of, initializer_of, is_edges, names_error, is_error_end, is_wrong, vertex_function, lacks_weights}
 use Rattle.types.specs.Program.{main_of, opening, program_of, set_count}
-use Rattle.types.specs.Statement.{add_vertex, added, applied, apply, assign, assigned, declare_as, edges_applied, entry_reduced, entry_set, has_ends, print, printed, reduce, reduce_entry, reduced}
-use Rattle.types.specs.Statement.{set_applied, set_entry, vertices_applied}
+use Rattle.types.specs.Statement.{add_vertex, added_to_set, applied, apply, assign, assigned, declare_as, edges_applied, entry_reduced, entry_set, has_ends, print, printed, reduce, reduce_entry}
+use Rattle.types.specs.Statement.{reduced, set_applied, set_entry, vertices_applied}
 use Rattle.type_laws.specs.LabelIndices.{LabelsAreInOrder, inner_indices, label_indices, own_index}
 use Rattle.type_laws.specs.Numbers.{InOrder}
 use Rattle.type_laws.proofs.Faultless.{no_left, no_right, not_empty}
@@ -48,7 +48,7 @@ then_labels a b c xs ys first second =
     }
 
 indices_after : (so_far : BlockTree) (number : ℕ) (label : Option ℕ) (action : StatementKindTree)
-    → label_indices (behind so_far number label action) ≡ label_indices so_far ++ (own_index label ++ (inner_indices action ++ []))
+    → label_indices (then_statement so_far number label action) ≡ label_indices so_far ++ (own_index label ++ (inner_indices action ++ []))
 indices_after Empty number label action = refl
 indices_after (Then n l a others) number label action =
     ap (λ ls. own_index l ++ (inner_indices a ++ ls)) (indices_after others number label action)
@@ -71,7 +71,7 @@ reduced_plain : (at : ℕ) (by : Reduction) (v : ValueTree) (e : Entity) → Pla
 reduced_plain at by v (entity.Edges weights) = refl
 reduced_plain at by v _ = refl
 
-added_plain : (at : ℕ) (v : ValueTree) (e : Entity) → Plain (added at v e).value
+added_plain : (at : ℕ) (v : ValueTree) (e : Entity) → Plain (added_to_set at v e).value
 added_plain at v (entity.Edges weights) = refl
 added_plain at v _ = refl
 
@@ -110,7 +110,7 @@ applied_plain : (at : ℕ) (t : Entity) (a b : ApplyEndTree) (ends : Bool) (f : 
 applied_plain at t a b ends f =
     if_plain (names_error t) _ _ refl (if_plain (is_edges t) _ _
     (if_plain (is_wrong a || is_wrong b || lacks_weights t f) _ _ refl (edges_plain at a b (names_error f) (edge_function f)))
-    (set_applied_plain at ends f (named_set t)))
+    (set_applied_plain at ends f (entity_set t)))
 
 -- what a statement is, and the checker after it
 abbrev met : CheckerTree → ℕ
@@ -130,7 +130,7 @@ new_label_follows : (c : CheckerTree) (label : Identifier) (index : Option ℕ) 
 new_label_follows c label None none = record { ordered = (refl, tt); count = omega (arith, length-append c.labels ((label.bytes, length c.labels) ∷ [])) }
 new_label_follows c label (Some index) none = absurd (not_empty _ _ none)
 
-labelled_follows : (c : CheckerTree) (label : Option Identifier) → (labelled c label).faults ≡ [] → Follow (met c) (own_index (labelled c label).value.0) (met (labelled c label).value.1)
+labelled_follows : (c : CheckerTree) (label : Option Identifier) → (with_label c label).faults ≡ [] → Follow (met c) (own_index (with_label c label).value.0) (met (with_label c label).value.1)
 labelled_follows c None none = no_labels (met c)
 labelled_follows c (Some label) none = new_label_follows c label (found label.bytes c.labels) none
 
@@ -167,9 +167,9 @@ mutual
       (statements_follow (met b.value.1) d Empty otherwise (no_left o.faults [] (no_right b.faults (o.faults ++ []) both)) (no_labels (met b.value.1)))
   action_follows c (source.Print at e) none = plain_follows (met c) (print c.scope at e).value (printed_plain at (value_of c.scope at e).value)
   action_follows c (source.Assign name initial) none =
-      plain_follows (met c) (assign c name.at name initial).value (assigned_plain name.at (initializer_of c name.at initial).value (used c.scope name).value)
+      plain_follows (met c) (assign c name.at name initial).value (assigned_plain name.at (initializer_of c name.at initial).value (used_name c.scope name).value)
   action_follows c (source.Reduce name by e) none =
-      plain_follows (met c) (reduce c.scope name.at name by e).value (reduced_plain name.at by (value_of c.scope name.at e).value (used c.scope name).value)
+      plain_follows (met c) (reduce c.scope name.at name by e).value (reduced_plain name.at by (value_of c.scope name.at e).value (used_name c.scope name).value)
   action_follows c (source.SetEntry vector index e) none =
       plain_follows (met c) (set_entry c.scope vector.at vector index e).value (set_plain (vector_index c.scope vector.at vector).value
       (as_index vector.at (value_of c.scope vector.at index).value).value (integer_in c.scope vector.at e).value)
@@ -177,20 +177,20 @@ mutual
       plain_follows (met c) (reduce_entry c.scope vector.at vector index by e).value
       (entry_plain (vector_index c.scope vector.at vector).value (as_index vector.at (value_of c.scope vector.at index).value).value by (integer_in c.scope vector.at e).value)
   action_follows c (source.AddVertex set e) none =
-      plain_follows (met c) (add_vertex c.scope set.at set e).value (added_plain set.at (value_of c.scope set.at e).value (used c.scope set).value)
+      plain_follows (met c) (add_vertex c.scope set.at set e).value (added_plain set.at (value_of c.scope set.at e).value (used_name c.scope set).value)
   action_follows c (source.Apply target ends function) none =
       plain_follows (met c) (apply c.scope target.at target ends function).value
-      (applied_plain target.at (used c.scope target).value (end_of c.scope ends.from).value (end_of c.scope ends.to).value (has_ends ends) (used c.scope function).value)
+      (applied_plain target.at (used_name c.scope target).value (apply_end_of c.scope ends.from).value (apply_end_of c.scope ends.to).value (has_ends ends) (used_name c.scope function).value)
 
   statements_follow : (n : ℕ) (c : CheckerTree) (so_far : BlockTree) (block : source.BlockTree) → (statements_typed c so_far block).faults ≡ [] → Follow n (label_indices so_far) (met c)
       → BlockFollows n (statements_typed c so_far block).value
   statements_follow n c so_far source.Empty none follow = follow
   statements_follow n c so_far (source.Then label action others) none follow =
-      let l = labelled c label in
+      let l = with_label c label in
       let d = counted l.value.1 in
       let a = action_typed d action in
       let number = suc l.value.1.statements in
-      let next = behind so_far number l.value.0 a.value.0 in
+      let next = then_statement so_far number l.value.0 a.value.0 in
       let rest = statements_typed a.value.1 next others in
       let both = no_right l.faults (a.faults ++ rest.faults) none in
       let own = labelled_follows c label (no_left l.faults (a.faults ++ rest.faults) none) in
@@ -219,7 +219,7 @@ constant_ordered d at name initial declared.Vector initializer order = order
 constant_ordered d at name initial declared.EdgeSet initializer order = order
 constant_ordered d at name initial declared.WeightedEdgeSet initializer order = order
 
-with_main_ordered : (d : DeclaredTree) (fits : Bool) (main : BlockTree) → MainIsOrdered d.main → AreOrdered main → MainIsOrdered (with_main d fits main).main
+with_main_ordered : (d : DeclaredTree) (fits : Bool) (main : BlockTree) → MainIsOrdered d.main → AreOrdered main → MainIsOrdered (with_main_block d fits main).main
 with_main_ordered d true main old new = new
 with_main_ordered d false main old new = old
 
@@ -228,7 +228,7 @@ main_ordered : (d : DeclaredTree) (at : ℕ) (name : Identifier) (parameters : L
 main_ordered d at name parameters result body (MainKind fits) none order =
     let c = opened (restarted d.checker) (MainKind fits) parameters result in
     let b = statements_typed c.value Empty body in
-    let e = declare_name (record d { checker = with_scope b.value.1 d.checker.scope }) name entity.Main in
+    let e = declare_name (record d { checker = in_scope b.value.1 d.checker.scope }) name entity.Main in
     let clear = no_left b.faults (e.faults ++ []) (no_right c.faults (b.faults ++ (e.faults ++ [])) none) in
     with_main_ordered e.value fits b.value.0 order (met c.value, (statements_follow (met c.value) c.value Empty body clear (no_labels (met c.value))).ordered)
 main_ordered d at name parameters result body (EdgeKind weighted) none order = order

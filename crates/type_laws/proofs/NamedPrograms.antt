@@ -24,11 +24,11 @@ use Rattle.expression_types.specs.declared.scope.Entity.TheVariants as entity
 use Rattle.expression_types.specs.declared.scope.Inside.TheVariants as inside
 use Rattle.expression_types.specs.ScopeTree.{entered, sets_of}
 use Rattle.types.specs.Block.{statements_typed}
-use Rattle.types.specs.Checker.{CheckerTree, declared_in, integer_slot, labelled, restarted, with_scope}
+use Rattle.types.specs.Checker.{CheckerTree, declared_in, integer_slot, with_label, restarted, in_scope}
 use Rattle.types.specs.Declaration.{DeclaredTree, FunctionKindTree, MainKind, EdgeKind, VertexKind, FilterKind, NoKind, begins, declaration_typed, declarations_typed, declare_constant_as}
-use Rattle.types.specs.Declaration.{declare_function, declare_name, function_declared, function_of, has_all, inside_of, is_bool, is_vertex, kind, kind_fits, kind_of, literal_or_fault, loads}
-use Rattle.types.specs.Declaration.{main_bytes, main_declared, next_name, only_edges, opened, parameter, parameters_declared, result_declared, steps_declared, takes_nothing, with_main, takes_weight}
-use Rattle.types.specs.Declaration.{is_int}
+use Rattle.types.specs.Declaration.{declare_function, declare_name, function_declared, function_of, has_all, inside_of, is_bool_type, is_vertex_type, kind, kind_fits, kind_of, literal_or_fault, loads}
+use Rattle.types.specs.Declaration.{main_bytes, main_declared, next_name, only_edges, opened, parameter, parameters_declared, result_declared, steps_declared, takes_nothing, with_main_block}
+use Rattle.types.specs.Declaration.{takes_weight, is_int_type}
 use Rattle.types.specs.Initial.{InitializerTree, initializer_of, is_sound, writes_vector}
 use Rattle.types.specs.Literal.{literal_condition, literal_integer}
 use Rattle.types.specs.Program.{main_of, opening, program_of, set_count}
@@ -75,7 +75,7 @@ mutual
   steps_written : (c : CheckerTree) (so_far : FunctionStatementsTree) (block : source.BlockTree) → (steps_typed c so_far block).value.1.written ≡ c.written
   steps_written c so_far source.Empty = refl
   steps_written c so_far (source.Then label action others) =
-      let l = (labelled c label).value in
+      let l = (with_label c label).value in
       let s = (step_typed l.1 action).value in
       steps_written s.1 (step_after so_far s.0) others ∙ step_written l.1 action ∙ labelled_written c label
 
@@ -89,18 +89,18 @@ result_written c kind (Some result) = refl
 
 opened_written : (c : CheckerTree) (kind : FunctionKindTree) (parameters : List ParameterTree) (result : Option ParameterTree) → (opened c kind parameters result).value.written ≡ c.written
 opened_written c kind parameters result =
-    let e = with_writes (with_scope c (entered (inside_of kind) c.scope)) [] in
+    let e = with_writes (in_scope c (entered (inside_of kind) c.scope)) [] in
     result_written (parameters_declared (takes_weight kind) e endpoint.Source parameters).value kind result ∙ parameters_written (takes_weight kind) e endpoint.Source parameters
 
 -- an edge function has two vertices as parameters, and the weight or not, and no result
 abbrev IsEdge : Bool → List ParameterTree → Option ParameterTree → Type 0
 IsEdge weighted [] result = ⊥
 IsEdge weighted (src ∷ []) result = ⊥
-IsEdge false (src ∷ dst ∷ []) None = (is_vertex src.declared ≡ true) × (is_vertex dst.declared ≡ true)
+IsEdge false (src ∷ dst ∷ []) None = (is_vertex_type src.declared ≡ true) × (is_vertex_type dst.declared ≡ true)
 IsEdge true (src ∷ dst ∷ []) None = ⊥
 IsEdge weighted (src ∷ dst ∷ []) (Some result) = ⊥
 IsEdge false (src ∷ dst ∷ w ∷ []) None = ⊥
-IsEdge true (src ∷ dst ∷ w ∷ []) None = (is_vertex src.declared ≡ true) × (is_vertex dst.declared ≡ true) × (is_int w.declared ≡ true)
+IsEdge true (src ∷ dst ∷ w ∷ []) None = (is_vertex_type src.declared ≡ true) × (is_vertex_type dst.declared ≡ true) × (is_int_type w.declared ≡ true)
 IsEdge weighted (src ∷ dst ∷ w ∷ []) (Some result) = ⊥
 IsEdge weighted (src ∷ dst ∷ w ∷ u ∷ others) result = ⊥
 
@@ -115,14 +115,14 @@ if_shape false k l parameters result first other = other
 
 other_shape : (parameters : List ParameterTree) (result : Option ParameterTree) → HasShape (kind_of parameters result) parameters result
 other_shape [] result = tt
-other_shape (x ∷ []) None = if_shape (is_vertex x.declared) VertexKind NoKind (x ∷ []) None (λ b. tt) tt
-other_shape (x ∷ []) (Some result) = if_shape (is_vertex x.declared && is_bool result.declared) FilterKind NoKind (x ∷ []) (Some result) (λ b. tt) tt
+other_shape (x ∷ []) None = if_shape (is_vertex_type x.declared) VertexKind NoKind (x ∷ []) None (λ b. tt) tt
+other_shape (x ∷ []) (Some result) = if_shape (is_vertex_type x.declared && is_bool_type result.declared) FilterKind NoKind (x ∷ []) (Some result) (λ b. tt) tt
 other_shape (x ∷ y ∷ []) None =
-    if_shape (is_vertex x.declared && is_vertex y.declared) (EdgeKind false) NoKind (x ∷ y ∷ []) None (λ b. and_parts (is_vertex x.declared) (is_vertex y.declared) b) tt
+    if_shape (is_vertex_type x.declared && is_vertex_type y.declared) (EdgeKind false) NoKind (x ∷ y ∷ []) None (λ b. and_parts (is_vertex_type x.declared) (is_vertex_type y.declared) b) tt
 other_shape (x ∷ y ∷ []) (Some result) = tt
 other_shape (x ∷ y ∷ z ∷ []) None =
-    if_shape (is_vertex x.declared && is_vertex y.declared && is_int z.declared) (EdgeKind true) NoKind (x ∷ y ∷ z ∷ []) None
-    (λ b. three_parts (is_vertex x.declared) (is_vertex y.declared) (is_int z.declared) b) tt
+    if_shape (is_vertex_type x.declared && is_vertex_type y.declared && is_int_type z.declared) (EdgeKind true) NoKind (x ∷ y ∷ z ∷ []) None
+    (λ b. three_parts (is_vertex_type x.declared) (is_vertex_type y.declared) (is_int_type z.declared) b) tt
   where
     three_parts : (a b c : Bool) → (a && b && c) ≡ true → (a ≡ true) × (b ≡ true) × (c ≡ true)
     three_parts a b c is = let all = and_parts (a && b) c is in let both = and_parts a b all.0 in (both.0, both.1, all.1)
@@ -146,7 +146,7 @@ edge_adds : (d : DeclaredTree) (weighted : Bool) (parameters : List ParameterTre
 edge_adds d weighted parameters src dst body fits known first none =
     let c = opened d.checker (EdgeKind weighted) parameters None in
     let inner = opened_known (named src dst) d.checker (EdgeKind weighted) parameters None fits tt known first in
-    let e = with_writes (with_scope d.checker (entered inside.EdgeFunction d.checker.scope)) [] in
+    let e = with_writes (in_scope d.checker (entered inside.EdgeFunction d.checker.scope)) [] in
     let nothing = parameters_write_nothing weighted e endpoint.Source parameters in
     steps_add (edge_body src dst) [] c.value NoStep body inner none (subst (λ writes. Adds [] writes []) (sym nothing) (adds_none []))
 
@@ -243,7 +243,7 @@ module _ (p : ProgramTree) where
   function_within d NoKind name steps x = record { names = λ k n is. x.names k n (get_before d.checker.names (name.bytes ∷ []) k n is); sets = x.sets; functions = x.functions }
 
   abbrev around : DeclaredTree → CheckerTree → DeclaredTree
-  around d c = record d { checker = with_scope c d.checker.scope }
+  around d c = record d { checker = in_scope c d.checker.scope }
 
   steps_within : (d : DeclaredTree) (at : ℕ) (kind : FunctionKindTree) (name : Identifier) (parameters : List ParameterTree) (result : Option ParameterTree) (body : source.BlockTree)
       → IsWithin (steps_declared d at kind name parameters result body).value → IsWithin d
@@ -257,7 +257,7 @@ module _ (p : ProgramTree) where
         functions = inner.functions;
       }
 
-  with_main_within : (e : DeclaredTree) (fits : Bool) (main : BlockTree) → IsWithin (with_main e fits main) → IsWithin e
+  with_main_within : (e : DeclaredTree) (fits : Bool) (main : BlockTree) → IsWithin (with_main_block e fits main) → IsWithin e
   with_main_within e true main x = record { names = x.names; sets = x.sets; functions = x.functions }
   with_main_within e false main x = x
 
@@ -500,8 +500,8 @@ module _ (p : ProgramTree) where
       let rest = parameters_declared w d.value endpoint.Destination others in
       let between : Begins d.value.names p.names = λ k n is. within k n (parameters_keep w d.value endpoint.Destination others k n is) in
       parameters_fit w functions names d.value endpoint.Destination others (no_right d.faults rest.faults none) within
-      (other_declared p functions names c x.name e (no_left d.faults rest.faults none) between (parameter_stands (InNames names) at (is_vertex x.declared) (w && is_int x.declared))
-      (parameter_sets at (is_vertex x.declared) (w && is_int x.declared)) fits)
+      (other_declared p functions names c x.name e (no_left d.faults rest.faults none) between (parameter_stands (InNames names) at (is_vertex_type x.declared) (w && is_int_type x.declared))
+      (parameter_sets at (is_vertex_type x.declared) (w && is_int_type x.declared)) fits)
     where
       parameters_keep : (w : Bool) (c : CheckerTree) (at : Endpoint) (parameters : List ParameterTree) → Begins c.names (parameters_declared w c at parameters).value.names
       parameters_keep w c at [] k n is = is
@@ -517,7 +517,7 @@ module _ (p : ProgramTree) where
       → (opened c (MainKind fits) parameters result).faults ≡ []
       → Begins (opened c (MainKind fits) parameters result).value.names p.names → MainFits p functions names c → MainFits p functions names (opened c (MainKind fits) parameters result).value
   main_opened functions names c fits parameters result none within all =
-      let e = with_writes (with_scope c (entered inside.Main c.scope)) [] in
+      let e = with_writes (in_scope c (entered inside.Main c.scope)) [] in
       let d = parameters_declared false e endpoint.Source parameters in
       let r = result_declared d.value (MainKind fits) result in
       let sets : SetsFit p (InNames names) e.scope = record { known = all.sets.known; named = all.sets.named; apart = all.sets.apart } in
@@ -556,8 +556,8 @@ module _ (p : ProgramTree) where
           let same : Some x.0 ≡ Some a = sym (within.sets k x.0 x.1) ∙ h.1 in
           x.1 ∙ same
 
-  with_main_fits : (e : DeclaredTree) (fits : Bool) (main : BlockTree) → CheckerFits e.sets (length e.edge_functions) e.checker → AllKnown (with_main e fits main) → MainHolds e.main
-      → ((count : ℕ) × HoldsOfEach (Holds p) (names_before count p.sets) main) → DeclaredFits (with_main e fits main)
+  with_main_fits : (e : DeclaredTree) (fits : Bool) (main : BlockTree) → CheckerFits e.sets (length e.edge_functions) e.checker → AllKnown (with_main_block e fits main) → MainHolds e.main
+      → ((count : ℕ) × HoldsOfEach (Holds p) (names_before count p.sets) main) → DeclaredFits (with_main_block e fits main)
   with_main_fits e true main all known old new = record { sets = all.sets; count = all.count; written = all.written; known = known; main = new }
   with_main_fits e false main all known old new = record { sets = all.sets; count = all.count; written = all.written; known = known; main = old }
 
@@ -577,10 +577,10 @@ module _ (p : ProgramTree) where
       (main_start d (main_within d fits name parameters result body within) all) in
       let inner = statements_fit p functions names c.value Empty body (no_left b.faults (e.faults ++ []) both) end.names tt first in
       let named = no_left e.faults [] (no_right b.faults (e.faults ++ []) both) in
-      let left = no_left (declared_in (with_scope b.value.1 d.checker.scope) name entity.Main).faults [] named in
-      let again : CheckerFits d.sets functions (with_scope b.value.1 d.checker.scope) = record { sets = all.sets; count = all.count; written = inner.1.written } in
+      let left = no_left (declared_in (in_scope b.value.1 d.checker.scope) name entity.Main).faults [] named in
+      let again : CheckerFits d.sets functions (in_scope b.value.1 d.checker.scope) = record { sets = all.sets; count = all.count; written = inner.1.written } in
       with_main_fits e.value fits b.value.0
-      (no_set d.sets functions (with_scope b.value.1 d.checker.scope) name entity.Main left (with_main_within e.value fits b.value.0 within).names tt refl again) known all.main
+      (no_set d.sets functions (in_scope b.value.1 d.checker.scope) name entity.Main left (with_main_within e.value fits b.value.0 within).names tt refl again) known all.main
       (length d.sets, inner.0)
 
   -- declarations

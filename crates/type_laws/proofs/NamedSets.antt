@@ -21,18 +21,18 @@ use Rattle.typed_tree.specs.IntExpressionTree.{IntExpressionTree}
 use Rattle.typed_tree.specs.ProgramTree.{ProgramTree}
 use Rattle.expression_types.specs.declared.scope.Entity.{Entity}
 use Rattle.expression_types.specs.declared.scope.Entity.TheVariants as entity
-use Rattle.expression_types.specs.Expression.{used, value_of, vector_index}
+use Rattle.expression_types.specs.Expression.{used_name, value_of, vector_index}
 use Rattle.expression_types.specs.ScopeTree.{found, ScopeTree, declared_over, sets_of, with_entity}
 use Rattle.expression_types.specs.Faults.{WithFaults}
 use Rattle.expression_types.specs.ValueTree as value
-use Rattle.expression_types.specs.ValueTree.{ValueTree, named_set}
-use Rattle.types.specs.Block.{action_typed, behind, closed, statements_typed}
-use Rattle.types.specs.Checker.{CheckerTree, condition_slot, counted, declared_in, integer_slot, labelled, new_label, set_slot, as_index, as_members, condition_in, integer_in}
-use Rattle.types.specs.Initial.{ApplyEndTree, InitializerTree, Typed, Members, Loaded, Degrees, ErrorInitializer, edge_function, end_of, ends_given, filter_function, filter_named, filtered}
-use Rattle.types.specs.Initial.{filtered_by, given_filter, initializer_condition, initializer_integer, initializer_members, initializer_of, is_edges, is_error_end, is_wrong, loaded, modified}
+use Rattle.expression_types.specs.ValueTree.{ValueTree, entity_set}
+use Rattle.types.specs.Block.{action_typed, then_statement, closed, statements_typed}
+use Rattle.types.specs.Checker.{CheckerTree, condition_slot, counted, declared_in, integer_slot, with_label, new_label, set_slot, as_index, as_members, condition_in, integer_in}
+use Rattle.types.specs.Initial.{ApplyEndTree, InitializerTree, Typed, Members, Loaded, Degrees, ErrorInitializer, edge_function, apply_end_of, ends_given, filter_function, filter_named, filtered_set}
+use Rattle.types.specs.Initial.{filtered_by, given_filter, initializer_condition, initializer_integer, initializer_members, initializer_of, is_edges, is_error_end, is_wrong, loaded, initial_modified}
 use Rattle.types.specs.Initial.{modified_by, names_error, new_set, of_edges, vector_of, vertex_function, writes_vector, lacks_weights}
-use Rattle.types.specs.Statement.{add_vertex, added, applied, apply, assign, assigned, declare_as, edges_applied, entry_reduced, entry_set, has_ends, print, printed, reduce, reduce_entry, reduced}
-use Rattle.types.specs.Statement.{set_applied, set_entry, vertices_applied}
+use Rattle.types.specs.Statement.{add_vertex, added_to_set, applied, apply, assign, assigned, declare_as, edges_applied, entry_reduced, entry_set, has_ends, print, printed, reduce, reduce_entry}
+use Rattle.types.specs.Statement.{reduced, set_applied, set_entry, vertices_applied}
 use Rattle.type_laws.specs.AskedVectors.{AsksForWritten, ValueAsksForWritten}
 use Rattle.type_laws.specs.EachStatement.{HoldsInside, HoldsOfEach, SetNames, names_after}
 use Rattle.type_laws.specs.VisibleSets.{EndIsVisible, EndsAreVisible, IsVisible, NamesSets, SetsAreVisible, ValueIsVisible}
@@ -74,7 +74,7 @@ new_label_written : (c : CheckerTree) (label : Identifier) (index : Option ℕ) 
 new_label_written c label None = refl
 new_label_written c label (Some index) = refl
 
-pub labelled_written : (c : CheckerTree) (label : Option Identifier) → (labelled c label).value.1.written ≡ c.written
+pub labelled_written : (c : CheckerTree) (label : Option Identifier) → (with_label c label).value.1.written ≡ c.written
 labelled_written c None = refl
 labelled_written c (Some label) = new_label_written c label (found label.bytes c.labels)
 
@@ -205,14 +205,14 @@ module _ (p : ProgramTree) where
   Stands names e = EntityStands (InNames names) e
 
   module _ (functions : ℕ) where
-    main_used : (names : SetNames) (c : CheckerTree) (name : Identifier) → MainFits functions names c → Stands names (used c.scope name).value
+    main_used : (names : SetNames) (c : CheckerTree) (name : Identifier) → MainFits functions names c → Stands names (used_name c.scope name).value
     main_used names c name fits = used_among (Stands names) tt name c.scope.visible fits.sets.known
 
     abbrev MaybeVisible : SetNames → Option VarRef → Type 0
     MaybeVisible names None = Unit {0}
     MaybeVisible names (Some slot) = IsVisible names slot
 
-    named_visible : (names : SetNames) (e : Entity) → Stands names e → MaybeVisible names (named_set e)
+    named_visible : (names : SetNames) (e : Entity) → Stands names e → MaybeVisible names (entity_set e)
     named_visible names (entity.ConstantSet slot) is = is
     named_visible names (entity.SetVariable slot) is = is.0
     named_visible names _ is = tt
@@ -223,9 +223,9 @@ module _ (p : ProgramTree) where
     end_named names (entity.Filter index) is = tt
     end_named names _ is = tt
 
-    main_end : (names : SetNames) (c : CheckerTree) (name : Option Identifier) → MainFits functions names c → EndIsVisible names (given_filter (end_of c.scope name).value)
+    main_end : (names : SetNames) (c : CheckerTree) (name : Option Identifier) → MainFits functions names c → EndIsVisible names (given_filter (apply_end_of c.scope name).value)
     main_end names c None fits = tt
-    main_end names c (Some name) fits = end_named names (used c.scope name).value (main_used names c name fits)
+    main_end names c (Some name) fits = end_named names (used_name c.scope name).value (main_used names c name fits)
 
     -- initial values
     abbrev InitializerStands : SetNames → InitializerTree → Type 0
@@ -248,9 +248,9 @@ module _ (p : ProgramTree) where
     filtered_by_stands names at (Some slot) None is = tt
     filtered_by_stands names at (Some slot) (Some index) is = (is, tt)
 
-    filtered_stands : (names : SetNames) (at : ℕ) (s f : Entity) → Stands names s → InitializerStands names (filtered at s f).value
+    filtered_stands : (names : SetNames) (at : ℕ) (s f : Entity) → Stands names s → InitializerStands names (filtered_set at s f).value
     filtered_stands names at s f is =
-        if_initializer names (names_error s || names_error f) _ _ (λ b. tt) (filtered_by_stands names at (named_set s) (filter_function f) (named_visible names s is))
+        if_initializer names (names_error s || names_error f) _ _ (λ b. tt) (filtered_by_stands names at (entity_set s) (filter_function f) (named_visible names s is))
 
     modified_by_stands : (names : SetNames) (c : CheckerTree) (at : ℕ) (ends : ApplyEnds) (function vector : Option ℕ) → EndsAreVisible names ends → WrittenFits functions c.written
         → InitializerStands names (modified_by c at ends function vector).value
@@ -260,7 +260,7 @@ module _ (p : ProgramTree) where
         if_initializer names (writes_vector c.written function vector) _ _ (λ b. (visible, written.1 function vector b)) tt
 
     modified_stands : (names : SetNames) (c : CheckerTree) (at : ℕ) (e : Entity) (a b : ApplyEndTree) (f x : Entity) → EndIsVisible names (given_filter a) → EndIsVisible names (given_filter b)
-        → WrittenFits functions c.written → InitializerStands names (modified c at e a b f x).value
+        → WrittenFits functions c.written → InitializerStands names (initial_modified c at e a b f x).value
     modified_stands names c at e a b f x from to written =
         if_initializer names (names_error e || is_error_end a || is_error_end b || names_error f || names_error x) _ _ (λ is. tt)
         (if_initializer names (is_edges e) _ _
@@ -281,11 +281,11 @@ module _ (p : ProgramTree) where
     initializer_stands : (names : SetNames) (c : CheckerTree) (at : ℕ) → MainFits functions names c → (initial : InitialTree) → InitializerStands names (initializer_of c at initial).value
     initializer_stands names c at fits (source.NewSet size) = new_set_stands names at size
     initializer_stands names c at fits (source.Load argument) = loaded_stands names at argument
-    initializer_stands names c at fits (source.Vertices edges) = of_edges_stands names at (Members set.All) (used c.scope edges).value (tt, tt)
-    initializer_stands names c at fits (source.OutDegrees edges) = of_edges_stands names at Degrees (used c.scope edges).value tt
-    initializer_stands names c at fits (source.Filter s f) = filtered_stands names at (used c.scope s).value (used c.scope f).value (main_used names c s fits)
+    initializer_stands names c at fits (source.Vertices edges) = of_edges_stands names at (Members set.All) (used_name c.scope edges).value (tt, tt)
+    initializer_stands names c at fits (source.OutDegrees edges) = of_edges_stands names at Degrees (used_name c.scope edges).value tt
+    initializer_stands names c at fits (source.Filter s f) = filtered_stands names at (used_name c.scope s).value (used_name c.scope f).value (main_used names c s fits)
     initializer_stands names c at fits (source.ApplyModified edges ends f x) =
-        modified_stands names c at (used c.scope edges).value (end_of c.scope ends.from).value (end_of c.scope ends.to).value (used c.scope f).value (used c.scope x).value
+        modified_stands names c at (used_name c.scope edges).value (apply_end_of c.scope ends.from).value (apply_end_of c.scope ends.to).value (used_name c.scope f).value (used_name c.scope x).value
         (main_end names c ends.from fits) (main_end names c ends.to fits) fits.written
     initializer_stands names c at fits (source.Value e) = tt
 
@@ -321,7 +321,7 @@ module _ (p : ProgramTree) where
     reduced_plain names at by x (entity.Edges weights) = ((tt, tt), tt, refl)
     reduced_plain names at by x _ = ((tt, tt), tt, refl)
 
-    added_plain : (names : SetNames) (at : ℕ) (x : ValueTree) (e : Entity) → Stands names e → Plain names (added at x e).value
+    added_plain : (names : SetNames) (at : ℕ) (x : ValueTree) (e : Entity) → Stands names e → Plain names (added_to_set at x e).value
     added_plain names at x (entity.SetVariable slot) is = ((is, tt), tt, refl)
     added_plain names at x _ is = ((tt, tt), tt, refl)
 
@@ -364,15 +364,15 @@ module _ (p : ProgramTree) where
     applied_plain names at t a b ends f target from to =
         if_plain names (names_error t) _ _ ((tt, tt), tt, refl) (if_plain names (is_edges t) _ _
         (if_plain names (is_wrong a || is_wrong b || lacks_weights t f) _ _ ((tt, tt), tt, refl) (edges_plain names at a b (names_error f) (edge_function f) from to))
-        (set_applied_plain names at ends f (named_set t) (named_visible names t target)))
+        (set_applied_plain names at ends f (entity_set t) (named_visible names t target)))
 
     each_then : (names : SetNames) (so_far : BlockTree) (number : ℕ) (label : Option ℕ) (action : StatementKindTree) → HoldsOfEach Holds names so_far → Holds (all_after so_far names) action
-        → HoldsInside Holds (all_after so_far names) action → HoldsOfEach Holds names (behind so_far number label action)
+        → HoldsInside Holds (all_after so_far names) action → HoldsOfEach Holds names (then_statement so_far number label action)
     each_then names Empty number label action all own inner = (own, inner, tt)
     each_then names (Then n l a others) number label action all own inner = (all.0, all.1, each_then (names_after a names) others number label action all.2 own inner)
 
     after_then : (names : SetNames) (so_far : BlockTree) (number : ℕ) (label : Option ℕ) (action : StatementKindTree)
-        → all_after (behind so_far number label action) names ≡ names_after action (all_after so_far names)
+        → all_after (then_statement so_far number label action) names ≡ names_after action (all_after so_far names)
     after_then names Empty number label action = refl
     after_then names (Then n l a others) number label action = after_then (names_after a names) others number label action
 
@@ -446,7 +446,7 @@ module _ (p : ProgramTree) where
     declare_fits names c at name initializer declared.EdgeSet none begins fits value = absurd (not_empty _ _ none)
     declare_fits names c at name initializer declared.WeightedEdgeSet none begins fits value = absurd (not_empty _ _ none)
 
-    labelled_fits : (names : SetNames) (c : CheckerTree) (label : Option Identifier) → MainFits functions names c → MainFits functions names (labelled c label).value.1
+    labelled_fits : (names : SetNames) (c : CheckerTree) (label : Option Identifier) → MainFits functions names c → MainFits functions names (with_label c label).value.1
     labelled_fits names c label fits =
         let same = labelled_scope c label in
         record {
@@ -497,9 +497,9 @@ module _ (p : ProgramTree) where
       action_fits names c (source.Print at e) none begins fits = plain_fits names c (print c.scope at e).value fits (printed_plain names at (value_of c.scope at e).value)
       action_fits names c (source.Assign name initial) none begins fits =
           plain_fits names c (assign c name.at name initial).value fits
-          (assigned_plain names name.at (initializer_of c name.at initial).value (used c.scope name).value (initializer_stands names c name.at fits initial) (main_used names c name fits))
+          (assigned_plain names name.at (initializer_of c name.at initial).value (used_name c.scope name).value (initializer_stands names c name.at fits initial) (main_used names c name fits))
       action_fits names c (source.Reduce name by e) none begins fits =
-          plain_fits names c (reduce c.scope name.at name by e).value fits (reduced_plain names name.at by (value_of c.scope name.at e).value (used c.scope name).value)
+          plain_fits names c (reduce c.scope name.at name by e).value fits (reduced_plain names name.at by (value_of c.scope name.at e).value (used_name c.scope name).value)
       action_fits names c (source.SetEntry vector subscript e) none begins fits =
           plain_fits names c (set_entry c.scope vector.at vector subscript e).value fits
           (set_plain names (vector_index c.scope vector.at vector).value (as_index vector.at (value_of c.scope vector.at subscript).value).value (integer_in c.scope vector.at e).value)
@@ -507,10 +507,10 @@ module _ (p : ProgramTree) where
           plain_fits names c (reduce_entry c.scope vector.at vector subscript by e).value fits
           (entry_plain names (vector_index c.scope vector.at vector).value (as_index vector.at (value_of c.scope vector.at subscript).value).value by (integer_in c.scope vector.at e).value)
       action_fits names c (source.AddVertex set e) none begins fits =
-          plain_fits names c (add_vertex c.scope set.at set e).value fits (added_plain names set.at (value_of c.scope set.at e).value (used c.scope set).value (main_used names c set fits))
+          plain_fits names c (add_vertex c.scope set.at set e).value fits (added_plain names set.at (value_of c.scope set.at e).value (used_name c.scope set).value (main_used names c set fits))
       action_fits names c (source.Apply target ends function) none begins fits =
           plain_fits names c (apply c.scope target.at target ends function).value fits
-          (applied_plain names target.at (used c.scope target).value (end_of c.scope ends.from).value (end_of c.scope ends.to).value (has_ends ends) (used c.scope function).value
+          (applied_plain names target.at (used_name c.scope target).value (apply_end_of c.scope ends.from).value (apply_end_of c.scope ends.to).value (has_ends ends) (used_name c.scope function).value
           (main_used names c target fits) (main_end names c ends.from fits) (main_end names c ends.to fits))
 
       pub statements_fit : (names : SetNames) (c : CheckerTree) (so_far : BlockTree) (block : source.BlockTree) → (statements_typed c so_far block).faults ≡ []
@@ -518,11 +518,11 @@ module _ (p : ProgramTree) where
           → BlockFits names (statements_typed c so_far block).value
       statements_fit names c so_far source.Empty none begins each fits = (each, fits)
       statements_fit names c so_far (source.Then label action others) none begins each fits =
-          let l = labelled c label in
+          let l = with_label c label in
           let d = counted l.value.1 in
           let a = action_typed d action in
           let number = suc l.value.1.statements in
-          let next = behind so_far number l.value.0 a.value.0 in
+          let next = then_statement so_far number l.value.0 a.value.0 in
           let rest = statements_typed a.value.1 next others in
           let here = all_after so_far names in
           let both = no_right l.faults (a.faults ++ rest.faults) none in

@@ -13,8 +13,8 @@ use Rattle.typed_tree.specs.FunctionStatementTree.{FunctionStatementsTree, NoSte
 use Rattle.expression_types.specs.declared.scope.Entity.{Entity}
 use Rattle.expression_types.specs.declared.scope.Entity.TheVariants as entity
 use Rattle.expression_types.specs.ScopeTree.{found, entered}
-use Rattle.types.specs.Block.{action_typed, behind, closed, statements_typed}
-use Rattle.types.specs.Checker.{CheckerTree, counted, declared_in, integer_slot, labelled, new_label, with_scope}
+use Rattle.types.specs.Block.{action_typed, then_statement, closed, statements_typed}
+use Rattle.types.specs.Checker.{CheckerTree, counted, declared_in, integer_slot, with_label, new_label, in_scope}
 use Rattle.types.specs.Declaration.{FunctionKindTree, inside_of, opened, parameter, parameters_declared, result_declared, result_entity, takes_weight}
 use Rattle.types.specs.Initial.{InitializerTree, initializer_of}
 use Rattle.types.specs.Statement.{declare_as}
@@ -35,7 +35,7 @@ new_label_grow : (c : CheckerTree) (label : Identifier) (index : Option ℕ) →
 new_label_grow c label None k x is = is
 new_label_grow c label (Some index) k x is = is
 
-labelled_grow : (c : CheckerTree) (label : Option Identifier) → Grow c (labelled c label).value.1
+labelled_grow : (c : CheckerTree) (label : Option Identifier) → Grow c (with_label c label).value.1
 labelled_grow c None k x is = is
 labelled_grow c (Some label) k x is = new_label_grow c label (found label.bytes c.labels) k x is
 
@@ -69,9 +69,9 @@ mutual
   pub statements_grow : (c : CheckerTree) (so_far : BlockTree) (block : source.BlockTree) → Grow c (statements_typed c so_far block).value.1
   statements_grow c so_far source.Empty k x is = is
   statements_grow c so_far (source.Then label action others) k x is =
-      let l = (labelled c label).value in
+      let l = (with_label c label).value in
       let a = (action_typed (counted l.1) action).value in
-      statements_grow a.1 (behind so_far (suc l.1.statements) l.0 a.0) others k x (action_grow (counted l.1) action k x (labelled_grow c label k x is))
+      statements_grow a.1 (then_statement so_far (suc l.1.statements) l.0 a.0) others k x (action_grow (counted l.1) action k x (labelled_grow c label k x is))
 
 -- statements of functions
 declare_step_grow : (c : CheckerTree) (at : ℕ) (name : Identifier) (initializer : InitializerTree) (type : DeclaredType) → Grow c (declare_step_as c at name initializer type).value.1
@@ -103,7 +103,7 @@ mutual
   pub steps_grow : (c : CheckerTree) (so_far : FunctionStatementsTree) (block : source.BlockTree) → Grow c (steps_typed c so_far block).value.1
   steps_grow c so_far source.Empty k x is = is
   steps_grow c so_far (source.Then label action others) k x is =
-      let l = (labelled c label).value in
+      let l = (with_label c label).value in
       let s = (step_typed l.1 action).value in
       steps_grow s.1 (step_after so_far s.0) others k x (step_grow l.1 action k x (labelled_grow c label k x is))
 
@@ -119,6 +119,6 @@ result_grow c kind (Some result) k x is = declared_grow c result.name (result_en
 
 pub opened_grow : (c : CheckerTree) (kind : FunctionKindTree) (parameters : List ParameterTree) (result : Option ParameterTree) → Grow c (opened c kind parameters result).value
 opened_grow c kind parameters result k x is =
-    let e = with_writes (with_scope c (entered (inside_of kind) c.scope)) [] in
+    let e = with_writes (in_scope c (entered (inside_of kind) c.scope)) [] in
     let d = (parameters_declared (takes_weight kind) e endpoint.Source parameters).value in
     result_grow d kind result k x (parameters_grow (takes_weight kind) e endpoint.Source parameters k x is)

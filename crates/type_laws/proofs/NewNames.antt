@@ -18,15 +18,15 @@ use Rattle.typed_tree.specs.FunctionStatementTree.{FunctionStatementsTree, NoSte
 use Rattle.expression_types.specs.declared.scope.Entity.{Entity}
 use Rattle.expression_types.specs.declared.scope.Entity.TheVariants as entity
 use Rattle.expression_types.specs.ScopeTree.{found, ScopeTree, declared_over, entered}
-use Rattle.types.specs.Block.{action_typed, behind, closed, statements_typed}
-use Rattle.types.specs.Checker.{CheckerTree, condition_slot, counted, declared_in, integer_slot, labelled, new_label, restarted, set_slot, with_scope, condition_in, integer_in}
+use Rattle.types.specs.Block.{action_typed, then_statement, closed, statements_typed}
+use Rattle.types.specs.Checker.{CheckerTree, condition_slot, counted, declared_in, integer_slot, with_label, new_label, restarted, set_slot, in_scope, condition_in, integer_in}
 use Rattle.types.specs.Declaration.{DeclaredTree, FunctionKindTree, MainKind, EdgeKind, VertexKind, FilterKind, NoKind, begins, declaration_typed, declarations_typed, declare_constant_as}
 use Rattle.types.specs.Declaration.{declare_function, declare_name, function_declared, has_all, inside_of, kind, kind_fits, literal_or_fault, loads, main_declared, next_name, only_edges, opened}
-use Rattle.types.specs.Declaration.{parameter, parameters_declared, result_declared, result_entity, steps_declared, with_main, takes_weight}
+use Rattle.types.specs.Declaration.{parameter, parameters_declared, result_declared, result_entity, steps_declared, with_main_block, takes_weight}
 use Rattle.types.specs.Initial.{InitializerTree, initializer_condition, initializer_of, initializer_integer, is_sound, initializer_members}
 use Rattle.types.specs.Literal.{literal_condition, literal_integer}
 use Rattle.type_laws.specs.NewNames.{ActionDeclaresNew, BlockDeclaresNew, DeclarationDeclaresNew, DeclarationsDeclareNew, FunctionDeclaresNew, IsNew, ParametersAreNew, ResultIsNew, edges_declared}
-use Rattle.type_laws.specs.NewNames.{edges_in, names_after, names_inside, with_declaration, with_new, with_parameters, with_result}
+use Rattle.type_laws.specs.NewNames.{edge_type_count, names_after, names_inside, with_declaration, with_new, with_parameters, with_result_name}
 use Rattle.types.specs.Program.{opening, program_of, set_count}
 use Rattle.types.specs.Statement.{declare_as}
 use Rattle.types.specs.Step.{declare_step_as, step_after, step_typed, steps_after, steps_typed, with_writes}
@@ -61,7 +61,7 @@ new_label_same : (c : CheckerTree) (label : Identifier) (index : Option ℕ) →
 new_label_same c label None = refl
 new_label_same c label (Some index) = refl
 
-pub labelled_same : (c : CheckerTree) (label : Option Identifier) → names (labelled c label).value.1 ≡ names c
+pub labelled_same : (c : CheckerTree) (label : Option Identifier) → names (with_label c label).value.1 ≡ names c
 labelled_same c None = refl
 labelled_same c (Some label) = new_label_same c label (found label.bytes c.labels)
 
@@ -112,7 +112,7 @@ mutual
   steps_new : (c : CheckerTree) (so_far : FunctionStatementsTree) (block : source.BlockTree) → (steps_typed c so_far block).faults ≡ [] → BlockDeclaresNew (names c) block
   steps_new c so_far source.Empty none = tt
   steps_new c so_far (source.Then label action others) none =
-      let l = labelled c label in
+      let l = with_label c label in
       let s = step_typed l.value.1 action in
       let rest = steps_typed s.value.1 (step_after so_far s.value.0) others in
       let both = no_right l.faults (s.faults ++ rest.faults) none in
@@ -179,9 +179,9 @@ mutual
   statements_new : (c : CheckerTree) (so_far : BlockTree) (block : source.BlockTree) → (statements_typed c so_far block).faults ≡ [] → BlockDeclaresNew (names c) block
   statements_new c so_far source.Empty none = tt
   statements_new c so_far (source.Then label action others) none =
-      let l = labelled c label in
+      let l = with_label c label in
       let a = action_typed (counted l.value.1) action in
-      let more = behind so_far (suc l.value.1.statements) l.value.0 a.value.0 in
+      let more = then_statement so_far (suc l.value.1.statements) l.value.0 a.value.0 in
       let rest = statements_typed a.value.1 more others in
       let both = no_right l.faults (a.faults ++ rest.faults) none in
       let first = action_new (counted l.value.1) action (no_left a.faults rest.faults both) in
@@ -202,7 +202,7 @@ parameters_new w c at (x ∷ others) none =
     ((first.0, subst (λ visible. ParametersAreNew visible others) first.1 rest_new.0), rest_new.1 ∙ ap (λ visible. with_parameters visible others) first.1)
 
 result_new : (c : CheckerTree) (kind : FunctionKindTree) (result : Option ParameterTree) → (result_declared c kind result).faults ≡ []
-    → ResultIsNew (names c) result × (names (result_declared c kind result).value ≡ with_result (names c) result)
+    → ResultIsNew (names c) result × (names (result_declared c kind result).value ≡ with_result_name (names c) result)
 result_new c kind None none = (tt, refl)
 result_new c kind (Some result) none = declared_new c result.name (result_entity c kind) none
 
@@ -210,12 +210,12 @@ pub opened_new : (c : CheckerTree) (kind : FunctionKindTree) (parameters : List 
     → ParametersAreNew (names c) parameters × ResultIsNew (with_parameters (names c) parameters) result
     × (names (opened c kind parameters result).value ≡ names_inside (names c) parameters result)
 opened_new c kind parameters result none =
-    let e = with_writes (with_scope c (entered (inside_of kind) c.scope)) [] in
+    let e = with_writes (in_scope c (entered (inside_of kind) c.scope)) [] in
     let d = parameters_declared (takes_weight kind) e endpoint.Source parameters in
     let r = result_declared d.value kind result in
     let first = parameters_new (takes_weight kind) e endpoint.Source parameters (no_left d.faults r.faults none) in
     let rest_new = result_new d.value kind result (no_right d.faults r.faults none) in
-    (first.0, subst (λ visible. ResultIsNew visible result) first.1 rest_new.0, rest_new.1 ∙ ap (λ visible. with_result visible result) first.1)
+    (first.0, subst (λ visible. ResultIsNew visible result) first.1 rest_new.0, rest_new.1 ∙ ap (λ visible. with_result_name visible result) first.1)
 
 -- what is declared, and the names after it
 abbrev New : DeclaredTree → Identifier → DeclaredTree → Type 0
@@ -269,7 +269,7 @@ steps_declared_new : (d : DeclaredTree) (at : ℕ) (kind : FunctionKindTree) (na
 steps_declared_new d at kind name parameters result body none =
     let c = opened d.checker kind parameters result in
     let b = steps_typed c.value NoStep body in
-    let around = record d { checker = with_scope b.value.1 d.checker.scope } in
+    let around = record d { checker = in_scope b.value.1 d.checker.scope } in
     let f = function_declared around kind name b.value.0 in
     let inside = no_right (kind_fits at kind).faults (c.faults ++ (b.faults ++ f.faults)) none in
     let both = no_right c.faults (b.faults ++ f.faults) inside in
@@ -278,7 +278,7 @@ steps_declared_new d at kind name parameters result body none =
       function_new around kind name b.value.0 (no_right b.faults f.faults both),
     )
 
-with_main_names : (e : DeclaredTree) (fits : Bool) (main : BlockTree) → names (with_main e fits main).checker ≡ names e.checker
+with_main_names : (e : DeclaredTree) (fits : Bool) (main : BlockTree) → names (with_main_block e fits main).checker ≡ names e.checker
 with_main_names e true main = refl
 with_main_names e false main = refl
 
@@ -288,7 +288,7 @@ main_new : (d : DeclaredTree) (fits : Bool) (name : Identifier) (parameters : Li
 main_new d fits name parameters result body none =
     let c = opened (restarted d.checker) (MainKind fits) parameters result in
     let b = statements_typed c.value Empty body in
-    let around = record d { checker = with_scope b.value.1 d.checker.scope } in
+    let around = record d { checker = in_scope b.value.1 d.checker.scope } in
     let e = declare_name around name entity.Main in
     let both = no_right c.faults (b.faults ++ (e.faults ++ [])) none in
     let first = opened_new (restarted d.checker) (MainKind fits) parameters result (no_left c.faults (b.faults ++ (e.faults ++ [])) none) in
@@ -339,7 +339,7 @@ only_edges_met name index (Some old) none = absurd (not_empty _ _ none)
 
 constant_edges : (d : DeclaredTree) (at : ℕ) (name : Identifier) (initial : InitialTree) (type : DeclaredType) (initializer : InitializerTree)
     → (declare_constant_as d at name initial type initializer).faults ≡ []
-    → edges_met (declare_constant_as d at name initial type initializer).value.edges ≡ edges_met d.edges + edges_in type
+    → edges_met (declare_constant_as d at name initial type initializer).value.edges ≡ edges_met d.edges + edge_type_count type
 constant_edges d at name initial declared.Int initializer none = omega arith
 constant_edges d at name initial declared.Bool initializer none = omega arith
 constant_edges d at name initial declared.Vertex initializer none = omega arith
@@ -352,7 +352,7 @@ constant_edges d at name initial declared.WeightedEdgeSet initializer none =
     let only = only_edges name (next_name d) d.edges in
     only_edges_met name (next_name d) d.edges (no_left only.faults ((declare_name d name (entity.Edges true)).faults ++ []) (no_right (loads at initializer).faults _ none))
 
-with_main_edges : (e : DeclaredTree) (fits : Bool) (main : BlockTree) → (with_main e fits main).edges ≡ e.edges
+with_main_edges : (e : DeclaredTree) (fits : Bool) (main : BlockTree) → (with_main_block e fits main).edges ≡ e.edges
 with_main_edges e true main = refl
 with_main_edges e false main = refl
 
@@ -360,7 +360,7 @@ function_edges : (d : DeclaredTree) (at : ℕ) (name : Identifier) (parameters :
     → (declare_function d at name parameters result body kind).value.edges ≡ d.edges
 function_edges d at name parameters result body (MainKind fits) =
     let b = (statements_typed (opened (restarted d.checker) (MainKind fits) parameters result).value Empty body).value in
-    with_main_edges (declare_name (record d { checker = with_scope b.1 d.checker.scope }) name entity.Main).value fits b.0
+    with_main_edges (declare_name (record d { checker = in_scope b.1 d.checker.scope }) name entity.Main).value fits b.0
 function_edges d at name parameters result body (EdgeKind weighted) = refl
 function_edges d at name parameters result body VertexKind = refl
 function_edges d at name parameters result body FilterKind = refl

@@ -12,19 +12,19 @@ use Rattle.typed_tree.specs.IntExpressionTree.{IntExpressionTree}
 use Rattle.typed_tree.specs.BlockTree.{StatementKindTree, BlockTree, Empty, Then}
 use Rattle.expression_types.specs.declared.scope.Entity.{Entity}
 use Rattle.expression_types.specs.declared.scope.Entity.TheVariants as entity
-use Rattle.expression_types.specs.Expression.{used, value_of, vector_index}
+use Rattle.expression_types.specs.Expression.{used_name, value_of, vector_index}
 use Rattle.expression_types.specs.ScopeTree.{found}
 use Rattle.expression_types.specs.Faults.{WithFaults}
 use Rattle.expression_types.specs.ValueTree as value
-use Rattle.expression_types.specs.ValueTree.{ValueTree, named_set}
-use Rattle.types.specs.Block.{action_typed, behind, statements_typed}
-use Rattle.types.specs.Checker.{CheckerTree, counted, declared_in, integer_slot, labelled, new_label, restarted, with_scope, as_index, integer_in}
+use Rattle.expression_types.specs.ValueTree.{ValueTree, entity_set}
+use Rattle.types.specs.Block.{action_typed, then_statement, statements_typed}
+use Rattle.types.specs.Checker.{CheckerTree, counted, declared_in, integer_slot, with_label, new_label, restarted, in_scope, as_index, integer_in}
 use Rattle.types.specs.Declaration.{DeclaredTree, FunctionKindTree, MainKind, EdgeKind, VertexKind, FilterKind, NoKind, declaration_typed, declarations_typed, declare_constant_as, declare_function}
-use Rattle.types.specs.Declaration.{declare_name, kind, opened, parameter, parameters_declared, result_declared, with_main}
-use Rattle.types.specs.Initial.{ApplyEndTree, InitializerTree, edge_function, end_of, initializer_of, is_edges, names_error, is_error_end, is_wrong, vertex_function, lacks_weights}
+use Rattle.types.specs.Declaration.{declare_name, kind, opened, parameter, parameters_declared, result_declared, with_main_block}
+use Rattle.types.specs.Initial.{ApplyEndTree, InitializerTree, edge_function, apply_end_of, initializer_of, is_edges, names_error, is_error_end, is_wrong, vertex_function, lacks_weights}
 use Rattle.type_laws.specs.Numbers.{InOrder, inner_numbers, numbers}
 use Rattle.types.specs.Program.{main_of, opening, program_of, set_count}
-use Rattle.types.specs.Statement.{added, applied, assigned, declare_as, edges_applied, entry_reduced, entry_set, has_ends, printed, reduced, set_applied, vertices_applied}
+use Rattle.types.specs.Statement.{added_to_set, applied, assigned, declare_as, edges_applied, entry_reduced, entry_set, has_ends, printed, reduced, set_applied, vertices_applied}
 
 -- numbers that go on after so many
 record Counts (from : ℕ) (ns : List ℕ) (to : ℕ) : Type 0 where
@@ -56,7 +56,7 @@ one_number a c xs rest =
     record { ordered = (refl, rest.ordered); count = omega (arith, k) }
 
 numbers_after : (so_far : BlockTree) (number : ℕ) (label : Option ℕ) (action : StatementKindTree)
-    → numbers (behind so_far number label action) ≡ numbers so_far ++ (number ∷ (inner_numbers action ++ []))
+    → numbers (then_statement so_far number label action) ≡ numbers so_far ++ (number ∷ (inner_numbers action ++ []))
 numbers_after Empty number label action = refl
 numbers_after (Then n l a others) number label action =
     ap (λ ns. n ∷ (inner_numbers a ++ ns)) (numbers_after others number label action)
@@ -78,7 +78,7 @@ reduced_plain : (at : ℕ) (by : Reduction) (v : ValueTree) (e : Entity) → Pla
 reduced_plain at by v (entity.Edges weights) = refl
 reduced_plain at by v _ = refl
 
-added_plain : (at : ℕ) (v : ValueTree) (e : Entity) → Plain (added at v e).value
+added_plain : (at : ℕ) (v : ValueTree) (e : Entity) → Plain (added_to_set at v e).value
 added_plain at v (entity.Edges weights) = refl
 added_plain at v _ = refl
 
@@ -117,7 +117,7 @@ applied_plain : (at : ℕ) (t : Entity) (a b : ApplyEndTree) (ends : Bool) (f : 
 applied_plain at t a b ends f =
     if_plain (names_error t) _ _ refl (if_plain (is_edges t) _ _
     (if_plain (is_wrong a || is_wrong b || lacks_weights t f) _ _ refl (edges_plain at a b (names_error f) (edge_function f)))
-    (set_applied_plain at ends f (named_set t)))
+    (set_applied_plain at ends f (entity_set t)))
 
 -- what a statement is, and the checker after it
 abbrev ActionCounts : ℕ → StatementKindTree × CheckerTree → Type 0
@@ -133,7 +133,7 @@ new_label_same : (c : CheckerTree) (label : Identifier) (index : Option ℕ) →
 new_label_same c label None = refl
 new_label_same c label (Some index) = refl
 
-labelled_same : (c : CheckerTree) (label : Option Identifier) → (labelled c label).value.1.statements ≡ c.statements
+labelled_same : (c : CheckerTree) (label : Option Identifier) → (with_label c label).value.1.statements ≡ c.statements
 labelled_same c None = refl
 labelled_same c (Some label) = new_label_same c label (found label.bytes c.labels)
 
@@ -155,37 +155,38 @@ mutual
   action_counts c (source.If at test body) = statements_count c.statements c Empty body (no_numbers c.statements)
   action_counts c (source.IfElse at test body otherwise) =
       let b = (statements_typed c Empty body).value in
-      let d = with_scope b.1 c.scope in
+      let d = in_scope b.1 c.scope in
       let o = (statements_typed d Empty otherwise).value in
       then_numbers c.statements b.1.statements o.1.statements (numbers b.0) (numbers o.0)
       (statements_count c.statements c Empty body (no_numbers c.statements))
       (statements_count b.1.statements d Empty otherwise (no_numbers b.1.statements))
   action_counts c (source.Print at e) = plain_counts c.statements _ (printed_plain at (value_of c.scope at e).value)
   action_counts c (source.Assign name initial) =
-      plain_counts c.statements _ (assigned_plain name.at (initializer_of c name.at initial).value (used c.scope name).value)
+      plain_counts c.statements _ (assigned_plain name.at (initializer_of c name.at initial).value (used_name c.scope name).value)
   action_counts c (source.Reduce name by e) =
-      plain_counts c.statements _ (reduced_plain name.at by (value_of c.scope name.at e).value (used c.scope name).value)
+      plain_counts c.statements _ (reduced_plain name.at by (value_of c.scope name.at e).value (used_name c.scope name).value)
   action_counts c (source.SetEntry vector index e) =
       plain_counts c.statements _ (set_plain (vector_index c.scope vector.at vector).value (as_index vector.at (value_of c.scope vector.at index).value).value (integer_in c.scope vector.at e).value)
   action_counts c (source.ReduceEntry vector index by e) =
       plain_counts c.statements _ (entry_plain (vector_index c.scope vector.at vector).value (as_index vector.at (value_of c.scope vector.at index).value).value by
       (integer_in c.scope vector.at e).value)
   action_counts c (source.AddVertex set e) =
-      plain_counts c.statements _ (added_plain set.at (value_of c.scope set.at e).value (used c.scope set).value)
+      plain_counts c.statements _ (added_plain set.at (value_of c.scope set.at e).value (used_name c.scope set).value)
   action_counts c (source.Apply target ends function) =
-      plain_counts c.statements _ (applied_plain target.at (used c.scope target).value (end_of c.scope ends.from).value (end_of c.scope ends.to).value (has_ends ends) (used c.scope function).value)
+      plain_counts c.statements _ (applied_plain target.at (used_name c.scope target).value (apply_end_of c.scope ends.from).value (apply_end_of c.scope ends.to).value (has_ends ends)
+      (used_name c.scope function).value)
 
   statements_count : (n : ℕ) (c : CheckerTree) (so_far : BlockTree) (block : source.BlockTree) → Counts n (numbers so_far) c.statements
       → BlockCounts n (statements_typed c so_far block).value
   statements_count n c so_far source.Empty counts = counts
   statements_count n c so_far (source.Then label action others) counts =
-      let l = (labelled c label).value in
+      let l = (with_label c label).value in
       let a = (action_typed (counted l.1) action).value in
       let inside = then_numbers (suc l.1.statements) a.1.statements a.1.statements (inner_numbers a.0) [] (action_counts (counted l.1) action) (no_numbers a.1.statements) in
       let first = one_number l.1.statements a.1.statements (inner_numbers a.0 ++ []) inside in
       let before = subst (λ m. Counts n (numbers so_far) m) (sym (labelled_same c label)) counts in
       let both = then_numbers n l.1.statements a.1.statements (numbers so_far) (suc l.1.statements ∷ (inner_numbers a.0 ++ [])) before first in
-      statements_count n a.1 (behind so_far (suc l.1.statements) l.0 a.0) others
+      statements_count n a.1 (then_statement so_far (suc l.1.statements) l.0 a.0) others
       (subst (λ ns. Counts n ns a.1.statements) (sym (numbers_after so_far (suc l.1.statements) l.0 a.0)) both)
 
 -- what is main so far is numbered in order
@@ -211,7 +212,7 @@ result_same : (c : CheckerTree) (kind : FunctionKindTree) (result : Option Param
 result_same c kind None = refl
 result_same c kind (Some result) = refl
 
-with_main_order : (d : DeclaredTree) (fits : Bool) (main : BlockTree) → MainInOrder d.main → InOrder 1 (numbers main) → MainInOrder (with_main d fits main).main
+with_main_order : (d : DeclaredTree) (fits : Bool) (main : BlockTree) → MainInOrder d.main → InOrder 1 (numbers main) → MainInOrder (with_main_block d fits main).main
 with_main_order d true main old new = new
 with_main_order d false main old new = old
 
@@ -221,7 +222,7 @@ main_order d at name parameters result body (MainKind fits) order =
     let c = (opened (restarted d.checker) (MainKind fits) parameters result).value in
     let b = (statements_typed c Empty body).value in
     let none : c.statements ≡ 0 = result_same (parameters_declared false _ _ parameters).value (MainKind fits) result ∙ parameters_same false _ _ parameters in
-    with_main_order (declare_name (record d { checker = with_scope b.1 d.checker.scope }) name entity.Main).value fits b.0 order
+    with_main_order (declare_name (record d { checker = in_scope b.1 d.checker.scope }) name entity.Main).value fits b.0 order
     (statements_count 0 c Empty body (subst (λ n. Counts 0 [] n) (sym none) (no_numbers 0))).ordered
 main_order d at name parameters result body (EdgeKind weighted) order = order
 main_order d at name parameters result body VertexKind order = order

@@ -23,19 +23,19 @@ use Rattle.expression_types.specs.declared.scope.Inside.{Inside}
 use Rattle.expression_types.specs.declared.scope.Inside.TheVariants as inside
 use Rattle.expression_types.specs.Expression.{as_vector}
 use Rattle.expression_types.specs.ScopeTree.{found, ScopeTree, declared_over}
-use Rattle.expression_types.specs.ValueTree.{ValueTree, Integer, Condition, Vertex, Set, ErrorValue, condition_reads_entry, named_set, named_vector, reads_entry}
+use Rattle.expression_types.specs.ValueTree.{ValueTree, Integer, Condition, Vertex, Set, ErrorValue, condition_reads_entry, entity_set, named_vector, reads_entry}
 use Rattle.expression_types.specs.Faults.{WithFaults, fault_at, sure, ◌>>=◌}
-use Rattle.types.specs.Checker.{CheckerTree, declared_in, labelled, new_label, as_condition, as_index, as_integer, as_members, no_index}
+use Rattle.types.specs.Checker.{CheckerTree, declared_in, with_label, new_label, condition_wanted, as_index, integer_wanted, as_members, no_index}
 use Rattle.types.specs.Declaration.{begins, literal_or_fault, wanted}
 use Rattle.types.specs.Initial.{ApplyEndTree, InitializerTree, Typed, Members, Loaded, Degrees, ErrorInitializer, edge_function, ends_given, filter_function, filtered_by, initializer_condition}
-use Rattle.types.specs.Initial.{initializer_integer, initializer_members, is_degrees, is_edges, is_error_end, is_sound, is_wrong, lacks_weights, loaded, modified, modified_by, names_error, new_set}
-use Rattle.types.specs.Initial.{of_edges, vector_of, vertex_function, writes_vector, filtered}
+use Rattle.types.specs.Initial.{initializer_integer, initializer_members, is_degrees, is_edges, is_error_end, is_sound, is_wrong, lacks_weights, loaded, initial_modified, modified_by, names_error}
+use Rattle.types.specs.Initial.{new_set, of_edges, vector_of, vertex_function, writes_vector, filtered_set}
 use Rattle.types.specs.Literal.{literal_integer}
 use Rattle.types.specs.Program.{main_of}
-use Rattle.types.specs.Statement.{no_action, added, applied, assigned, edges_applied, printed, reduced, set_applied, vertices_applied}
+use Rattle.types.specs.Statement.{no_action, added_to_set, applied, assigned, edges_applied, printed, reduced, set_applied, vertices_applied}
 use Rattle.types.specs.Step.{assigned_step, at_own, may_reduce, may_set, one_reduction, reduced_as, reduced_step, same_endpoint, same_reduction, written_at, written_with}
-use Rattle.type_laws.specs.BrokenRules.{adds, applies, assigns_in_function, assigns_in_main, gives_bool, gives_int, gives_set, is_edge_function, is_filter, is_one, is_zero, may_be_bool, may_be_int}
-use Rattle.type_laws.specs.BrokenRules.{may_be_set, may_be_written, mixes, modifies, reduced_otherwise, reduces}
+use Rattle.type_laws.specs.BrokenRules.{may_add, applies, assigns_in_function, assigns_in_main, gives_bool, gives_int, gives_set, is_edge_function, is_filter, is_unit_weight, is_zero, may_be_bool}
+use Rattle.type_laws.specs.BrokenRules.{may_be_int, may_be_set, may_be_written, mixes, modifies, reduced_otherwise, reduces}
 use Rattle.type_laws.specs.ExpressionRules.{holds_entry}
 use Rattle.type_laws.specs.SourceParts.{NewName}
 use Rattle.type_laws.proofs.SplitFaults.{faults}
@@ -49,14 +49,14 @@ abbrev pub faults_if : ℕ → (one other : TypeRule) → Bool → Bool → List
 faults_if at r s a b = if a then record { at = at; rule = r } ∷ fault_if at s b else fault_if at s b
 
 -- values
-pub as_integer_own : (at : ℕ) (v : ValueTree) → (as_integer at v).faults ≡ fault_if at rule.WrongType (not (may_be_int v))
+pub as_integer_own : (at : ℕ) (v : ValueTree) → (integer_wanted at v).faults ≡ fault_if at rule.WrongType (not (may_be_int v))
 as_integer_own at (Integer e) = refl
 as_integer_own at (Condition c) = refl
 as_integer_own at (Vertex p) = refl
 as_integer_own at (Set slot) = refl
 as_integer_own at ErrorValue = refl
 
-pub as_condition_own : (at : ℕ) (v : ValueTree) → (as_condition at v).faults ≡ fault_if at rule.WrongType (not (may_be_bool v))
+pub as_condition_own : (at : ℕ) (v : ValueTree) → (condition_wanted at v).faults ≡ fault_if at rule.WrongType (not (may_be_bool v))
 as_condition_own at (Integer e) = refl
 as_condition_own at (Condition c) = refl
 as_condition_own at (Vertex p) = refl
@@ -130,7 +130,7 @@ new_set_own at (pos zero) = refl
 new_set_own at (pos (suc n)) = refl
 new_set_own at (negsuc n) = refl
 
-pub loaded_own : (at : ℕ) (argument : ℤ) → (loaded at argument).faults ≡ fault_if at rule.WrongType (not (is_one argument))
+pub loaded_own : (at : ℕ) (argument : ℤ) → (loaded at argument).faults ≡ fault_if at rule.WrongType (not (is_unit_weight argument))
 loaded_own at (pos zero) = refl
 loaded_own at (pos (suc zero)) = refl
 loaded_own at (pos (suc (suc n))) = refl
@@ -152,9 +152,9 @@ filtered_if at false true fits m is = refl
 filtered_if at false false fits m is = is
 
 pub filtered_own : (at : ℕ) (s f : Entity)
-    → (filtered at s f).faults ≡ fault_if at rule.WrongType (not ((names_error s || (names_error f || false)) || (is_some (named_set s) && is_some (filter_function f))))
-filtered_own at s f = filtered_if at (names_error s) (names_error f) (is_some (named_set s) && is_some (filter_function f)) (filtered_by at (named_set s) (filter_function f))
-    (filtered_by_own at (named_set s) (filter_function f))
+    → (filtered_set at s f).faults ≡ fault_if at rule.WrongType (not ((names_error s || (names_error f || false)) || (is_some (entity_set s) && is_some (filter_function f))))
+filtered_own at s f = filtered_if at (names_error s) (names_error f) (is_some (entity_set s) && is_some (filter_function f)) (filtered_by at (entity_set s) (filter_function f))
+    (filtered_by_own at (entity_set s) (filter_function f))
 
 written_if : (at : ℕ) (x : InitializerTree) (b : Bool) → (if b then sure x else fault_at at rule.WrongType ErrorInitializer).faults ≡ fault_if at rule.WrongType (not b)
 written_if at x true = refl
@@ -175,7 +175,7 @@ modified_if at false false wrong fits m is = refl
 
 pub modified_own : (c : CheckerTree) (at : ℕ) (e : Entity) (a b : ApplyEndTree) (f v : Entity) (faulty : Bool)
     → (names_error e || is_error_end a || is_error_end b || names_error f || names_error v) ≡ faulty
-    → (modified c at e a b f v).faults ≡ fault_if at rule.WrongType (not (faulty
+    → (initial_modified c at e a b f v).faults ≡ fault_if at rule.WrongType (not (faulty
     || (is_edges e && (not (is_wrong a || is_wrong b || lacks_weights e f) && modifies c.written (edge_function f) (vector_of v)))))
 modified_own c at e a b f v faulty is =
     let m = modified_by c at (ends_given a b) (edge_function f) (vector_of v) in
@@ -201,15 +201,15 @@ assigned_step_own at x (entity.ConditionVariable slot) = assigned_some (initiali
 assigned_step_own at x _ = refl
 
 pub reduced_own : (at : ℕ) (by : Reduction) (v : ValueTree) (e : Entity) → (reduced at by v e).faults ≡ fault_if at rule.WrongType (not (reduces e v))
-reduced_own at by v (entity.IntegerVariable slot) = assigned_some (as_integer at v).faults _ (as_integer_own at v)
+reduced_own at by v (entity.IntegerVariable slot) = assigned_some (integer_wanted at v).faults _ (as_integer_own at v)
 reduced_own at by v _ = refl
 
 pub reduced_step_own : (at : ℕ) (by : Reduction) (v : ValueTree) (e : Entity) → (reduced_step at by v e).faults ≡ fault_if at rule.WrongType (not (reduces e v))
-reduced_step_own at by v (entity.IntegerVariable slot) = assigned_some (as_integer at v).faults _ (as_integer_own at v)
+reduced_step_own at by v (entity.IntegerVariable slot) = assigned_some (integer_wanted at v).faults _ (as_integer_own at v)
 reduced_step_own at by v _ = refl
 
-pub added_own : (at : ℕ) (v : ValueTree) (e : Entity) → (added at v e).faults ≡ fault_if at rule.WrongType (not (adds e v))
-added_own at v (entity.SetVariable slot) = assigned_some (as_integer at v).faults _ (as_integer_own at v)
+pub added_own : (at : ℕ) (v : ValueTree) (e : Entity) → (added_to_set at v e).faults ≡ fault_if at rule.WrongType (not (may_add e v))
+added_own at v (entity.SetVariable slot) = assigned_some (integer_wanted at v).faults _ (as_integer_own at v)
 added_own at v _ = refl
 
 pub as_vector_own : (at : ℕ) (e : Entity) → (as_vector at e).faults ≡ fault_if at rule.WrongType (not (names_error e || is_some (named_vector e)))
@@ -257,8 +257,8 @@ applied_if at false false wrong fits set_fits m n one other = other
 pub applied_own : (at : ℕ) (t : Entity) (a b : ApplyEndTree) (has : Bool) (f : Entity) → (applied at t a b has f).faults ≡ fault_if at rule.WrongType (not (applies t a b has f))
 applied_own at t a b has f =
     applied_if at (names_error t) (is_edges t) (is_wrong a || is_wrong b || lacks_weights t f) (names_error f || is_some (edge_function f))
-    (is_some (named_set t) && (not has && (names_error f || is_some (vertex_function f)))) (edges_applied at a b (names_error f) (edge_function f)) (set_applied at has f (named_set t))
-    (edges_own at a b (names_error f) (edge_function f)) (set_own at has f (named_set t))
+    (is_some (entity_set t) && (not has && (names_error f || is_some (vertex_function f)))) (edges_applied at a b (names_error f) (edge_function f)) (set_applied at has f (entity_set t))
+    (edges_own at a b (names_error f) (edge_function f)) (set_own at has f (entity_set t))
 
 -- declared names and labels
 declared_same : (o : Option Entity) (name : Identifier) (e other : Entity) (scope : ScopeTree) → (declared_over o name e scope).faults ++ [] ≡ (declared_over o name other scope).faults
@@ -279,7 +279,7 @@ new_label_own : (c : CheckerTree) (label : Identifier) (o : Option ℕ) → (new
 new_label_own c label None = refl
 new_label_own c label (Some index) = refl
 
-pub label_own : (c : CheckerTree) (label : Identifier) → (labelled c (Some label)).faults ≡ fault_if label.at rule.BadLabel (is_some (found label.bytes c.labels))
+pub label_own : (c : CheckerTree) (label : Identifier) → (with_label c (Some label)).faults ≡ fault_if label.at rule.BadLabel (is_some (found label.bytes c.labels))
 label_own c label = new_label_own c label (found label.bytes c.labels)
 
 -- written entries of functions

@@ -17,15 +17,15 @@ use Rattle.expression_types.specs.declared.fault.TypeRule.{TypeRule}
 use Rattle.expression_types.specs.declared.fault.TypeRule.TheVariants as rule
 use Rattle.expression_types.specs.declared.scope.Entity.{Entity}
 use Rattle.expression_types.specs.declared.scope.Entity.TheVariants as entity
-use Rattle.expression_types.specs.Expression.{index_value, used, value_of, vector_index}
+use Rattle.expression_types.specs.Expression.{index_value, used_name, value_of, vector_index}
 use Rattle.expression_types.specs.ScopeTree.{ScopeTree}
 use Rattle.expression_types.specs.ValueTree.{is_error}
-use Rattle.types.specs.Block.{behind, statements_typed, action_typed}
-use Rattle.types.specs.Checker.{CheckerTree, counted, declared_in, labelled, restarted, with_scope, as_index}
+use Rattle.types.specs.Block.{then_statement, statements_typed, action_typed}
+use Rattle.types.specs.Checker.{CheckerTree, counted, declared_in, with_label, restarted, in_scope, as_index}
 use Rattle.types.specs.Declaration.{DeclaredTree, FunctionKindTree, MainKind, EdgeKind, VertexKind, FilterKind, NoKind, begins, declarations_typed, declaration_typed, declare_constant_as}
 use Rattle.types.specs.Declaration.{declare_function, declare_name, declare_edges, kind, literal_or_fault, loads, next_name, only_edges, opened, parameters_declared, parameter, result_declared}
 use Rattle.types.specs.Declaration.{result_entity, has_all}
-use Rattle.types.specs.Initial.{InitializerTree, end_of, initializer_of, is_all, is_error_end, is_loaded, is_sound, names_error}
+use Rattle.types.specs.Initial.{InitializerTree, apply_end_of, initializer_of, is_all, is_error_end, is_loaded, is_sound, names_error}
 use Rattle.types.specs.Literal.{literal_condition, literal_integer}
 use Rattle.types.specs.Program.{main_of, opening, set_count}
 use Rattle.types.specs.Statement.{declare_as, has_ends}
@@ -35,7 +35,7 @@ use Rattle.type_laws.specs.ExpressionParts as form
 use Rattle.type_laws.specs.ExpressionParts.{Form, any_faulty, faults_of_all, form_faults, parts}
 use Rattle.type_laws.specs.ExpressionRules.{all_rules, breaks_indexes, breaks_types, breaks_visibility, own_faults, place_of}
 use Rattle.type_laws.specs.SourceParts.{Part, Source, Declarations, Declaration, Parameters, MainBlock, MainStatement, FunctionBlock, FunctionStatement, Label, NewName, Initial, IntWanted, BoolWanted}
-use Rattle.type_laws.specs.SourceParts.{VectorWanted, MainIndex, FunctionIndex, InExpression, ends_before, function_parts, in_for, initial_forms, name_before, parts_of}
+use Rattle.type_laws.specs.SourceParts.{VectorWanted, MainIndex, FunctionIndex, InExpression, end_forms_before, function_parts, in_for, initial_forms, name_before, parts_of}
 use Rattle.type_laws.proofs.ExpressionRules.{rules_and_parts}
 use Rattle.type_laws.proofs.FaultyParts.{end_faulty, or_left}
 use Rattle.type_laws.proofs.OwnFaults.{added_own, applied_own, as_condition_own, as_index_own, as_integer_own, as_vector_own, assigned_own, assigned_step_own, begins_own, condition_given}
@@ -86,10 +86,10 @@ value_splits m mine own is = after m mine [] own (last mine own is)
 -- the names of ends
 end_splits : (scope : ScopeTree) (at : ℕ) (o : Option Identifier) (others : List Form) (rest own : List Fault)
     → Splits rest (faults_of_parts (map (InExpression scope at) others)) own
-    → Splits ((end_of scope o).faults ++ rest) (faults_of_parts (map (InExpression scope at) (name_before o others))) own
+    → Splits ((apply_end_of scope o).faults ++ rest) (faults_of_parts (map (InExpression scope at) (name_before o others))) own
 end_splits scope at None others rest own splits = splits
 end_splits scope at (Some name) others rest own splits =
-    let e = used scope name in
+    let e = used_name scope name in
     let all = faults_of_parts (map (InExpression scope at) others) in
     same_faults ((e.faults ++ []) ++ rest) (e.faults ++ rest) (e.faults ++ all) own (ap (λ fs. fs ++ rest) (append-nil e.faults)) (after e.faults rest all own splits)
 
@@ -101,21 +101,21 @@ always_initial false at r = refl
 initial_splits : (c : CheckerTree) (at : ℕ) (x : InitialTree) → Splits (faults (Initial c at x)) (faults_of_parts (parts_of (Initial c at x))) (broken (Initial c at x) all_rules)
 initial_splits c at (source.NewSet size) = last _ _ (new_set_own at size)
 initial_splits c at (source.Load argument) = last _ _ (loaded_own at argument)
-initial_splits c at (source.Vertices edges) = let e = used c.scope edges in value_splits e.faults _ _ (of_edges_own at _ e.value)
-initial_splits c at (source.OutDegrees edges) = let e = used c.scope edges in value_splits e.faults _ _ (of_edges_own at _ e.value)
+initial_splits c at (source.Vertices edges) = let e = used_name c.scope edges in value_splits e.faults _ _ (of_edges_own at _ e.value)
+initial_splits c at (source.OutDegrees edges) = let e = used_name c.scope edges in value_splits e.faults _ _ (of_edges_own at _ e.value)
 initial_splits c at (source.Filter set test) =
-    let s = used c.scope set in
-    let f = used c.scope test in
+    let s = used_name c.scope set in
+    let f = used_name c.scope test in
     after s.faults _ (f.faults ++ []) _ (value_splits f.faults _ _ (filtered_own at s.value f.value))
 initial_splits c at (source.ApplyModified edges sides function vector) =
-    let e = used c.scope edges in
-    let a = end_of c.scope sides.from in
-    let b = end_of c.scope sides.to in
-    let f = used c.scope function in
-    let v = used c.scope vector in
+    let e = used_name c.scope edges in
+    let a = apply_end_of c.scope sides.from in
+    let b = apply_end_of c.scope sides.to in
+    let f = used_name c.scope function in
+    let v = used_name c.scope vector in
     let forms = form.Name function ∷ form.Name vector ∷ [] in
     let faulty = any_faulty c.scope at (initial_forms (source.ApplyModified edges sides function vector)) in
-    after e.faults _ (faults_of_parts (map (InExpression c.scope at) (ends_before sides forms))) _
+    after e.faults _ (faults_of_parts (map (InExpression c.scope at) (end_forms_before sides forms))) _
     (end_splits c.scope at sides.from (name_before sides.to forms) _ _ (end_splits c.scope at sides.to forms _ _
     (after f.faults _ (v.faults ++ []) _ (value_splits v.faults _ _ (modified_own c at e.value a.value b.value f.value v.value faulty
     (sym (or_left (names_error e.value) (is_error_end a.value) (is_error_end b.value) (names_error f.value) (names_error v.value))
@@ -173,11 +173,11 @@ main_statement_splits c (source.IfElse at test body otherwise) = nothing _ _ ref
 main_statement_splits c (source.Print at e) =
     let v = value_of c.scope at e in ends _ _ _ (value_splits v.faults _ _ (printed_own at v.value))
 main_statement_splits c (source.Assign name initial) =
-    let e = used c.scope name in
+    let e = used_name c.scope name in
     let x = initializer_of c name.at initial in
     ends _ _ _ (after e.faults _ (x.faults ++ []) _ (value_splits x.faults _ _ (assigned_own name.at x.value e.value)))
 main_statement_splits c (source.Reduce name by value) =
-    let e = used c.scope name in
+    let e = used_name c.scope name in
     let v = value_of c.scope name.at value in
     ends _ _ _ (after e.faults _ (v.faults ++ []) _ (value_splits v.faults _ _ (reduced_own name.at by v.value e.value)))
 main_statement_splits c (source.SetEntry vector index e) =
@@ -193,16 +193,16 @@ main_statement_splits c (source.ReduceEntry vector index by e) =
     let at = (as_index vector.at i.value).faults in
     ends _ _ _ (same_faults _ (v ++ ((i.faults ++ at) ++ (x ++ []))) _ _ (entry_parts_are v i.faults at x) (nothing _ _ refl))
 main_statement_splits c (source.AddVertex set value) =
-    let e = used c.scope set in
+    let e = used_name c.scope set in
     let v = value_of c.scope set.at value in
     ends _ _ _ (after e.faults _ (v.faults ++ []) _ (value_splits v.faults _ _ (added_own set.at v.value e.value)))
 main_statement_splits c (source.Apply target sides function) =
-    let t = used c.scope target in
-    let f = used c.scope function in
+    let t = used_name c.scope target in
+    let f = used_name c.scope function in
     let forms = form.Name function ∷ [] in
-    ends _ _ _ (after t.faults _ (faults_of_parts (map (InExpression c.scope target.at) (ends_before sides forms))) _
+    ends _ _ _ (after t.faults _ (faults_of_parts (map (InExpression c.scope target.at) (end_forms_before sides forms))) _
     (end_splits c.scope target.at sides.from (name_before sides.to forms) _ _ (end_splits c.scope target.at sides.to forms _ _
-    (value_splits f.faults _ _ (applied_own target.at t.value (end_of c.scope sides.from).value (end_of c.scope sides.to).value (has_ends sides) f.value)))))
+    (value_splits f.faults _ _ (applied_own target.at t.value (apply_end_of c.scope sides.from).value (apply_end_of c.scope sides.to).value (has_ends sides) f.value)))))
 
 function_statement_splits : (c : CheckerTree) (action : StatementKindTree)
     → Splits (faults (FunctionStatement c action)) (faults_of_parts (parts_of (FunctionStatement c action))) (broken (FunctionStatement c action) all_rules)
@@ -218,11 +218,11 @@ function_statement_splits c (source.If at test body) = nothing _ _ refl
 function_statement_splits c (source.IfElse at test body otherwise) = nothing _ _ refl
 function_statement_splits c (source.Print at e) = last _ _ refl
 function_statement_splits c (source.Assign name initial) =
-    let e = used c.scope name in
+    let e = used_name c.scope name in
     let x = initializer_of c name.at initial in
     ends _ _ _ (after e.faults _ (x.faults ++ []) _ (value_splits x.faults _ _ (assigned_step_own name.at x.value e.value)))
 function_statement_splits c (source.Reduce name by value) =
-    let e = used c.scope name in
+    let e = used_name c.scope name in
     let v = value_of c.scope name.at value in
     ends _ _ _ (after e.faults _ (v.faults ++ []) _ (value_splits v.faults _ _ (reduced_step_own name.at by v.value e.value)))
 function_statement_splits c (source.SetEntry vector index e) =
@@ -240,10 +240,10 @@ function_statement_splits c (source.ReduceEntry vector index by e) =
     (here (may_reduce vector.at c.scope.inside v.value by c.writes).faults _ _ (may_reduce_own vector.at c.scope.inside v.value by c.writes)))
 function_statement_splits c (source.AddVertex set value) = ends _ _ _ (here _ _ _ refl)
 function_statement_splits c (source.Apply target sides function) =
-    let t = used c.scope target in
-    let f = used c.scope function in
+    let t = used_name c.scope target in
+    let f = used_name c.scope function in
     let forms = form.Name function ∷ [] in
-    ends _ _ _ (own_before _ _ _ (after t.faults _ (faults_of_parts (map (InExpression c.scope target.at) (ends_before sides forms))) []
+    ends _ _ _ (own_before _ _ _ (after t.faults _ (faults_of_parts (map (InExpression c.scope target.at) (end_forms_before sides forms))) []
     (end_splits c.scope target.at sides.from (name_before sides.to forms) _ [] (end_splits c.scope target.at sides.to forms _ [] (nothing (f.faults ++ []) [] refl)))))
 
 -- the faults of statements do not depend on the statements before them
@@ -251,14 +251,15 @@ mutual
   statements_same : (c : CheckerTree) (s t : block.BlockTree) (statements : BlockTree) → (statements_typed c s statements).faults ≡ (statements_typed c t statements).faults
   statements_same c s t source.Empty = refl
   statements_same c s t (source.Then label action others) =
-      let l = labelled c label in
+      let l = with_label c label in
       let a = action_typed (counted l.value.1) action in
-      ap (λ fs. l.faults ++ (a.faults ++ fs)) (statements_same a.value.1 (behind s (suc l.value.1.statements) l.value.0 a.value.0) (behind t (suc l.value.1.statements) l.value.0 a.value.0) others)
+      ap (λ fs. l.faults ++ (a.faults ++ fs)) (statements_same a.value.1 (then_statement s (suc l.value.1.statements) l.value.0 a.value.0)
+      (then_statement t (suc l.value.1.statements) l.value.0 a.value.0) others)
 
   steps_same : (c : CheckerTree) (s t : step.FunctionStatementsTree) (statements : BlockTree) → (steps_typed c s statements).faults ≡ (steps_typed c t statements).faults
   steps_same c s t source.Empty = refl
   steps_same c s t (source.Then label action others) =
-      let l = labelled c label in
+      let l = with_label c label in
       let a = step_typed l.value.1 action in
       ap (λ fs. l.faults ++ (a.faults ++ fs)) (steps_same a.value.1 (step_after s a.value.0) (step_after t a.value.0) others)
 
@@ -266,18 +267,18 @@ main_block_splits : (c : CheckerTree) (statements : BlockTree)
     → Splits (faults (MainBlock c statements)) (faults_of_parts (parts_of (MainBlock c statements))) (broken (MainBlock c statements) all_rules)
 main_block_splits c source.Empty = nothing [] _ refl
 main_block_splits c (source.Then label action others) =
-    let l = labelled c label in
+    let l = with_label c label in
     let a = action_typed (counted l.value.1) action in
     let rest = faults (MainBlock a.value.1 others) in
     same_faults _ (l.faults ++ (a.faults ++ (rest ++ []))) _ _
-    (ap (λ fs. l.faults ++ (a.faults ++ fs)) (statements_same a.value.1 (behind block.Empty (suc l.value.1.statements) l.value.0 a.value.0) block.Empty others ∙ sym (append-nil rest)))
+    (ap (λ fs. l.faults ++ (a.faults ++ fs)) (statements_same a.value.1 (then_statement block.Empty (suc l.value.1.statements) l.value.0 a.value.0) block.Empty others ∙ sym (append-nil rest)))
     (nothing _ _ refl)
 
 function_block_splits : (c : CheckerTree) (statements : BlockTree)
     → Splits (faults (FunctionBlock c statements)) (faults_of_parts (parts_of (FunctionBlock c statements))) (broken (FunctionBlock c statements) all_rules)
 function_block_splits c source.Empty = nothing [] _ refl
 function_block_splits c (source.Then label action others) =
-    let l = labelled c label in
+    let l = with_label c label in
     let a = step_typed l.value.1 action in
     let rest = faults (FunctionBlock a.value.1 others) in
     same_faults _ (l.faults ++ (a.faults ++ (rest ++ []))) _ _
@@ -357,9 +358,9 @@ constant_as_splits d at name initial declared_type.WeightedEdgeSet x = edges_spl
 
 -- the name of a function, after its statements
 name_after : (d : DeclaredTree) (c : CheckerTree) (name : Identifier) (e : Entity) (ps body : List Fault)
-    → ps ++ (body ++ ((declare_name (record d { checker = with_scope c d.checker.scope }) name e).faults ++ [])) ≡ ps ++ (body ++ (faults (NewName d.checker.scope name) ++ []))
+    → ps ++ (body ++ ((declare_name (record d { checker = in_scope c d.checker.scope }) name e).faults ++ [])) ≡ ps ++ (body ++ (faults (NewName d.checker.scope name) ++ []))
 name_after d c name e ps body =
-    ap (λ fs. ps ++ (body ++ fs)) (append-nil (declare_name (record d { checker = with_scope c d.checker.scope }) name e).faults ∙ ap (λ fs. fs ++ []) (declares (with_scope c d.checker.scope) name e))
+    ap (λ fs. ps ++ (body ++ fs)) (append-nil (declare_name (record d { checker = in_scope c d.checker.scope }) name e).faults ∙ ap (λ fs. fs ++ []) (declares (in_scope c d.checker.scope) name e))
 
 function_splits : (d : DeclaredTree) (at : ℕ) (name : Identifier) (ps : List ParameterTree) (result : Option ParameterTree) (body : BlockTree) (k : FunctionKindTree)
     → Splits (declare_function d at name ps result body k).faults (faults_of_parts (function_parts d k name ps result body)) (fault_if at rule.WrongType (not (is_kind k)))
@@ -385,9 +386,9 @@ function_splits d at name ps result body FilterKind =
 function_splits d at name ps result body NoKind =
     let o = opened d.checker NoKind ps result in
     let b = steps_typed o.value step.NoStep body in
-    let new = declare_name (record d { checker = with_scope b.value.1 d.checker.scope }) name entity.Error in
+    let new = declare_name (record d { checker = in_scope b.value.1 d.checker.scope }) name entity.Error in
     same_parts _ (o.faults ++ (b.faults ++ new.faults)) _ _
-    (ap (λ fs. o.faults ++ (b.faults ++ (fs ++ []))) (declares (with_scope b.value.1 d.checker.scope) name entity.Error)) (here _ _ _ refl)
+    (ap (λ fs. o.faults ++ (b.faults ++ (fs ++ []))) (declares (in_scope b.value.1 d.checker.scope) name entity.Error)) (here _ _ _ refl)
 
 declaration_splits : (d : DeclaredTree) (x : DeclarationTree) → Splits (faults (Declaration d x)) (faults_of_parts (parts_of (Declaration d x))) (broken (Declaration d x) all_rules)
 declaration_splits d (source.Constant at p initial) =
@@ -421,7 +422,7 @@ splits (NewName scope name) = last _ _ (declared_own scope name)
 splits (Initial c at x) = initial_splits c at x
 splits (IntWanted scope at e) = let v = value_of scope at e in value_splits v.faults _ _ (as_integer_own at v.value)
 splits (BoolWanted scope at e) = let v = value_of scope at e in value_splits v.faults _ _ (as_condition_own at v.value)
-splits (VectorWanted scope at name) = let e = used scope name in value_splits e.faults _ _ (as_vector_own at e.value)
+splits (VectorWanted scope at name) = let e = used_name scope name in value_splits e.faults _ _ (as_vector_own at e.value)
 splits (MainIndex scope at e) = let v = value_of scope at e in value_splits v.faults _ _ (as_index_own at v.value)
 splits (FunctionIndex scope at e) = let v = index_value scope at e in value_splits v.faults _ _ (written_own at (own_vertex scope.inside) v.value)
 splits (InExpression scope at f) = form_splits scope at f

@@ -17,9 +17,11 @@ use Rattle.expression_types.specs.declared.fault.TypeRule.{TypeRule}
 use Rattle.expression_types.specs.declared.fault.TypeRule.TheVariants as rule
 use Rattle.expression_types.specs.declared.scope.Entity.{Entity}
 use Rattle.expression_types.specs.declared.scope.Entity.TheVariants as entity
-use Rattle.expression_types.specs.Expression.{as_size, comparison_value, conjunction_value, conjuncts, disjuncts, factors, primary_value, sum_value, summands, term_value, unary_value, used, value_of}
-use Rattle.expression_types.specs.Operators.{ConditionsTree, Conditions, MixedConditions, ErrorConditions, IntegersTree, Integers, MixedIntegers, ErrorIntegers, added, beside_condition}
-use Rattle.expression_types.specs.Operators.{beside_integer, compared, equated, first_condition, first_integer, given, grouped_conditions, grouped_integers, multiplied, related_value, signed_value}
+use Rattle.expression_types.specs.Expression.{as_size, comparison_value, conjunction_value, conjuncts, disjuncts, factors, primary_value, sum_value, summands, term_value, unary_value, used_name}
+use Rattle.expression_types.specs.Expression.{value_of}
+use Rattle.expression_types.specs.Operators.{ConditionsTree, Conditions, MixedConditions, ErrorConditions, IntegersTree, Integers, MixedIntegers, ErrorIntegers, addition_operator, beside_condition}
+use Rattle.expression_types.specs.Operators.{beside_integer, compared, equated, first_condition, first_integer, given_or_fault, grouped_conditions, grouped_integers, multiplied, related_value}
+use Rattle.expression_types.specs.Operators.{signed_value}
 use Rattle.expression_types.specs.ScopeTree.{ScopeTree}
 use Rattle.expression_types.specs.ValueTree.{ValueTree, Integer, Condition, Vertex, Set, ErrorValue, condition_reads_entry, named_value, reads_entry}
 use Rattle.type_laws.specs.EntryAccess.{ComparisonHasNoEntry, ConjunctionHasNoEntry, HasNoEntry, PrimaryHasNoEntry, SumHasNoEntry, TermHasNoEntry, UnaryHasNoEntry}
@@ -89,7 +91,7 @@ grouped_integers_plain at (Integers e) plain = plain
 grouped_integers_plain at MixedIntegers plain = tt
 grouped_integers_plain at ErrorIntegers plain = tt
 
-given_reads_none : (at : ℕ) (rule : TypeRule) (o : Option ValueTree) → MaybeReadsNone o → ReadsNone (given at rule o).value
+given_reads_none : (at : ℕ) (rule : TypeRule) (o : Option ValueTree) → MaybeReadsNone o → ReadsNone (given_or_fault at rule o).value
 given_reads_none at rule None plain = tt
 given_reads_none at rule (Some v) plain = plain
 
@@ -211,11 +213,11 @@ mutual
       → IntegersReadNone (summands scope at left o s).value
   summands_read_none scope at left o (tree.LastTerm t) plain none =
       let x = (term_value scope at t).value in
-      beside_integer_plain (added o) left (first_integer x) plain (first_integer_plain x (term_reads_none scope at t none))
+      beside_integer_plain (addition_operator o) left (first_integer x) plain (first_integer_plain x (term_reads_none scope at t none))
   summands_read_none scope at left o (tree.TermThen t next others) plain none =
       let x = (term_value scope at t).value in
-      summands_read_none scope at (beside_integer (added o) left (first_integer x)) next others
-      (beside_integer_plain (added o) left (first_integer x) plain (first_integer_plain x (term_reads_none scope at t none.0))) none.1
+      summands_read_none scope at (beside_integer (addition_operator o) left (first_integer x)) next others
+      (beside_integer_plain (addition_operator o) left (first_integer x) plain (first_integer_plain x (term_reads_none scope at t none.0))) none.1
 
   term_reads_none : (scope : ScopeTree) (at : ℕ) (t : TermTree) → TermHasNoEntry t → ReadsNone (term_value scope at t).value
   term_reads_none scope at (tree.LastUnary u) none = unary_reads_none scope at u none
@@ -243,7 +245,7 @@ mutual
   primary_reads_none scope at (tree.Literal n) none = refl
   primary_reads_none scope at (tree.Truth b) none = refl
   primary_reads_none scope at (tree.Variable name) none =
-      let e = (used scope name).value in given_reads_none at rule.WrongType (named_value e) (named_plain e)
+      let e = (used_name scope name).value in given_reads_none at rule.WrongType (named_value e) (named_plain e)
   primary_reads_none scope at (tree.Entry vector index) none = absurd none
-  primary_reads_none scope at (tree.Size set) none = size_plain at (used scope set).value
+  primary_reads_none scope at (tree.Size set) none = size_plain at (used_name scope set).value
   primary_reads_none scope at (tree.Parentheses inside) none = expression_reads_none scope at inside none

@@ -21,8 +21,8 @@ use Rattle.expression_types.specs.declared.scope.Inside.TheVariants as inside
 use Rattle.expression_types.specs.Expression.{comparison_value, conjunction_value, conjuncts, disjuncts, factors, index_value, primary_value, sum_value, summands, term_value, unary_value, value_of}
 use Rattle.expression_types.specs.Expression.{vector_index}
 use Rattle.expression_types.specs.Faults.{fault_at, sure}
-use Rattle.expression_types.specs.Operators.{IntegersTree, Integers, MixedIntegers, ErrorIntegers, ConditionsTree, Conditions, MixedConditions, ErrorConditions, added, beside_condition}
-use Rattle.expression_types.specs.Operators.{beside_integer, compared, condition_index, entry_value, equated, first_condition, first_integer, function_entry, given, grouped_conditions}
+use Rattle.expression_types.specs.Operators.{IntegersTree, Integers, MixedIntegers, ErrorIntegers, ConditionsTree, Conditions, MixedConditions, ErrorConditions, addition_operator, beside_condition}
+use Rattle.expression_types.specs.Operators.{beside_integer, compared, condition_index, entry_value, equated, first_condition, first_integer, function_entry, given_or_fault, grouped_conditions}
 use Rattle.expression_types.specs.Operators.{grouped_integers, main_entry, multiplied, related_value, signed_value}
 use Rattle.expression_types.specs.ScopeTree.{ScopeTree}
 use Rattle.expression_types.specs.ValueTree.{ValueTree, Integer, Condition, Vertex, Set, ErrorValue, condition_reads_entry, reads_entry}
@@ -95,7 +95,7 @@ grouped_conditions_plain at MixedConditions plain = plain
 grouped_conditions_plain at ErrorConditions plain = plain
 
 -- relations and signs
-given_plain : (at : ℕ) (rule : TypeRule) (o : Option ValueTree) → IsPlain (given at rule o).value → MaybePlain o
+given_plain : (at : ℕ) (rule : TypeRule) (o : Option ValueTree) → IsPlain (given_or_fault at rule o).value → MaybePlain o
 given_plain at rule None plain = plain
 given_plain at rule (Some v) plain = plain
 
@@ -247,12 +247,12 @@ mutual
       → IntegersArePlain left × SumHasNoEntry s
   summands_plain scope at left o (tree.LastTerm t) plain =
       let x = (term_value scope at t).value in
-      let both = beside_integer_plain (added o) left (first_integer x) plain in
+      let both = beside_integer_plain (addition_operator o) left (first_integer x) plain in
       (both.0, term_plain scope at t (first_integer_plain x both.1))
   summands_plain scope at left o (tree.TermThen t next others) plain =
       let x = (term_value scope at t).value in
-      let more = summands_plain scope at (beside_integer (added o) left (first_integer x)) next others plain in
-      let both = beside_integer_plain (added o) left (first_integer x) more.0 in
+      let more = summands_plain scope at (beside_integer (addition_operator o) left (first_integer x)) next others plain in
+      let both = beside_integer_plain (addition_operator o) left (first_integer x) more.0 in
       (both.0, (term_plain scope at t (first_integer_plain x both.1), more.1))
 
   term_plain : (scope : ScopeTree) (at : ℕ) (t : TermTree) → IsPlain (term_value scope at t).value → TermHasNoEntry t

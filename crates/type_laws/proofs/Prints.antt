@@ -5,7 +5,7 @@ use Rattle.syntax.specs.Terminals.{Identifier}
 use Rattle.syntax.specs.SourceTrees as source
 use Rattle.syntax.specs.SourceTrees.{ParameterTree, DeclarationTree, SourceTree}
 use Rattle.typed_tree.specs.FunctionStatementTree.{FunctionStatementsTree, NoStep}
-use Rattle.types.specs.Checker.{CheckerTree, labelled, condition_in}
+use Rattle.types.specs.Checker.{CheckerTree, with_label, condition_in}
 use Rattle.types.specs.Declaration.{DeclaredTree, FunctionKindTree, declaration_typed, declarations_typed, kind_fits, kind_of, opened, steps_declared}
 use Rattle.type_laws.specs.Prints.{ActionPrintsNothing, BlockPrintsNothing, PrintsInMainAlone}
 use Rattle.types.specs.Program.{opening, program_of, set_count}
@@ -40,7 +40,7 @@ mutual
   steps_print_nothing : (c : CheckerTree) (so_far : FunctionStatementsTree) (block : source.BlockTree) → (steps_typed c so_far block).faults ≡ [] → BlockPrintsNothing block
   steps_print_nothing c so_far source.Empty none = tt
   steps_print_nothing c so_far (source.Then label action others) none =
-      let l = labelled c label in
+      let l = with_label c label in
       let s = step_typed l.value.1 action in
       let rest = steps_typed s.value.1 (step_after so_far s.value.0) others in
       let both = no_right l.faults (s.faults ++ rest.faults) none in (

@@ -14,18 +14,18 @@ use Rattle.typed_tree.specs.declared.program.Vector.{Vector}
 use Rattle.typed_tree.specs.BlockTree.{BlockTree, Empty}
 use Rattle.typed_tree.specs.FunctionStatementTree.{FunctionStatementsTree, NoStep}
 use Rattle.typed_tree.specs.ProgramTree.{ProgramTree}
-use Rattle.typed_tree.specs.Resolved.{VisibleTree, BlockIsResolved, EdgeFunctionIsResolved, EdgesAreResolved, FilterIsResolved, IsName, IsResolved, IsVertex, StepsAreResolved, VectorIsResolved}
+use Rattle.typed_tree.specs.Resolved.{VisibleTree, BlockIsResolved, EdgeFunctionIsResolved, EdgesAreResolved, FilterIsResolved, IsNameIndex, IsResolved, IsVertex, StepsAreResolved, VectorIsResolved}
 use Rattle.typed_tree.specs.Resolved.{VertexFunctionIsResolved, in_edge_function, in_filter, in_main, in_vertex_function}
 use Rattle.expression_types.specs.declared.scope.Entity.{Entity}
 use Rattle.expression_types.specs.declared.scope.Entity.TheVariants as entity
 use Rattle.expression_types.specs.declared.scope.Inside.TheVariants as inside
 use Rattle.expression_types.specs.ScopeTree.{conditions_of, entered, integers_of, sets_of}
 use Rattle.types.specs.Block.{statements_typed}
-use Rattle.types.specs.Checker.{CheckerTree, condition_slot, declared_in, restarted, with_scope}
+use Rattle.types.specs.Checker.{CheckerTree, condition_slot, declared_in, restarted, in_scope}
 use Rattle.types.specs.Declaration.{DeclaredTree, FunctionKindTree, MainKind, EdgeKind, VertexKind, FilterKind, NoKind, begins, declaration_typed, declarations_typed, declare_constant_as}
-use Rattle.types.specs.Declaration.{declare_function, declare_name, function_declared, function_of, has_all, inside_of, is_bool, is_vertex, kind, kind_fits, kind_of, literal_or_fault, loads}
-use Rattle.types.specs.Declaration.{main_bytes, main_declared, next_name, only_edges, opened, parameter, parameters_declared, result_declared, result_entity, steps_declared, takes_nothing, with_main}
-use Rattle.types.specs.Declaration.{takes_weight, is_int}
+use Rattle.types.specs.Declaration.{declare_function, declare_name, function_declared, function_of, has_all, inside_of, is_bool_type, is_vertex_type, kind, kind_fits, kind_of, literal_or_fault, loads}
+use Rattle.types.specs.Declaration.{main_bytes, main_declared, next_name, only_edges, opened, parameter, parameters_declared, result_declared, result_entity, steps_declared, takes_nothing}
+use Rattle.types.specs.Declaration.{with_main_block, takes_weight, is_int_type}
 use Rattle.types.specs.Initial.{InitializerTree, initializer_of, is_sound}
 use Rattle.types.specs.Literal.{literal_condition, literal_integer}
 use Rattle.types.specs.Program.{counting, main_of, opening, program_of, set_count}
@@ -98,15 +98,15 @@ if_kind p false k l parameters result first other = other
 
 other_kind : (p : ProgramTree) (parameters : List ParameterTree) (result : Option ParameterTree) → KindFits p (kind_of parameters result) parameters result
 other_kind p [] result = (enough (in_edge_function p) (omega arith) [], tt)
-other_kind p (x ∷ []) None = if_kind p (is_vertex x.declared) VertexKind NoKind (x ∷ []) None (enough_one p x, tt) (enough (in_edge_function p) (omega arith) (x ∷ []), tt)
+other_kind p (x ∷ []) None = if_kind p (is_vertex_type x.declared) VertexKind NoKind (x ∷ []) None (enough_one p x, tt) (enough (in_edge_function p) (omega arith) (x ∷ []), tt)
 other_kind p (x ∷ []) (Some result) =
-    if_kind p (is_vertex x.declared && is_bool result.declared) FilterKind NoKind (x ∷ []) (Some result) (enough_one p x, tt) (enough (in_edge_function p) (omega arith) (x ∷ []), tt)
+    if_kind p (is_vertex_type x.declared && is_bool_type result.declared) FilterKind NoKind (x ∷ []) (Some result) (enough_one p x, tt) (enough (in_edge_function p) (omega arith) (x ∷ []), tt)
 other_kind p (x ∷ y ∷ []) None =
-    if_kind p (is_vertex x.declared && is_vertex y.declared) (EdgeKind false) NoKind (x ∷ y ∷ []) None (enough (in_edge_function p) (omega arith) (x ∷ y ∷ []), tt)
+    if_kind p (is_vertex_type x.declared && is_vertex_type y.declared) (EdgeKind false) NoKind (x ∷ y ∷ []) None (enough (in_edge_function p) (omega arith) (x ∷ y ∷ []), tt)
     (enough (in_edge_function p) (omega arith) (x ∷ y ∷ []), tt)
 other_kind p (x ∷ y ∷ []) (Some result) = (enough (in_edge_function p) (omega arith) (x ∷ y ∷ []), tt)
 other_kind p (x ∷ y ∷ z ∷ []) None =
-    if_kind p (is_vertex x.declared && is_vertex y.declared && is_int z.declared) (EdgeKind true) NoKind (x ∷ y ∷ z ∷ []) None
+    if_kind p (is_vertex_type x.declared && is_vertex_type y.declared && is_int_type z.declared) (EdgeKind true) NoKind (x ∷ y ∷ z ∷ []) None
     (enough (in_edge_function p) (omega arith) (x ∷ y ∷ z ∷ []), tt) (enough (in_edge_function p) (omega arith) (x ∷ y ∷ z ∷ []), tt)
 other_kind p (x ∷ y ∷ z ∷ []) (Some result) = (enough (in_edge_function p) (omega arith) (x ∷ y ∷ z ∷ []), tt)
 other_kind p (x ∷ y ∷ z ∷ u ∷ others) result = (enough (in_edge_function p) (omega arith) (x ∷ y ∷ z ∷ u ∷ others), tt)
@@ -130,7 +130,7 @@ result_before p c kind (Some result) within = declared_before p c result.name (r
 opened_before : (p : ProgramTree) (c : CheckerTree) (kind : FunctionKindTree) (parameters : List ParameterTree) (result : Option ParameterTree)
     → Within p (opened c kind parameters result).value → Within p c
 opened_before p c kind parameters result within =
-    let e = with_writes (with_scope c (entered (inside_of kind) c.scope)) [] in
+    let e = with_writes (in_scope c (entered (inside_of kind) c.scope)) [] in
     let d = (parameters_declared (takes_weight kind) e endpoint.Source parameters).value in
     parameters_before (takes_weight kind) p e endpoint.Source parameters (result_before p d kind result within)
 
@@ -160,15 +160,15 @@ parameters_fit w p v c at (x ∷ others) none fits enough edge =
     let d = declared_in c x.name (parameter w at x.declared) in
     let rest = parameters_declared w d.value endpoint.Destination others in
     parameters_fit w p v d.value endpoint.Destination others (no_right d.faults rest.faults none)
-    (parameter_fits p v c x.name at (is_vertex x.declared) (w && is_int x.declared) (no_left d.faults rest.faults none) fits enough.0
-    (λ weight. edge (both_true w (is_int x.declared) weight).0)) enough.1 edge
+    (parameter_fits p v c x.name at (is_vertex_type x.declared) (w && is_int_type x.declared) (no_left d.faults rest.faults none) fits enough.0
+    (λ weight. edge (both_true w (is_int_type x.declared) weight).0)) enough.1 edge
 
 -- the scope of a function, where it differs from that around it by vertices alone
 abbrev on_vertices : ProgramTree → ℕ → Bool → VisibleTree
 on_vertices p n indexes = record { integers = []; conditions = []; sets = p.sets; vertices = n; indexes = indexes }
 
 entered_as : (p : ProgramTree) (n : ℕ) (indexes : Bool) (kind : FunctionKindTree) (c : CheckerTree) → (inside_of kind ≡ inside.Main → indexes ≡ true) → CheckerFits p (in_main p) c
-    → CheckerFits p (on_vertices p n indexes) (with_writes (with_scope c (entered (inside_of kind) c.scope)) [])
+    → CheckerFits p (on_vertices p n indexes) (with_writes (in_scope c (entered (inside_of kind) c.scope)) [])
 entered_as p n indexes kind c main fits =
     let more : Grows (in_main p) (on_vertices p n indexes) = record { integers = λ k x is. is; conditions = λ k x is. is; sets = λ k x is. is; vertices = omega arith } in (
       record {
@@ -181,7 +181,7 @@ entered_as p n indexes kind c main fits =
     )
 
 entered_fits : (p : ProgramTree) (kind : FunctionKindTree) (c : CheckerTree) → CheckerFits p (in_main p) c
-    → CheckerFits p (visible_in p kind) (with_writes (with_scope c (entered (inside_of kind) c.scope)) [])
+    → CheckerFits p (visible_in p kind) (with_writes (in_scope c (entered (inside_of kind) c.scope)) [])
 entered_fits p (MainKind true) c fits = entered_as p 0 true (MainKind true) c (λ main. refl) fits
 entered_fits p (MainKind false) c fits = entered_as p 2 true (MainKind false) c (λ main. refl) fits
 entered_fits p (EdgeKind weighted) c fits = entered_as p 2 false (EdgeKind weighted) c (λ main. cc) fits
@@ -207,13 +207,13 @@ error_result p v c kind (Some result) same none fits =
 
 -- the checker at the first statement of a function, its result aside
 abbrev before_result : CheckerTree → FunctionKindTree → List ParameterTree → CheckerTree
-before_result c kind parameters = (parameters_declared (takes_weight kind) (with_writes (with_scope c (entered (inside_of kind) c.scope)) []) endpoint.Source parameters).value
+before_result c kind parameters = (parameters_declared (takes_weight kind) (with_writes (in_scope c (entered (inside_of kind) c.scope)) []) endpoint.Source parameters).value
 
 before_result_fits : (p : ProgramTree) (c : CheckerTree) (kind : FunctionKindTree) (parameters : List ParameterTree) (result : Option ParameterTree)
     → (opened c kind parameters result).faults ≡ [] → CheckerFits p (in_main p) c → KindFits p kind parameters result
     → CheckerFits p (visible_in p kind) (before_result c kind parameters)
 before_result_fits p c kind parameters result none fits shape =
-    let e = with_writes (with_scope c (entered (inside_of kind) c.scope)) [] in
+    let e = with_writes (in_scope c (entered (inside_of kind) c.scope)) [] in
     let d = parameters_declared (takes_weight kind) e endpoint.Source parameters in
     parameters_fit (takes_weight kind) p (visible_in p kind) e endpoint.Source parameters (no_left d.faults (result_declared d.value kind result).faults none) (entered_fits p kind c fits) shape.0
     (weight_on_edge p kind)
@@ -222,7 +222,7 @@ opened_fits : (p : ProgramTree) (c : CheckerTree) (kind : FunctionKindTree) (par
     → result_entity (before_result c kind parameters) kind ≡ entity.Error → (opened c kind parameters result).faults ≡ [] → CheckerFits p (in_main p) c
     → KindFits p kind parameters result → CheckerFits p (visible_in p kind) (opened c kind parameters result).value
 opened_fits p c kind parameters result same none fits shape =
-    let e = with_writes (with_scope c (entered (inside_of kind) c.scope)) [] in
+    let e = with_writes (in_scope c (entered (inside_of kind) c.scope)) [] in
     let d = parameters_declared (takes_weight kind) e endpoint.Source parameters in
     error_result p (visible_in p kind) d.value kind result same (no_right d.faults (result_declared d.value kind result).faults none)
     (before_result_fits p c kind parameters result none fits shape)
@@ -230,10 +230,10 @@ opened_fits p c kind parameters result same none fits shape =
 -- a filter's result is its first condition
 filter_opened : (p : ProgramTree) (c : CheckerTree) (parameters : List ParameterTree) (result : Option ParameterTree) → (opened c FilterKind parameters result).faults ≡ []
     → Within p (opened c FilterKind parameters result).value → CheckerFits p (in_main p) c → KindFits p FilterKind parameters result
-    → (name : ℕ) × IsName p name × CheckerFits p (in_filter p name) (opened c FilterKind parameters result).value
+    → (name : ℕ) × IsNameIndex p name × CheckerFits p (in_filter p name) (opened c FilterKind parameters result).value
 filter_opened p c parameters None none within fits shape = absurd shape.1
 filter_opened p c parameters (Some result) none within fits shape =
-    let e = with_writes (with_scope c (entered (inside_of FilterKind) c.scope)) [] in
+    let e = with_writes (in_scope c (entered (inside_of FilterKind) c.scope)) [] in
     let d = parameters_declared false e endpoint.Source parameters in
     let slot = entity.ConditionVariable (condition_slot d.value) in (
       length d.value.names,
@@ -249,7 +249,7 @@ MainIsResolved p (Some main) = BlockIsResolved p (in_main p) main
 
 abbrev DeclaredFits : ProgramTree → DeclaredTree → Type 0
 DeclaredFits p d =
-    CheckerFits p (in_main p) d.checker × EdgesAreResolved p d.edges × AllByRecursion (VectorIsResolved p) d.vectors × AllByRecursion (IsName p) d.sets
+    CheckerFits p (in_main p) d.checker × EdgesAreResolved p d.edges × AllByRecursion (VectorIsResolved p) d.vectors × AllByRecursion (IsNameIndex p) d.sets
     × AllByRecursion (EdgeFunctionIsResolved p) d.edge_functions × AllByRecursion (VertexFunctionIsResolved p) d.vertex_functions
     × AllByRecursion (FilterIsResolved p) d.filters × MainIsResolved p d.main
 
@@ -279,7 +279,7 @@ constant_before p d at name initial declared.EdgeSet initializer within =
 constant_before p d at name initial declared.WeightedEdgeSet initializer within =
     (declared_before p d.checker name (entity.Edges true) within.0, within.1, within.2, within.3, within.4, within.5)
 
-edges_resolved : (p : ProgramTree) (name : Identifier) (index : ℕ) (edges : Option ℕ) → EdgesAreResolved p edges → IsName p index → EdgesAreResolved p (only_edges name index edges).value
+edges_resolved : (p : ProgramTree) (name : Identifier) (index : ℕ) (edges : Option ℕ) → EdgesAreResolved p edges → IsNameIndex p index → EdgesAreResolved p (only_edges name index edges).value
 edges_resolved p name index None old new = new
 edges_resolved p name index (Some edges) old new = old
 
@@ -303,7 +303,7 @@ constant_fits p d at name initial declared.VertexSet initializer none within fit
     let left = no_left (declared_in d.checker name e).faults [] named in
     let there = declared_name p d.checker name e within.0 in
     let index = within.5 (length d.sets) (next_name d) (get_last d.sets (next_name d) []) in
-    (placeless p (in_main p) d.checker name e left fits.0 (index, there) refl refl refl, fits.1, fits.2, all_then (IsName p) d.sets (next_name d) fits.3 there, fits.4, fits.5, fits.6, fits.7)
+    (placeless p (in_main p) d.checker name e left fits.0 (index, there) refl refl refl, fits.1, fits.2, all_then (IsNameIndex p) d.sets (next_name d) fits.3 there, fits.4, fits.5, fits.6, fits.7)
 constant_fits p d at name initial declared.Vector initializer none within fits =
     let e = entity.Vector (length d.vectors) in
     let b = begins at initializer initial in
@@ -352,7 +352,7 @@ abbrev StepsFitKind : ProgramTree → FunctionKindTree → FunctionStatementsTre
 StepsFitKind p (MainKind fits) steps = Unit {0}
 StepsFitKind p (EdgeKind weighted) steps = StepsAreResolved p (in_edge_function p) steps
 StepsFitKind p VertexKind steps = StepsAreResolved p (in_vertex_function p) steps
-StepsFitKind p FilterKind steps = (result : ℕ) × IsName p result × StepsAreResolved p (in_filter p result) steps
+StepsFitKind p FilterKind steps = (result : ℕ) × IsNameIndex p result × StepsAreResolved p (in_filter p result) steps
 StepsFitKind p NoKind steps = Unit {0}
 
 -- functions, after their statements
@@ -438,7 +438,7 @@ function_fits p d NoKind name steps none within all resolved =
 
 -- after the statements of a function the scope around it stands again
 abbrev around : DeclaredTree → CheckerTree → DeclaredTree
-around d c = record d { checker = with_scope c d.checker.scope }
+around d c = record d { checker = in_scope c d.checker.scope }
 
 around_fits : (p : ProgramTree) (v : VisibleTree) (d : DeclaredTree) (c : CheckerTree) → DeclaredFits p d → CheckerFits p v c → DeclaredFits p (around d c)
 around_fits p v d c all inner = (left_fits p (in_main p) v d.checker c all.0 inner, all.1, all.2, all.3, all.4, all.5, all.6, all.7)
@@ -482,12 +482,12 @@ opened_faultless d at kind name parameters result body none =
     no_left (opened d.checker kind parameters result).faults _ (no_right (kind_fits at kind).faults _ none)
 
 -- main
-with_main_before : (p : ProgramTree) (e : DeclaredTree) (fits : Bool) (main : BlockTree) → WithinProgram p (with_main e fits main) → WithinProgram p e
+with_main_before : (p : ProgramTree) (e : DeclaredTree) (fits : Bool) (main : BlockTree) → WithinProgram p (with_main_block e fits main) → WithinProgram p e
 with_main_before p e true main within = within
 with_main_before p e false main within = within
 
 with_main_fits : (p : ProgramTree) (e : DeclaredTree) (fits : Bool) (main : BlockTree) → DeclaredFits p e → BlockIsResolved p (visible_in p (MainKind fits)) main
-    → DeclaredFits p (with_main e fits main)
+    → DeclaredFits p (with_main_block e fits main)
 with_main_fits p e true main all resolved = (all.0, all.1, all.2, all.3, all.4, all.5, all.6, resolved)
 with_main_fits p e false main all resolved = all
 
@@ -498,7 +498,7 @@ main_before p d fits name parameters result body within =
     let c = (opened (restarted d.checker) (MainKind fits) parameters result).value in
     let b = (statements_typed c Empty body).value in
     let inner = with_main_before p (declare_name (around d b.1) name entity.Main).value fits b.0 within in
-    let between = declared_before p (with_scope b.1 d.checker.scope) name entity.Main inner.0 in (
+    let between = declared_before p (in_scope b.1 d.checker.scope) name entity.Main inner.0 in (
       between,
       (
         opened_before p (restarted d.checker) (MainKind fits) parameters result (statements_before p c Empty body between),
@@ -524,9 +524,9 @@ main_fits p d fits name parameters result body none within all shape =
     let inner = statements_fit p v c.value Empty body (no_left b.faults (e.faults ++ []) both) between tt first in
     let again = around_fits p (behind_block b.value.0 v) d b.value.1 all inner.1 in
     let named = no_left e.faults [] (no_right b.faults (e.faults ++ []) both) in
-    let left = no_left (declared_in (with_scope b.value.1 d.checker.scope) name entity.Main).faults [] named in
+    let left = no_left (declared_in (in_scope b.value.1 d.checker.scope) name entity.Main).faults [] named in
     with_main_fits p e.value fits b.value.0
-    (placeless p (in_main p) (with_scope b.value.1 d.checker.scope) name entity.Main left again.0 tt refl refl refl, all.1, all.2, all.3, all.4, all.5, all.6, all.7) inner.0
+    (placeless p (in_main p) (in_scope b.value.1 d.checker.scope) name entity.Main left again.0 tt refl refl refl, all.1, all.2, all.3, all.4, all.5, all.6, all.7) inner.0
 
 -- declarations
 declared_function_before : (p : ProgramTree) (d : DeclaredTree) (at : ℕ) (name : Identifier) (parameters : List ParameterTree) (result : Option ParameterTree) (body : source.BlockTree)
@@ -539,7 +539,7 @@ declared_function_before p d at name parameters result body NoKind within = step
 
 filter_fits : (p : ProgramTree) (d : DeclaredTree) (at : ℕ) (name : Identifier) (parameters : List ParameterTree) (result : Option ParameterTree) (body : source.BlockTree)
     → (steps_declared d at FilterKind name parameters result body).faults ≡ [] → WithinProgram p (steps_declared d at FilterKind name parameters result body).value
-    → DeclaredFits p d → ((n : ℕ) × IsName p n × CheckerFits p (in_filter p n) (opened d.checker FilterKind parameters result).value)
+    → DeclaredFits p d → ((n : ℕ) × IsNameIndex p n × CheckerFits p (in_filter p n) (opened d.checker FilterKind parameters result).value)
     → DeclaredFits p (steps_declared d at FilterKind name parameters result body).value
 filter_fits p d at name parameters result body none within all first =
     steps_declared_fits p (in_filter p first.0) d at FilterKind name parameters result body none within all first.2 (λ steps. (first.0, first.1, steps))
@@ -602,7 +602,7 @@ constant_sets d at name initial declared.Vector initializer n = refl
 constant_sets d at name initial declared.EdgeSet initializer n = refl
 constant_sets d at name initial declared.WeightedEdgeSet initializer n = refl
 
-with_main_sets : (e : DeclaredTree) (fits : Bool) (main : BlockTree) → (with_main e fits main).sets ≡ e.sets
+with_main_sets : (e : DeclaredTree) (fits : Bool) (main : BlockTree) → (with_main_block e fits main).sets ≡ e.sets
 with_main_sets e true main = refl
 with_main_sets e false main = refl
 

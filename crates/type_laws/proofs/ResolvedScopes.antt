@@ -7,11 +7,11 @@ use Rattle.syntax.specs.Terminals.{Identifier}
 use Rattle.typed_tree.specs.declared.expression.Endpoint.{Endpoint}
 use Rattle.typed_tree.specs.declared.expression.Endpoint.TheVariants as endpoint
 use Rattle.typed_tree.specs.ProgramTree.{ProgramTree}
-use Rattle.typed_tree.specs.Resolved.{VisibleTree, IsLabel, IsName, IsVertex}
+use Rattle.typed_tree.specs.Resolved.{VisibleTree, IsLabel, IsNameIndex, IsVertex}
 use Rattle.expression_types.specs.declared.scope.Entity.{Entity}
 use Rattle.expression_types.specs.declared.scope.Entity.TheVariants as entity
 use Rattle.expression_types.specs.ScopeTree.{found, ScopeTree, conditions_of, declared_over, integers_of, sets_of, with_entity}
-use Rattle.types.specs.Checker.{CheckerTree, declared_in, labelled, new_label, with_scope, without_ends}
+use Rattle.types.specs.Checker.{CheckerTree, declared_in, with_label, new_label, in_scope, without_ends}
 use Rattle.type_laws.proofs.Faultless.{no_left, not_empty}
 use Rattle.type_laws.proofs.ResolvedValues.{EntityIsResolved, Known}
 
@@ -88,7 +88,7 @@ declared_before p c name e within =
     let names : length (c.names ++ name.bytes ∷ []) ≤ length p.names = within.0 in
     (omega (arith, names, length-append c.names (name.bytes ∷ [])), within.1)
 
-pub declared_name : (p : ProgramTree) (c : CheckerTree) (name : Identifier) (e : Entity) → Within p (declared_in c name e).value → IsName p (length c.names)
+pub declared_name : (p : ProgramTree) (c : CheckerTree) (name : Identifier) (e : Entity) → Within p (declared_in c name e).value → IsNameIndex p (length c.names)
 declared_name p c name e within =
     let names : length (c.names ++ name.bytes ∷ []) ≤ length p.names = within.0 in
     omega (arith, names, length-append c.names (name.bytes ∷ []))
@@ -117,7 +117,7 @@ new_label_before p c label None within =
     (within.0, omega (arith, within.1, length-append c.label_names (without_ends label.bytes ∷ [])))
 new_label_before p c label (Some index) within = within
 
-pub labelled_before : (p : ProgramTree) (c : CheckerTree) (label : Option Identifier) → Within p (labelled c label).value.1 → Within p c
+pub labelled_before : (p : ProgramTree) (c : CheckerTree) (label : Option Identifier) → Within p (with_label c label).value.1 → Within p c
 labelled_before p c None within = within
 labelled_before p c (Some label) within = new_label_before p c label (found label.bytes c.labels) within
 
@@ -132,11 +132,11 @@ new_label_fits p v c label None none fits within =
     ((fits.0, both), there)
 new_label_fits p v c label (Some index) none fits within = absurd (not_empty _ _ none)
 
-pub labelled_fits : (p : ProgramTree) (v : VisibleTree) (c : CheckerTree) (label : Option Identifier) → (labelled c label).faults ≡ [] → CheckerFits p v c
-    → Within p (labelled c label).value.1 → CheckerFits p v (labelled c label).value.1 × IsLabel p (labelled c label).value.0
+pub labelled_fits : (p : ProgramTree) (v : VisibleTree) (c : CheckerTree) (label : Option Identifier) → (with_label c label).faults ≡ [] → CheckerFits p v c
+    → Within p (with_label c label).value.1 → CheckerFits p v (with_label c label).value.1 × IsLabel p (with_label c label).value.0
 labelled_fits p v c None none fits within = (fits, tt)
 labelled_fits p v c (Some label) none fits within = new_label_fits p v c label (found label.bytes c.labels) none fits within
 
 -- after a block
-pub left_fits : (p : ProgramTree) (v w : VisibleTree) (c d : CheckerTree) → CheckerFits p v c → CheckerFits p w d → CheckerFits p v (with_scope d c.scope)
+pub left_fits : (p : ProgramTree) (v w : VisibleTree) (c d : CheckerTree) → CheckerFits p v c → CheckerFits p w d → CheckerFits p v (in_scope d c.scope)
 left_fits p v w c d fits inner = (fits.0, inner.1)

@@ -10,19 +10,20 @@ use Rattle.typed_tree.specs.declared.expression.VarRef.{VarRef}
 use Rattle.typed_tree.specs.IntExpressionTree.{IntExpressionTree}
 use Rattle.typed_tree.specs.BlockTree.{StatementKindTree, BlockTree, Empty, Then}
 use Rattle.typed_tree.specs.ProgramTree.{ProgramTree}
-use Rattle.typed_tree.specs.Resolved.{VisibleTree, ActionIsResolved, BlockIsResolved, IntegerIsResolved, IsEdgeFunction, IsLabel, IsSet, IsVector, IsVertexFunction, after_action, in_loop, with_set}
+use Rattle.typed_tree.specs.Resolved.{VisibleTree, ActionIsResolved, BlockIsResolved, IntegerIsResolved, IsEdgeFunction, IsLabel, IsSetVariable, IsVectorIndex, IsVertexFunction, after_action, in_loop}
+use Rattle.typed_tree.specs.Resolved.{with_set}
 use Rattle.expression_types.specs.declared.scope.Entity.{Entity}
 use Rattle.expression_types.specs.declared.scope.Entity.TheVariants as entity
-use Rattle.expression_types.specs.Expression.{used, value_of, vector_index}
+use Rattle.expression_types.specs.Expression.{used_name, value_of, vector_index}
 use Rattle.expression_types.specs.Faults.{WithFaults}
 use Rattle.expression_types.specs.ValueTree as value
-use Rattle.expression_types.specs.ValueTree.{ValueTree, named_set}
-use Rattle.types.specs.Block.{action_typed, behind, closed, statements_typed}
-use Rattle.types.specs.Checker.{CheckerTree, condition_slot, counted, declared_in, integer_slot, labelled, set_slot, as_index, condition_in, integer_in}
-use Rattle.types.specs.Initial.{ApplyEndTree, InitializerTree, initializer_condition, edge_function, end_of, initializer_of, initializer_integer, is_edges, names_error, is_error_end, is_wrong}
+use Rattle.expression_types.specs.ValueTree.{ValueTree, entity_set}
+use Rattle.types.specs.Block.{action_typed, then_statement, closed, statements_typed}
+use Rattle.types.specs.Checker.{CheckerTree, condition_slot, counted, declared_in, integer_slot, with_label, set_slot, as_index, condition_in, integer_in}
+use Rattle.types.specs.Initial.{ApplyEndTree, InitializerTree, initializer_condition, edge_function, apply_end_of, initializer_of, initializer_integer, is_edges, names_error, is_error_end, is_wrong}
 use Rattle.types.specs.Initial.{initializer_members, vertex_function, lacks_weights}
-use Rattle.types.specs.Statement.{add_vertex, added, applied, apply, assign, assigned, declare_as, edges_applied, entry_reduced, entry_set, has_ends, print, printed, reduce, reduce_entry, reduced}
-use Rattle.types.specs.Statement.{set_applied, set_entry, vertices_applied}
+use Rattle.types.specs.Statement.{add_vertex, added_to_set, applied, apply, assign, assigned, declare_as, edges_applied, entry_reduced, entry_set, has_ends, print, printed, reduce, reduce_entry}
+use Rattle.types.specs.Statement.{reduced, set_applied, set_entry, vertices_applied}
 use Rattle.type_laws.proofs.Faultless.{no_left, no_right, not_empty}
 use Rattle.type_laws.proofs.ResolvedScopes.{CheckerFits, Grows, Within, declared_before, declared_fits, declared_name, get_before, get_last, labelled_before, labelled_fits, left_fits}
 use Rattle.type_laws.proofs.ResolvedSteps.{condition_declared, integer_declared}
@@ -100,10 +101,10 @@ mutual
   pub statements_before : (p : ProgramTree) (c : CheckerTree) (so_far : BlockTree) (block : source.BlockTree) → Within p (statements_typed c so_far block).value.1 → Within p c
   statements_before p c so_far source.Empty within = within
   statements_before p c so_far (source.Then label action others) within =
-      let l = (labelled c label).value in
+      let l = (with_label c label).value in
       let a = (action_typed (counted l.1) action).value in
       labelled_before p c label
-      (action_before p (counted l.1) action (statements_before p a.1 (behind so_far (suc l.1.statements) l.0 a.0) others within))
+      (action_before p (counted l.1) action (statements_before p a.1 (then_statement so_far (suc l.1.statements) l.0 a.0) others within))
 
 -- what is visible after statements
 abbrev pub behind_block : BlockTree → VisibleTree → VisibleTree
@@ -111,13 +112,13 @@ behind_block Empty v = v
 behind_block (Then number label action others) v = behind_block others (after_action action v)
 
 block_then : (p : ProgramTree) (v : VisibleTree) (so_far : BlockTree) (number : ℕ) (label : Option ℕ) (action : StatementKindTree) → BlockIsResolved p v so_far → IsLabel p label
-    → ActionIsResolved p (behind_block so_far v) action → BlockIsResolved p v (behind so_far number label action)
+    → ActionIsResolved p (behind_block so_far v) action → BlockIsResolved p v (then_statement so_far number label action)
 block_then p v Empty number label action resolved there last = (there, last, tt)
 block_then p v (Then n l a others) number label action resolved there last =
     (resolved.0, resolved.1, block_then p (after_action a v) others number label action resolved.2 there last)
 
 after_then : (v : VisibleTree) (so_far : BlockTree) (number : ℕ) (label : Option ℕ) (action : StatementKindTree)
-    → behind_block (behind so_far number label action) v ≡ after_action action (behind_block so_far v)
+    → behind_block (then_statement so_far number label action) v ≡ after_action action (behind_block so_far v)
 after_then v Empty number label action = refl
 after_then v (Then n l a others) number label action = after_then (after_action a v) others number label action
 
@@ -143,17 +144,17 @@ reduced_plain p v at by x (entity.IntegerVariable slot) value is = ((is, as_inte
 reduced_plain p v at by x _ value is = (tt, refl)
 
 added_plain : (p : ProgramTree) (v : VisibleTree) (at : ℕ) (x : ValueTree) (e : Entity) → ValueIsResolved p v x → EntityIsResolved p v e
-    → PlainAction p v (added at x e).value
+    → PlainAction p v (added_to_set at x e).value
 added_plain p v at x (entity.SetVariable slot) value is = ((is, as_integer_resolved p v at x value), refl)
 added_plain p v at x _ value is = (tt, refl)
 
-set_plain : (p : ProgramTree) (v : VisibleTree) (vector : Option ℕ) (index : Option IntExpressionTree) (e : IntExpressionTree) → MaybeVariable (IsVector p) vector → MaybeIndex p v index
+set_plain : (p : ProgramTree) (v : VisibleTree) (vector : Option ℕ) (index : Option IntExpressionTree) (e : IntExpressionTree) → MaybeVariable (IsVectorIndex p) vector → MaybeIndex p v index
     → IntegerIsResolved p v e → PlainAction p v (entry_set vector index e)
 set_plain p v None index e is at value = (tt, refl)
 set_plain p v (Some vector) None e is at value = (tt, refl)
 set_plain p v (Some vector) (Some index) e is at value = ((is, at, value), refl)
 
-entry_plain : (p : ProgramTree) (v : VisibleTree) (vector : Option ℕ) (index : Option IntExpressionTree) (by : Reduction) (e : IntExpressionTree) → MaybeVariable (IsVector p) vector
+entry_plain : (p : ProgramTree) (v : VisibleTree) (vector : Option ℕ) (index : Option IntExpressionTree) (by : Reduction) (e : IntExpressionTree) → MaybeVariable (IsVectorIndex p) vector
     → MaybeIndex p v index → IntegerIsResolved p v e → PlainAction p v (entry_reduced vector index by e)
 entry_plain p v None index by e is at value = (tt, refl)
 entry_plain p v (Some vector) None by e is at value = (tt, refl)
@@ -172,7 +173,7 @@ edges_plain p v at a b true None from to is = (tt, refl)
 edges_plain p v at a b false None from to is = (tt, refl)
 edges_plain p v at a b error (Some function) from to is = if_plain p v (is_error_end a || is_error_end b) _ _ (tt, refl) (((from, to), is), refl)
 
-vertices_plain : (p : ProgramTree) (v : VisibleTree) (at : ℕ) (slot : VarRef) (error : Bool) (function : Option ℕ) → IsSet p v slot
+vertices_plain : (p : ProgramTree) (v : VisibleTree) (at : ℕ) (slot : VarRef) (error : Bool) (function : Option ℕ) → IsSetVariable p v slot
     → MaybeVariable (IsVertexFunction p) function → PlainAction p v (vertices_applied at slot error function).value
 vertices_plain p v at slot true None set is = (tt, refl)
 vertices_plain p v at slot false None set is = (tt, refl)
@@ -190,7 +191,7 @@ applied_plain p v at t a b ends f target from to is =
     if_plain p v (names_error t) _ _ (tt, refl) (if_plain p v (is_edges t) _ _
     (if_plain p v (is_wrong a || is_wrong b || lacks_weights t f) _ _ (tt, refl)
     (edges_plain p v at a b (names_error f) (edge_function f) from to (edge_function_resolved p v f is)))
-    (set_applied_plain p v at ends f (named_set t) is (named_set_resolved p v t target)))
+    (set_applied_plain p v at ends f (entity_set t) is (named_set_resolved p v t target)))
 
 -- a statement, and what is known after it
 abbrev ActionFits : ProgramTree → VisibleTree → StatementKindTree × CheckerTree → Type 0
@@ -263,11 +264,11 @@ mutual
       plain_fits p v c (print c.scope at e).value fits (printed_plain p v at (value_of c.scope at e).value (value_resolved p v c.scope at fits.0.known e))
   action_fits p v c (source.Assign name initial) none within fits =
       plain_fits p v c (assign c name.at name initial).value fits
-      (assigned_plain p v name.at (initializer_of c name.at initial).value (used c.scope name).value (initializer_resolved p v c name.at fits.0.known initial)
+      (assigned_plain p v name.at (initializer_of c name.at initial).value (used_name c.scope name).value (initializer_resolved p v c name.at fits.0.known initial)
       (used_resolved p v c.scope name fits.0.known))
   action_fits p v c (source.Reduce name by e) none within fits =
       plain_fits p v c (reduce c.scope name.at name by e).value fits
-      (reduced_plain p v name.at by (value_of c.scope name.at e).value (used c.scope name).value (value_resolved p v c.scope name.at fits.0.known e) (used_resolved p v c.scope name fits.0.known))
+      (reduced_plain p v name.at by (value_of c.scope name.at e).value (used_name c.scope name).value (value_resolved p v c.scope name.at fits.0.known e) (used_resolved p v c.scope name fits.0.known))
   action_fits p v c (source.SetEntry vector index e) none within fits =
       let i = (value_of c.scope vector.at index).value in
       plain_fits p v c (set_entry c.scope vector.at vector index e).value fits
@@ -282,10 +283,10 @@ mutual
       (integer_in_resolved p v c.scope vector.at fits.0.known e))
   action_fits p v c (source.AddVertex set e) none within fits =
       plain_fits p v c (add_vertex c.scope set.at set e).value fits
-      (added_plain p v set.at (value_of c.scope set.at e).value (used c.scope set).value (value_resolved p v c.scope set.at fits.0.known e) (used_resolved p v c.scope set fits.0.known))
+      (added_plain p v set.at (value_of c.scope set.at e).value (used_name c.scope set).value (value_resolved p v c.scope set.at fits.0.known e) (used_resolved p v c.scope set fits.0.known))
   action_fits p v c (source.Apply target ends function) none within fits =
       plain_fits p v c (apply c.scope target.at target ends function).value fits
-      (applied_plain p v target.at (used c.scope target).value (end_of c.scope ends.from).value (end_of c.scope ends.to).value (has_ends ends) (used c.scope function).value
+      (applied_plain p v target.at (used_name c.scope target).value (apply_end_of c.scope ends.from).value (apply_end_of c.scope ends.to).value (has_ends ends) (used_name c.scope function).value
       (used_resolved p v c.scope target fits.0.known) (end_resolved p v c.scope fits.0.known ends.from) (end_resolved p v c.scope fits.0.known ends.to)
       (used_resolved p v c.scope function fits.0.known))
 
@@ -294,16 +295,16 @@ mutual
       → BlockFits p v (statements_typed c so_far block).value
   statements_fit p v c so_far source.Empty none within resolved fits = (resolved, fits)
   statements_fit p v c so_far (source.Then label action others) none within resolved fits =
-      let l = labelled c label in
+      let l = with_label c label in
       let d = counted l.value.1 in
       let a = action_typed d action in
       let number = suc l.value.1.statements in
-      let rest = statements_typed a.value.1 (behind so_far number l.value.0 a.value.0) others in
+      let rest = statements_typed a.value.1 (then_statement so_far number l.value.0 a.value.0) others in
       let w = behind_block so_far v in
       let both = no_right l.faults (a.faults ++ rest.faults) none in
-      let between = statements_before p a.value.1 (behind so_far number l.value.0 a.value.0) others within in
+      let between = statements_before p a.value.1 (then_statement so_far number l.value.0 a.value.0) others within in
       let labels = labelled_fits p w c label (no_left l.faults (a.faults ++ rest.faults) none) fits (action_before p d action between) in
       let first = action_fits p w d action (no_left a.faults rest.faults both) between labels.0 in
-      statements_fit p v a.value.1 (behind so_far number l.value.0 a.value.0) others (no_right a.faults rest.faults both) within
+      statements_fit p v a.value.1 (then_statement so_far number l.value.0 a.value.0) others (no_right a.faults rest.faults both) within
       (block_then p v so_far number l.value.0 a.value.0 resolved labels.1 first.0)
       (subst (λ x. CheckerFits p x a.value.1) (sym (after_then v so_far number l.value.0 a.value.0)) first.1)

@@ -9,12 +9,12 @@ use Rattle.syntax.specs.SourceTrees as source
 use Rattle.typed_tree.specs.IntExpressionTree.{IntExpressionTree}
 use Rattle.typed_tree.specs.FunctionStatementTree.{FunctionStatementTree, FunctionStatementsTree, NoStep, StepThen}
 use Rattle.typed_tree.specs.ProgramTree.{ProgramTree}
-use Rattle.typed_tree.specs.Resolved.{VisibleTree, IntegerIsResolved, IsVector, StepIsResolved, StepsAreResolved, behind_step, with_condition, with_integer}
+use Rattle.typed_tree.specs.Resolved.{VisibleTree, IntegerIsResolved, IsVectorIndex, StepIsResolved, StepsAreResolved, behind_step, with_condition, with_integer}
 use Rattle.expression_types.specs.declared.scope.Entity.{Entity}
 use Rattle.expression_types.specs.declared.scope.Entity.TheVariants as entity
-use Rattle.expression_types.specs.Expression.{index_value, used, value_of, vector_index}
+use Rattle.expression_types.specs.Expression.{index_value, used_name, value_of, vector_index}
 use Rattle.expression_types.specs.ValueTree.{ValueTree}
-use Rattle.types.specs.Checker.{CheckerTree, condition_slot, declared_in, integer_slot, labelled, condition_in, integer_in}
+use Rattle.types.specs.Checker.{CheckerTree, condition_slot, declared_in, integer_slot, with_label, condition_in, integer_in}
 use Rattle.types.specs.Initial.{InitializerTree, initializer_condition, initializer_of, initializer_integer}
 use Rattle.types.specs.Step.{assign_step, assigned_step, declare_step_as, entry_step, may_reduce, may_set, own_vertex, reduce_entry_step, reduce_step, reduced_step, reduction_step, set_entry_step}
 use Rattle.types.specs.Step.{step_after, step_typed, steps_after, steps_typed, written_at}
@@ -91,7 +91,7 @@ mutual
   pub steps_before : (p : ProgramTree) (c : CheckerTree) (so_far : FunctionStatementsTree) (block : source.BlockTree) → Within p (steps_typed c so_far block).value.1 → Within p c
   steps_before p c so_far source.Empty within = within
   steps_before p c so_far (source.Then label action others) within =
-      let l = (labelled c label).value in
+      let l = (with_label c label).value in
       let s = (step_typed l.1 action).value in
       labelled_before p c label (step_before p l.1 action (steps_before p s.1 (step_after so_far s.0) others within))
 
@@ -124,14 +124,14 @@ reduced_plain : (p : ProgramTree) (v : VisibleTree) (at : ℕ) (by : Reduction) 
 reduced_plain p v at by x (entity.IntegerVariable slot) value is = ((is, as_integer_resolved p v at x value), refl)
 reduced_plain p v at by x _ value is = ((tt, tt), refl)
 
-set_plain : (p : ProgramTree) (v : VisibleTree) (may own : Bool) (vector : Option ℕ) (e : IntExpressionTree) → MaybeVariable (IsVector p) vector → IntegerIsResolved p v e
+set_plain : (p : ProgramTree) (v : VisibleTree) (may own : Bool) (vector : Option ℕ) (e : IntExpressionTree) → MaybeVariable (IsVectorIndex p) vector → IntegerIsResolved p v e
     → PlainStep p v (entry_step may own vector e)
 set_plain p v may own None e is value = ((tt, tt), refl)
 set_plain p v false own (Some vector) e is value = ((tt, tt), refl)
 set_plain p v true false (Some vector) e is value = ((tt, tt), refl)
 set_plain p v true true (Some vector) e is value = ((is, value), refl)
 
-reduction_plain : (p : ProgramTree) (v : VisibleTree) (may own : Bool) (vector : Option ℕ) (by : Reduction) (e : IntExpressionTree) → MaybeVariable (IsVector p) vector → IntegerIsResolved p v e
+reduction_plain : (p : ProgramTree) (v : VisibleTree) (may own : Bool) (vector : Option ℕ) (by : Reduction) (e : IntExpressionTree) → MaybeVariable (IsVectorIndex p) vector → IntegerIsResolved p v e
     → PlainStep p v (reduction_step may own vector by e)
 reduction_plain p v may own None by e is value = ((tt, tt), refl)
 reduction_plain p v false own (Some vector) by e is value = ((tt, tt), refl)
@@ -190,11 +190,11 @@ mutual
   step_fits p v c (source.Print at e) none within fits = absurd (not_empty _ _ none)
   step_fits p v c (source.Assign name initial) none within fits =
       plain_fits p v c (assign_step c name.at name initial).value fits
-      (assigned_plain p v name.at (initializer_of c name.at initial).value (used c.scope name).value (initializer_resolved p v c name.at fits.0.known initial)
+      (assigned_plain p v name.at (initializer_of c name.at initial).value (used_name c.scope name).value (initializer_resolved p v c name.at fits.0.known initial)
       (used_resolved p v c.scope name fits.0.known))
   step_fits p v c (source.Reduce name by e) none within fits =
       plain_fits p v c (reduce_step c.scope name.at name by e).value fits
-      (reduced_plain p v name.at by (value_of c.scope name.at e).value (used c.scope name).value (value_resolved p v c.scope name.at fits.0.known e) (used_resolved p v c.scope name fits.0.known))
+      (reduced_plain p v name.at by (value_of c.scope name.at e).value (used_name c.scope name).value (value_resolved p v c.scope name.at fits.0.known e) (used_resolved p v c.scope name fits.0.known))
   step_fits p v c (source.SetEntry vector index e) none within fits =
       plain_fits p v c (set_entry_step c.scope vector.at vector index e).value fits
       (set_plain p v (may_set vector.at c.scope.inside).value (written_at vector.at (own_vertex c.scope.inside) (index_value c.scope vector.at index).value).value
@@ -215,7 +215,7 @@ mutual
       → StepsFit p v (steps_typed c so_far block).value
   steps_fit p v c so_far source.Empty none within resolved fits = (resolved, fits)
   steps_fit p v c so_far (source.Then label action others) none within resolved fits =
-      let l = labelled c label in
+      let l = with_label c label in
       let s = step_typed l.value.1 action in
       let rest = steps_typed s.value.1 (step_after so_far s.value.0) others in
       let w = behind_steps so_far v in

@@ -23,8 +23,8 @@ use Rattle.typed_tree.specs.declared.statement.ApplyEnds.{ApplyEnds}
 use Rattle.typed_tree.specs.declared.statement.SetValue.TheVariants as set
 use Rattle.typed_tree.specs.IntExpressionTree.{IntExpressionTree}
 use Rattle.typed_tree.specs.ProgramTree.{ProgramTree}
-use Rattle.typed_tree.specs.Resolved.{VisibleTree, ConditionIsResolved, EndIsResolved, EndsAreResolved, IntegerIsResolved, IsCondition, IsEdgeFunction, IsFilter, IsInteger, IsName, IsSet, IsVector}
-use Rattle.typed_tree.specs.Resolved.{IsVertex, IsVertexFunction, SetIsResolved}
+use Rattle.typed_tree.specs.Resolved.{VisibleTree, ConditionIsResolved, EndIsResolved, EndsAreResolved, IntegerIsResolved, IsCondition, IsEdgeFunction, IsFilter, IsIntegerVariable, IsNameIndex}
+use Rattle.typed_tree.specs.Resolved.{IsSetVariable, IsVectorIndex, IsVertex, IsVertexFunction, SetIsResolved}
 use Rattle.expression_types.specs.declared.fault.TypeRule.{TypeRule}
 use Rattle.expression_types.specs.declared.fault.TypeRule.TheVariants as rule
 use Rattle.expression_types.specs.declared.scope.Entity.{Entity}
@@ -32,29 +32,29 @@ use Rattle.expression_types.specs.declared.scope.Entity.TheVariants as entity
 use Rattle.expression_types.specs.declared.scope.Inside.{Inside}
 use Rattle.expression_types.specs.declared.scope.Inside.TheVariants as inside
 use Rattle.expression_types.specs.Expression.{as_size, as_vector, comparison_value, conjunction_value, conjuncts, disjuncts, factors, index_lacks_value, index_value, no_vertex, primary_value}
-use Rattle.expression_types.specs.Expression.{sum_value, summands, term_value, unary_value, used, used_as, value_of, vector_index}
+use Rattle.expression_types.specs.Expression.{sum_value, summands, term_value, unary_value, used_name, used_as, value_of, vector_index}
 use Rattle.expression_types.specs.ScopeTree.{found, ScopeTree}
 use Rattle.expression_types.specs.Faults.{WithFaults, sure}
-use Rattle.expression_types.specs.Operators.{IntegersTree, Integers, MixedIntegers, ErrorIntegers, ConditionsTree, Conditions, MixedConditions, ErrorConditions, added, condition_index}
-use Rattle.expression_types.specs.Operators.{beside_condition, beside_integer, compared, entry_value, equated, first_condition, first_integer, given, grouped_conditions, grouped_integers, multiplied}
-use Rattle.expression_types.specs.Operators.{related_value, signed_value}
-use Rattle.expression_types.specs.ValueTree.{ValueTree, Integer, Condition, Vertex, Set, ErrorValue, condition_reads_entry, named_set, named_value, reads_entry}
-use Rattle.types.specs.Checker.{CheckerTree, as_condition, as_index, as_integer, as_members, condition_in, integer_in, no_index}
-use Rattle.types.specs.Initial.{ApplyEndTree, InitializerTree, Typed, Members, Loaded, Degrees, ErrorInitializer, initializer_condition, edge_function, end_of, ends_given, filter_function}
-use Rattle.types.specs.Initial.{filter_named, filtered, filtered_by, initializer_of, given_filter, initializer_integer, is_edges, names_error, is_error_end, is_wrong, initializer_members, modified}
-use Rattle.types.specs.Initial.{modified_by, new_set, loaded, of_edges, vector_of, vertex_function, writes_vector, lacks_weights}
+use Rattle.expression_types.specs.Operators.{IntegersTree, Integers, MixedIntegers, ErrorIntegers, ConditionsTree, Conditions, MixedConditions, ErrorConditions, addition_operator, condition_index}
+use Rattle.expression_types.specs.Operators.{beside_condition, beside_integer, compared, entry_value, equated, first_condition, first_integer, given_or_fault, grouped_conditions, grouped_integers}
+use Rattle.expression_types.specs.Operators.{multiplied, related_value, signed_value}
+use Rattle.expression_types.specs.ValueTree.{ValueTree, Integer, Condition, Vertex, Set, ErrorValue, condition_reads_entry, entity_set, named_value, reads_entry}
+use Rattle.types.specs.Checker.{CheckerTree, condition_wanted, as_index, integer_wanted, as_members, condition_in, integer_in, no_index}
+use Rattle.types.specs.Initial.{ApplyEndTree, InitializerTree, Typed, Members, Loaded, Degrees, ErrorInitializer, initializer_condition, edge_function, apply_end_of, ends_given, filter_function}
+use Rattle.types.specs.Initial.{filter_named, filtered_set, filtered_by, initializer_of, given_filter, initializer_integer, is_edges, names_error, is_error_end, is_wrong, initializer_members}
+use Rattle.types.specs.Initial.{initial_modified, modified_by, new_set, loaded, of_edges, vector_of, vertex_function, writes_vector, lacks_weights}
 
 -- what a name stands for is there
 abbrev pub EntityIsResolved : ProgramTree → VisibleTree → Entity → Type 0
 EntityIsResolved p v (entity.Edges weights) = Unit {0}
-EntityIsResolved p v (entity.Vector index) = IsVector p index
-EntityIsResolved p v (entity.ConstantSet slot) = IsSet p v slot
-EntityIsResolved p v (entity.IntegerConstant name n) = IsName p name
-EntityIsResolved p v (entity.ConditionConstant name b) = IsName p name
-EntityIsResolved p v (entity.IntegerVariable slot) = IsInteger p v slot
+EntityIsResolved p v (entity.Vector index) = IsVectorIndex p index
+EntityIsResolved p v (entity.ConstantSet slot) = IsSetVariable p v slot
+EntityIsResolved p v (entity.IntegerConstant name n) = IsNameIndex p name
+EntityIsResolved p v (entity.ConditionConstant name b) = IsNameIndex p name
+EntityIsResolved p v (entity.IntegerVariable slot) = IsIntegerVariable p v slot
 EntityIsResolved p v (entity.ConditionVariable slot) = IsCondition p v slot
-EntityIsResolved p v (entity.SetVariable slot) = IsSet p v slot
-EntityIsResolved p v (entity.LoopVariable slot) = IsInteger p v slot
+EntityIsResolved p v (entity.SetVariable slot) = IsSetVariable p v slot
+EntityIsResolved p v (entity.LoopVariable slot) = IsIntegerVariable p v slot
 EntityIsResolved p v (entity.Parameter at) = IsVertex v at
 EntityIsResolved p v entity.Weight = IsVertex v endpoint.Destination
 EntityIsResolved p v (entity.EdgeFunction index weighted) = IsEdgeFunction p index
@@ -70,7 +70,7 @@ Known p v scope = (scope.inside ≡ inside.Main → v.indexes ≡ true) × AllBy
 -- what is there, where something is
 abbrev pub MaybeSet : ProgramTree → VisibleTree → Option VarRef → Type 0
 MaybeSet p v None = Unit {0}
-MaybeSet p v (Some slot) = IsSet p v slot
+MaybeSet p v (Some slot) = IsSetVariable p v slot
 
 abbrev pub MaybeVariable : (ℕ → Type 0) → Option ℕ → Type 0
 MaybeVariable Is None = Unit {0}
@@ -80,7 +80,7 @@ abbrev pub ValueIsResolved : ProgramTree → VisibleTree → ValueTree → Type 
 ValueIsResolved p v (Integer e) = IntegerIsResolved p v e
 ValueIsResolved p v (Condition c) = ConditionIsResolved p v c
 ValueIsResolved p v (Vertex at) = IsVertex v at
-ValueIsResolved p v (Set slot) = IsSet p v slot
+ValueIsResolved p v (Set slot) = IsSetVariable p v slot
 ValueIsResolved p v ErrorValue = Unit {0}
 
 abbrev MaybeValue : ProgramTree → VisibleTree → Option ValueTree → Type 0
@@ -107,10 +107,10 @@ module _ (P : Entity → Type 0) (faulty : P entity.Error) (name : Identifier) w
   used_among [] all = faulty
   used_among (x ∷ others) all = used_first (bytes_eq name.bytes x.0) x.1 (found name.bytes others) all.0 (used_among others all.1)
 
-pub used_resolved : (p : ProgramTree) (v : VisibleTree) (scope : ScopeTree) (name : Identifier) → Known p v scope → EntityIsResolved p v (used scope name).value
+pub used_resolved : (p : ProgramTree) (v : VisibleTree) (scope : ScopeTree) (name : Identifier) → Known p v scope → EntityIsResolved p v (used_name scope name).value
 used_resolved p v scope name known = used_among (EntityIsResolved p v) tt name scope.visible known.1
 
-given_resolved : (p : ProgramTree) (v : VisibleTree) (at : ℕ) (rule : TypeRule) (o : Option ValueTree) → MaybeValue p v o → ValueIsResolved p v (given at rule o).value
+given_resolved : (p : ProgramTree) (v : VisibleTree) (at : ℕ) (rule : TypeRule) (o : Option ValueTree) → MaybeValue p v o → ValueIsResolved p v (given_or_fault at rule o).value
 given_resolved p v at rule None is = tt
 given_resolved p v at rule (Some x) is = is
 
@@ -126,20 +126,20 @@ named_resolved p v (entity.Parameter at) is = is
 named_resolved p v entity.Weight is = is
 named_resolved p v _ is = tt
 
-as_vector_resolved : (p : ProgramTree) (v : VisibleTree) (at : ℕ) (e : Entity) → EntityIsResolved p v e → MaybeVariable (IsVector p) (as_vector at e).value
+as_vector_resolved : (p : ProgramTree) (v : VisibleTree) (at : ℕ) (e : Entity) → EntityIsResolved p v e → MaybeVariable (IsVectorIndex p) (as_vector at e).value
 as_vector_resolved p v at (entity.Vector index) is = is
 as_vector_resolved p v at _ is = tt
 
 pub vector_resolved : (p : ProgramTree) (v : VisibleTree) (scope : ScopeTree) (at : ℕ) (name : Identifier) → Known p v scope
-    → MaybeVariable (IsVector p) (vector_index scope at name).value
-vector_resolved p v scope at name known = as_vector_resolved p v at (used scope name).value (used_resolved p v scope name known)
+    → MaybeVariable (IsVectorIndex p) (vector_index scope at name).value
+vector_resolved p v scope at name known = as_vector_resolved p v at (used_name scope name).value (used_resolved p v scope name known)
 
 size_resolved : (p : ProgramTree) (v : VisibleTree) (at : ℕ) (e : Entity) → EntityIsResolved p v e → ValueIsResolved p v (as_size at e).value
 size_resolved p v at (entity.ConstantSet slot) is = is
 size_resolved p v at (entity.SetVariable slot) is = is
 size_resolved p v at _ is = tt
 
-pub named_set_resolved : (p : ProgramTree) (v : VisibleTree) (e : Entity) → EntityIsResolved p v e → MaybeSet p v (named_set e)
+pub named_set_resolved : (p : ProgramTree) (v : VisibleTree) (e : Entity) → EntityIsResolved p v e → MaybeSet p v (entity_set e)
 named_set_resolved p v (entity.ConstantSet slot) is = is
 named_set_resolved p v (entity.SetVariable slot) is = is
 named_set_resolved p v _ is = tt
@@ -156,7 +156,7 @@ filter_function_resolved : (p : ProgramTree) (v : VisibleTree) (e : Entity) → 
 filter_function_resolved p v (entity.Filter index) is = is
 filter_function_resolved p v _ is = tt
 
-vector_of_resolved : (p : ProgramTree) (v : VisibleTree) (e : Entity) → EntityIsResolved p v e → MaybeVariable (IsVector p) (vector_of e)
+vector_of_resolved : (p : ProgramTree) (v : VisibleTree) (e : Entity) → EntityIsResolved p v e → MaybeVariable (IsVectorIndex p) (vector_of e)
 vector_of_resolved p v (entity.Vector index) is = is
 vector_of_resolved p v _ is = tt
 
@@ -268,7 +268,7 @@ error_index : (p : ProgramTree) (v : VisibleTree) (at : ℕ) (reads : Bool) → 
 error_index p v at true = tt
 error_index p v at false = tt
 
-main_entry_resolved : (p : ProgramTree) (v : VisibleTree) (at vector : ℕ) (x : ValueTree) → v.indexes ≡ true → IsVector p vector → ValueIsResolved p v x
+main_entry_resolved : (p : ProgramTree) (v : VisibleTree) (at vector : ℕ) (x : ValueTree) → v.indexes ≡ true → IsVectorIndex p vector → ValueIsResolved p v x
     → ValueIsResolved p v (entry_value inside.Main at (Some vector) x).value
 main_entry_resolved p v at vector (Integer e) main there is = if_value p v (reads_entry e) _ _ tt (main, there, is)
 main_entry_resolved p v at vector (Condition c) main there is = error_index p v at (condition_reads_entry c)
@@ -276,7 +276,7 @@ main_entry_resolved p v at vector (Vertex e) main there is = (main, there, is)
 main_entry_resolved p v at vector (Set slot) main there is = tt
 main_entry_resolved p v at vector ErrorValue main there is = tt
 
-function_entry_resolved : (p : ProgramTree) (v : VisibleTree) (at vector : ℕ) (x : ValueTree) → IsVector p vector → ValueIsResolved p v x
+function_entry_resolved : (p : ProgramTree) (v : VisibleTree) (at vector : ℕ) (x : ValueTree) → IsVectorIndex p vector → ValueIsResolved p v x
     → ValueIsResolved p v (entry_value inside.VertexFunction at (Some vector) x).value
 function_entry_resolved p v at vector (Integer e) there is = tt
 function_entry_resolved p v at vector (Condition c) there is = tt
@@ -284,7 +284,7 @@ function_entry_resolved p v at vector (Vertex e) there is = (there, is)
 function_entry_resolved p v at vector (Set slot) there is = tt
 function_entry_resolved p v at vector ErrorValue there is = tt
 
-entry_resolved : (p : ProgramTree) (v : VisibleTree) (i : Inside) (at : ℕ) (vector : Option ℕ) (x : ValueTree) → (i ≡ inside.Main → v.indexes ≡ true) → MaybeVariable (IsVector p) vector
+entry_resolved : (p : ProgramTree) (v : VisibleTree) (i : Inside) (at : ℕ) (vector : Option ℕ) (x : ValueTree) → (i ≡ inside.Main → v.indexes ≡ true) → MaybeVariable (IsVectorIndex p) vector
     → ValueIsResolved p v x
     → ValueIsResolved p v (entry_value i at vector x).value
 entry_resolved p v i at None x main there is = tt
@@ -347,11 +347,11 @@ mutual
       → IntegersAreResolved p v (summands scope at left o s).value
   summands_resolved p v scope at known left o (LastTerm t) is =
       let x = (term_value scope at t).value in
-      beside_integer_resolved p v (added o) left (first_integer x) is (first_integer_resolved p v x (term_resolved p v scope at known t))
+      beside_integer_resolved p v (addition_operator o) left (first_integer x) is (first_integer_resolved p v x (term_resolved p v scope at known t))
   summands_resolved p v scope at known left o (TermThen t next others) is =
       let x = (term_value scope at t).value in
-      summands_resolved p v scope at known (beside_integer (added o) left (first_integer x)) next others
-      (beside_integer_resolved p v (added o) left (first_integer x) is (first_integer_resolved p v x (term_resolved p v scope at known t)))
+      summands_resolved p v scope at known (beside_integer (addition_operator o) left (first_integer x)) next others
+      (beside_integer_resolved p v (addition_operator o) left (first_integer x) is (first_integer_resolved p v x (term_resolved p v scope at known t)))
 
   term_resolved : (p : ProgramTree) (v : VisibleTree) (scope : ScopeTree) (at : ℕ) → Known p v scope → (t : TermTree) → ValueIsResolved p v (term_value scope at t).value
   term_resolved p v scope at known (LastUnary u) = unary_resolved p v scope at known u
@@ -380,24 +380,24 @@ mutual
   primary_resolved p v scope at known (Literal n) = tt
   primary_resolved p v scope at known (Truth b) = tt
   primary_resolved p v scope at known (Variable name) =
-      let e = (used scope name).value in
+      let e = (used_name scope name).value in
       given_resolved p v at rule.WrongType (named_value e) (named_resolved p v e (used_resolved p v scope name known))
   primary_resolved p v scope at known (Entry name index) =
       entry_resolved p v scope.inside at (vector_index scope at name).value (index_value scope at index).value known.0
       (vector_resolved p v scope at name known)
       (if_value p v (index_lacks_value scope.inside scope index) (sure no_vertex) (value_of scope at index) tt (value_resolved p v scope at known index))
-  primary_resolved p v scope at known (Size name) = size_resolved p v at (used scope name).value (used_resolved p v scope name known)
+  primary_resolved p v scope at known (Size name) = size_resolved p v at (used_name scope name).value (used_resolved p v scope name known)
   primary_resolved p v scope at known (Parentheses inside) = value_resolved p v scope at known inside
 
 -- values of the type that their place wants
-pub as_integer_resolved : (p : ProgramTree) (v : VisibleTree) (at : ℕ) (x : ValueTree) → ValueIsResolved p v x → IntegerIsResolved p v (as_integer at x).value
+pub as_integer_resolved : (p : ProgramTree) (v : VisibleTree) (at : ℕ) (x : ValueTree) → ValueIsResolved p v x → IntegerIsResolved p v (integer_wanted at x).value
 as_integer_resolved p v at (Integer e) is = is
 as_integer_resolved p v at (Condition c) is = tt
 as_integer_resolved p v at (Vertex e) is = is
 as_integer_resolved p v at (Set slot) is = tt
 as_integer_resolved p v at ErrorValue is = tt
 
-as_condition_resolved : (p : ProgramTree) (v : VisibleTree) (at : ℕ) (x : ValueTree) → ValueIsResolved p v x → ConditionIsResolved p v (as_condition at x).value
+as_condition_resolved : (p : ProgramTree) (v : VisibleTree) (at : ℕ) (x : ValueTree) → ValueIsResolved p v x → ConditionIsResolved p v (condition_wanted at x).value
 as_condition_resolved p v at (Integer e) is = tt
 as_condition_resolved p v at (Condition c) is = is
 as_condition_resolved p v at (Vertex e) is = tt
@@ -448,9 +448,9 @@ filter_named_resolved p v (entity.SetVariable slot) is = is
 filter_named_resolved p v (entity.Filter index) is = is
 filter_named_resolved p v _ is = tt
 
-pub end_resolved : (p : ProgramTree) (v : VisibleTree) (scope : ScopeTree) → Known p v scope → (name : Option Identifier) → EndTreeIsResolved p v (end_of scope name).value
+pub end_resolved : (p : ProgramTree) (v : VisibleTree) (scope : ScopeTree) → Known p v scope → (name : Option Identifier) → EndTreeIsResolved p v (apply_end_of scope name).value
 end_resolved p v scope known None = tt
-end_resolved p v scope known (Some name) = filter_named_resolved p v (used scope name).value (used_resolved p v scope name known)
+end_resolved p v scope known (Some name) = filter_named_resolved p v (used_name scope name).value (used_resolved p v scope name known)
 
 -- initial values
 abbrev pub InitializerIsResolved : ProgramTree → VisibleTree → InitializerTree → Type 0
@@ -474,20 +474,20 @@ filtered_by_resolved p v at None index set filter = tt
 filtered_by_resolved p v at (Some slot) None set filter = tt
 filtered_by_resolved p v at (Some slot) (Some index) set filter = (set, filter)
 
-filtered_resolved : (p : ProgramTree) (v : VisibleTree) (at : ℕ) (s f : Entity) → EntityIsResolved p v s → EntityIsResolved p v f → InitializerIsResolved p v (filtered at s f).value
+filtered_resolved : (p : ProgramTree) (v : VisibleTree) (at : ℕ) (s f : Entity) → EntityIsResolved p v s → EntityIsResolved p v f → InitializerIsResolved p v (filtered_set at s f).value
 filtered_resolved p v at s f set filter =
     if_initializer p v (names_error s || names_error f) _ _ tt
-    (filtered_by_resolved p v at (named_set s) (filter_function f) (named_set_resolved p v s set) (filter_function_resolved p v f filter))
+    (filtered_by_resolved p v at (entity_set s) (filter_function f) (named_set_resolved p v s set) (filter_function_resolved p v f filter))
 
 modified_by_resolved : (p : ProgramTree) (v : VisibleTree) (c : CheckerTree) (at : ℕ) (ends : ApplyEnds) (function vector : Option ℕ) → EndsAreResolved p v ends
-    → MaybeVariable (IsEdgeFunction p) function → MaybeVariable (IsVector p) vector → InitializerIsResolved p v (modified_by c at ends function vector).value
+    → MaybeVariable (IsEdgeFunction p) function → MaybeVariable (IsVectorIndex p) vector → InitializerIsResolved p v (modified_by c at ends function vector).value
 modified_by_resolved p v c at ends None vector filters first other = tt
 modified_by_resolved p v c at ends (Some function) None filters first other = tt
 modified_by_resolved p v c at ends (Some function) (Some vector) filters first other =
     if_initializer p v (writes_vector c.written function vector) _ _ (filters, first, other) tt
 
 modified_resolved : (p : ProgramTree) (v : VisibleTree) (c : CheckerTree) (at : ℕ) (e : Entity) (a b : ApplyEndTree) (f x : Entity) → EndTreeIsResolved p v a → EndTreeIsResolved p v b
-    → EntityIsResolved p v f → EntityIsResolved p v x → InitializerIsResolved p v (modified c at e a b f x).value
+    → EntityIsResolved p v f → EntityIsResolved p v x → InitializerIsResolved p v (initial_modified c at e a b f x).value
 modified_resolved p v c at e a b f x from to function vector =
     if_initializer p v (names_error e || is_error_end a || is_error_end b || names_error f || names_error x) _ _ tt
     (if_initializer p v (is_edges e) _ _
@@ -508,12 +508,12 @@ loaded_resolved p v at (negsuc n) = tt
 pub initializer_resolved : (p : ProgramTree) (v : VisibleTree) (c : CheckerTree) (at : ℕ) → Known p v c.scope → (initial : InitialTree) → InitializerIsResolved p v (initializer_of c at initial).value
 initializer_resolved p v c at known (source.NewSet size) = new_set_resolved p v at size
 initializer_resolved p v c at known (source.Load argument) = loaded_resolved p v at argument
-initializer_resolved p v c at known (source.Vertices edges) = of_edges_resolved p v at (Members set.All) (used c.scope edges).value tt
-initializer_resolved p v c at known (source.OutDegrees edges) = of_edges_resolved p v at Degrees (used c.scope edges).value tt
+initializer_resolved p v c at known (source.Vertices edges) = of_edges_resolved p v at (Members set.All) (used_name c.scope edges).value tt
+initializer_resolved p v c at known (source.OutDegrees edges) = of_edges_resolved p v at Degrees (used_name c.scope edges).value tt
 initializer_resolved p v c at known (source.Filter s f) =
-    filtered_resolved p v at (used c.scope s).value (used c.scope f).value (used_resolved p v c.scope s known) (used_resolved p v c.scope f known)
+    filtered_resolved p v at (used_name c.scope s).value (used_name c.scope f).value (used_resolved p v c.scope s known) (used_resolved p v c.scope f known)
 initializer_resolved p v c at known (source.ApplyModified edges ends f x) =
-    modified_resolved p v c at (used c.scope edges).value (end_of c.scope ends.from).value (end_of c.scope ends.to).value (used c.scope f).value (used c.scope x).value
+    modified_resolved p v c at (used_name c.scope edges).value (apply_end_of c.scope ends.from).value (apply_end_of c.scope ends.to).value (used_name c.scope f).value (used_name c.scope x).value
     (end_resolved p v c.scope known ends.from) (end_resolved p v c.scope known ends.to) (used_resolved p v c.scope f known) (used_resolved p v c.scope x known)
 initializer_resolved p v c at known (source.Value e) = value_resolved p v c.scope at known e
 

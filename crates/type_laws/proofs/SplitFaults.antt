@@ -13,7 +13,7 @@ use Rattle.expression_types.specs.Expression.{index_value, value_of, vector_inde
 use Rattle.expression_types.specs.ScopeTree.{declared}
 use Rattle.expression_types.specs.Faults.{◌>>=◌}
 use Rattle.types.specs.Block.{action_typed, statements_typed}
-use Rattle.types.specs.Checker.{labelled, as_index, condition_in, integer_in}
+use Rattle.types.specs.Checker.{with_label, as_index, condition_in, integer_in}
 use Rattle.types.specs.Declaration.{declaration_typed, declarations_typed, parameters_declared, result_declared}
 use Rattle.types.specs.Initial.{initializer_of}
 use Rattle.types.specs.Program.{program_of}
@@ -34,7 +34,7 @@ faults (MainBlock c block) = (statements_typed c Empty block).faults
 faults (MainStatement c action) = (action_typed c action).faults
 faults (FunctionBlock c block) = (steps_typed c NoStep block).faults
 faults (FunctionStatement c action) = (step_typed c action).faults
-faults (Label c label) = (labelled c label).faults
+faults (Label c label) = (with_label c label).faults
 faults (NewName scope name) = (declared name entity.Error scope).faults
 faults (Initial c at x) = (initializer_of c at x).faults
 faults (IntWanted scope at e) = (integer_in scope at e).faults

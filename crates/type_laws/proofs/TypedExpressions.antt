@@ -22,13 +22,14 @@ use Rattle.expression_types.specs.declared.scope.Entity.{Entity}
 use Rattle.expression_types.specs.declared.scope.Entity.TheVariants as entity
 use Rattle.expression_types.specs.declared.scope.Inside.{Inside}
 use Rattle.expression_types.specs.declared.scope.Inside.TheVariants as inside
-use Rattle.expression_types.specs.BareNames.{bare_name, comparison_name, conjunction_name, primary_name, sum_name, term_name, unary_name}
+use Rattle.expression_types.specs.BareNames.{lone_name, comparison_name, conjunction_name, primary_name, sum_name, term_name, unary_name}
 use Rattle.expression_types.specs.Expression.{as_size, as_vector, comparison_value, conjunction_value, conjuncts, disjuncts, entry_of, factors, index_lacks_value, index_value, lacks_value}
-use Rattle.expression_types.specs.Expression.{name_lacks_value, name_value, no_vertex, primary_value, size_value, sum_value, summands, term_value, unary_value, used, used_as, value_of, vector_index}
+use Rattle.expression_types.specs.Expression.{name_lacks_value, name_value, no_vertex, primary_value, size_value, sum_value, summands, term_value, unary_value, used_name, used_as, value_of}
+use Rattle.expression_types.specs.Expression.{vector_index}
 use Rattle.expression_types.specs.ScopeTree.{found, ScopeTree}
-use Rattle.expression_types.specs.Operators.{Conditions, ConditionsTree, ErrorConditions, ErrorIntegers, Integers, IntegersTree, MixedConditions, MixedIntegers, added, beside_condition}
-use Rattle.expression_types.specs.Operators.{beside_integer, compared_value, entry_value, equated_value, first_condition, first_integer, function_entry, given, grouped_conditions, grouped_integers}
-use Rattle.expression_types.specs.Operators.{main_entry, multiplied, related_value, signed_value, unless_faulty}
+use Rattle.expression_types.specs.Operators.{Conditions, ConditionsTree, ErrorConditions, ErrorIntegers, Integers, IntegersTree, MixedConditions, MixedIntegers, addition_operator, beside_condition}
+use Rattle.expression_types.specs.Operators.{beside_integer, compared_value, entry_value, equated_value, first_condition, first_integer, function_entry, given_or_fault, grouped_conditions}
+use Rattle.expression_types.specs.Operators.{grouped_integers, main_entry, multiplied, related_value, signed_value, unless_faulty}
 use Rattle.expression_types.specs.ValueTree as value
 use Rattle.expression_types.specs.ValueTree.{ValueTree, is_error, named_value, reads_entry}
 use Rattle.expression_types.specs.Faults.{WithFaults, fault_at, sure}
@@ -74,10 +75,10 @@ some_type a b is = cc
 no_type : (a : ExpressionType) → None ≡ Some a → ⊥
 no_type a is = cc
 
-named_as : (at : ℕ) (v : ValueTree) (a type : ExpressionType) → IsOf a v → Some a ≡ Some type → Fine (given at rule.WrongType (Some v)) type
+named_as : (at : ℕ) (v : ValueTree) (a type : ExpressionType) → IsOf a v → Some a ≡ Some type → Fine (given_or_fault at rule.WrongType (Some v)) type
 named_as at v a type of is = record { none = refl; is = subst (λ t. IsOf t v) (some_type a type is) of }
 
-named_fine : (at : ℕ) (e : Entity) (type : ExpressionType) → type_named (Some (meaning_of e)) ≡ Some type → Fine (given at rule.WrongType (named_value e)) type
+named_fine : (at : ℕ) (e : Entity) (type : ExpressionType) → type_named (Some (meaning_of e)) ≡ Some type → Fine (given_or_fault at rule.WrongType (named_value e)) type
 named_fine at (entity.Edges weights) type has = absurd (no_type type has)
 named_fine at (entity.Vector index) type has = absurd (no_type type has)
 named_fine at (entity.ConstantSet slot) type has = named_as at _ Set type tt has
@@ -101,14 +102,14 @@ visible_type : (scope : ScopeTree) (name : Identifier) (type : ExpressionType) �
 visible_type scope name type has = subst (λ o. type_named o ≡ Some type) (found_meaning name.bytes scope.visible) has
 
 entity_fine : (at : ℕ) (name : Identifier) (o : Option Entity) (type : ExpressionType) → type_named (option_map meaning_of o) ≡ Some type
-    → (used_as name o).faults ≡ [] × Fine (given at rule.WrongType (named_value (used_as name o).value)) type
+    → (used_as name o).faults ≡ [] × Fine (given_or_fault at rule.WrongType (named_value (used_as name o).value)) type
 entity_fine at name None type has = absurd (no_type type has)
 entity_fine at name (Some e) type has = (refl, named_fine at e type has)
 
 name_fine : (scope : ScopeTree) (at : ℕ) (name : Identifier) (type : ExpressionType) → NameHas (meanings_of scope.visible) name type → Fine (name_value scope at name) type
 name_fine scope at name type has =
     let both = entity_fine at name (found name.bytes scope.visible) type (visible_type scope name type has) in
-    record { none = both_none (used scope name).faults _ both.0 both.1.none; is = both.1.is }
+    record { none = both_none (used_name scope name).faults _ both.0 both.1.none; is = both.1.is }
 
 -- a name that means a vector
 some_meaning : (a b : Meaning) → Some a ≡ Some b → a ≡ b
@@ -141,7 +142,7 @@ vector_is at vector entity.Error is = absurd cc
 
 -- what a name that means something is used as
 pub used_means : (scope : ScopeTree) (name : Identifier) (m : Meaning) → found name.bytes (meanings_of scope.visible) ≡ Some m
-    → ((used scope name).faults ≡ []) × (meaning_of (used scope name).value ≡ m)
+    → ((used_name scope name).faults ≡ []) × (meaning_of (used_name scope name).value ≡ m)
 used_means scope name m is = at_entity (found name.bytes scope.visible) (subst (λ o. o ≡ Some m) (found_meaning name.bytes scope.visible) is)
   where
     at_entity : (o : Option Entity) → option_map meaning_of o ≡ Some m → ((used_as name o).faults ≡ []) × (meaning_of (used_as name o).value ≡ m)
@@ -152,8 +153,8 @@ pub vector_fine : (scope : ScopeTree) (at : ℕ) (name : Identifier) (vector : �
     → ((vector_index scope at name).faults ≡ []) × ((vector_index scope at name).value ≡ Some vector)
 vector_fine scope at name vector is =
     let u = used_means scope name (meaning.Vector vector) is in
-    let v = vector_is at vector (used scope name).value u.1 in
-    (both_none (used scope name).faults _ u.0 v.0, v.1)
+    let v = vector_is at vector (used_name scope name).value u.1 in
+    (both_none (used_name scope name).faults _ u.0 v.0, v.1)
 
 -- the size of a set
 set_size : (at : ℕ) (e : Entity) → type_named (Some (meaning_of e)) ≡ Some Set → Fine (as_size at e) Number
@@ -266,7 +267,7 @@ first_integer_is value.ErrorValue is = is
 
 -- relations and signs
 compared_fine : (at : ℕ) (o : ComparisonOperator) (a b : ValueTree) → IsNumeric a → IsNumeric b
-    → Fine (given at rule.WrongType (compared_value o a b)) Truth
+    → Fine (given_or_fault at rule.WrongType (compared_value o a b)) Truth
 compared_fine at o (value.Integer a) (value.Integer b) first second = record { none = refl; is = tt }
 compared_fine at o (value.Integer a) (value.Condition c) first second = absurd second
 compared_fine at o (value.Integer a) (value.Vertex q) first second = record { none = refl; is = tt }
@@ -282,14 +283,14 @@ compared_fine at o (value.Set slot) b first second = absurd first
 compared_fine at o value.ErrorValue b first second = absurd first
 
 equated_numbers : (at : ℕ) (c : Connective) (o : ComparisonOperator) (a b : ValueTree) → IsNumeric a → IsNumeric b
-    → Fine (given at rule.WrongType (equated_value c o a b)) Truth
+    → Fine (given_or_fault at rule.WrongType (equated_value c o a b)) Truth
 equated_numbers at c o (value.Integer a) b first second = compared_fine at o (value.Integer a) b first second
 equated_numbers at c o (value.Vertex p) b first second = compared_fine at o (value.Vertex p) b first second
 equated_numbers at c o (value.Condition x) b first second = absurd first
 equated_numbers at c o (value.Set slot) b first second = absurd first
 equated_numbers at c o value.ErrorValue b first second = absurd first
 
-numbers_related : (at : ℕ) (r : Relation) (a b : ValueTree) → IsNumeric a → IsNumeric b → Fine (given at rule.WrongType (related_value r a b)) Truth
+numbers_related : (at : ℕ) (r : Relation) (a b : ValueTree) → IsNumeric a → IsNumeric b → Fine (given_or_fault at rule.WrongType (related_value r a b)) Truth
 numbers_related at relation.Equal a b first second = equated_numbers at connective.Equal comparison.Equal a b first second
 numbers_related at relation.NotEqual a b first second = equated_numbers at connective.NotEqual comparison.NotEqual a b first second
 numbers_related at relation.Less a b first second = compared_fine at comparison.Less a b first second
@@ -298,7 +299,7 @@ numbers_related at relation.Greater a b first second = compared_fine at comparis
 numbers_related at relation.GreaterOrEqual a b first second = compared_fine at comparison.GreaterOrEqual a b first second
 
 equated_truths : (at : ℕ) (c : Connective) (o : ComparisonOperator) (a b : ValueTree) → IsOf Truth a → IsOf Truth b
-    → Fine (given at rule.WrongType (equated_value c o a b)) Truth
+    → Fine (given_or_fault at rule.WrongType (equated_value c o a b)) Truth
 equated_truths at c o (value.Condition a) (value.Condition b) first second = record { none = refl; is = tt }
 equated_truths at c o (value.Condition a) (value.Integer b) first second = absurd second
 equated_truths at c o (value.Condition a) (value.Vertex q) first second = absurd second
@@ -309,7 +310,7 @@ equated_truths at c o (value.Vertex p) b first second = absurd first
 equated_truths at c o (value.Set slot) b first second = absurd first
 equated_truths at c o value.ErrorValue b first second = absurd first
 
-truths_related : (at : ℕ) (r : Relation) (a b : ValueTree) → IsEquality r → IsOf Truth a → IsOf Truth b → Fine (given at rule.WrongType (related_value r a b)) Truth
+truths_related : (at : ℕ) (r : Relation) (a b : ValueTree) → IsEquality r → IsOf Truth a → IsOf Truth b → Fine (given_or_fault at rule.WrongType (related_value r a b)) Truth
 truths_related at relation.Equal a b equality first second = equated_truths at connective.Equal comparison.Equal a b first second
 truths_related at relation.NotEqual a b equality first second = equated_truths at connective.NotEqual comparison.NotEqual a b first second
 truths_related at relation.Less a b equality first second = absurd equality
@@ -317,14 +318,14 @@ truths_related at relation.LessOrEqual a b equality first second = absurd equali
 truths_related at relation.Greater a b equality first second = absurd equality
 truths_related at relation.GreaterOrEqual a b equality first second = absurd equality
 
-negative_fine : (at : ℕ) (v : ValueTree) → IsNumeric v → Fine (given at rule.WrongType (signed_value prefix.Minus v)) Number
+negative_fine : (at : ℕ) (v : ValueTree) → IsNumeric v → Fine (given_or_fault at rule.WrongType (signed_value prefix.Minus v)) Number
 negative_fine at (value.Integer e) is = record { none = refl; is = tt }
 negative_fine at (value.Condition c) is = absurd is
 negative_fine at (value.Vertex p) is = record { none = refl; is = tt }
 negative_fine at (value.Set slot) is = absurd is
 negative_fine at value.ErrorValue is = absurd is
 
-negated_fine : (at : ℕ) (v : ValueTree) → IsOf Truth v → Fine (given at rule.WrongType (signed_value prefix.Not v)) Truth
+negated_fine : (at : ℕ) (v : ValueTree) → IsOf Truth v → Fine (given_or_fault at rule.WrongType (signed_value prefix.Not v)) Truth
 negated_fine at (value.Integer e) is = absurd is
 negated_fine at (value.Condition c) is = record { none = refl; is = tt }
 negated_fine at (value.Vertex p) is = absurd is
@@ -356,7 +357,7 @@ visible_has_value (Some e) type has = has_value e type has
 
 mutual
   bare_has_value : (scope : ScopeTree) (i : Inside) (e : ExpressionTree) (type : ExpressionType) → ExpressionHas (meanings_of scope.visible) i e type
-      → name_lacks_value scope (bare_name e) ≡ false
+      → name_lacks_value scope (lone_name e) ≡ false
   bare_has_value scope i (tree.LastConjunction c) type has = conjunction_has_value scope i c type has
   bare_has_value scope i (tree.ConjunctionThen c others) type has = refl
 
@@ -562,13 +563,13 @@ mutual
   summands_fine scope at left o (tree.LastTerm t) are has =
       let x = term_value scope at t in
       let first = numeric_fine x (TermHas (meanings_of scope.visible) scope.inside t) (term_fine scope at t) has in
-      (both_none x.faults [] first.none refl, beside_integer_is (added o) left (first_integer x.value) are (first_integer_is x.value first.is))
+      (both_none x.faults [] first.none refl, beside_integer_is (addition_operator o) left (first_integer x.value) are (first_integer_is x.value first.is))
   summands_fine scope at left o (tree.TermThen t next others) are has =
       let x = term_value scope at t in
       let parts = row_of has in
       let first = numeric_fine x (TermHas (meanings_of scope.visible) scope.inside t) (term_fine scope at t) parts.0 in
-      let both = beside_integer_is (added o) left (first_integer x.value) are (first_integer_is x.value first.is) in
-      let more = summands_fine scope at (beside_integer (added o) left (first_integer x.value)) next others both parts.1 in
+      let both = beside_integer_is (addition_operator o) left (first_integer x.value) are (first_integer_is x.value first.is) in
+      let more = summands_fine scope at (beside_integer (addition_operator o) left (first_integer x.value)) next others both parts.1 in
       (both_none x.faults _ first.none more.0, more.1)
 
   term_fine : (scope : ScopeTree) (at : ℕ) (t : TermTree) (type : ExpressionType) → TermHas (meanings_of scope.visible) scope.inside t type → Fine (term_value scope at t) type
@@ -619,6 +620,6 @@ mutual
       let fits = index_fine scope.inside scope at has.1.vector subscript (expression_fine scope at subscript) has.2 in
       let all = entry_fine scope at has.1.vector index.value (index_value scope at subscript) there.1 fits in
       fine_as (primary_value scope at (tree.Entry vector subscript)) type Number has.0
-      (record { none = entry_none scope.inside at (used scope vector) (index_value scope at subscript) there.0 all.0; is = all.1 })
+      (record { none = entry_none scope.inside at (used_name scope vector) (index_value scope at subscript) there.0 all.0; is = all.1 })
   primary_fine scope at (tree.Size set) type has = fine_as (primary_value scope at (tree.Size set)) type Number has.0 (size_fine scope at set has.1)
   primary_fine scope at (tree.Parentheses inside) type has = expression_fine scope at inside type has

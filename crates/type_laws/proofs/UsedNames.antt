@@ -15,18 +15,18 @@ use Rattle.expression_types.specs.declared.scope.Entity.{Entity}
 use Rattle.expression_types.specs.declared.scope.Entity.TheVariants as entity
 use Rattle.expression_types.specs.declared.scope.Inside.{Inside}
 use Rattle.expression_types.specs.declared.scope.Inside.TheVariants as inside
-use Rattle.expression_types.specs.BareNames.{bare_name, comparison_name, conjunction_name, primary_name, sum_name, term_name, unary_name}
+use Rattle.expression_types.specs.BareNames.{lone_name, comparison_name, conjunction_name, primary_name, sum_name, term_name, unary_name}
 use Rattle.expression_types.specs.Expression.{comparison_value, conjunction_value, conjuncts, disjuncts, factors, index_as, index_lacks_value, index_value, lacks_value, name_lacks_value, no_vertex}
-use Rattle.expression_types.specs.Expression.{primary_value, sum_value, summands, term_value, unary_value, used, used_as, value_of, vector_index}
+use Rattle.expression_types.specs.Expression.{primary_value, sum_value, summands, term_value, unary_value, used_name, used_as, value_of, vector_index}
 use Rattle.expression_types.specs.ScopeTree.{found, ScopeTree}
 use Rattle.expression_types.specs.Faults.{WithFaults, sure}
 use Rattle.expression_types.specs.Operators.{ConditionsTree, IntegersTree, first_condition, first_integer}
 use Rattle.expression_types.specs.ValueTree.{ValueTree}
-use Rattle.types.specs.Block.{action_typed, behind, closed, statements_typed}
-use Rattle.types.specs.Checker.{CheckerTree, counted, declared_in, integer_slot, labelled, restarted, as_index, condition_in, integer_in}
+use Rattle.types.specs.Block.{action_typed, then_statement, closed, statements_typed}
+use Rattle.types.specs.Checker.{CheckerTree, counted, declared_in, integer_slot, with_label, restarted, as_index, condition_in, integer_in}
 use Rattle.types.specs.Declaration.{DeclaredTree, FunctionKindTree, MainKind, EdgeKind, VertexKind, FilterKind, NoKind, declaration_typed, declarations_typed, declare_function, kind, kind_fits}
 use Rattle.types.specs.Declaration.{main_declared, opened, steps_declared}
-use Rattle.types.specs.Initial.{end_of, initializer_of}
+use Rattle.types.specs.Initial.{apply_end_of, initializer_of}
 use Rattle.type_laws.specs.NewNames.{names_after, names_inside}
 use Rattle.types.specs.Program.{opening, program_of, set_count}
 use Rattle.types.specs.Statement.{add_vertex, apply, assign, print, reduce, reduce_entry, set_entry}
@@ -52,11 +52,11 @@ one_visible name [] none = absurd (not_empty _ _ none)
 one_visible name (x ∷ others) none =
     first_visible name x.0 (bytes_eq name.bytes x.0) x.1 (found name.bytes others) (map (λ x. x.0) others) refl none (one_visible name others)
 
-used_visible : (scope : ScopeTree) (name : Identifier) → (used scope name).faults ≡ [] → IsVisible (seen scope) name
+used_visible : (scope : ScopeTree) (name : Identifier) → (used_name scope name).faults ≡ [] → IsVisible (seen scope) name
 used_visible scope name none = one_visible name scope.visible none
 
 vector_visible : (scope : ScopeTree) (at : ℕ) (name : Identifier) → (vector_index scope at name).faults ≡ [] → IsVisible (seen scope) name
-vector_visible scope at name none = used_visible scope name (no_left (used scope name).faults _ none)
+vector_visible scope at name none = used_visible scope name (no_left (used_name scope name).faults _ none)
 
 -- a bare name that lacks a value is visible
 lacking_used : (name : Identifier) (e : Option Entity) → lacks_value e ≡ true → (used_as name e).faults ≡ []
@@ -64,7 +64,7 @@ lacking_used name None is = absurd (false_is_not_true is)
 lacking_used name (Some e) is = refl
 
 mutual
-  bare_visible : (scope : ScopeTree) (e : ExpressionTree) → name_lacks_value scope (bare_name e) ≡ true → ExpressionUsesVisible (seen scope) e
+  bare_visible : (scope : ScopeTree) (e : ExpressionTree) → name_lacks_value scope (lone_name e) ≡ true → ExpressionUsesVisible (seen scope) e
   bare_visible scope (tree.LastConjunction c) is = conjunction_bare scope c is
   bare_visible scope (tree.ConjunctionThen c others) is = absurd (false_is_not_true is)
 
@@ -96,7 +96,7 @@ mutual
   primary_bare scope (tree.Size set) is = absurd (false_is_not_true is)
   primary_bare scope (tree.Parentheses inside) is = bare_visible scope inside is
 
-lacking_bare : (i : Inside) (scope : ScopeTree) (index : ExpressionTree) → index_lacks_value i scope index ≡ true → name_lacks_value scope (bare_name index) ≡ true
+lacking_bare : (i : Inside) (scope : ScopeTree) (index : ExpressionTree) → index_lacks_value i scope index ≡ true → name_lacks_value scope (lone_name index) ≡ true
 lacking_bare inside.Main scope index is = absurd (false_is_not_true is)
 lacking_bare inside.EdgeFunction scope index is = is
 lacking_bare inside.VertexFunction scope index is = is
@@ -187,13 +187,13 @@ mutual
   primary_visible : (scope : ScopeTree) (at : ℕ) (e : PrimaryTree) → (primary_value scope at e).faults ≡ [] → PrimaryUsesVisible (seen scope) e
   primary_visible scope at (tree.Literal n) none = tt
   primary_visible scope at (tree.Truth b) none = tt
-  primary_visible scope at (tree.Variable name) none = used_visible scope name (no_left (used scope name).faults _ none)
+  primary_visible scope at (tree.Variable name) none = used_visible scope name (no_left (used_name scope name).faults _ none)
   primary_visible scope at (tree.Entry vector subscript) none =
-      let e = used scope vector in (
+      let e = used_name scope vector in (
         used_visible scope vector (no_left e.faults _ none),
         index_visible scope subscript (value_of scope at subscript) (expression_visible scope at subscript) (no_left (index_value scope at subscript).faults _ (no_right e.faults _ none)),
       )
-  primary_visible scope at (tree.Size set) none = used_visible scope set (no_left (used scope set).faults _ none)
+  primary_visible scope at (tree.Size set) none = used_visible scope set (no_left (used_name scope set).faults _ none)
   primary_visible scope at (tree.Parentheses inside) none = expression_visible scope at inside none
 
 integer_visible : (scope : ScopeTree) (at : ℕ) (e : ExpressionTree) → (integer_in scope at e).faults ≡ [] → ExpressionUsesVisible (seen scope) e
@@ -203,30 +203,30 @@ condition_visible : (scope : ScopeTree) (at : ℕ) (e : ExpressionTree) → (con
 condition_visible scope at e none = expression_visible scope at e (no_left (value_of scope at e).faults _ none)
 
 -- ends, and initial values
-end_visible : (scope : ScopeTree) (name : Option Identifier) → (end_of scope name).faults ≡ [] → EndIsVisible (seen scope) name
+end_visible : (scope : ScopeTree) (name : Option Identifier) → (apply_end_of scope name).faults ≡ [] → EndIsVisible (seen scope) name
 end_visible scope None none = tt
-end_visible scope (Some name) none = used_visible scope name (no_left (used scope name).faults [] none)
+end_visible scope (Some name) none = used_visible scope name (no_left (used_name scope name).faults [] none)
 
 initializer_visible : (c : CheckerTree) (at : ℕ) (initial : InitialTree) → (initializer_of c at initial).faults ≡ [] → InitialUsesVisible (seen c.scope) initial
 initializer_visible c at (source.NewSet size) none = tt
 initializer_visible c at (source.Load argument) none = tt
-initializer_visible c at (source.Vertices edges) none = used_visible c.scope edges (no_left (used c.scope edges).faults _ none)
-initializer_visible c at (source.OutDegrees edges) none = used_visible c.scope edges (no_left (used c.scope edges).faults _ none)
+initializer_visible c at (source.Vertices edges) none = used_visible c.scope edges (no_left (used_name c.scope edges).faults _ none)
+initializer_visible c at (source.OutDegrees edges) none = used_visible c.scope edges (no_left (used_name c.scope edges).faults _ none)
 initializer_visible c at (source.Filter s f) none = (
-  used_visible c.scope s (no_left (used c.scope s).faults _ none),
-  used_visible c.scope f (no_left (used c.scope f).faults _ (no_right (used c.scope s).faults _ none)),
+  used_visible c.scope s (no_left (used_name c.scope s).faults _ none),
+  used_visible c.scope f (no_left (used_name c.scope f).faults _ (no_right (used_name c.scope s).faults _ none)),
 )
 initializer_visible c at (source.ApplyModified edges ends f x) none =
-    let behind_edges = no_right (used c.scope edges).faults _ none in
-    let after_from = no_right (end_of c.scope ends.from).faults _ behind_edges in
-    let after_to = no_right (end_of c.scope ends.to).faults _ after_from in (
-      used_visible c.scope edges (no_left (used c.scope edges).faults _ none),
+    let behind_edges = no_right (used_name c.scope edges).faults _ none in
+    let after_from = no_right (apply_end_of c.scope ends.from).faults _ behind_edges in
+    let after_to = no_right (apply_end_of c.scope ends.to).faults _ after_from in (
+      used_visible c.scope edges (no_left (used_name c.scope edges).faults _ none),
       (
-        end_visible c.scope ends.from (no_left (end_of c.scope ends.from).faults _ behind_edges),
-        end_visible c.scope ends.to (no_left (end_of c.scope ends.to).faults _ after_from),
+        end_visible c.scope ends.from (no_left (apply_end_of c.scope ends.from).faults _ behind_edges),
+        end_visible c.scope ends.to (no_left (apply_end_of c.scope ends.to).faults _ after_from),
       ),
-      used_visible c.scope f (no_left (used c.scope f).faults _ after_to),
-      used_visible c.scope x (no_left (used c.scope x).faults _ (no_right (used c.scope f).faults _ after_to)),
+      used_visible c.scope f (no_left (used_name c.scope f).faults _ after_to),
+      used_visible c.scope x (no_left (used_name c.scope x).faults _ (no_right (used_name c.scope f).faults _ after_to)),
     )
 initializer_visible c at (source.Value e) none = expression_visible c.scope at e (no_left (value_of c.scope at e).faults [] none)
 
@@ -253,13 +253,13 @@ mutual
   step_visible c (source.Print at e) none = absurd (not_empty _ _ none)
   step_visible c (source.Assign name initial) none =
       let all = no_left (assign_step c name.at name initial).faults [] none in (
-        used_visible c.scope name (no_left (used c.scope name).faults _ all),
-        initializer_visible c name.at initial (no_left (initializer_of c name.at initial).faults _ (no_right (used c.scope name).faults _ all)),
+        used_visible c.scope name (no_left (used_name c.scope name).faults _ all),
+        initializer_visible c name.at initial (no_left (initializer_of c name.at initial).faults _ (no_right (used_name c.scope name).faults _ all)),
       )
   step_visible c (source.Reduce name by e) none =
       let all = no_left (reduce_step c.scope name.at name by e).faults [] none in (
-        used_visible c.scope name (no_left (used c.scope name).faults _ all),
-        expression_visible c.scope name.at e (no_left (value_of c.scope name.at e).faults _ (no_right (used c.scope name).faults _ all)),
+        used_visible c.scope name (no_left (used_name c.scope name).faults _ all),
+        expression_visible c.scope name.at e (no_left (value_of c.scope name.at e).faults _ (no_right (used_name c.scope name).faults _ all)),
       )
   step_visible c (source.SetEntry vector subscript e) none =
       let index = vector_index c.scope vector.at vector in
@@ -286,7 +286,7 @@ mutual
   steps_visible : (c : CheckerTree) (so_far : FunctionStatementsTree) (block : source.BlockTree) → (steps_typed c so_far block).faults ≡ [] → BlockUsesVisible (seen c.scope) block
   steps_visible c so_far source.Empty none = tt
   steps_visible c so_far (source.Then label action others) none =
-      let l = labelled c label in
+      let l = with_label c label in
       let s = step_typed l.value.1 action in
       let rest = steps_typed s.value.1 (step_after so_far s.value.0) others in
       let both = no_right l.faults (s.faults ++ rest.faults) none in
@@ -334,13 +334,13 @@ mutual
       expression_visible c.scope at e (no_left (value_of c.scope at e).faults _ (no_left (print c.scope at e).faults [] none))
   action_visible c (source.Assign name initial) none =
       let all = no_left (assign c name.at name initial).faults [] none in (
-        used_visible c.scope name (no_left (used c.scope name).faults _ all),
-        initializer_visible c name.at initial (no_left (initializer_of c name.at initial).faults _ (no_right (used c.scope name).faults _ all)),
+        used_visible c.scope name (no_left (used_name c.scope name).faults _ all),
+        initializer_visible c name.at initial (no_left (initializer_of c name.at initial).faults _ (no_right (used_name c.scope name).faults _ all)),
       )
   action_visible c (source.Reduce name by e) none =
       let all = no_left (reduce c.scope name.at name by e).faults [] none in (
-        used_visible c.scope name (no_left (used c.scope name).faults _ all),
-        expression_visible c.scope name.at e (no_left (value_of c.scope name.at e).faults _ (no_right (used c.scope name).faults _ all)),
+        used_visible c.scope name (no_left (used_name c.scope name).faults _ all),
+        expression_visible c.scope name.at e (no_left (value_of c.scope name.at e).faults _ (no_right (used_name c.scope name).faults _ all)),
       )
   action_visible c (source.SetEntry vector subscript e) none =
       let index = vector_index c.scope vector.at vector in
@@ -364,29 +364,29 @@ mutual
       )
   action_visible c (source.AddVertex set e) none =
       let all = no_left (add_vertex c.scope set.at set e).faults [] none in (
-        used_visible c.scope set (no_left (used c.scope set).faults _ all),
-        expression_visible c.scope set.at e (no_left (value_of c.scope set.at e).faults _ (no_right (used c.scope set).faults _ all)),
+        used_visible c.scope set (no_left (used_name c.scope set).faults _ all),
+        expression_visible c.scope set.at e (no_left (value_of c.scope set.at e).faults _ (no_right (used_name c.scope set).faults _ all)),
       )
   action_visible c (source.Apply target ends function) none =
       let all = no_left (apply c.scope target.at target ends function).faults [] none in
-      let after_target = no_right (used c.scope target).faults _ all in
-      let after_from = no_right (end_of c.scope ends.from).faults _ after_target in
-      let after_to = no_right (end_of c.scope ends.to).faults _ after_from in (
-        used_visible c.scope target (no_left (used c.scope target).faults _ all),
+      let after_target = no_right (used_name c.scope target).faults _ all in
+      let after_from = no_right (apply_end_of c.scope ends.from).faults _ after_target in
+      let after_to = no_right (apply_end_of c.scope ends.to).faults _ after_from in (
+        used_visible c.scope target (no_left (used_name c.scope target).faults _ all),
         (
-          end_visible c.scope ends.from (no_left (end_of c.scope ends.from).faults _ after_target),
-          end_visible c.scope ends.to (no_left (end_of c.scope ends.to).faults _ after_from),
+          end_visible c.scope ends.from (no_left (apply_end_of c.scope ends.from).faults _ after_target),
+          end_visible c.scope ends.to (no_left (apply_end_of c.scope ends.to).faults _ after_from),
         ),
-        used_visible c.scope function (no_left (used c.scope function).faults _ after_to),
+        used_visible c.scope function (no_left (used_name c.scope function).faults _ after_to),
       )
 
   statements_visible : (c : CheckerTree) (so_far : BlockTree) (block : source.BlockTree) → (statements_typed c so_far block).faults ≡ [] → BlockUsesVisible (seen c.scope) block
   statements_visible c so_far source.Empty none = tt
   statements_visible c so_far (source.Then label action others) none =
-      let l = labelled c label in
+      let l = with_label c label in
       let d = counted l.value.1 in
       let a = action_typed d action in
-      let more = behind so_far (suc l.value.1.statements) l.value.0 a.value.0 in
+      let more = then_statement so_far (suc l.value.1.statements) l.value.0 a.value.0 in
       let rest = statements_typed a.value.1 more others in
       let both = no_right l.faults (a.faults ++ rest.faults) none in
       let clear = no_left a.faults rest.faults both in

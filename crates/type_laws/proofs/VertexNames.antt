@@ -20,10 +20,10 @@ use Rattle.expression_types.specs.declared.scope.Entity.TheVariants as entity
 use Rattle.expression_types.specs.declared.scope.Inside.{Inside}
 use Rattle.expression_types.specs.declared.scope.Inside.TheVariants as inside
 use Rattle.expression_types.specs.Expression.{as_size, comparison_value, conjunction_value, conjuncts, disjuncts, factors, index_lacks_value, index_value, no_vertex, primary_value, sum_value}
-use Rattle.expression_types.specs.Expression.{summands, term_value, unary_value, used, value_of, vector_index}
+use Rattle.expression_types.specs.Expression.{summands, term_value, unary_value, used_name, value_of, vector_index}
 use Rattle.expression_types.specs.Faults.{WithFaults, fault_at, sure}
 use Rattle.expression_types.specs.Operators.{IntegersTree, Integers, MixedIntegers, ErrorIntegers, ConditionsTree, Conditions, MixedConditions, ErrorConditions, compared, condition_index, entry_value}
-use Rattle.expression_types.specs.Operators.{equated, first_condition, first_integer, function_entry, given, grouped_conditions, grouped_integers, main_entry, related_value, signed_value}
+use Rattle.expression_types.specs.Operators.{equated, first_condition, first_integer, function_entry, given_or_fault, grouped_conditions, grouped_integers, main_entry, related_value, signed_value}
 use Rattle.expression_types.specs.ScopeTree.{ScopeTree}
 use Rattle.expression_types.specs.ValueTree.{ValueTree, Integer, Condition, Vertex, Set, ErrorValue, condition_reads_entry, named_value, reads_entry}
 use Rattle.expression_types.specs.BareNames.{comparison_name, conjunction_name, primary_name, sum_name, term_name, unary_name}
@@ -43,7 +43,7 @@ abbrev MaybeVertex : (Endpoint → Type 0) → Option ValueTree → Type 0
 MaybeVertex So None = ⊥
 MaybeVertex So (Some v) = IsVertexSo So v
 
-given_vertex : (So : Endpoint → Type 0) (at : ℕ) (rule : TypeRule) (o : Option ValueTree) → IsVertexSo So (given at rule o).value → MaybeVertex So o
+given_vertex : (So : Endpoint → Type 0) (at : ℕ) (rule : TypeRule) (o : Option ValueTree) → IsVertexSo So (given_or_fault at rule o).value → MaybeVertex So o
 given_vertex So at rule None is = is
 given_vertex So at rule (Some v) is = is
 
@@ -148,7 +148,7 @@ pub record Names (At : Vertices) (i : Inside) (So : Endpoint → Type 0) (names 
   pub among : (p : Endpoint) (name : List ℕ) → So p → At p name → Contains names name
 
 entity_is_name : (At : Vertices) (So : Endpoint → Type 0) (names : List (List ℕ)) (at : ℕ) (name : List ℕ) (e : Entity)
-    → ((p : Endpoint) (name : List ℕ) → So p → At p name → Contains names name) → EntityIsKnown At name e → IsVertexSo So (given at rule.WrongType (named_value e)).value
+    → ((p : Endpoint) (name : List ℕ) → So p → At p name → Contains names name) → EntityIsKnown At name e → IsVertexSo So (given_or_fault at rule.WrongType (named_value e)).value
     → Contains names name
 entity_is_name At So names at name (entity.Parameter p) among known is = among p name is known
 entity_is_name At So names at name entity.Error among known is = absurd is
@@ -198,11 +198,11 @@ mutual
   primary_is_name scope at n (tree.Literal m) none is = is
   primary_is_name scope at n (tree.Truth b) none is = is
   primary_is_name {At = At} {i = i} {So = So} {names = names} scope at n (tree.Variable name) none is =
-      let e = used scope name in
+      let e = used_name scope name in
       entity_is_name At So names at name.bytes e.value n.among (used_known At i scope name n.known (no_left e.faults _ none)) is
   primary_is_name {So = So} scope at n (tree.Entry vector index) none is =
       entry_no_vertex So scope.inside at (vector_index scope at vector).value (index_value scope at index).value is
-  primary_is_name {So = So} scope at n (tree.Size set) none is = size_no_vertex So at (used scope set).value is
+  primary_is_name {So = So} scope at n (tree.Size set) none is = size_no_vertex So at (used_name scope set).value is
   primary_is_name scope at n (tree.Parentheses inside) none is = expression_is_name scope at n inside none is
 
 -- an index whose value is a vertex is a parameter's name too

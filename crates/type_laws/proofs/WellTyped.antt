@@ -18,15 +18,15 @@ use Rattle.expression_types.specs.declared.scope.Entity.{Entity}
 use Rattle.expression_types.specs.declared.scope.Entity.TheVariants as entity
 use Rattle.expression_types.specs.declared.scope.Inside.{Inside}
 use Rattle.expression_types.specs.declared.scope.Inside.TheVariants as inside
-use Rattle.expression_types.specs.Expression.{used, value_of, vector_index}
+use Rattle.expression_types.specs.Expression.{used_name, value_of, vector_index}
 use Rattle.expression_types.specs.Faults.{WithFaults, fault_at, sure, ◌>>=◌}
-use Rattle.expression_types.specs.ValueTree.{ValueTree, Integer, Condition, Vertex, Set, ErrorValue, is_error, named_set}
-use Rattle.types.specs.Checker.{CheckerTree, condition_slot, integer_slot, labelled, condition_in}
+use Rattle.expression_types.specs.ValueTree.{ValueTree, Integer, Condition, Vertex, Set, ErrorValue, is_error, entity_set}
+use Rattle.types.specs.Checker.{CheckerTree, condition_slot, integer_slot, with_label, condition_in}
 use Rattle.types.specs.Declaration.{DeclaredTree, FunctionKindTree, EdgeKind, VertexKind, FilterKind, NoKind, begins, declaration_typed, declarations_typed, declare_constant_as, has_all, inside_of}
-use Rattle.types.specs.Declaration.{is_bool, is_vertex, kind_fits, kind_of, literal_or_fault, loads, opened, steps_declared, wanted, is_int}
-use Rattle.types.specs.Initial.{ApplyEndTree, InitializerTree, Members, Loaded, Degrees, ErrorInitializer, edge_function, end_of, ends_given, filter_function, filter_named, filtered, filtered_by}
-use Rattle.types.specs.Initial.{initializer_of, is_all, is_degrees, is_edges, is_loaded, is_sound, names_error, is_error_end, is_wrong, loaded, modified, modified_by, new_set, of_edges, vector_of}
-use Rattle.types.specs.Initial.{writes_vector, lacks_weights}
+use Rattle.types.specs.Declaration.{is_bool_type, is_vertex_type, kind_fits, kind_of, literal_or_fault, loads, opened, steps_declared, wanted, is_int_type}
+use Rattle.types.specs.Initial.{ApplyEndTree, InitializerTree, Members, Loaded, Degrees, ErrorInitializer, edge_function, apply_end_of, ends_given, filter_function, filter_named, filtered_set}
+use Rattle.types.specs.Initial.{filtered_by, initializer_of, is_all, is_degrees, is_edges, is_loaded, is_sound, names_error, is_error_end, is_wrong, loaded, initial_modified, modified_by, new_set}
+use Rattle.types.specs.Initial.{of_edges, vector_of, writes_vector, lacks_weights}
 use Rattle.types.specs.Literal.{literal_condition, literal_integer}
 use Rattle.types.specs.Program.{opening, program_of, set_count}
 use Rattle.types.specs.Step.{declare_step_as, may_reduce, may_set, set_entry_step, step_after, step_typed, steps_after, steps_typed}
@@ -118,7 +118,7 @@ mutual
       → (steps_typed c so_far block).faults ≡ [] → BlockFits Sets Reduces block
   steps_fit_kind may c so_far source.Empty is none = tt
   steps_fit_kind may c so_far (source.Then label action others) is none =
-      let l = labelled c label in
+      let l = with_label c label in
       let s = step_typed l.value.1 action in
       let rest = steps_typed s.value.1 (step_after so_far s.value.0) others in
       let both = no_right l.faults (s.faults ++ rest.faults) none in
@@ -145,7 +145,7 @@ steps_declared_fit d at kind name parameters result body may none =
     let inner = no_right c.faults _ (no_right (kind_fits at kind).faults _ none) in
     steps_fit_kind may c.value NoStep body (opened_inside d.checker kind parameters result) (no_left b.faults _ inner)
 
-vertex_type : (type : DeclaredType) → is_vertex type ≡ true → type ≡ declared.Vertex
+vertex_type : (type : DeclaredType) → is_vertex_type type ≡ true → type ≡ declared.Vertex
 vertex_type declared.Int is = absurd (false_is_not_true is)
 vertex_type declared.Bool is = absurd (false_is_not_true is)
 vertex_type declared.Vertex is = refl
@@ -154,7 +154,7 @@ vertex_type declared.Vector is = absurd (false_is_not_true is)
 vertex_type declared.EdgeSet is = absurd (false_is_not_true is)
 vertex_type declared.WeightedEdgeSet is = absurd (false_is_not_true is)
 
-bool_type : (type : DeclaredType) → is_bool type ≡ true → type ≡ declared.Bool
+bool_type : (type : DeclaredType) → is_bool_type type ≡ true → type ≡ declared.Bool
 bool_type declared.Int is = absurd (false_is_not_true is)
 bool_type declared.Bool is = refl
 bool_type declared.Vertex is = absurd (false_is_not_true is)
@@ -163,31 +163,31 @@ bool_type declared.Vector is = absurd (false_is_not_true is)
 bool_type declared.EdgeSet is = absurd (false_is_not_true is)
 bool_type declared.WeightedEdgeSet is = absurd (false_is_not_true is)
 
-vertex_function_fits : (d : DeclaredTree) (at : ℕ) (name : Identifier) (v : ParameterTree) (body : source.BlockTree) (b : Bool) → is_vertex v.declared ≡ b
+vertex_function_fits : (d : DeclaredTree) (at : ℕ) (name : Identifier) (v : ParameterTree) (body : source.BlockTree) (b : Bool) → is_vertex_type v.declared ≡ b
     → (steps_declared d at (if b then VertexKind else NoKind) name (v ∷ []) None body).faults ≡ [] → FunctionFits (v ∷ []) None body
 vertex_function_fits d at name v body true is none = (vertex_type v.declared is, steps_declared_fit d at VertexKind name (v ∷ []) None body may_vertex none)
 vertex_function_fits d at name v body false is none = absurd (not_empty _ _ none)
 
-filter_fits : (d : DeclaredTree) (at : ℕ) (name : Identifier) (v result : ParameterTree) (body : source.BlockTree) (b : Bool) → (is_vertex v.declared && is_bool result.declared) ≡ b
+filter_fits : (d : DeclaredTree) (at : ℕ) (name : Identifier) (v result : ParameterTree) (body : source.BlockTree) (b : Bool) → (is_vertex_type v.declared && is_bool_type result.declared) ≡ b
     → (steps_declared d at (if b then FilterKind else NoKind) name (v ∷ []) (Some result) body).faults ≡ [] → FunctionFits (v ∷ []) (Some result) body
 filter_fits d at name v result body true is none =
-    let types = both_true (is_vertex v.declared) (is_bool result.declared) is in
+    let types = both_true (is_vertex_type v.declared) (is_bool_type result.declared) is in
     (vertex_type v.declared types.0, bool_type result.declared types.1, steps_declared_fit d at FilterKind name (v ∷ []) (Some result) body may_filter none)
 filter_fits d at name v result body false is none = absurd (not_empty _ _ none)
 
-edge_function_fits : (d : DeclaredTree) (at : ℕ) (name : Identifier) (src dst : ParameterTree) (body : source.BlockTree) (b : Bool) → (is_vertex src.declared && is_vertex dst.declared) ≡ b
+edge_function_fits : (d : DeclaredTree) (at : ℕ) (name : Identifier) (src dst : ParameterTree) (body : source.BlockTree) (b : Bool) → (is_vertex_type src.declared && is_vertex_type dst.declared) ≡ b
     → (steps_declared d at (if b then EdgeKind false else NoKind) name (src ∷ dst ∷ []) None body).faults ≡ [] → FunctionFits (src ∷ dst ∷ []) None body
 edge_function_fits d at name src dst body true is none =
-    let types = both_true (is_vertex src.declared) (is_vertex dst.declared) is in
+    let types = both_true (is_vertex_type src.declared) (is_vertex_type dst.declared) is in
     (vertex_type src.declared types.0, vertex_type dst.declared types.1, steps_declared_fit d at (EdgeKind false) name (src ∷ dst ∷ []) None body may_edge none)
 edge_function_fits d at name src dst body false is none = absurd (not_empty _ _ none)
 
 weighted_function_fits : (d : DeclaredTree) (at : ℕ) (name : Identifier) (src dst w : ParameterTree) (body : source.BlockTree) (b : Bool)
-    → (is_vertex src.declared && is_vertex dst.declared && is_int w.declared) ≡ b
+    → (is_vertex_type src.declared && is_vertex_type dst.declared && is_int_type w.declared) ≡ b
     → (steps_declared d at (if b then EdgeKind true else NoKind) name (src ∷ dst ∷ w ∷ []) None body).faults ≡ [] → FunctionFits (src ∷ dst ∷ w ∷ []) None body
 weighted_function_fits d at name src dst w body true is none =
-    let types = both_true (is_vertex src.declared && is_vertex dst.declared) (is_int w.declared) is in
-    let vertices = both_true (is_vertex src.declared) (is_vertex dst.declared) types.0 in (
+    let types = both_true (is_vertex_type src.declared && is_vertex_type dst.declared) (is_int_type w.declared) is in
+    let vertices = both_true (is_vertex_type src.declared) (is_vertex_type dst.declared) types.0 in (
       vertex_type src.declared vertices.0,
       vertex_type dst.declared vertices.1,
       int_type w.declared types.1,
@@ -198,12 +198,12 @@ weighted_function_fits d at name src dst w body false is none = absurd (not_empt
 function_fits : (d : DeclaredTree) (at : ℕ) (name : Identifier) (parameters : List ParameterTree) (result : Option ParameterTree) (body : source.BlockTree)
     → (steps_declared d at (kind_of parameters result) name parameters result body).faults ≡ [] → FunctionFits parameters result body
 function_fits d at name [] result body none = absurd (not_empty _ _ none)
-function_fits d at name (v ∷ []) None body none = vertex_function_fits d at name v body (is_vertex v.declared) refl none
-function_fits d at name (v ∷ []) (Some result) body none = filter_fits d at name v result body (is_vertex v.declared && is_bool result.declared) refl none
-function_fits d at name (src ∷ dst ∷ []) None body none = edge_function_fits d at name src dst body (is_vertex src.declared && is_vertex dst.declared) refl none
+function_fits d at name (v ∷ []) None body none = vertex_function_fits d at name v body (is_vertex_type v.declared) refl none
+function_fits d at name (v ∷ []) (Some result) body none = filter_fits d at name v result body (is_vertex_type v.declared && is_bool_type result.declared) refl none
+function_fits d at name (src ∷ dst ∷ []) None body none = edge_function_fits d at name src dst body (is_vertex_type src.declared && is_vertex_type dst.declared) refl none
 function_fits d at name (src ∷ dst ∷ []) (Some result) body none = absurd (not_empty _ _ none)
 function_fits d at name (src ∷ dst ∷ w ∷ []) None body none =
-    weighted_function_fits d at name src dst w body (is_vertex src.declared && is_vertex dst.declared && is_int w.declared) refl none
+    weighted_function_fits d at name src dst w body (is_vertex_type src.declared && is_vertex_type dst.declared && is_int_type w.declared) refl none
 function_fits d at name (src ∷ dst ∷ w ∷ []) (Some result) body none = absurd (not_empty _ _ none)
 function_fits d at name (x ∷ y ∷ z ∷ u ∷ others) result body none = absurd (not_empty _ _ none)
 
@@ -232,10 +232,10 @@ filtered_by_sound at None f none = absurd (not_empty _ _ none)
 filtered_by_sound at (Some slot) None none = absurd (not_empty _ _ none)
 filtered_by_sound at (Some slot) (Some index) none = refl
 
-filtered_sound : (at : ℕ) (s f : Entity) → names_error s ≡ false → names_error f ≡ false → IsSound (filtered at s f)
+filtered_sound : (at : ℕ) (s f : Entity) → names_error s ≡ false → names_error f ≡ false → IsSound (filtered_set at s f)
 filtered_sound at s f first second =
-    if_sound (names_error s || names_error f) (sure ErrorInitializer) (filtered_by at (named_set s) (filter_function f)) (neither_true (names_error s) (names_error f) first second)
-    (filtered_by_sound at (named_set s) (filter_function f))
+    if_sound (names_error s || names_error f) (sure ErrorInitializer) (filtered_by at (entity_set s) (filter_function f)) (neither_true (names_error s) (names_error f) first second)
+    (filtered_by_sound at (entity_set s) (filter_function f))
 
 end_is_known : (At : Vertices) (name : List ℕ) (e : Entity) → EntityIsKnown At name e → is_error_end (filter_named e) ≡ false
 end_is_known At name entity.Error known = absurd known
@@ -244,11 +244,11 @@ end_is_known At name (entity.SetVariable slot) known = refl
 end_is_known At name (entity.Filter index) known = refl
 end_is_known At name _ known = refl
 
-end_known : (At : Vertices) (i : Inside) (c : CheckerTree) (end : Option Identifier) → IsKnown At i c.scope → (end_of c.scope end).faults ≡ []
-    → is_error_end (end_of c.scope end).value ≡ false
+end_known : (At : Vertices) (i : Inside) (c : CheckerTree) (end : Option Identifier) → IsKnown At i c.scope → (apply_end_of c.scope end).faults ≡ []
+    → is_error_end (apply_end_of c.scope end).value ≡ false
 end_known At i c None known none = refl
 end_known At i c (Some name) known none =
-    let e = used c.scope name in end_is_known At name.bytes e.value (used_known At i c.scope name known (no_left e.faults [] none))
+    let e = used_name c.scope name in end_is_known At name.bytes e.value (used_known At i c.scope name known (no_left e.faults [] none))
 
 if_then : (b : Bool) (m : WithFaults InitializerTree) (at : ℕ) → IsSound m → IsSound (if b then m else fault_at at rule.WrongType ErrorInitializer)
 if_then true m at sound none = sound none
@@ -264,7 +264,7 @@ modified_by_sound c at ends (Some f) None none = absurd (not_empty _ _ none)
 modified_by_sound c at ends (Some f) (Some v) none = if_first (writes_vector c.written f v) (Members (set.Modified ends f v)) at refl none
 
 modified_sound : (c : CheckerTree) (at : ℕ) (edges : Entity) (a b : ApplyEndTree) (f v : Entity) → names_error edges ≡ false → is_error_end a ≡ false → is_error_end b ≡ false → names_error f ≡ false
-    → names_error v ≡ false → IsSound (modified c at edges a b f v)
+    → names_error v ≡ false → IsSound (initial_modified c at edges a b f v)
 modified_sound c at edges a b f v first second third fourth fifth =
     let by = modified_by c at (ends_given a b) (edge_function f) (vector_of v) in
     let between = if is_wrong a || is_wrong b || lacks_weights edges f then fault_at at rule.WrongType ErrorInitializer else by in
@@ -297,26 +297,26 @@ initializer_sound : (c : CheckerTree) (at : ℕ) (initial : InitialTree) → IsK
 initializer_sound c at (source.NewSet size) known none = new_set_sound at size none
 initializer_sound c at (source.Load argument) known none = loaded_sound at argument none
 initializer_sound c at (source.Vertices edges) known none =
-    let e = used c.scope edges in
+    let e = used_name c.scope edges in
     let clear = clear_entity nowhere edges.bytes e.value (used_known nowhere inside.Main c.scope edges known (no_left e.faults _ none)) in
     of_edges_sound at (Members set.All) e.value refl clear (no_right e.faults _ none)
 initializer_sound c at (source.OutDegrees edges) known none =
-    let e = used c.scope edges in
+    let e = used_name c.scope edges in
     let clear = clear_entity nowhere edges.bytes e.value (used_known nowhere inside.Main c.scope edges known (no_left e.faults _ none)) in
     of_edges_sound at Degrees e.value refl clear (no_right e.faults _ none)
 initializer_sound c at (source.Filter s f) known none =
-    let a = used c.scope s in
-    let b = used c.scope f in
+    let a = used_name c.scope s in
+    let b = used_name c.scope f in
     let behind = no_right a.faults _ none in
     let first = clear_entity nowhere s.bytes a.value (used_known nowhere inside.Main c.scope s known (no_left a.faults _ none)) in
     let second = clear_entity nowhere f.bytes b.value (used_known nowhere inside.Main c.scope f known (no_left b.faults _ behind)) in
     filtered_sound at a.value b.value first second (no_right b.faults _ behind)
 initializer_sound c at (source.ApplyModified edges ends f v) known none =
-    let e = used c.scope edges in
-    let a = end_of c.scope ends.from in
-    let b = end_of c.scope ends.to in
-    let g = used c.scope f in
-    let x = used c.scope v in
+    let e = used_name c.scope edges in
+    let a = apply_end_of c.scope ends.from in
+    let b = apply_end_of c.scope ends.to in
+    let g = used_name c.scope f in
+    let x = used_name c.scope v in
     let behind_edges = no_right e.faults _ none in
     let after_from = no_right a.faults _ behind_edges in
     let after_to = no_right b.faults _ after_from in
@@ -357,9 +357,9 @@ filtered_by_not Q at (Some slot) None broken other = broken
 filtered_by_not Q at (Some slot) (Some index) broken other = other slot index
 
 filtered_not : (Q : InitializerTree → Bool) (at : ℕ) (s f : Entity) → Q ErrorInitializer ≡ false → ((slot : VarRef) (index : ℕ) → Q (Members (set.Filter slot index)) ≡ false)
-    → Q (filtered at s f).value ≡ false
+    → Q (filtered_set at s f).value ≡ false
 filtered_not Q at s f broken other =
-    if_not Q (names_error s || names_error f) (sure ErrorInitializer) (filtered_by at (named_set s) (filter_function f)) broken (filtered_by_not Q at (named_set s) (filter_function f) broken other)
+    if_not Q (names_error s || names_error f) (sure ErrorInitializer) (filtered_by at (entity_set s) (filter_function f)) broken (filtered_by_not Q at (entity_set s) (filter_function f) broken other)
 
 modified_by_not : (Q : InitializerTree → Bool) (c : CheckerTree) (at : ℕ) (ends : ApplyEnds) (f v : Option ℕ) → Q ErrorInitializer ≡ false
     → ((ends : ApplyEnds) (f v : ℕ) → Q (Members (set.Modified ends f v)) ≡ false)
@@ -370,7 +370,7 @@ modified_by_not Q c at ends (Some f) (Some v) broken other =
     if_not Q (writes_vector c.written f v) (sure (Members (set.Modified ends f v))) (fault_at at rule.WrongType ErrorInitializer) (other ends f v) broken
 
 modified_not : (Q : InitializerTree → Bool) (c : CheckerTree) (at : ℕ) (edges : Entity) (a b : ApplyEndTree) (f v : Entity) → Q ErrorInitializer ≡ false
-    → ((ends : ApplyEnds) (f v : ℕ) → Q (Members (set.Modified ends f v)) ≡ false) → Q (modified c at edges a b f v).value ≡ false
+    → ((ends : ApplyEnds) (f v : ℕ) → Q (Members (set.Modified ends f v)) ≡ false) → Q (initial_modified c at edges a b f v).value ≡ false
 modified_not Q c at edges a b f v broken other =
     let by = modified_by c at (ends_given a b) (edge_function f) (vector_of v) in
     let wrong = fault_at at rule.WrongType ErrorInitializer in
@@ -391,11 +391,12 @@ load_argument at (negsuc n) is = absurd (false_is_not_true is)
 initializer_is_load : (c : CheckerTree) (at : ℕ) (initial : InitialTree) → is_loaded (initializer_of c at initial).value ≡ true → IsLoaded initial
 initializer_is_load c at (source.NewSet size) is = clash _ (new_set_not is_loaded at size refl refl) is
 initializer_is_load c at (source.Load argument) is = load_argument at argument is
-initializer_is_load c at (source.Vertices edges) is = clash _ (of_edges_not is_loaded at (Members set.All) (used c.scope edges).value refl refl) is
-initializer_is_load c at (source.OutDegrees edges) is = clash _ (of_edges_not is_loaded at Degrees (used c.scope edges).value refl refl) is
-initializer_is_load c at (source.Filter s f) is = clash _ (filtered_not is_loaded at (used c.scope s).value (used c.scope f).value refl (λ slot index. refl)) is
+initializer_is_load c at (source.Vertices edges) is = clash _ (of_edges_not is_loaded at (Members set.All) (used_name c.scope edges).value refl refl) is
+initializer_is_load c at (source.OutDegrees edges) is = clash _ (of_edges_not is_loaded at Degrees (used_name c.scope edges).value refl refl) is
+initializer_is_load c at (source.Filter s f) is = clash _ (filtered_not is_loaded at (used_name c.scope s).value (used_name c.scope f).value refl (λ slot index. refl)) is
 initializer_is_load c at (source.ApplyModified edges ends f v) is =
-    clash _ (modified_not is_loaded c at (used c.scope edges).value (end_of c.scope ends.from).value (end_of c.scope ends.to).value (used c.scope f).value (used c.scope v).value refl
+    clash _ (modified_not is_loaded c at (used_name c.scope edges).value (apply_end_of c.scope ends.from).value (apply_end_of c.scope ends.to).value (used_name c.scope f).value
+    (used_name c.scope v).value refl
     (λ ends f v. refl)) is
 initializer_is_load c at (source.Value e) is = false_is_not_true is
 
@@ -403,21 +404,23 @@ initializer_is_all : (c : CheckerTree) (at : ℕ) (initial : InitialTree) → is
 initializer_is_all c at (source.NewSet size) is = clash _ (new_set_not is_all at size refl refl) is
 initializer_is_all c at (source.Load argument) is = clash _ (loaded_not is_all at argument refl refl) is
 initializer_is_all c at (source.Vertices edges) is = tt
-initializer_is_all c at (source.OutDegrees edges) is = clash _ (of_edges_not is_all at Degrees (used c.scope edges).value refl refl) is
-initializer_is_all c at (source.Filter s f) is = clash _ (filtered_not is_all at (used c.scope s).value (used c.scope f).value refl (λ slot index. refl)) is
+initializer_is_all c at (source.OutDegrees edges) is = clash _ (of_edges_not is_all at Degrees (used_name c.scope edges).value refl refl) is
+initializer_is_all c at (source.Filter s f) is = clash _ (filtered_not is_all at (used_name c.scope s).value (used_name c.scope f).value refl (λ slot index. refl)) is
 initializer_is_all c at (source.ApplyModified edges ends f v) is =
-    clash _ (modified_not is_all c at (used c.scope edges).value (end_of c.scope ends.from).value (end_of c.scope ends.to).value (used c.scope f).value (used c.scope v).value refl
+    clash _ (modified_not is_all c at (used_name c.scope edges).value (apply_end_of c.scope ends.from).value (apply_end_of c.scope ends.to).value (used_name c.scope f).value
+    (used_name c.scope v).value refl
     (λ ends f v. refl)) is
 initializer_is_all c at (source.Value e) is = false_is_not_true is
 
 initializer_is_degrees : (c : CheckerTree) (at : ℕ) (initial : InitialTree) → is_degrees (initializer_of c at initial).value ≡ true → IsOutDegrees initial
 initializer_is_degrees c at (source.NewSet size) is = clash _ (new_set_not is_degrees at size refl refl) is
 initializer_is_degrees c at (source.Load argument) is = clash _ (loaded_not is_degrees at argument refl refl) is
-initializer_is_degrees c at (source.Vertices edges) is = clash _ (of_edges_not is_degrees at (Members set.All) (used c.scope edges).value refl refl) is
+initializer_is_degrees c at (source.Vertices edges) is = clash _ (of_edges_not is_degrees at (Members set.All) (used_name c.scope edges).value refl refl) is
 initializer_is_degrees c at (source.OutDegrees edges) is = tt
-initializer_is_degrees c at (source.Filter s f) is = clash _ (filtered_not is_degrees at (used c.scope s).value (used c.scope f).value refl (λ slot index. refl)) is
+initializer_is_degrees c at (source.Filter s f) is = clash _ (filtered_not is_degrees at (used_name c.scope s).value (used_name c.scope f).value refl (λ slot index. refl)) is
 initializer_is_degrees c at (source.ApplyModified edges ends f v) is =
-    clash _ (modified_not is_degrees c at (used c.scope edges).value (end_of c.scope ends.from).value (end_of c.scope ends.to).value (used c.scope f).value (used c.scope v).value refl
+    clash _ (modified_not is_degrees c at (used_name c.scope edges).value (apply_end_of c.scope ends.from).value (apply_end_of c.scope ends.to).value (used_name c.scope f).value
+    (used_name c.scope v).value refl
     (λ ends f v. refl)) is
 initializer_is_degrees c at (source.Value e) is = false_is_not_true is
 

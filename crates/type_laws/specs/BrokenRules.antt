@@ -16,13 +16,13 @@ use Rattle.expression_types.specs.declared.scope.Entity.{Entity}
 use Rattle.expression_types.specs.declared.scope.Entity.TheVariants as entity
 use Rattle.expression_types.specs.declared.scope.Inside.{Inside}
 use Rattle.expression_types.specs.declared.scope.Inside.TheVariants as inside
-use Rattle.expression_types.specs.Expression.{index_value, used, value_of, vector_index}
+use Rattle.expression_types.specs.Expression.{index_value, used_name, value_of, vector_index}
 use Rattle.expression_types.specs.Faults.{number_of}
 use Rattle.expression_types.specs.ScopeTree.{found}
-use Rattle.expression_types.specs.ValueTree.{ValueTree, Integer, Condition, Vertex, Set, ErrorValue, is_error, named_set, named_vector}
+use Rattle.expression_types.specs.ValueTree.{ValueTree, Integer, Condition, Vertex, Set, ErrorValue, is_error, entity_set, named_vector}
 use Rattle.types.specs.Checker.{CheckerTree}
 use Rattle.types.specs.Declaration.{DeclaredTree, FunctionKindTree, NoKind, declarations_typed, kind}
-use Rattle.types.specs.Initial.{ApplyEndTree, InitializerTree, Typed, Members, Loaded, Degrees, ErrorInitializer, edge_function, end_of, filter_function}
+use Rattle.types.specs.Initial.{ApplyEndTree, InitializerTree, Typed, Members, Loaded, Degrees, ErrorInitializer, edge_function, apply_end_of, filter_function}
 use Rattle.types.specs.Initial.{initializer_of, is_all, is_degrees, is_edges, is_loaded, is_sound, is_wrong, lacks_weights, names_error, vector_of}
 use Rattle.types.specs.Initial.{vertex_function, writes_vector}
 use Rattle.types.specs.Literal.{literal_condition, literal_integer}
@@ -102,17 +102,17 @@ reduces (entity.IntegerVariable slot) v = may_be_int v
 reduces entity.Error v = true
 reduces _ v = false
 
-abbrev pub adds : Entity → ValueTree → Bool
-adds (entity.SetVariable slot) v = may_be_int v
-adds entity.Error v = true
-adds _ v = false
+abbrev pub may_add : Entity → ValueTree → Bool
+may_add (entity.SetVariable slot) v = may_be_int v
+may_add entity.Error v = true
+may_add _ v = false
 
 -- an edge function is applied to the edges, with ends that are sets or filters, and a vertex function to a set without ends
 abbrev pub applies : Entity → ApplyEndTree → ApplyEndTree → (ends : Bool) → Entity → Bool
 applies t a b ends f =
     names_error t
     || (if is_edges t then not (is_wrong a || is_wrong b || lacks_weights t f) && (names_error f || is_some (edge_function f))
-    else is_some (named_set t) && (not ends && (names_error f || is_some (vertex_function f))))
+    else is_some (entity_set t) && (not ends && (names_error f || is_some (vertex_function f))))
 
 -- the vector after `applyModified` is one that the edge function writes
 abbrev pub modifies : List (List (ℕ × Reduction)) → Option ℕ → Option ℕ → Bool
@@ -125,24 +125,24 @@ is_zero (pos zero) = true
 is_zero (pos (suc n)) = false
 is_zero (negsuc n) = false
 
-abbrev pub is_one : ℤ → Bool
-is_one (pos zero) = false
-is_one (pos (suc zero)) = true
-is_one (pos (suc (suc n))) = false
-is_one (negsuc n) = false
+abbrev pub is_unit_weight : ℤ → Bool
+is_unit_weight (pos zero) = false
+is_unit_weight (pos (suc zero)) = true
+is_unit_weight (pos (suc (suc n))) = false
+is_unit_weight (negsuc n) = false
 
 -- an initial value of the kinds that there are, whose names are what it takes
 abbrev pub is_initial : CheckerTree → ℕ → InitialTree → Bool
 is_initial c at (source.NewSet size) = is_zero size
-is_initial c at (source.Load argument) = is_one argument
-is_initial c at (source.Vertices edges) = is_edges (used c.scope edges).value
-is_initial c at (source.OutDegrees edges) = is_edges (used c.scope edges).value
-is_initial c at (source.Filter set test) = is_some (named_set (used c.scope set).value) && is_some (filter_function (used c.scope test).value)
+is_initial c at (source.Load argument) = is_unit_weight argument
+is_initial c at (source.Vertices edges) = is_edges (used_name c.scope edges).value
+is_initial c at (source.OutDegrees edges) = is_edges (used_name c.scope edges).value
+is_initial c at (source.Filter set test) = is_some (entity_set (used_name c.scope set).value) && is_some (filter_function (used_name c.scope test).value)
 is_initial c at (source.ApplyModified edges ends function vector) =
-    let e = (used c.scope edges).value in
-    let f = (used c.scope function).value in
-    is_edges e && (not (is_wrong (end_of c.scope ends.from).value || is_wrong (end_of c.scope ends.to).value || lacks_weights e f)
-    && modifies c.written (edge_function f) (vector_of (used c.scope vector).value))
+    let e = (used_name c.scope edges).value in
+    let f = (used_name c.scope function).value in
+    is_edges e && (not (is_wrong (apply_end_of c.scope ends.from).value || is_wrong (apply_end_of c.scope ends.to).value || lacks_weights e f)
+    && modifies c.written (edge_function f) (vector_of (used_name c.scope vector).value))
 is_initial c at (source.Value e) = true
 
 -- a constant begins with a literal, all vertices, the edges of the file or the out-degrees, as its type says
@@ -203,19 +203,20 @@ redeclares _ = false
 abbrev pub main_statement_fits : CheckerTree → StatementKindTree → Bool
 main_statement_fits c (source.Declare at p initial) = declares_in_main p.declared (initializer_of c at initial).value
 main_statement_fits c (source.Print at e) = may_be_int (value_of c.scope at e).value || may_be_bool (value_of c.scope at e).value
-main_statement_fits c (source.Assign name initial) = assigns_in_main (used c.scope name).value (initializer_of c name.at initial).value
-main_statement_fits c (source.Reduce name by e) = reduces (used c.scope name).value (value_of c.scope name.at e).value
-main_statement_fits c (source.AddVertex set e) = adds (used c.scope set).value (value_of c.scope set.at e).value
+main_statement_fits c (source.Assign name initial) = assigns_in_main (used_name c.scope name).value (initializer_of c name.at initial).value
+main_statement_fits c (source.Reduce name by e) = reduces (used_name c.scope name).value (value_of c.scope name.at e).value
+main_statement_fits c (source.AddVertex set e) = may_add (used_name c.scope set).value (value_of c.scope set.at e).value
 main_statement_fits c (source.Apply target ends function) =
-    applies (used c.scope target).value (end_of c.scope ends.from).value (end_of c.scope ends.to).value (has_ends ends) (used c.scope function).value
+    applies (used_name c.scope target).value (apply_end_of c.scope ends.from).value (apply_end_of c.scope ends.to).value (has_ends ends)
+    (used_name c.scope function).value
 main_statement_fits c _ = true
 
 abbrev pub function_statement_fits : CheckerTree → StatementKindTree → Bool
 function_statement_fits c (source.Declare at p initial) = declares_in_function p.declared (initializer_of c at initial).value
 function_statement_fits c (source.While at test body) = false
 function_statement_fits c (source.For at name first limit body) = false
-function_statement_fits c (source.Assign name initial) = assigns_in_function (used c.scope name).value (initializer_of c name.at initial).value
-function_statement_fits c (source.Reduce name by e) = reduces (used c.scope name).value (value_of c.scope name.at e).value
+function_statement_fits c (source.Assign name initial) = assigns_in_function (used_name c.scope name).value (initializer_of c name.at initial).value
+function_statement_fits c (source.Reduce name by e) = reduces (used_name c.scope name).value (value_of c.scope name.at e).value
 function_statement_fits c (source.SetEntry vector index e) = not (is_filter c.scope.inside)
 function_statement_fits c (source.ReduceEntry vector index by e) = not (is_filter c.scope.inside)
 function_statement_fits c (source.AddVertex set e) = false
@@ -233,7 +234,7 @@ has_wrong_type (FunctionStatement c action) = not (function_statement_fits c act
 has_wrong_type (Initial c at x) = not (any_faulty c.scope at (initial_forms x) || is_initial c at x)
 has_wrong_type (IntWanted scope at e) = not (may_be_int (value_of scope at e).value)
 has_wrong_type (BoolWanted scope at e) = not (may_be_bool (value_of scope at e).value)
-has_wrong_type (VectorWanted scope at name) = not (names_error (used scope name).value || is_some (named_vector (used scope name).value))
+has_wrong_type (VectorWanted scope at name) = not (names_error (used_name scope name).value || is_some (named_vector (used_name scope name).value))
 has_wrong_type (MainIndex scope at e) = not (may_be_int (value_of scope at e).value)
 has_wrong_type (InExpression scope at form) = not (any_faulty scope at (parts scope form)) && breaks_types scope at form
 has_wrong_type _ = false

@@ -6,7 +6,7 @@ use Rattle.syntax.specs.SourceTrees.{ExpressionTree, ConjunctionTree, Comparison
 use Rattle.syntax.specs.SourceTrees.{StatementKindTree, BlockTree, DeclarationTree}
 use Rattle.syntax.specs.SourceTrees as source
 use Rattle.syntax.specs.Terminals.{Identifier}
-use Rattle.expression_types.specs.BareNames.{bare_name}
+use Rattle.expression_types.specs.BareNames.{lone_name}
 use Rattle.types.specs.Declaration.{main_bytes}
 
 -- the expression is one of the names, alone or in parentheses
@@ -15,7 +15,7 @@ IsAmong names None = ⊥
 IsAmong names (Some name) = Contains names name.bytes
 
 abbrev pub IsNameAmong : List (List ℕ) → ExpressionTree → Type 0
-IsNameAmong names e = IsAmong names (bare_name e)
+IsNameAmong names e = IsAmong names (lone_name e)
 
 abbrev mutual
   -- there is no entry of a vector in the expression

@@ -5,7 +5,7 @@ use Rattle.syntax.specs.SourceTrees as tree
 use Rattle.syntax.specs.SourceTrees.{ExpressionTree, ConjunctionTree, ComparisonTree, SumTree, TermTree, UnaryTree, PrimaryTree}
 use Rattle.expression_types.specs.declared.fault.Fault.{Fault}
 use Rattle.expression_types.specs.Expression.{comparison_value, conjunction_value, index_lacks_value, index_value, primary_value, sum_value, term_value}
-use Rattle.expression_types.specs.Expression.{unary_value, used, value_of}
+use Rattle.expression_types.specs.Expression.{unary_value, used_name, value_of}
 use Rattle.expression_types.specs.ScopeTree.{ScopeTree}
 use Rattle.expression_types.specs.ValueTree.{is_error}
 use Rattle.types.specs.Initial.{names_error}
@@ -68,7 +68,7 @@ form_faults scope at (Term t) = (term_value scope at t).faults
 form_faults scope at (Unary u) = (unary_value scope at u).faults
 form_faults scope at (Primary e) = (primary_value scope at e).faults
 form_faults scope at (Index index) = (index_value scope at index).faults
-form_faults scope at (Name name) = (used scope name).faults
+form_faults scope at (Name name) = (used_name scope name).faults
 
 -- it has a fault, or a name in it has a faulty declaration
 abbrev pub is_faulty : ScopeTree → ℕ → Form → Bool
@@ -80,7 +80,7 @@ is_faulty scope at (Term t) = is_error (term_value scope at t).value
 is_faulty scope at (Unary u) = is_error (unary_value scope at u).value
 is_faulty scope at (Primary e) = is_error (primary_value scope at e).value
 is_faulty scope at (Index index) = is_error (index_value scope at index).value
-is_faulty scope at (Name name) = names_error (used scope name).value
+is_faulty scope at (Name name) = names_error (used_name scope name).value
 
 -- the faults of several forms, from the left
 abbrev pub faults_of_all : ScopeTree → ℕ → List Form → List Fault

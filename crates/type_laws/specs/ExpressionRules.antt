@@ -10,11 +10,11 @@ use Rattle.expression_types.specs.declared.fault.TypeRule.{TypeRule}
 use Rattle.expression_types.specs.declared.fault.TypeRule.TheVariants as rule
 use Rattle.expression_types.specs.declared.scope.Inside.{Inside}
 use Rattle.expression_types.specs.declared.scope.Inside.TheVariants as inside
-use Rattle.expression_types.specs.Expression.{comparison_value, conjunction_value, index_value, primary_value, sum_value, term_value, unary_value, used}
+use Rattle.expression_types.specs.Expression.{comparison_value, conjunction_value, index_value, primary_value, sum_value, term_value, unary_value, used_name}
 use Rattle.expression_types.specs.Expression.{value_of}
 use Rattle.expression_types.specs.ScopeTree.{found, ScopeTree}
 use Rattle.expression_types.specs.ValueTree.{ValueTree, Integer, Condition, Vertex, Set, ErrorValue, as_condition, as_integer, as_vertex, condition_reads_entry}
-use Rattle.expression_types.specs.ValueTree.{named_set, named_value, named_vector, reads_entry}
+use Rattle.expression_types.specs.ValueTree.{entity_set, named_value, named_vector, reads_entry}
 use Rattle.type_laws.specs.ExpressionParts.{Form, Expression, Conjunction, Comparison, Sum, Term, Unary, Primary, Index, Name, any_faulty, parts}
 
 -- the value of a form; a name alone has none
@@ -101,10 +101,10 @@ breaks_types scope at (Unary (tree.Bare e)) = false
 breaks_types scope at (Unary (tree.Signed sign u)) = not (takes_sign sign (form_value scope at (Unary u)))
 breaks_types scope at (Primary (tree.Literal n)) = false
 breaks_types scope at (Primary (tree.Truth b)) = false
-breaks_types scope at (Primary (tree.Variable name)) = not (is_some (named_value (used scope name).value))
+breaks_types scope at (Primary (tree.Variable name)) = not (is_some (named_value (used_name scope name).value))
 breaks_types scope at (Primary (tree.Entry vector index)) =
-    not (is_some (named_vector (used scope vector).value) && takes_index scope.inside (form_value scope at (Index index)))
-breaks_types scope at (Primary (tree.Size set)) = not (is_some (named_set (used scope set).value))
+    not (is_some (named_vector (used_name scope vector).value) && takes_index scope.inside (form_value scope at (Index index)))
+breaks_types scope at (Primary (tree.Size set)) = not (is_some (entity_set (used_name scope set).value))
 breaks_types scope at (Primary (tree.Parentheses inside)) = false
 breaks_types scope at (Index index) = false
 breaks_types scope at (Name name) = false
@@ -112,7 +112,7 @@ breaks_types scope at (Name name) = false
 -- 226: an entry of a vector is read at an index that may stand there
 abbrev pub breaks_indexes : ScopeTree → ℕ → Form → Bool
 breaks_indexes scope at (Primary (tree.Entry vector index)) =
-    is_some (named_vector (used scope vector).value) && not (may_be_index scope.inside (form_value scope at (Index index)))
+    is_some (named_vector (used_name scope vector).value) && not (may_be_index scope.inside (form_value scope at (Index index)))
 breaks_indexes scope at _ = false
 
 -- a form without a faulty part breaks a rule; the other rules are of statements, of declarations and of the whole text

@@ -109,8 +109,8 @@ abbrev mutual
   PrimaryHas names i (tree.Parentheses inside) type = ExpressionHas names i inside type
 
 -- a number, or a vertex in its place
-abbrev pub IsNumber : Meanings → Inside → ExpressionTree → Type 0
-IsNumber names i e = ReadsAsNumber (ExpressionHas names i e)
+abbrev pub IsNumberExpression : Meanings → Inside → ExpressionTree → Type 0
+IsNumberExpression names i e = ReadsAsNumber (ExpressionHas names i e)
 
 abbrev pub IsTruth : Meanings → Inside → ExpressionTree → Type 0
 IsTruth names i e = ExpressionHas names i e Truth

@@ -1,6 +1,6 @@
 -- Kept rules: sources that break no rule of types, said over the source alone, one case for each form of the language.
-use Rattle.std.specs.Prelude.{[], ◌≡◌, ◌≢◌, ◌⊎◌, ℕ, suc, pos, Bool, true, false, nat_eq, List, ◌∷◌, ◌++◌, length, if◌then◌else◌, slice_index_or, Option, Some, None}
-use Rattle.std.specs.Prelude.{IsSome}
+use Rattle.std.specs.Prelude.{[], ◌≡◌, ◌≢◌, ◌⊎◌, ℕ, suc, pos, Bool, true, false, nat_eq, List, ◌∷◌, ◌++◌, length, if◌then◌else◌, slice_index_or, Option, Some}
+use Rattle.std.specs.Prelude.{None, IsSome}
 use Rattle.std.specs.Str.{bytes_eq}
 use Rattle.std.specs.Map.{lookup}
 use Rattle.apply_options.specs.declared.reduction.Reduction.{Reduction}
@@ -15,8 +15,8 @@ use Rattle.expression_types.specs.declared.scope.Inside.TheVariants as inside
 use Rattle.types.specs.Declaration.{main_bytes}
 use Rattle.types.specs.Literal.{literal_condition, literal_integer}
 use Rattle.type_laws.specs.EntryAccess.{HasNoEntry}
-use Rattle.type_laws.specs.ExpressionTypes.{ExpressionHas, IsNumber, IsTruth, IsVectorName, NameHas, Set, Vertex}
-use Rattle.type_laws.specs.Meanings.{Known, IsNew, LabelIsNew, Meaning, Meanings, Means, MeansEdges, known_after, known_behind, labelled_known, with_name}
+use Rattle.type_laws.specs.ExpressionTypes.{ExpressionHas, IsNumberExpression, IsTruth, IsVectorName, NameHas, Set, Vertex}
+use Rattle.type_laws.specs.Meanings.{Known, IsNew, LabelIsNew, Meaning, Meanings, Means, MeansEdges, known_after, known_behind, labelled_known, with_meaning}
 use Rattle.type_laws.specs.Meanings as meaning
 
 -- initial and assigned values
@@ -27,7 +27,7 @@ GivesNumber names i (source.Vertices edges) = ⊥
 GivesNumber names i (source.OutDegrees edges) = ⊥
 GivesNumber names i (source.Filter set test) = ⊥
 GivesNumber names i (source.ApplyModified edges ends function vector) = ⊥
-GivesNumber names i (source.Value e) = IsNumber names i e
+GivesNumber names i (source.Value e) = IsNumberExpression names i e
 
 abbrev pub GivesTruth : Meanings → Inside → InitialTree → Type 0
 GivesTruth names i (source.NewSet size) = ⊥
@@ -121,7 +121,7 @@ MayReduce inside.Filter k vector by = ⊥
 
 -- an index at which an entry is written
 abbrev pub WrittenAt : Inside → Meanings → ExpressionTree → Type 0
-WrittenAt inside.Main names index = IsNumber names inside.Main index × HasNoEntry index
+WrittenAt inside.Main names index = IsNumberExpression names inside.Main index × HasNoEntry index
 WrittenAt inside.EdgeFunction names index = ExpressionHas names inside.EdgeFunction index (Vertex endpoint.Destination)
 WrittenAt inside.VertexFunction names index = ExpressionHas names inside.VertexFunction index (Vertex endpoint.Source)
 WrittenAt inside.Filter names index = ⊥
@@ -131,7 +131,7 @@ pub record ReducesEntry (i : Inside) (k : Known) (vector : Identifier) (subscrip
   pub means : Means k.names vector (meaning.Vector index)
   pub may : MayReduce i k index by
   pub at : WrittenAt i k.names subscript
-  pub value : IsNumber k.names i e
+  pub value : IsNumberExpression k.names i e
 
 -- what main alone may hold
 abbrev pub IsMain : Inside → Type 0
@@ -146,16 +146,17 @@ abbrev mutual
   ActionKeeps i k (source.Declare at p initial) = VariableFits i k p.declared initial × IsNew k p.name
   ActionKeeps i k (source.While at test body) = IsMain i × IsTruth k.names i test × BlockKeeps i k body
   ActionKeeps i k (source.For at name first limit body) =
-      IsMain i × IsNumber k.names i first × IsNumber k.names i limit × IsNew k name × BlockKeeps i (with_name k name meaning.LoopName) body
+      IsMain i × IsNumberExpression k.names i first × IsNumberExpression k.names i limit × IsNew k name
+      × BlockKeeps i (with_meaning k name meaning.LoopName) body
   ActionKeeps i k (source.If at test body) = IsTruth k.names i test × BlockKeeps i k body
   ActionKeeps i k (source.IfElse at test body otherwise) =
       IsTruth k.names i test × BlockKeeps i k body × BlockKeeps i (meaning.closed_known k (known_after i k body)) otherwise
-  ActionKeeps i k (source.Print at e) = IsMain i × (IsNumber k.names i e ⊎ IsTruth k.names i e)
+  ActionKeeps i k (source.Print at e) = IsMain i × (IsNumberExpression k.names i e ⊎ IsTruth k.names i e)
   ActionKeeps i k (source.Assign name initial) = AssignFits i k name initial
-  ActionKeeps i k (source.Reduce name by e) = Means k.names name meaning.NumberVariable × IsNumber k.names i e
-  ActionKeeps i k (source.SetEntry vector index e) = MaySet i × IsVectorName k.names vector × WrittenAt i k.names index × IsNumber k.names i e
+  ActionKeeps i k (source.Reduce name by e) = Means k.names name meaning.NumberVariable × IsNumberExpression k.names i e
+  ActionKeeps i k (source.SetEntry vector index e) = MaySet i × IsVectorName k.names vector × WrittenAt i k.names index × IsNumberExpression k.names i e
   ActionKeeps i k (source.ReduceEntry vector index by e) = ReducesEntry i k vector index by e
-  ActionKeeps i k (source.AddVertex set e) = IsMain i × Means k.names set meaning.SetVariable × IsNumber k.names i e
+  ActionKeeps i k (source.AddVertex set e) = IsMain i × Means k.names set meaning.SetVariable × IsNumberExpression k.names i e
   ActionKeeps i k (source.Apply target ends function) = IsMain i × ApplyFits k target ends function
 
   pub BlockKeeps : Inside → Known → BlockTree → Type 0
@@ -204,7 +205,7 @@ edges_after _ b = b
 
 abbrev pub after_constant : Declarations → ParameterTree → Declarations
 after_constant d p = record {
-  known = with_name d.known p.name (constant_meaning d.vectors p.declared);
+  known = with_meaning d.known p.name (constant_meaning d.vectors p.declared);
   vectors = counted_vectors p.declared d.vectors;
   edges = edges_after p.declared d.edges;
   main = d.main;
@@ -215,16 +216,16 @@ abbrev pub known_in_main : Known → Known
 known_in_main k = record k { reduced = [] }
 
 abbrev pub known_at_vertex : Known → ParameterTree → Known
-known_at_vertex k v = with_name (known_in_main k) v.name (meaning.Parameter endpoint.Source)
+known_at_vertex k v = with_meaning (known_in_main k) v.name (meaning.Parameter endpoint.Source)
 
 abbrev pub known_in_filter : Known → (v test : ParameterTree) → Known
-known_in_filter k v test = with_name (known_at_vertex k v) test.name meaning.TruthVariable
+known_in_filter k v test = with_meaning (known_at_vertex k v) test.name meaning.TruthVariable
 
 abbrev pub known_on_edge : Known → (src dst : ParameterTree) → Known
-known_on_edge k src dst = with_name (known_at_vertex k src) dst.name (meaning.Parameter endpoint.Destination)
+known_on_edge k src dst = with_meaning (known_at_vertex k src) dst.name (meaning.Parameter endpoint.Destination)
 
 abbrev pub known_on_weighted_edge : Known → (src dst w : ParameterTree) → Known
-known_on_weighted_edge k src dst w = with_name (known_on_edge k src dst) w.name meaning.Weight
+known_on_weighted_edge k src dst w = with_meaning (known_on_edge k src dst) w.name meaning.Weight
 
 -- A function has one Vertex parameter, or one and a result of type bool, or two and no result, or two and the weight and no result.
 abbrev pub FunctionKeeps : Known → List ParameterTree → Option ParameterTree → BlockTree → Type 0
@@ -251,16 +252,16 @@ MainKeeps k parameters result body = (parameters ≡ []) × (result ≡ None) ×
 -- after a function its name is visible, and those in it are forgotten
 abbrev pub after_main : Declarations → Identifier → BlockTree → Declarations
 after_main d name body =
-    record d { known = with_name (meaning.closed_known d.known (known_after inside.Main (known_in_main d.known) body)) name meaning.Main; main = true }
+    record d { known = with_meaning (meaning.closed_known d.known (known_after inside.Main (known_in_main d.known) body)) name meaning.Main; main = true }
 
 abbrev pub function_after : Declarations → Identifier → Meaning → Known → Declarations
-function_after d name m after = record d { known = with_name (meaning.closed_known d.known after) name m }
+function_after d name m after = record d { known = with_meaning (meaning.closed_known d.known after) name m }
 
 -- what an edge function reduces is kept
 abbrev pub edge_function_after : Declarations → Identifier → (weighted : Bool) → Known → Declarations
 edge_function_after d name weighted after =
     record d {
-      known = record (with_name (meaning.closed_known d.known after) name (meaning.EdgeFunction (length d.known.written) weighted)) {
+      known = record (with_meaning (meaning.closed_known d.known after) name (meaning.EdgeFunction (length d.known.written) weighted)) {
         written =
             after.written ++ after.reduced ∷ [];
       };

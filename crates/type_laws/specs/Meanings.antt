@@ -55,8 +55,8 @@ MeansEdges names name = (weights : Bool) × Means names name (Edges weights)
 abbrev pub IsNew : Known → Identifier → Type 0
 IsNew k name = found name.bytes k.names ≡ None
 
-abbrev pub with_name : Known → Identifier → Meaning → Known
-with_name k name m = record k { names = k.names ++ (name.bytes, m) ∷ [] }
+abbrev pub with_meaning : Known → Identifier → Meaning → Known
+with_meaning k name m = record k { names = k.names ++ (name.bytes, m) ∷ [] }
 
 -- a label that does not stand already
 abbrev pub LabelIsNew : Known → Option Identifier → Type 0
@@ -86,12 +86,12 @@ abbrev pub with_reduction : Option Reduction → ℕ → Reduction → List (ℕ
 with_reduction None vector by reduced = reduced ++ (vector, by) ∷ []
 with_reduction (Some first) vector by reduced = reduced
 
-abbrev pub reduced_with : Option Meaning → Reduction → List (ℕ × Reduction) → List (ℕ × Reduction)
-reduced_with (Some (Vector vector)) by reduced = with_reduction (lookup (nat_eq vector) reduced) vector by reduced
-reduced_with _ by reduced = reduced
+abbrev pub meanings_reduced_with : Option Meaning → Reduction → List (ℕ × Reduction) → List (ℕ × Reduction)
+meanings_reduced_with (Some (Vector vector)) by reduced = with_reduction (lookup (nat_eq vector) reduced) vector by reduced
+meanings_reduced_with _ by reduced = reduced
 
 abbrev pub reduced_in : Inside → Known → Identifier → Reduction → Known
-reduced_in inside.EdgeFunction k vector by = record k { reduced = reduced_with (found vector.bytes k.names) by k.reduced }
+reduced_in inside.EdgeFunction k vector by = record k { reduced = meanings_reduced_with (found vector.bytes k.names) by k.reduced }
 reduced_in inside.Main k vector by = k
 reduced_in inside.VertexFunction k vector by = k
 reduced_in inside.Filter k vector by = k
@@ -99,9 +99,9 @@ reduced_in inside.Filter k vector by = k
 abbrev mutual
   -- what is known after a statement
   pub known_behind : Inside → Known → StatementKindTree → Known
-  known_behind i k (source.Declare at p initial) = with_name k p.name (variable_meaning p.declared)
+  known_behind i k (source.Declare at p initial) = with_meaning k p.name (variable_meaning p.declared)
   known_behind i k (source.While at test body) = closed_known k (known_after i k body)
-  known_behind i k (source.For at name first limit body) = closed_known k (known_after i (with_name k name LoopName) body)
+  known_behind i k (source.For at name first limit body) = closed_known k (known_after i (with_meaning k name LoopName) body)
   known_behind i k (source.If at test body) = closed_known k (known_after i k body)
   known_behind i k (source.IfElse at test body otherwise) = closed_known k (known_after i (closed_known k (known_after i k body)) otherwise)
   known_behind i k (source.Print at e) = k

@@ -59,9 +59,9 @@ abbrev pub ParametersAreNew : List (List ℕ) → List ParameterTree → Type 0
 ParametersAreNew visible [] = Unit {0}
 ParametersAreNew visible (p ∷ others) = IsNew visible p.name × ParametersAreNew (with_new visible p.name) others
 
-abbrev pub with_result : List (List ℕ) → Option ParameterTree → List (List ℕ)
-with_result visible None = visible
-with_result visible (Some result) = with_new visible result.name
+abbrev pub with_result_name : List (List ℕ) → Option ParameterTree → List (List ℕ)
+with_result_name visible None = visible
+with_result_name visible (Some result) = with_new visible result.name
 
 abbrev pub ResultIsNew : List (List ℕ) → Option ParameterTree → Type 0
 ResultIsNew visible None = Unit {0}
@@ -69,7 +69,7 @@ ResultIsNew visible (Some result) = IsNew visible result.name
 
 -- what is visible in a function at its first statement
 abbrev pub names_inside : List (List ℕ) → List ParameterTree → Option ParameterTree → List (List ℕ)
-names_inside visible parameters result = with_result (with_parameters visible parameters) result
+names_inside visible parameters result = with_result_name (with_parameters visible parameters) result
 
 abbrev pub FunctionDeclaresNew : List (List ℕ) → List ParameterTree → Option ParameterTree → BlockTree → Type 0
 FunctionDeclaresNew visible parameters result body =
@@ -90,17 +90,17 @@ DeclarationsDeclareNew visible [] = Unit {0}
 DeclarationsDeclareNew visible (x ∷ others) = DeclarationDeclaresNew visible x × DeclarationsDeclareNew (with_declaration visible x) others
 
 -- 1 for the type of the edges
-abbrev pub edges_in : DeclaredType → ℕ
-edges_in declared.Int = 0
-edges_in declared.Bool = 0
-edges_in declared.Vertex = 0
-edges_in declared.VertexSet = 0
-edges_in declared.Vector = 0
-edges_in declared.EdgeSet = 1
-edges_in declared.WeightedEdgeSet = 1
+abbrev pub edge_type_count : DeclaredType → ℕ
+edge_type_count declared.Int = 0
+edge_type_count declared.Bool = 0
+edge_type_count declared.Vertex = 0
+edge_type_count declared.VertexSet = 0
+edge_type_count declared.Vector = 0
+edge_type_count declared.EdgeSet = 1
+edge_type_count declared.WeightedEdgeSet = 1
 
 -- how many constants are the edges
 abbrev pub edges_declared : List DeclarationTree → ℕ
 edges_declared [] = 0
-edges_declared (Constant at p initial ∷ others) = edges_in p.declared + edges_declared others
+edges_declared (Constant at p initial ∷ others) = edge_type_count p.declared + edges_declared others
 edges_declared (Function at name parameters result body ∷ others) = edges_declared others

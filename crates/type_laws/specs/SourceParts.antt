@@ -11,7 +11,7 @@ use Rattle.typed_tree.specs.FunctionStatementTree.{NoStep}
 use Rattle.expression_types.specs.declared.scope.Entity.TheVariants as entity
 use Rattle.expression_types.specs.ScopeTree.{ScopeTree, entered}
 use Rattle.types.specs.Block.{action_typed, closed, statements_typed}
-use Rattle.types.specs.Checker.{CheckerTree, counted, declared_in, integer_slot, labelled, restarted, with_scope}
+use Rattle.types.specs.Checker.{CheckerTree, counted, declared_in, integer_slot, with_label, restarted, in_scope}
 use Rattle.types.specs.Declaration.{DeclaredTree, FunctionKindTree, MainKind, declaration_typed, inside_of, kind, opened, parameter, takes_weight}
 use Rattle.types.specs.Program.{opening, set_count}
 use Rattle.types.specs.Step.{step_typed, steps_after, steps_typed, with_writes}
@@ -37,8 +37,8 @@ pub data Part : Type 0 where
   FunctionIndex : ScopeTree → ℕ → ExpressionTree → Part
   InExpression : ScopeTree → ℕ → Form → Part
 
-abbrev pub name_of : ScopeTree → ℕ → Identifier → Part
-name_of scope at name = InExpression scope at (form.Name name)
+abbrev pub name_part : ScopeTree → ℕ → Identifier → Part
+name_part scope at name = InExpression scope at (form.Name name)
 
 abbrev pub whole : ScopeTree → ℕ → ExpressionTree → Part
 whole scope at e = InExpression scope at (form.Expression e)
@@ -48,8 +48,8 @@ abbrev pub name_before : Option Identifier → List Form → List Form
 name_before None others = others
 name_before (Some name) others = form.Name name ∷ others
 
-abbrev pub ends_before : EndsTree → List Form → List Form
-ends_before ends others = name_before ends.from (name_before ends.to others)
+abbrev pub end_forms_before : EndsTree → List Form → List Form
+end_forms_before ends others = name_before ends.from (name_before ends.to others)
 
 -- the forms in an initial value
 abbrev pub initial_forms : InitialTree → List Form
@@ -58,11 +58,11 @@ initial_forms (source.Load argument) = []
 initial_forms (source.Vertices edges) = form.Name edges ∷ []
 initial_forms (source.OutDegrees edges) = form.Name edges ∷ []
 initial_forms (source.Filter set test) = form.Name set ∷ form.Name test ∷ []
-initial_forms (source.ApplyModified edges ends function vector) = form.Name edges ∷ ends_before ends (form.Name function ∷ form.Name vector ∷ [])
+initial_forms (source.ApplyModified edges ends function vector) = form.Name edges ∷ end_forms_before ends (form.Name function ∷ form.Name vector ∷ [])
 initial_forms (source.Value e) = form.Expression e ∷ []
 
 abbrev pub apply_forms : Identifier → EndsTree → Identifier → List Form
-apply_forms target ends function = form.Name target ∷ ends_before ends (form.Name function ∷ [])
+apply_forms target ends function = form.Name target ∷ end_forms_before ends (form.Name function ∷ [])
 
 -- what is known after the name of a `for`, and after a block
 abbrev pub in_for : CheckerTree → Identifier → CheckerTree
@@ -77,13 +77,13 @@ main_statement_parts c (source.If at test body) = BoolWanted c.scope at test ∷
 main_statement_parts c (source.IfElse at test body otherwise) =
     BoolWanted c.scope at test ∷ MainBlock c body ∷ MainBlock (closed c (statements_typed c Empty body).value.1) otherwise ∷ []
 main_statement_parts c (source.Print at e) = whole c.scope at e ∷ []
-main_statement_parts c (source.Assign name initial) = name_of c.scope name.at name ∷ Initial c name.at initial ∷ []
-main_statement_parts c (source.Reduce name by e) = name_of c.scope name.at name ∷ whole c.scope name.at e ∷ []
+main_statement_parts c (source.Assign name initial) = name_part c.scope name.at name ∷ Initial c name.at initial ∷ []
+main_statement_parts c (source.Reduce name by e) = name_part c.scope name.at name ∷ whole c.scope name.at e ∷ []
 main_statement_parts c (source.SetEntry vector index e) =
     VectorWanted c.scope vector.at vector ∷ MainIndex c.scope vector.at index ∷ IntWanted c.scope vector.at e ∷ []
 main_statement_parts c (source.ReduceEntry vector index by e) =
     VectorWanted c.scope vector.at vector ∷ MainIndex c.scope vector.at index ∷ IntWanted c.scope vector.at e ∷ []
-main_statement_parts c (source.AddVertex set e) = name_of c.scope set.at set ∷ whole c.scope set.at e ∷ []
+main_statement_parts c (source.AddVertex set e) = name_part c.scope set.at set ∷ whole c.scope set.at e ∷ []
 main_statement_parts c (source.Apply target ends function) = map (InExpression c.scope target.at) (apply_forms target ends function)
 
 -- in a function of a user no part of a `print` is looked at
@@ -96,26 +96,26 @@ function_statement_parts c (source.If at test body) = BoolWanted c.scope at test
 function_statement_parts c (source.IfElse at test body otherwise) =
     BoolWanted c.scope at test ∷ FunctionBlock c body ∷ FunctionBlock (steps_after c (steps_typed c NoStep body).value.1) otherwise ∷ []
 function_statement_parts c (source.Print at e) = []
-function_statement_parts c (source.Assign name initial) = name_of c.scope name.at name ∷ Initial c name.at initial ∷ []
-function_statement_parts c (source.Reduce name by e) = name_of c.scope name.at name ∷ whole c.scope name.at e ∷ []
+function_statement_parts c (source.Assign name initial) = name_part c.scope name.at name ∷ Initial c name.at initial ∷ []
+function_statement_parts c (source.Reduce name by e) = name_part c.scope name.at name ∷ whole c.scope name.at e ∷ []
 function_statement_parts c (source.SetEntry vector index e) =
     VectorWanted c.scope vector.at vector ∷ FunctionIndex c.scope vector.at index ∷ IntWanted c.scope vector.at e ∷ []
 function_statement_parts c (source.ReduceEntry vector index by e) =
     VectorWanted c.scope vector.at vector ∷ FunctionIndex c.scope vector.at index ∷ IntWanted c.scope vector.at e ∷ []
-function_statement_parts c (source.AddVertex set e) = name_of c.scope set.at set ∷ whole c.scope set.at e ∷ []
+function_statement_parts c (source.AddVertex set e) = name_part c.scope set.at set ∷ whole c.scope set.at e ∷ []
 function_statement_parts c (source.Apply target ends function) = map (InExpression c.scope target.at) (apply_forms target ends function)
 
 -- a block comes before its body: a statement of main is labelled, numbered and then looked at
 abbrev pub main_block_parts : CheckerTree → BlockTree → List Part
 main_block_parts c source.Empty = []
 main_block_parts c (source.Then label action others) =
-    Label c label ∷ MainStatement (counted (labelled c label).value.1) action ∷ MainBlock
-    (action_typed (counted (labelled c label).value.1) action).value.1 others ∷ []
+    Label c label ∷ MainStatement (counted (with_label c label).value.1) action ∷ MainBlock
+    (action_typed (counted (with_label c label).value.1) action).value.1 others ∷ []
 
 abbrev pub function_block_parts : CheckerTree → BlockTree → List Part
 function_block_parts c source.Empty = []
 function_block_parts c (source.Then label action others) =
-    Label c label ∷ FunctionStatement (labelled c label).value.1 action ∷ FunctionBlock (step_typed (labelled c label).value.1 action).value.1 others ∷ []
+    Label c label ∷ FunctionStatement (with_label c label).value.1 action ∷ FunctionBlock (step_typed (with_label c label).value.1 action).value.1 others ∷ []
 
 -- each parameter is declared after those before it, and the result last
 abbrev pub parameter_parts : Bool → FunctionKindTree → CheckerTree → Endpoint → List ParameterTree → Option ParameterTree → List Part
@@ -126,8 +126,8 @@ parameter_parts weighted k c p (v ∷ others) result =
 
 -- what is known before the parameters of a function
 abbrev pub before_parameters : DeclaredTree → FunctionKindTree → CheckerTree
-before_parameters d (MainKind fits) = with_writes (with_scope (restarted d.checker) (entered (inside_of (MainKind fits)) d.checker.scope)) []
-before_parameters d k = with_writes (with_scope d.checker (entered (inside_of k) d.checker.scope)) []
+before_parameters d (MainKind fits) = with_writes (in_scope (restarted d.checker) (entered (inside_of (MainKind fits)) d.checker.scope)) []
+before_parameters d k = with_writes (in_scope d.checker (entered (inside_of k) d.checker.scope)) []
 
 -- what is known at the first statement of a function
 abbrev pub at_body : DeclaredTree → FunctionKindTree → List ParameterTree → Option ParameterTree → CheckerTree
@@ -167,7 +167,7 @@ parts_of (NewName scope name) = []
 parts_of (Initial c at x) = map (InExpression c.scope at) (initial_forms x)
 parts_of (IntWanted scope at e) = whole scope at e ∷ []
 parts_of (BoolWanted scope at e) = whole scope at e ∷ []
-parts_of (VectorWanted scope at name) = name_of scope at name ∷ []
+parts_of (VectorWanted scope at name) = name_part scope at name ∷ []
 parts_of (MainIndex scope at e) = whole scope at e ∷ []
 parts_of (FunctionIndex scope at e) = InExpression scope at (form.Index e) ∷ []
 parts_of (InExpression scope at f) = map (InExpression scope at) (form.parts scope f)

@@ -13,8 +13,8 @@ use Rattle.typed_tree.specs.ProgramTree.{ProgramTree}
 use Rattle.type_laws.specs.EachStatement.{SetNames, HoldsOfEach, names_before}
 
 -- no two visible sets have the same bytes as their name
-abbrev pub AreApart : ProgramTree → SetNames → Type 0
-AreApart p names =
+abbrev pub HaveDistinctNames : ProgramTree → SetNames → Type 0
+HaveDistinctNames p names =
     (i j a b : ℕ) → slice_get names i ≡ Some (Some a) → slice_get names j ≡ Some (Some b) → are_same p.names a b ≡ true → i ≡ j
 
 -- the set at the index is visible by the name
@@ -64,7 +64,7 @@ SetsAreVisible p names (For name first end body) = Unit {0}
 
 -- so it is at a statement
 abbrev pub NamesSets : ProgramTree → SetNames → StatementKindTree → Type 0
-NamesSets p names action = AreApart p names × SetsAreVisible p names action
+NamesSets p names action = HaveDistinctNames p names × SetsAreVisible p names action
 
 -- and at each statement of main
 pub record NamesSetsApart (p : ProgramTree) : Type 0 where

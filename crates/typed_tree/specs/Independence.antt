@@ -38,15 +38,15 @@ have_same_sets names (Edges a f r) (Edges b g s) = are_same_ends names a.from b.
 have_same_sets names _ _ = false
 
 -- an end is the set of this name
-abbrev pub is_end : List (List ℕ) → Option ℕ → Option VertexFilter → Bool
-is_end names (Some name) (Some (end.Members set)) = are_same names name set.name
-is_end names _ _ = false
+abbrev pub is_end_of_name : List (List ℕ) → Option ℕ → Option VertexFilter → Bool
+is_end_of_name names (Some name) (Some (end.Members set)) = are_same names name set.name
+is_end_of_name names _ _ = false
 
 -- no vector that the first function writes is read or written by the second, or read by a filter of the second's ends, and
 -- no end of the second is the set that the first one's changes go to; two vertex applies are independent
 abbrev pub are_independent : ProgramTree → StatementApply → StatementApply → Bool
 are_independent p (Edges a f r) (Edges b g s) =
-    not (is_end p.names r b.from || is_end p.names r b.to)
+    not (is_end_of_name p.names r b.from || is_end_of_name p.names r b.to)
     && (are_apart (function_uses p.edge_functions g) (function_writes p.edge_functions f)
     && (are_apart (end_reads p.filters b.from) (function_writes p.edge_functions f)
     && are_apart (end_reads p.filters b.to) (function_writes p.edge_functions f)))

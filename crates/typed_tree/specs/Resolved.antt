@@ -57,11 +57,11 @@ abbrev pub in_filter : ProgramTree → (result : ℕ) → VisibleTree
 in_filter p result = record { integers = []; conditions = result ∷ []; sets = p.sets; vertices = 1; indexes = false }
 
 -- the name, vector or function at an index is in its table
-abbrev pub IsName : ProgramTree → ℕ → Type 0
-IsName p name = name < length p.names
+abbrev pub IsNameIndex : ProgramTree → ℕ → Type 0
+IsNameIndex p name = name < length p.names
 
-abbrev pub IsVector : ProgramTree → ℕ → Type 0
-IsVector p vector = vector < length p.vectors
+abbrev pub IsVectorIndex : ProgramTree → ℕ → Type 0
+IsVectorIndex p vector = vector < length p.vectors
 
 abbrev pub IsEdgeFunction : ProgramTree → ℕ → Type 0
 IsEdgeFunction p function = function < length p.edge_functions
@@ -73,14 +73,14 @@ abbrev pub IsFilter : ProgramTree → ℕ → Type 0
 IsFilter p function = function < length p.filters
 
 -- what is visible at the index has the name
-abbrev pub IsInteger : ProgramTree → VisibleTree → VarRef → Type 0
-IsInteger p v slot = (slice_get v.integers slot.index ≡ Some (Some slot.name)) × IsName p slot.name
+abbrev pub IsIntegerVariable : ProgramTree → VisibleTree → VarRef → Type 0
+IsIntegerVariable p v slot = (slice_get v.integers slot.index ≡ Some (Some slot.name)) × IsNameIndex p slot.name
 
 abbrev pub IsCondition : ProgramTree → VisibleTree → VarRef → Type 0
-IsCondition p v slot = (slice_get v.conditions slot.index ≡ Some slot.name) × IsName p slot.name
+IsCondition p v slot = (slice_get v.conditions slot.index ≡ Some slot.name) × IsNameIndex p slot.name
 
-abbrev pub IsSet : ProgramTree → VisibleTree → VarRef → Type 0
-IsSet p v slot = (slice_get v.sets slot.index ≡ Some slot.name) × IsName p slot.name
+abbrev pub IsSetVariable : ProgramTree → VisibleTree → VarRef → Type 0
+IsSetVariable p v slot = (slice_get v.sets slot.index ≡ Some slot.name) × IsNameIndex p slot.name
 
 -- the source stands before the destination
 abbrev pub IsVertex : VisibleTree → Endpoint → Type 0
@@ -95,19 +95,19 @@ IsLabel p (Some label) = label < length p.labels
 -- all that an expression speaks of is there; an edge's weight is where the edge has a destination
 abbrev pub IntegerIsResolved : ProgramTree → VisibleTree → IntExpressionTree → Type 0
 IntegerIsResolved p v (integer.Number n) = Unit {0}
-IntegerIsResolved p v (integer.Constant name n) = IsName p name
-IntegerIsResolved p v (integer.Variable slot) = IsInteger p v slot
+IntegerIsResolved p v (integer.Constant name n) = IsNameIndex p name
+IntegerIsResolved p v (integer.Variable slot) = IsIntegerVariable p v slot
 IntegerIsResolved p v (integer.Parameter at) = IsVertex v at
 IntegerIsResolved p v integer.Weight = IsVertex v endpoint.Destination
-IntegerIsResolved p v (integer.EntryAt vector at) = IsVector p vector × IsVertex v at
-IntegerIsResolved p v (integer.Entry vector index) = (v.indexes ≡ true) × IsVector p vector × IntegerIsResolved p v index
-IntegerIsResolved p v (integer.SetSize slot) = IsSet p v slot
+IntegerIsResolved p v (integer.EntryAt vector at) = IsVectorIndex p vector × IsVertex v at
+IntegerIsResolved p v (integer.Entry vector index) = (v.indexes ≡ true) × IsVectorIndex p vector × IntegerIsResolved p v index
+IntegerIsResolved p v (integer.SetSize slot) = IsSetVariable p v slot
 IntegerIsResolved p v (integer.Negative e) = IntegerIsResolved p v e
 IntegerIsResolved p v (integer.Arithmetic operator left right) = IntegerIsResolved p v left × IntegerIsResolved p v right
 
 abbrev pub ConditionIsResolved : ProgramTree → VisibleTree → BoolExpressionTree → Type 0
 ConditionIsResolved p v (condition.Literal b) = Unit {0}
-ConditionIsResolved p v (condition.Constant name b) = IsName p name
+ConditionIsResolved p v (condition.Constant name b) = IsNameIndex p name
 ConditionIsResolved p v (condition.Variable slot) = IsCondition p v slot
 ConditionIsResolved p v (condition.Not c) = ConditionIsResolved p v c
 ConditionIsResolved p v (condition.Compare comparison left right) = IntegerIsResolved p v left × IntegerIsResolved p v right
@@ -116,7 +116,7 @@ ConditionIsResolved p v (condition.Connect connective left right) = ConditionIsR
 -- an end of an edge apply
 abbrev pub EndIsResolved : ProgramTree → VisibleTree → Option VertexFilter → Type 0
 EndIsResolved p v None = Unit {0}
-EndIsResolved p v (Some (filter.Members slot)) = IsSet p v slot
+EndIsResolved p v (Some (filter.Members slot)) = IsSetVariable p v slot
 EndIsResolved p v (Some (filter.Function index)) = IsFilter p index
 
 abbrev pub EndsAreResolved : ProgramTree → VisibleTree → ApplyEnds → Type 0
@@ -126,9 +126,9 @@ EndsAreResolved p v ends = EndIsResolved p v ends.from × EndIsResolved p v ends
 abbrev pub SetIsResolved : ProgramTree → VisibleTree → SetValue → Type 0
 SetIsResolved p v set.Empty = Unit {0}
 SetIsResolved p v set.All = Unit {0}
-SetIsResolved p v (set.Copy slot) = IsSet p v slot
-SetIsResolved p v (set.Filter slot index) = IsSet p v slot × IsFilter p index
-SetIsResolved p v (set.Modified ends function vector) = EndsAreResolved p v ends × IsEdgeFunction p function × IsVector p vector
+SetIsResolved p v (set.Copy slot) = IsSetVariable p v slot
+SetIsResolved p v (set.Filter slot index) = IsSetVariable p v slot × IsFilter p index
+SetIsResolved p v (set.Modified ends function vector) = EndsAreResolved p v ends × IsEdgeFunction p function × IsVectorIndex p vector
 
 -- after a statement of a function
 abbrev pub behind_step : FunctionStatementTree → VisibleTree → VisibleTree
@@ -144,13 +144,13 @@ behind_step (step.IfElse c body other) v = v
 
 abbrev mutual
   pub StepIsResolved : ProgramTree → VisibleTree → FunctionStatementTree → Type 0
-  StepIsResolved p v (step.DeclareInteger name e) = IsName p name × IntegerIsResolved p v e
-  StepIsResolved p v (step.DeclareCondition name c) = IsName p name × ConditionIsResolved p v c
-  StepIsResolved p v (step.SetInteger slot e) = IsInteger p v slot × IntegerIsResolved p v e
+  StepIsResolved p v (step.DeclareInteger name e) = IsNameIndex p name × IntegerIsResolved p v e
+  StepIsResolved p v (step.DeclareCondition name c) = IsNameIndex p name × ConditionIsResolved p v c
+  StepIsResolved p v (step.SetInteger slot e) = IsIntegerVariable p v slot × IntegerIsResolved p v e
   StepIsResolved p v (step.SetCondition slot c) = IsCondition p v slot × ConditionIsResolved p v c
-  StepIsResolved p v (step.ReduceInteger slot by e) = IsInteger p v slot × IntegerIsResolved p v e
-  StepIsResolved p v (step.SetEntry vector e) = IsVector p vector × IntegerIsResolved p v e
-  StepIsResolved p v (step.ReduceEntry vector by e) = IsVector p vector × IntegerIsResolved p v e
+  StepIsResolved p v (step.ReduceInteger slot by e) = IsIntegerVariable p v slot × IntegerIsResolved p v e
+  StepIsResolved p v (step.SetEntry vector e) = IsVectorIndex p vector × IntegerIsResolved p v e
+  StepIsResolved p v (step.ReduceEntry vector by e) = IsVectorIndex p vector × IntegerIsResolved p v e
   StepIsResolved p v (step.If c body) = ConditionIsResolved p v c × StepsAreResolved p v body
   StepIsResolved p v (step.IfElse c body other) = ConditionIsResolved p v c × StepsAreResolved p v body × StepsAreResolved p v other
 
@@ -182,25 +182,25 @@ after_action (action.For name first end body) v = v
 
 abbrev mutual
   pub ActionIsResolved : ProgramTree → VisibleTree → StatementKindTree → Type 0
-  ActionIsResolved p v (action.DeclareInteger name e) = IsName p name × IntegerIsResolved p v e
-  ActionIsResolved p v (action.DeclareCondition name c) = IsName p name × ConditionIsResolved p v c
-  ActionIsResolved p v (action.SetInteger slot e) = IsInteger p v slot × IntegerIsResolved p v e
+  ActionIsResolved p v (action.DeclareInteger name e) = IsNameIndex p name × IntegerIsResolved p v e
+  ActionIsResolved p v (action.DeclareCondition name c) = IsNameIndex p name × ConditionIsResolved p v c
+  ActionIsResolved p v (action.SetInteger slot e) = IsIntegerVariable p v slot × IntegerIsResolved p v e
   ActionIsResolved p v (action.SetCondition slot c) = IsCondition p v slot × ConditionIsResolved p v c
-  ActionIsResolved p v (action.ReduceInteger slot by e) = IsInteger p v slot × IntegerIsResolved p v e
-  ActionIsResolved p v (action.SetEntry vector index e) = IsVector p vector × IntegerIsResolved p v index × IntegerIsResolved p v e
-  ActionIsResolved p v (action.ReduceEntry vector index by e) = IsVector p vector × IntegerIsResolved p v index × IntegerIsResolved p v e
-  ActionIsResolved p v (action.DeclareSet name value) = IsName p name × SetIsResolved p v value
-  ActionIsResolved p v (action.AssignSet slot value) = IsSet p v slot × SetIsResolved p v value
-  ActionIsResolved p v (action.AddVertex slot e) = IsSet p v slot × IntegerIsResolved p v e
+  ActionIsResolved p v (action.ReduceInteger slot by e) = IsIntegerVariable p v slot × IntegerIsResolved p v e
+  ActionIsResolved p v (action.SetEntry vector index e) = IsVectorIndex p vector × IntegerIsResolved p v index × IntegerIsResolved p v e
+  ActionIsResolved p v (action.ReduceEntry vector index by e) = IsVectorIndex p vector × IntegerIsResolved p v index × IntegerIsResolved p v e
+  ActionIsResolved p v (action.DeclareSet name value) = IsNameIndex p name × SetIsResolved p v value
+  ActionIsResolved p v (action.AssignSet slot value) = IsSetVariable p v slot × SetIsResolved p v value
+  ActionIsResolved p v (action.AddVertex slot e) = IsSetVariable p v slot × IntegerIsResolved p v e
   ActionIsResolved p v (action.PrintInteger e) = IntegerIsResolved p v e
   ActionIsResolved p v (action.PrintCondition c) = ConditionIsResolved p v c
-  ActionIsResolved p v (action.ApplyVertex slot function) = IsSet p v slot × IsVertexFunction p function
+  ActionIsResolved p v (action.ApplyVertex slot function) = IsSetVariable p v slot × IsVertexFunction p function
   ActionIsResolved p v (action.ApplyEdges ends function) = EndsAreResolved p v ends × IsEdgeFunction p function
   ActionIsResolved p v (action.If c body) = ConditionIsResolved p v c × BlockIsResolved p v body
   ActionIsResolved p v (action.IfElse c body other) = ConditionIsResolved p v c × BlockIsResolved p v body × BlockIsResolved p v other
   ActionIsResolved p v (action.While c body) = ConditionIsResolved p v c × BlockIsResolved p v body
   ActionIsResolved p v (action.For name first end body) =
-      IsName p name × IntegerIsResolved p v first × IntegerIsResolved p v end × BlockIsResolved p (in_loop name v) body
+      IsNameIndex p name × IntegerIsResolved p v first × IntegerIsResolved p v end × BlockIsResolved p (in_loop name v) body
 
   -- each statement, at what is visible after those before it
   pub BlockIsResolved : ProgramTree → VisibleTree → BlockTree → Type 0
@@ -210,26 +210,26 @@ abbrev mutual
 
 -- functions with their names
 abbrev pub EdgeFunctionIsResolved : ProgramTree → FunctionTree → Type 0
-EdgeFunctionIsResolved p f = IsName p f.name × StepsAreResolved p (in_edge_function p) f.steps
+EdgeFunctionIsResolved p f = IsNameIndex p f.name × StepsAreResolved p (in_edge_function p) f.steps
 
 abbrev pub VertexFunctionIsResolved : ProgramTree → FunctionTree → Type 0
-VertexFunctionIsResolved p f = IsName p f.name × StepsAreResolved p (in_vertex_function p) f.steps
+VertexFunctionIsResolved p f = IsNameIndex p f.name × StepsAreResolved p (in_vertex_function p) f.steps
 
 abbrev pub FilterIsResolved : ProgramTree → FunctionTree → Type 0
-FilterIsResolved p f = IsName p f.name × ((result : ℕ) × IsName p result × StepsAreResolved p (in_filter p result) f.steps)
+FilterIsResolved p f = IsNameIndex p f.name × ((result : ℕ) × IsNameIndex p result × StepsAreResolved p (in_filter p result) f.steps)
 
 abbrev pub VectorIsResolved : ProgramTree → Vector → Type 0
-VectorIsResolved p vector = IsName p vector.name
+VectorIsResolved p vector = IsNameIndex p vector.name
 
 -- the constant of the edges, where there is one
 abbrev pub EdgesAreResolved : ProgramTree → Option ℕ → Type 0
 EdgesAreResolved p None = Unit {0}
-EdgesAreResolved p (Some name) = IsName p name
+EdgesAreResolved p (Some name) = IsNameIndex p name
 
 pub record IsResolved (p : ProgramTree) : Type 0 where
   pub edges : EdgesAreResolved p p.edges
   pub vectors : AllByRecursion (VectorIsResolved p) p.vectors
-  pub sets : AllByRecursion (IsName p) p.sets
+  pub sets : AllByRecursion (IsNameIndex p) p.sets
   pub edge_functions : AllByRecursion (EdgeFunctionIsResolved p) p.edge_functions
   pub vertex_functions : AllByRecursion (VertexFunctionIsResolved p) p.vertex_functions
   pub filters : AllByRecursion (FilterIsResolved p) p.filters

@@ -15,8 +15,8 @@ use Rattle.expression_types.specs.declared.fault.Fault.{Fault}
 use Rattle.expression_types.specs.Faults.{WithFaults, sure, outcome, ◌>>=◌}
 use Rattle.expression_types.proofs.Steps.{bind-bind, outcome_then}
 use Rattle.types.specs.inside.Block.{StatementTree, block_typed, statement_tree, statement_typed}
-use Rattle.types.specs.Block.{action_typed, behind, closed, statements_typed}
-use Rattle.types.specs.Checker.{CheckerTree, counted, labelled, condition_in}
+use Rattle.types.specs.Block.{action_typed, then_statement, closed, statements_typed}
+use Rattle.types.specs.Checker.{CheckerTree, counted, with_label, condition_in}
 use Rattle.types.proofs.Sources.{statement_kind_tree-While, statement_kind_tree-If, statement_kind_tree-IfElse}
 
 -- what goes on after a block
@@ -57,18 +57,19 @@ if_else_typed c d e a at test body otherwise items others t b o old between then
     ∙ inner_then c d (block_tree items) b between then (λ b. statements_typed b.1 Empty (block_tree others) >>= λ o. sure (IfElse t b.0 o.0, closed b.1 o.1)) inner
     ∙ inner_then d e (block_tree others) o then new (λ o. sure (IfElse t b o.0, o.1)) other
 
-block_push : (xs : List typed.MainStatement) (s : typed.MainStatement) → typed_block (xs ++ s ∷ []) ≡ behind (typed_block xs) s.number s.label (typed_action s.action)
+block_push : (xs : List typed.MainStatement) (s : typed.MainStatement) → typed_block (xs ++ s ∷ []) ≡ then_statement (typed_block xs) s.number s.label (typed_action s.action)
 block_push [] s = refl
 block_push (x ∷ xs) s = ap (Then x.number x.label (typed_action x.action)) (block_push xs s)
 
 first_then : (c : CheckerTree) (so_far : BlockTree) (label : Option Identifier) (a : source.StatementKindTree) (others : source.BlockTree)
     → statements_typed c so_far (source.Then label a others)
-    ≡ (statement_typed c label a >>= λ s. statements_typed s.1 (behind so_far s.0.number s.0.label s.0.action) others)
+    ≡ (statement_typed c label a >>= λ s. statements_typed s.1 (then_statement so_far s.0.number s.0.label s.0.action) others)
 first_then c so_far label a others =
-    (λ i. labelled c label >>= λ l. sym (bind-bind {B = StatementTree × CheckerTree} (action_typed (counted l.1) a) (λ x. sure (record { number = suc l.1.statements; label = l.0; action = x.0 }, x.1))
-    (λ s. statements_typed s.1 (behind so_far s.0.number s.0.label s.0.action) others)) i)
-    ∙ sym (bind-bind {B = StatementTree × CheckerTree} (labelled c label) (λ l. action_typed (counted l.1) a >>= λ x. sure (record { number = suc l.1.statements; label = l.0; action = x.0 }, x.1))
-    (λ s. statements_typed s.1 (behind so_far s.0.number s.0.label s.0.action) others))
+    (λ i. with_label c label >>= λ l. sym (bind-bind {B = StatementTree × CheckerTree} (action_typed (counted l.1) a)
+    (λ x. sure (record { number = suc l.1.statements; label = l.0; action = x.0 }, x.1))
+    (λ s. statements_typed s.1 (then_statement so_far s.0.number s.0.label s.0.action) others)) i)
+    ∙ sym (bind-bind {B = StatementTree × CheckerTree} (with_label c label) (λ l. action_typed (counted l.1) a >>= λ x. sure (record { number = suc l.1.statements; label = l.0; action = x.0 }, x.1))
+    (λ s. statements_typed s.1 (then_statement so_far s.0.number s.0.label s.0.action) others))
 
 pub statement_on : (c d : CheckerTree) (xs : List typed.MainStatement) (s : typed.MainStatement) (items : List Statement) (i : ℕ) (x : Statement) (old new : Option Fault)
     → i < length items → x ≡ get_or items i x → outcome old (statement_typed c x.label (statement_kind_tree x.action)) ≡ ((statement_tree s, d), new)
@@ -78,5 +79,5 @@ statement_on c d xs s items i x old new inside is first_fault =
     ap (λ ys. outcome old (statements_typed c (typed_block xs) (block_tree ys))) (drop-cons items i x inside ∙ ap (λ y. y ∷ drop (suc i) items) (sym is))
     ∙ ap (outcome old) (first_then c (typed_block xs) x.label (statement_kind_tree x.action) (block_tree (drop (suc i) items)))
     ∙ outcome_then old new (statement_typed c x.label (statement_kind_tree x.action)) (statement_tree s, d)
-    (λ s. statements_typed s.1 (behind (typed_block xs) s.0.number s.0.label s.0.action) (block_tree (drop (suc i) items))) first_fault
+    (λ s. statements_typed s.1 (then_statement (typed_block xs) s.0.number s.0.label s.0.action) (block_tree (drop (suc i) items))) first_fault
     ∙ (λ j. outcome new (statements_typed d (sym (block_push xs s) j) (block_tree (drop (sym (add-one i) j) items))))

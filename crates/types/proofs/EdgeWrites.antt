@@ -22,13 +22,13 @@ use Rattle.expression_types.specs.declared.scope.Entity.{Entity}
 use Rattle.expression_types.specs.declared.scope.Entity.TheVariants as entity
 use Rattle.expression_types.specs.declared.scope.Inside.{Inside}
 use Rattle.expression_types.specs.declared.scope.Inside.TheVariants as inside
-use Rattle.expression_types.specs.Expression.{index_value, used, value_of, vector_index}
+use Rattle.expression_types.specs.Expression.{index_value, used_name, value_of, vector_index}
 use Rattle.expression_types.specs.ScopeTree.{found, ScopeTree, declared_over, entered}
 use Rattle.expression_types.specs.ValueTree.{ValueTree}
-use Rattle.types.specs.Checker.{CheckerTree, integer_slot, condition_slot, declared_in, labelled, new_label, restarted, with_scope, integer_in}
+use Rattle.types.specs.Checker.{CheckerTree, integer_slot, condition_slot, declared_in, with_label, new_label, restarted, in_scope, integer_in}
 use Rattle.types.specs.Block.{statements_typed}
 use Rattle.types.specs.Declaration.{DeclaredTree, FunctionKindTree, MainKind, EdgeKind, VertexKind, FilterKind, NoKind, declaration_typed, declarations_typed, declare_constant_as, declare_function}
-use Rattle.types.specs.Declaration.{declare_name, function_of, inside_of, kind, opened, parameter, parameters_declared, result_declared, result_entity, with_main, takes_weight}
+use Rattle.types.specs.Declaration.{declare_name, function_of, inside_of, kind, opened, parameter, parameters_declared, result_declared, result_entity, with_main_block, takes_weight}
 use Rattle.types.specs.EdgeWrites.{ReducesInOneWay, SetsNoEntry, StepReduces, StepSetsNoEntry, StepsReduce}
 use Rattle.types.specs.Initial.{InitializerTree, initializer_of}
 use Rattle.types.specs.Step.{assigned_step, declare_step_as, entry_step, may_reduce, may_set, one_reduction, own_vertex, reduce_entry_step, reduced_as, reduced_step, reduction_step, same_reduction}
@@ -101,7 +101,7 @@ new_label_goes : (c : CheckerTree) (label : Identifier) (index : Option ℕ) →
 new_label_goes c label None = stays c
 new_label_goes c label (Some index) = stays c
 
-labelled_goes : (c : CheckerTree) (label : Option Identifier) → GoesOn c (labelled c label).value.1
+labelled_goes : (c : CheckerTree) (label : Option Identifier) → GoesOn c (with_label c label).value.1
 labelled_goes c None = stays c
 labelled_goes c (Some label) = new_label_goes c label (found label.bytes c.labels)
 
@@ -235,8 +235,8 @@ mutual
       (goes_further c d (steps_after d o.1) (block_goes c b.1 all.0) behind, (steps_extend b.1.writes o.1.writes b.0 others.0.1 all.1, others.1))
   step_fits c (source.Print at e) is = (stays c, tt)
   step_fits c (source.Assign name initial) is =
-      (stays c, assigned_agrees c.writes name.at (initializer_of c name.at initial).value (used c.scope name).value)
-  step_fits c (source.Reduce name by e) is = (stays c, reduced_agrees c.writes name.at by (value_of c.scope name.at e).value (used c.scope name).value)
+      (stays c, assigned_agrees c.writes name.at (initializer_of c name.at initial).value (used_name c.scope name).value)
+  step_fits c (source.Reduce name by e) is = (stays c, reduced_agrees c.writes name.at by (value_of c.scope name.at e).value (used_name c.scope name).value)
   step_fits c (source.SetEntry vector index e) is =
       let own = (written_at vector.at (own_vertex c.scope.inside) (index_value c.scope vector.at index).value).value in
       (stays c, set_agrees c.writes vector.at own (vector_index c.scope vector.at vector).value (integer_in c.scope vector.at e).value c.scope.inside is)
@@ -248,7 +248,7 @@ mutual
       → AllFit c (steps_typed c so_far block).value
   steps_fit c so_far source.Empty is agree = (stays c, agree)
   steps_fit c so_far (source.Then label action others) is agree =
-      let l = (labelled c label).value in
+      let l = (with_label c label).value in
       let s = (step_typed l.1 action).value in
       let labels = labelled_goes c label in
       let first = step_fits l.1 action (labels.0 ∙ is) in
@@ -322,7 +322,7 @@ constant_well d at name initial declared.Vector initializer all = all
 constant_well d at name initial declared.EdgeSet initializer all = all
 constant_well d at name initial declared.WeightedEdgeSet initializer all = all
 
-main_well : (d : DeclaredTree) (fits : Bool) (main : BlockTree) → AllWriteWell d → AllWriteWell (with_main d fits main)
+main_well : (d : DeclaredTree) (fits : Bool) (main : BlockTree) → AllWriteWell d → AllWriteWell (with_main_block d fits main)
 main_well d true main all = all
 main_well d false main all = all
 
@@ -339,7 +339,7 @@ result_goes c kind (Some result) = declared_goes c result.name (result_entity c 
 pub opened_inside : (c : CheckerTree) (kind : FunctionKindTree) (parameters : List ParameterTree) (result : Option ParameterTree)
     → (opened c kind parameters result).value.scope.inside ≡ inside_of kind
 opened_inside c kind parameters result =
-    let e = with_writes (with_scope c (entered (inside_of kind) c.scope)) [] in
+    let e = with_writes (in_scope c (entered (inside_of kind) c.scope)) [] in
     let d = (parameters_declared (takes_weight kind) e endpoint.Source parameters).value in
     (result_goes d kind result).0 ∙ (parameters_go (takes_weight kind) e endpoint.Source parameters).0
 
@@ -354,10 +354,10 @@ function_well : (d : DeclaredTree) (at : ℕ) (name : Identifier) (parameters : 
     → AllWriteWell d → AllWriteWell (declare_function d at name parameters result body kind).value
 function_well d at name parameters result body (MainKind fits) all =
     let b = (statements_typed (opened (restarted d.checker) (MainKind fits) parameters result).value Empty body).value in
-    main_well (declare_name (record d { checker = with_scope b.1 d.checker.scope }) name entity.Main).value fits b.0 all
+    main_well (declare_name (record d { checker = in_scope b.1 d.checker.scope }) name entity.Main).value fits b.0 all
 function_well d at name parameters result body (EdgeKind weighted) all =
     let b = (steps_typed (opened d.checker (EdgeKind weighted) parameters result).value NoStep body).value in
-    all_after d.edge_functions (function_of (record d { checker = with_scope b.1 d.checker.scope }) b.0) all
+    all_after d.edge_functions (function_of (record d { checker = in_scope b.1 d.checker.scope }) b.0) all
     (edge_well weighted d.checker (length b.1.names) parameters result body)
 function_well d at name parameters result body VertexKind all = all
 function_well d at name parameters result body FilterKind all = all

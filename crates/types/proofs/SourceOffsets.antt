@@ -20,7 +20,7 @@ use Rattle.expression_types.specs.declared.scope.Entity.{Entity}
 use Rattle.expression_types.specs.declared.scope.Entity.TheVariants as entity
 use Rattle.expression_types.proofs.FaultOffsets.{FaultsStand, both_stand, if_stand}
 use Rattle.types.specs.Block.{statements_typed}
-use Rattle.types.specs.Checker.{CheckerTree, declared_in, restarted, with_scope}
+use Rattle.types.specs.Checker.{CheckerTree, declared_in, restarted, in_scope}
 use Rattle.types.specs.Declaration.{DeclaredTree, FunctionKindTree, MainKind, EdgeKind, VertexKind, FilterKind, NoKind, begins, declaration_typed, declarations_typed, declare_constant_as}
 use Rattle.types.specs.Declaration.{declare_function, declare_name, function_declared, has_all, kind, kind_fits, literal_or_fault, loads, main_declared, next_name, only_edges, opened, parameter}
 use Rattle.types.specs.Declaration.{parameters_declared, result_declared, result_entity, steps_declared, wanted, takes_weight}
@@ -144,7 +144,7 @@ main_stands P d fits at name parameters result body stands =
     let b = statements_typed c.value Empty body in
     both_stand P c.faults _ (opened_stands P (restarted d.checker) (MainKind fits) parameters result stands.inside.0 stands.names stands.inside.1)
     (both_stand P b.faults _ (statements_stand P c.value Empty body stands.block.0 stands.block.1)
-    (name_last_stands P (record d { checker = with_scope b.value.1 d.checker.scope }) name entity.Main stands.there))
+    (name_last_stands P (record d { checker = in_scope b.value.1 d.checker.scope }) name entity.Main stands.there))
 
 steps_declared_stands : (P : ℕ → Type 0) (d : DeclaredTree) (at : ℕ) (kind : FunctionKindTree) (name : Identifier) (parameters : List ParameterTree) (result : Option ParameterTree)
     (body : source.BlockTree)
@@ -156,7 +156,7 @@ steps_declared_stands P d at kind name parameters result body stands =
     both_stand P f.faults _ (kind_fits_stands P at kind stands.here)
     (both_stand P c.faults _ (opened_stands P d.checker kind parameters result stands.inside.0 stands.names stands.inside.1)
     (both_stand P b.faults _ (steps_stand P c.value NoStep body stands.block.0 stands.block.1)
-    (function_declared_stands P (record d { checker = with_scope b.value.1 d.checker.scope }) kind name b.value.0 stands.there)))
+    (function_declared_stands P (record d { checker = in_scope b.value.1 d.checker.scope }) kind name b.value.0 stands.there)))
 
 function_stands : (P : ℕ → Type 0) (d : DeclaredTree) (at : ℕ) (name : Identifier) (parameters : List ParameterTree) (result : Option ParameterTree) (body : source.BlockTree) (kind : FunctionKindTree)
     → FunctionStands P at name parameters result body → FaultsStand P (declare_function d at name parameters result body kind)

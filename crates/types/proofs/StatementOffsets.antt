@@ -16,17 +16,17 @@ use Rattle.typed_tree.specs.declared.expression.VarRef.{VarRef}
 use Rattle.typed_tree.specs.BlockTree.{StatementKindTree, BlockTree, Empty}
 use Rattle.expression_types.specs.declared.scope.Entity.{Entity}
 use Rattle.expression_types.specs.declared.scope.Entity.TheVariants as entity
-use Rattle.expression_types.specs.Expression.{used, value_of, vector_index}
+use Rattle.expression_types.specs.Expression.{used_name, value_of, vector_index}
 use Rattle.expression_types.specs.ScopeTree.{found, ScopeTree, declared as scope_declared}
 use Rattle.expression_types.specs.Faults.{WithFaults}
-use Rattle.expression_types.specs.ValueTree.{ValueTree, Integer, Condition, Vertex, Set, ErrorValue, named_set}
+use Rattle.expression_types.specs.ValueTree.{ValueTree, Integer, Condition, Vertex, Set, ErrorValue, entity_set}
 use Rattle.expression_types.proofs.FaultOffsets.{FaultsStand, both_stand, declared_stands, if_stand, used_stands, value_stands, vector_stands}
-use Rattle.types.specs.Block.{action_typed, behind, closed, in_place, statements_typed}
-use Rattle.types.specs.Checker.{CheckerTree, condition_slot, counted, declared_in, integer_slot, labelled, new_label, set_slot, as_index, as_integer, condition_in, integer_in}
-use Rattle.types.specs.Initial.{ApplyEndTree, InitializerTree, initializer_condition, edge_function, end_of, initializer_of, initializer_integer, is_edges, names_error, is_error_end, is_wrong}
+use Rattle.types.specs.Block.{action_typed, then_statement, closed, in_place, statements_typed}
+use Rattle.types.specs.Checker.{CheckerTree, condition_slot, counted, declared_in, integer_slot, with_label, new_label, set_slot, as_index, integer_wanted, condition_in, integer_in}
+use Rattle.types.specs.Initial.{ApplyEndTree, InitializerTree, initializer_condition, edge_function, apply_end_of, initializer_of, initializer_integer, is_edges, names_error, is_error_end, is_wrong}
 use Rattle.types.specs.Initial.{initializer_members, vertex_function, lacks_weights}
-use Rattle.types.specs.Statement.{add_vertex, added, applied, apply, assign, assigned, declare_as, edges_applied, has_ends, print, printed, reduce, reduce_entry, reduced, set_applied, set_entry}
-use Rattle.types.specs.Statement.{vertices_applied}
+use Rattle.types.specs.Statement.{add_vertex, added_to_set, applied, apply, assign, assigned, declare_as, edges_applied, has_ends, print, printed, reduce, reduce_entry, reduced, set_applied}
+use Rattle.types.specs.Statement.{set_entry, vertices_applied}
 use Rattle.types.proofs.ValueOffsets.{as_index_stands, as_integer_stands, initializer_condition_stands, condition_in_stands, end_stands, initializer_stands, initializer_integer_stands}
 use Rattle.types.proofs.ValueOffsets.{integer_in_stands, initializer_members_stands}
 
@@ -39,7 +39,7 @@ new_label_stands : (P : ℕ → Type 0) (c : CheckerTree) (label : Identifier) (
 new_label_stands P c label None there = tt
 new_label_stands P c label (Some index) there = (there, tt)
 
-pub labelled_stands : (P : ℕ → Type 0) (c : CheckerTree) (label : Option Identifier) → StandWhere P (label_terminals label) → FaultsStand P (labelled c label)
+pub labelled_stands : (P : ℕ → Type 0) (c : CheckerTree) (label : Option Identifier) → StandWhere P (label_terminals label) → FaultsStand P (with_label c label)
 labelled_stands P c None all = tt
 labelled_stands P c (Some label) all = new_label_stands P c label (found label.bytes c.labels) all.0
 
@@ -69,12 +69,12 @@ assigned_stands P at initializer entity.Error here = tt
 assigned_stands P at initializer _ here = (here, tt)
 
 reduced_stands : (P : ℕ → Type 0) (at : ℕ) (by : Reduction) (v : ValueTree) (e : Entity) → P at → FaultsStand P (reduced at by v e)
-reduced_stands P at by v (entity.IntegerVariable slot) here = let e = as_integer at v in both_stand P e.faults [] (as_integer_stands P at v here) tt
+reduced_stands P at by v (entity.IntegerVariable slot) here = let e = integer_wanted at v in both_stand P e.faults [] (as_integer_stands P at v here) tt
 reduced_stands P at by v entity.Error here = tt
 reduced_stands P at by v _ here = (here, tt)
 
-added_stands : (P : ℕ → Type 0) (at : ℕ) (v : ValueTree) (e : Entity) → P at → FaultsStand P (added at v e)
-added_stands P at v (entity.SetVariable slot) here = let e = as_integer at v in both_stand P e.faults [] (as_integer_stands P at v here) tt
+added_stands : (P : ℕ → Type 0) (at : ℕ) (v : ValueTree) (e : Entity) → P at → FaultsStand P (added_to_set at v e)
+added_stands P at v (entity.SetVariable slot) here = let e = integer_wanted at v in both_stand P e.faults [] (as_integer_stands P at v here) tt
 added_stands P at v entity.Error here = tt
 added_stands P at v _ here = (here, tt)
 
@@ -102,7 +102,7 @@ applied_stands : (P : ℕ → Type 0) (at : ℕ) (t : Entity) (a b : ApplyEndTre
 applied_stands P at t a b ends f here =
     if_stand P (names_error t) _ _ tt (if_stand P (is_edges t) _ _
     (if_stand P (is_wrong a || is_wrong b || lacks_weights t f) _ _ (here, tt) (edges_applied_stands P at a b (names_error f) (edge_function f) here))
-    (set_applied_stands P at ends f (named_set t) here))
+    (set_applied_stands P at ends f (entity_set t) here))
 
 -- statements that declare nothing
 in_place_stands : (P : ℕ → Type 0) (c : CheckerTree) (action : WithFaults StatementKindTree) → FaultsStand P action → FaultsStand P (in_place c action)
@@ -111,7 +111,7 @@ in_place_stands P c action all = both_stand P action.faults [] all tt
 assign_stands : (P : ℕ → Type 0) (c : CheckerTree) (name : Identifier) (initial : source.InitialTree) (rest : List Terminal) → P name.at → StandWhere P (initial_before initial rest)
     → FaultsStand P (assign c name.at name initial)
 assign_stands P c name initial rest there all =
-    let e = used c.scope name in
+    let e = used_name c.scope name in
     let initializer = initializer_of c name.at initial in
     both_stand P e.faults _ (used_stands P c.scope name there)
     (both_stand P initializer.faults _ (initializer_stands P c name.at initial rest there all) (assigned_stands P name.at initializer.value e.value there))
@@ -119,7 +119,7 @@ assign_stands P c name initial rest there all =
 reduce_stands : (P : ℕ → Type 0) (scope : ScopeTree) (name : Identifier) (by : Reduction) (e : ExpressionTree) → P name.at → StandWhere P (expression_terminals e)
     → FaultsStand P (reduce scope name.at name by e)
 reduce_stands P scope name by e there all =
-    let n = used scope name in
+    let n = used_name scope name in
     let v = value_of scope name.at e in
     both_stand P n.faults _ (used_stands P scope name there)
     (both_stand P v.faults _ (value_stands P scope name.at e there all) (reduced_stands P name.at by v.value n.value there))
@@ -141,7 +141,7 @@ entry_parts_stand P scope name index e there first second =
 add_vertex_stands : (P : ℕ → Type 0) (scope : ScopeTree) (set : Identifier) (e : ExpressionTree) → P set.at → StandWhere P (expression_terminals e)
     → FaultsStand P (add_vertex scope set.at set e)
 add_vertex_stands P scope set e there all =
-    let s = used scope set in
+    let s = used_name scope set in
     let v = value_of scope set.at e in
     both_stand P s.faults _ (used_stands P scope set there)
     (both_stand P v.faults _ (value_stands P scope set.at e there all) (added_stands P set.at v.value s.value there))
@@ -152,10 +152,10 @@ print_stands P scope at e here all = let v = value_of scope at e in both_stand P
 apply_stands : (P : ℕ → Type 0) (scope : ScopeTree) (target : Identifier) (ends : source.EndsTree) (function : Identifier) (rest : List Terminal)
     → P target.at → P function.at → StandWhere P (ends_before ends rest) → FaultsStand P (apply scope target.at target ends function)
 apply_stands P scope target ends function rest there named all =
-    let t = used scope target in
-    let a = end_of scope ends.from in
-    let b = end_of scope ends.to in
-    let f = used scope function in
+    let t = used_name scope target in
+    let a = apply_end_of scope ends.from in
+    let b = apply_end_of scope ends.to in
+    let f = used_name scope function in
     both_stand P t.faults _ (used_stands P scope target there)
     (both_stand P a.faults _ (end_stands P scope ends.from (from_stands P ends rest all))
     (both_stand P b.faults _ (end_stands P scope ends.to (to_stands P ends rest all))
@@ -222,9 +222,9 @@ mutual
       → FaultsStand P (statements_typed c so_far block)
   statements_stand P c so_far source.Empty rest all = tt
   statements_stand P c so_far (source.Then label action others) rest all =
-      let l = labelled c label in
+      let l = with_label c label in
       let a = action_typed (counted l.value.1) action in
       let statement = all_right (StandsWhere P) (label_terminals label) _ all in
       both_stand P l.faults _ (labelled_stands P c label (all_left (StandsWhere P) (label_terminals label) _ all))
       (both_stand P a.faults _ (action_stands P (counted l.value.1) action _ statement)
-      (statements_stand P a.value.1 (behind so_far (suc l.value.1.statements) l.value.0 a.value.0) others rest (action_after (StandsWhere P) action _ statement)))
+      (statements_stand P a.value.1 (then_statement so_far (suc l.value.1.statements) l.value.0 a.value.0) others rest (action_after (StandsWhere P) action _ statement)))

@@ -15,7 +15,7 @@ use Rattle.expression_types.specs.declared.fault.Fault.{Fault}
 use Rattle.expression_types.specs.declared.fault.TypeRule.TheVariants as rule
 use Rattle.expression_types.specs.Faults.{earlier, WithFaults, sure, fault_at, outcome, ◌>>=◌}
 use Rattle.expression_types.proofs.Steps.{bind-bind, outcome_then}
-use Rattle.types.specs.Checker.{CheckerTree, labelled, condition_in}
+use Rattle.types.specs.Checker.{CheckerTree, with_label, condition_in}
 use Rattle.types.specs.inside.Step.{labelled_step, steps_inside}
 use Rattle.types.specs.Step.{no_step, step_after, step_typed, steps_after, steps_typed}
 use Rattle.types.proofs.Sources.{statement_kind_tree-While, statement_kind_tree-If, statement_kind_tree-IfElse}
@@ -70,7 +70,7 @@ first_then : (c : CheckerTree) (so_far : FunctionStatementsTree) (label : Option
     → steps_typed c so_far (source.Then label a others)
     ≡ (labelled_step c label (λ c. step_typed c a) >>= λ s. steps_typed s.1 (step_after so_far s.0) others)
 first_then c so_far label a others =
-    sym (bind-bind {B = FunctionStatementTree × CheckerTree} (labelled c label) (λ l. step_typed l.1 a) (λ s. steps_typed s.1 (step_after so_far s.0) others))
+    sym (bind-bind {B = FunctionStatementTree × CheckerTree} (with_label c label) (λ l. step_typed l.1 a) (λ s. steps_typed s.1 (step_after so_far s.0) others))
 
 pub step_on : (c d : CheckerTree) (xs : List FunctionStatement) (s : FunctionStatement) (items : List Statement) (i : ℕ) (x : Statement) (old new : Option Fault)
     → i < length items → x ≡ get_or items i x → outcome old (labelled_step c x.label (λ c. step_typed c (statement_kind_tree x.action))) ≡ ((function_statement_tree s, d), new)

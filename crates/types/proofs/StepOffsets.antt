@@ -19,13 +19,13 @@ use Rattle.expression_types.specs.declared.scope.Entity.{Entity}
 use Rattle.expression_types.specs.declared.scope.Entity.TheVariants as entity
 use Rattle.expression_types.specs.declared.scope.Inside.{Inside}
 use Rattle.expression_types.specs.declared.scope.Inside.TheVariants as inside
-use Rattle.expression_types.specs.Expression.{index_value, used, value_of, vector_index}
+use Rattle.expression_types.specs.Expression.{index_value, used_name, value_of, vector_index}
 use Rattle.expression_types.specs.Faults.{WithFaults}
 use Rattle.expression_types.specs.ScopeTree.{ScopeTree}
 use Rattle.expression_types.specs.ValueTree.{ValueTree, Integer, Condition, Vertex, Set, ErrorValue}
 use Rattle.expression_types.proofs.FaultOffsets.{FaultsStand, both_stand, index_stands, used_stands, value_stands, vector_stands}
-use Rattle.types.specs.Checker.{CheckerTree, condition_slot, declared_in, integer_slot, labelled, as_integer, condition_in, integer_in}
-use Rattle.types.specs.Initial.{InitializerTree, initializer_condition, end_of, initializer_of, initializer_integer}
+use Rattle.types.specs.Checker.{CheckerTree, condition_slot, declared_in, integer_slot, with_label, integer_wanted, condition_in, integer_in}
+use Rattle.types.specs.Initial.{InitializerTree, initializer_condition, apply_end_of, initializer_of, initializer_integer}
 use Rattle.types.specs.Step.{assign_step, assigned_step, at_own, declare_step_as, may_reduce, may_set, no_add, no_apply, one_reduction, own_vertex, reduce_entry_step, reduce_step, reduced_as}
 use Rattle.types.specs.Step.{reduced_step, same_endpoint, same_reduction, set_entry_step, step_after, step_in_place, step_typed, steps_after, steps_typed, written_at, written_with}
 use Rattle.types.proofs.ValueOffsets.{as_integer_stands, initializer_condition_stands, condition_in_stands, end_stands, initializer_stands, initializer_integer_stands, integer_in_stands}
@@ -52,7 +52,7 @@ assigned_step_stands P at initializer entity.Error here = tt
 assigned_step_stands P at initializer _ here = (here, tt)
 
 reduced_step_stands : (P : ℕ → Type 0) (at : ℕ) (by : Reduction) (v : ValueTree) (e : Entity) → P at → FaultsStand P (reduced_step at by v e)
-reduced_step_stands P at by v (entity.IntegerVariable slot) here = let e = as_integer at v in both_stand P e.faults [] (as_integer_stands P at v here) tt
+reduced_step_stands P at by v (entity.IntegerVariable slot) here = let e = integer_wanted at v in both_stand P e.faults [] (as_integer_stands P at v here) tt
 reduced_step_stands P at by v entity.Error here = tt
 reduced_step_stands P at by v _ here = (here, tt)
 
@@ -128,7 +128,7 @@ step_in_place_stands P c step all = both_stand P step.faults [] all tt
 assign_step_stands : (P : ℕ → Type 0) (c : CheckerTree) (name : Identifier) (initial : source.InitialTree) (rest : List Terminal) → P name.at → StandWhere P (initial_before initial rest)
     → FaultsStand P (assign_step c name.at name initial)
 assign_step_stands P c name initial rest there all =
-    let e = used c.scope name in
+    let e = used_name c.scope name in
     let initializer = initializer_of c name.at initial in
     both_stand P e.faults _ (used_stands P c.scope name there)
     (both_stand P initializer.faults _ (initializer_stands P c name.at initial rest there all) (assigned_step_stands P name.at initializer.value e.value there))
@@ -136,24 +136,24 @@ assign_step_stands P c name initial rest there all =
 reduce_step_stands : (P : ℕ → Type 0) (scope : ScopeTree) (name : Identifier) (by : Reduction) (e : ExpressionTree) → P name.at → StandWhere P (expression_terminals e)
     → FaultsStand P (reduce_step scope name.at name by e)
 reduce_step_stands P scope name by e there all =
-    let n = used scope name in
+    let n = used_name scope name in
     let v = value_of scope name.at e in
     both_stand P n.faults _ (used_stands P scope name there)
     (both_stand P v.faults _ (value_stands P scope name.at e there all) (reduced_step_stands P name.at by v.value n.value there))
 
 no_add_stands : (P : ℕ → Type 0) (scope : ScopeTree) (set : Identifier) (e : ExpressionTree) → P set.at → StandWhere P (expression_terminals e) → FaultsStand P (no_add scope set.at set e)
 no_add_stands P scope set e there all =
-    let n = used scope set in
+    let n = used_name scope set in
     let v = value_of scope set.at e in
     (there, both_stand P n.faults _ (used_stands P scope set there) (both_stand P v.faults [] (value_stands P scope set.at e there all) tt))
 
 no_apply_stands : (P : ℕ → Type 0) (scope : ScopeTree) (target : Identifier) (ends : source.EndsTree) (function : Identifier) (rest : List Terminal)
     → P target.at → P function.at → StandWhere P (ends_before ends rest) → FaultsStand P (no_apply scope target.at target ends function)
 no_apply_stands P scope target ends function rest there named all =
-    let t = used scope target in
-    let a = end_of scope ends.from in
-    let b = end_of scope ends.to in
-    let f = used scope function in (
+    let t = used_name scope target in
+    let a = apply_end_of scope ends.from in
+    let b = apply_end_of scope ends.to in
+    let f = used_name scope function in (
       there,
       both_stand P t.faults _ (used_stands P scope target there)
           (both_stand P a.faults _ (end_stands P scope ends.from (from_stands P ends rest all))
@@ -217,7 +217,7 @@ mutual
       → FaultsStand P (steps_typed c so_far block)
   steps_stand P c so_far source.Empty rest all = tt
   steps_stand P c so_far (source.Then label action others) rest all =
-      let l = labelled c label in
+      let l = with_label c label in
       let s = step_typed l.value.1 action in
       let statement = all_right (StandsWhere P) (label_terminals label) _ all in
       both_stand P l.faults _ (labelled_stands P c label (all_left (StandsWhere P) (label_terminals label) _ all))

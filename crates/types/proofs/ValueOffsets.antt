@@ -14,25 +14,25 @@ use Rattle.typed_tree.specs.declared.statement.ApplyEnds.{ApplyEnds}
 use Rattle.typed_tree.specs.IntExpressionTree.{IntExpressionTree, Parameter}
 use Rattle.expression_types.specs.declared.fault.TypeRule.TheVariants as rule
 use Rattle.expression_types.specs.declared.scope.Entity.{Entity}
-use Rattle.expression_types.specs.Expression.{used, value_of}
+use Rattle.expression_types.specs.Expression.{used_name, value_of}
 use Rattle.expression_types.specs.Faults.{fault_at, sure}
 use Rattle.expression_types.specs.ScopeTree.{ScopeTree}
-use Rattle.expression_types.specs.ValueTree.{ValueTree, Integer, Condition, Vertex, Set, ErrorValue, condition_reads_entry, named_set, reads_entry}
+use Rattle.expression_types.specs.ValueTree.{ValueTree, Integer, Condition, Vertex, Set, ErrorValue, condition_reads_entry, entity_set, reads_entry}
 use Rattle.expression_types.proofs.FaultOffsets.{FaultsStand, both_stand, if_stand, used_stands, value_stands}
-use Rattle.types.specs.Checker.{CheckerTree, as_condition, as_index, as_integer, as_members, condition_in, integer_in, no_index, unread}
-use Rattle.types.specs.Initial.{ApplyEndTree, InitializerTree, Typed, Members, Loaded, Degrees, ErrorInitializer, initializer_condition, edge_function, end_of, ends_given, filter_function, filtered}
-use Rattle.types.specs.Initial.{filtered_by, initializer_of, initializer_integer, is_edges, names_error, is_error_end, is_wrong, loaded, initializer_members, modified, modified_by, new_set, of_edges}
-use Rattle.types.specs.Initial.{vector_of, writes_vector, lacks_weights}
+use Rattle.types.specs.Checker.{CheckerTree, condition_wanted, as_index, integer_wanted, as_members, condition_in, integer_in, no_index, unread}
+use Rattle.types.specs.Initial.{ApplyEndTree, InitializerTree, Typed, Members, Loaded, Degrees, ErrorInitializer, initializer_condition, edge_function, apply_end_of, ends_given, filter_function}
+use Rattle.types.specs.Initial.{filtered_set, filtered_by, initializer_of, initializer_integer, is_edges, names_error, is_error_end, is_wrong, loaded, initializer_members, initial_modified}
+use Rattle.types.specs.Initial.{modified_by, new_set, of_edges, vector_of, writes_vector, lacks_weights}
 
 -- values of the type that their place wants
-pub as_integer_stands : (P : ℕ → Type 0) (at : ℕ) (v : ValueTree) → P at → FaultsStand P (as_integer at v)
+pub as_integer_stands : (P : ℕ → Type 0) (at : ℕ) (v : ValueTree) → P at → FaultsStand P (integer_wanted at v)
 as_integer_stands P at (Integer e) here = tt
 as_integer_stands P at (Condition c) here = (here, tt)
 as_integer_stands P at (Vertex p) here = tt
 as_integer_stands P at (Set slot) here = (here, tt)
 as_integer_stands P at ErrorValue here = tt
 
-as_condition_stands : (P : ℕ → Type 0) (at : ℕ) (v : ValueTree) → P at → FaultsStand P (as_condition at v)
+as_condition_stands : (P : ℕ → Type 0) (at : ℕ) (v : ValueTree) → P at → FaultsStand P (condition_wanted at v)
 as_condition_stands P at (Integer e) here = (here, tt)
 as_condition_stands P at (Condition c) here = tt
 as_condition_stands P at (Vertex p) here = (here, tt)
@@ -69,10 +69,10 @@ as_index_stands P at (Set slot) here = (here, tt)
 as_index_stands P at ErrorValue here = tt
 
 -- an end of an apply
-pub end_stands : (P : ℕ → Type 0) (scope : ScopeTree) (end : Option Identifier) → IfSome end (λ name. P name.at) → FaultsStand P (end_of scope end)
+pub end_stands : (P : ℕ → Type 0) (scope : ScopeTree) (end : Option Identifier) → IfSome end (λ name. P name.at) → FaultsStand P (apply_end_of scope end)
 end_stands P scope None there = tt
 end_stands P scope (Some name) there =
-    let e = used scope name in both_stand P e.faults [] (used_stands P scope name there) tt
+    let e = used_name scope name in both_stand P e.faults [] (used_stands P scope name there) tt
 
 -- values that are no expressions
 of_edges_stands : (P : ℕ → Type 0) (at : ℕ) (x : InitializerTree) (e : Entity) → P at → FaultsStand P (of_edges at x e)
@@ -84,15 +84,15 @@ filtered_by_stands P at None index here = (here, tt)
 filtered_by_stands P at (Some slot) None here = (here, tt)
 filtered_by_stands P at (Some slot) (Some index) here = tt
 
-filtered_stands : (P : ℕ → Type 0) (at : ℕ) (s f : Entity) → P at → FaultsStand P (filtered at s f)
-filtered_stands P at s f here = if_stand P (names_error s || names_error f) _ _ tt (filtered_by_stands P at (named_set s) (filter_function f) here)
+filtered_stands : (P : ℕ → Type 0) (at : ℕ) (s f : Entity) → P at → FaultsStand P (filtered_set at s f)
+filtered_stands P at s f here = if_stand P (names_error s || names_error f) _ _ tt (filtered_by_stands P at (entity_set s) (filter_function f) here)
 
 modified_by_stands : (P : ℕ → Type 0) (c : CheckerTree) (at : ℕ) (ends : ApplyEnds) (function vector : Option ℕ) → P at → FaultsStand P (modified_by c at ends function vector)
 modified_by_stands P c at ends None vector here = (here, tt)
 modified_by_stands P c at ends (Some function) None here = (here, tt)
 modified_by_stands P c at ends (Some function) (Some vector) here = if_stand P (writes_vector c.written function vector) _ _ tt (here, tt)
 
-modified_stands : (P : ℕ → Type 0) (c : CheckerTree) (at : ℕ) (edges : Entity) (a b : ApplyEndTree) (f v : Entity) → P at → FaultsStand P (modified c at edges a b f v)
+modified_stands : (P : ℕ → Type 0) (c : CheckerTree) (at : ℕ) (edges : Entity) (a b : ApplyEndTree) (f v : Entity) → P at → FaultsStand P (initial_modified c at edges a b f v)
 modified_stands P c at edges a b f v here =
     if_stand P (names_error edges || is_error_end a || is_error_end b || names_error f || names_error v) _ _ tt
     (if_stand P (is_edges edges) _ _
@@ -115,20 +115,20 @@ pub initializer_stands : (P : ℕ → Type 0) (c : CheckerTree) (at : ℕ) (init
 initializer_stands P c at (source.NewSet size) rest here all = new_set_stands P at size here
 initializer_stands P c at (source.Load argument) rest here all = loaded_stands P at argument here
 initializer_stands P c at (source.Vertices edges) rest here all =
-    let e = used c.scope edges in both_stand P e.faults _ (used_stands P c.scope edges all.0) (of_edges_stands P at _ e.value here)
+    let e = used_name c.scope edges in both_stand P e.faults _ (used_stands P c.scope edges all.0) (of_edges_stands P at _ e.value here)
 initializer_stands P c at (source.OutDegrees edges) rest here all =
-    let e = used c.scope edges in both_stand P e.faults _ (used_stands P c.scope edges all.0) (of_edges_stands P at _ e.value here)
+    let e = used_name c.scope edges in both_stand P e.faults _ (used_stands P c.scope edges all.0) (of_edges_stands P at _ e.value here)
 initializer_stands P c at (source.Filter set test) rest here all =
-    let s = used c.scope set in
-    let f = used c.scope test in
+    let s = used_name c.scope set in
+    let f = used_name c.scope test in
     both_stand P s.faults _ (used_stands P c.scope set all.0)
     (both_stand P f.faults _ (used_stands P c.scope test all.1.1.1.1.0) (filtered_stands P at s.value f.value here))
 initializer_stands P c at (source.ApplyModified edges ends function vector) rest here all =
-    let e = used c.scope edges in
-    let a = end_of c.scope ends.from in
-    let b = end_of c.scope ends.to in
-    let f = used c.scope function in
-    let v = used c.scope vector in
+    let e = used_name c.scope edges in
+    let a = apply_end_of c.scope ends.from in
+    let b = apply_end_of c.scope ends.to in
+    let f = used_name c.scope function in
+    let v = used_name c.scope vector in
     let names = ends_after (StandsWhere P) ends _ all.1 in
     both_stand P e.faults _ (used_stands P c.scope edges all.0)
     (both_stand P a.faults _ (end_stands P c.scope ends.from (from_stands P ends _ all.1))

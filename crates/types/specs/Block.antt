@@ -6,7 +6,7 @@ use Rattle.syntax.specs.SourceTrees as source
 use Rattle.typed_tree.specs.BlockTree.{StatementKindTree, BlockTree, If, IfElse, While, For, Empty, Then}
 use Rattle.expression_types.specs.Faults.{WithFaults, sure, ◌>>=◌}
 use Rattle.expression_types.specs.declared.scope.Entity.TheVariants as entity
-use Rattle.types.specs.Checker.{CheckerTree, integer_slot, with_scope, declared_in, labelled, counted, integer_in, condition_in}
+use Rattle.types.specs.Checker.{CheckerTree, integer_slot, in_scope, declared_in, with_label, counted, integer_in, condition_in}
 use Rattle.types.specs.Statement.{declare_variable, assign, reduce, set_entry, reduce_entry, add_vertex, print, apply}
 
 -- a statement that declares nothing
@@ -14,13 +14,13 @@ abbrev pub in_place : CheckerTree → WithFaults StatementKindTree → WithFault
 in_place c action = action >>= λ a. sure (a, c)
 
 -- the statements so far, with one more after them
-abbrev pub behind : BlockTree → (number : ℕ) → (label : Option ℕ) → StatementKindTree → BlockTree
-behind Empty number label action = Then number label action Empty
-behind (Then n l a others) number label action = Then n l a (behind others number label action)
+abbrev pub then_statement : BlockTree → (number : ℕ) → (label : Option ℕ) → StatementKindTree → BlockTree
+then_statement Empty number label action = Then number label action Empty
+then_statement (Then n l a others) number label action = Then n l a (then_statement others number label action)
 
 -- after a block the names that became visible in it are forgotten
 abbrev pub closed : CheckerTree → CheckerTree → CheckerTree
-closed c d = with_scope d c.scope
+closed c d = in_scope d c.scope
 
 -- The name of a `for` is visible in its body alone, and its bounds are looked at before.
 abbrev pub for_typed : CheckerTree → ℕ → Identifier → (first limit : ExpressionTree) → (CheckerTree → WithFaults (BlockTree × CheckerTree))
@@ -55,5 +55,5 @@ abbrev mutual
   pub statements_typed : CheckerTree → BlockTree → source.BlockTree → WithFaults (BlockTree × CheckerTree)
   statements_typed c so_far source.Empty = sure (so_far, c)
   statements_typed c so_far (source.Then label action others) =
-      labelled c label >>= λ l. action_typed (counted l.1) action >>= λ a.
-      statements_typed a.1 (behind so_far (suc l.1.statements) l.0 a.0) others
+      with_label c label >>= λ l. action_typed (counted l.1) action >>= λ a.
+      statements_typed a.1 (then_statement so_far (suc l.1.statements) l.0 a.0) others

@@ -37,8 +37,8 @@ abbrev pub set_slot : CheckerTree → VarRef
 set_slot c = record { index = c.scope.sets; name = length c.names }
 
 -- with another scope
-abbrev pub with_scope : CheckerTree → ScopeTree → CheckerTree
-with_scope c scope = record c { scope = scope }
+abbrev pub in_scope : CheckerTree → ScopeTree → CheckerTree
+in_scope c scope = record c { scope = scope }
 
 -- with one more name, which is visible in this scope
 abbrev pub with_name : CheckerTree → List ℕ → ScopeTree → CheckerTree
@@ -64,9 +64,9 @@ new_label c label None = sure (
 )
 new_label c label (Some index) = fault_at label.at rule.BadLabel (Some index, c)
 
-abbrev pub labelled : CheckerTree → Option Identifier → WithFaults (Option ℕ × CheckerTree)
-labelled c None = sure (None, c)
-labelled c (Some label) = new_label c label (found label.bytes c.labels)
+abbrev pub with_label : CheckerTree → Option Identifier → WithFaults (Option ℕ × CheckerTree)
+with_label c None = sure (None, c)
+with_label c (Some label) = new_label c label (found label.bytes c.labels)
 
 -- one more statement of main
 abbrev pub counted : CheckerTree → CheckerTree
@@ -83,19 +83,19 @@ abbrev pub some_condition : BoolExpressionTree
 some_condition = Literal false
 
 -- an integer; a vertex reads as its number
-abbrev pub as_integer : ℕ → ValueTree → WithFaults IntExpressionTree
-as_integer at (Integer e) = sure e
-as_integer at (Condition c) = fault_at at rule.WrongType some_integer
-as_integer at (Vertex p) = sure (Parameter p)
-as_integer at (Set slot) = fault_at at rule.WrongType some_integer
-as_integer at ErrorValue = sure some_integer
+abbrev pub integer_wanted : ℕ → ValueTree → WithFaults IntExpressionTree
+integer_wanted at (Integer e) = sure e
+integer_wanted at (Condition c) = fault_at at rule.WrongType some_integer
+integer_wanted at (Vertex p) = sure (Parameter p)
+integer_wanted at (Set slot) = fault_at at rule.WrongType some_integer
+integer_wanted at ErrorValue = sure some_integer
 
-abbrev pub as_condition : ℕ → ValueTree → WithFaults BoolExpressionTree
-as_condition at (Integer e) = fault_at at rule.WrongType some_condition
-as_condition at (Condition c) = sure c
-as_condition at (Vertex p) = fault_at at rule.WrongType some_condition
-as_condition at (Set slot) = fault_at at rule.WrongType some_condition
-as_condition at ErrorValue = sure some_condition
+abbrev pub condition_wanted : ℕ → ValueTree → WithFaults BoolExpressionTree
+condition_wanted at (Integer e) = fault_at at rule.WrongType some_condition
+condition_wanted at (Condition c) = sure c
+condition_wanted at (Vertex p) = fault_at at rule.WrongType some_condition
+condition_wanted at (Set slot) = fault_at at rule.WrongType some_condition
+condition_wanted at ErrorValue = sure some_condition
 
 -- the members of another set
 abbrev pub as_members : ℕ → ValueTree → WithFaults SetValue
@@ -106,10 +106,10 @@ as_members at (Set slot) = sure (set.Copy slot)
 as_members at ErrorValue = sure set.Empty
 
 abbrev pub integer_in : ScopeTree → ℕ → ExpressionTree → WithFaults IntExpressionTree
-integer_in scope at e = value_of scope at e >>= as_integer at
+integer_in scope at e = value_of scope at e >>= integer_wanted at
 
 abbrev pub condition_in : ScopeTree → ℕ → ExpressionTree → WithFaults BoolExpressionTree
-condition_in scope at e = value_of scope at e >>= as_condition at
+condition_in scope at e = value_of scope at e >>= condition_wanted at
 
 -- An index of main is an integer that reads no entry; where it is neither, both rules are broken.
 abbrev pub unread : ℕ → IntExpressionTree → WithFaults (Option IntExpressionTree)

@@ -21,7 +21,7 @@ use Rattle.expression_types.specs.declared.fault.TypeRule.TheVariants as rule
 use Rattle.expression_types.specs.declared.scope.Entity.TheVariants as entity
 use Rattle.expression_types.specs.declared.scope.Inside.TheVariants as inside
 use Rattle.types.specs.Block.{statements_typed}
-use Rattle.types.specs.Checker.{CheckerTree, condition_slot, with_scope, declared_in, restarted}
+use Rattle.types.specs.Checker.{CheckerTree, condition_slot, in_scope, declared_in, restarted}
 use Rattle.types.specs.Initial.{InitializerTree, ErrorInitializer, is_all, is_degrees, is_loaded, is_sound, initializer_of}
 use Rattle.types.specs.Literal.{literal_integer, literal_condition}
 use Rattle.types.specs.Step.{steps_typed, with_writes}
@@ -121,32 +121,32 @@ pub data FunctionKindTree : Type 0 where
 abbrev pub main_bytes : List ℕ
 main_bytes = 109 ∷ 97 ∷ 105 ∷ 110 ∷ []
 
-abbrev pub is_vertex : DeclaredType → Bool
-is_vertex declared.Int = false
-is_vertex declared.Bool = false
-is_vertex declared.Vertex = true
-is_vertex declared.VertexSet = false
-is_vertex declared.Vector = false
-is_vertex declared.EdgeSet = false
-is_vertex declared.WeightedEdgeSet = false
+abbrev pub is_vertex_type : DeclaredType → Bool
+is_vertex_type declared.Int = false
+is_vertex_type declared.Bool = false
+is_vertex_type declared.Vertex = true
+is_vertex_type declared.VertexSet = false
+is_vertex_type declared.Vector = false
+is_vertex_type declared.EdgeSet = false
+is_vertex_type declared.WeightedEdgeSet = false
 
-abbrev pub is_int : DeclaredType → Bool
-is_int declared.Int = true
-is_int declared.Bool = false
-is_int declared.Vertex = false
-is_int declared.VertexSet = false
-is_int declared.Vector = false
-is_int declared.EdgeSet = false
-is_int declared.WeightedEdgeSet = false
+abbrev pub is_int_type : DeclaredType → Bool
+is_int_type declared.Int = true
+is_int_type declared.Bool = false
+is_int_type declared.Vertex = false
+is_int_type declared.VertexSet = false
+is_int_type declared.Vector = false
+is_int_type declared.EdgeSet = false
+is_int_type declared.WeightedEdgeSet = false
 
-abbrev pub is_bool : DeclaredType → Bool
-is_bool declared.Int = false
-is_bool declared.Bool = true
-is_bool declared.Vertex = false
-is_bool declared.VertexSet = false
-is_bool declared.Vector = false
-is_bool declared.EdgeSet = false
-is_bool declared.WeightedEdgeSet = false
+abbrev pub is_bool_type : DeclaredType → Bool
+is_bool_type declared.Int = false
+is_bool_type declared.Bool = true
+is_bool_type declared.Vertex = false
+is_bool_type declared.VertexSet = false
+is_bool_type declared.Vector = false
+is_bool_type declared.EdgeSet = false
+is_bool_type declared.WeightedEdgeSet = false
 
 abbrev pub takes_nothing : List ParameterTree → Option ParameterTree → Bool
 takes_nothing [] None = true
@@ -155,11 +155,11 @@ takes_nothing (p ∷ others) result = false
 
 abbrev pub kind_of : List ParameterTree → Option ParameterTree → FunctionKindTree
 kind_of [] result = NoKind
-kind_of (v ∷ []) None = if is_vertex v.declared then VertexKind else NoKind
-kind_of (v ∷ []) (Some result) = if is_vertex v.declared && is_bool result.declared then FilterKind else NoKind
-kind_of (src ∷ dst ∷ []) None = if is_vertex src.declared && is_vertex dst.declared then EdgeKind false else NoKind
+kind_of (v ∷ []) None = if is_vertex_type v.declared then VertexKind else NoKind
+kind_of (v ∷ []) (Some result) = if is_vertex_type v.declared && is_bool_type result.declared then FilterKind else NoKind
+kind_of (src ∷ dst ∷ []) None = if is_vertex_type src.declared && is_vertex_type dst.declared then EdgeKind false else NoKind
 kind_of (src ∷ dst ∷ []) (Some result) = NoKind
-kind_of (src ∷ dst ∷ w ∷ []) None = if is_vertex src.declared && is_vertex dst.declared && is_int w.declared then EdgeKind true else NoKind
+kind_of (src ∷ dst ∷ w ∷ []) None = if is_vertex_type src.declared && is_vertex_type dst.declared && is_int_type w.declared then EdgeKind true else NoKind
 kind_of (src ∷ dst ∷ w ∷ []) (Some result) = NoKind
 kind_of (a ∷ b ∷ c ∷ d ∷ others) result = NoKind
 
@@ -184,7 +184,7 @@ takes_weight NoKind = false
 -- Parameters are vertices: the source, and any after the first the destination. One of type int is the weight, in a function that takes it.
 -- One of another type has no clear meaning.
 abbrev pub parameter : Bool → Endpoint → DeclaredType → Entity
-parameter weighted p type = if is_vertex type then entity.Parameter p else (if weighted && is_int type then entity.Weight else entity.Error)
+parameter weighted p type = if is_vertex_type type then entity.Parameter p else (if weighted && is_int_type type then entity.Weight else entity.Error)
 
 abbrev pub parameters_declared : Bool → CheckerTree → Endpoint → List ParameterTree → WithFaults CheckerTree
 parameters_declared weighted c p [] = sure c
@@ -206,7 +206,7 @@ result_declared c kind (Some result) = declared_in c result.name (result_entity 
 -- what is known at the first statement of a function
 abbrev pub opened : CheckerTree → FunctionKindTree → List ParameterTree → Option ParameterTree → WithFaults CheckerTree
 opened c kind parameters result =
-    parameters_declared (takes_weight kind) (with_writes (with_scope c
+    parameters_declared (takes_weight kind) (with_writes (in_scope c
     (entered (inside_of kind) c.scope)) []) endpoint.Source parameters >>= λ d. result_declared d kind result
 
 -- a function is one of the kinds
@@ -217,14 +217,14 @@ kind_fits at VertexKind = sure true
 kind_fits at FilterKind = sure true
 kind_fits at NoKind = fault_at at rule.WrongType false
 
-abbrev pub with_main : DeclaredTree → Bool → BlockTree → DeclaredTree
-with_main d true main = record d { main = Some main }
-with_main d false main = d
+abbrev pub with_main_block : DeclaredTree → Bool → BlockTree → DeclaredTree
+with_main_block d true main = record d { main = Some main }
+with_main_block d false main = d
 
 abbrev pub main_declared : DeclaredTree → Bool → Identifier → List ParameterTree → Option ParameterTree → source.BlockTree → WithFaults DeclaredTree
 main_declared d fits name parameters result body =
     opened (restarted d.checker) (MainKind fits) parameters result >>= λ c. statements_typed c Empty body >>= λ b.
-    declare_name (record d { checker = with_scope b.1 d.checker.scope }) name entity.Main >>= λ e. sure (with_main e fits b.0)
+    declare_name (record d { checker = in_scope b.1 d.checker.scope }) name entity.Main >>= λ e. sure (with_main_block e fits b.0)
 
 -- a function with its name and its statements
 abbrev pub function_of : DeclaredTree → FunctionStatementsTree → FunctionTree
@@ -254,7 +254,7 @@ abbrev pub steps_declared : DeclaredTree → ℕ → FunctionKindTree → Identi
     → WithFaults DeclaredTree
 steps_declared d at kind name parameters result body =
     kind_fits at kind >>= λ f. opened d.checker kind parameters result >>= λ c. steps_typed c NoStep body >>= λ b.
-    function_declared (record d { checker = with_scope b.1 d.checker.scope }) kind name b.0
+    function_declared (record d { checker = in_scope b.1 d.checker.scope }) kind name b.0
 
 abbrev pub declare_function : DeclaredTree → ℕ → Identifier → List ParameterTree → Option ParameterTree → source.BlockTree → FunctionKindTree
     → WithFaults DeclaredTree

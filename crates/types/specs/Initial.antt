@@ -16,11 +16,11 @@ use Rattle.typed_tree.specs.BoolExpressionTree.{BoolExpressionTree}
 use Rattle.expression_types.specs.declared.fault.TypeRule.TheVariants as rule
 use Rattle.expression_types.specs.declared.scope.Entity.{Entity}
 use Rattle.expression_types.specs.declared.scope.Entity.TheVariants as entity
-use Rattle.expression_types.specs.Expression.{used, value_of}
+use Rattle.expression_types.specs.Expression.{used_name, value_of}
 use Rattle.expression_types.specs.Faults.{WithFaults, sure, fault_at, ◌>>=◌}
 use Rattle.expression_types.specs.ScopeTree.{ScopeTree}
-use Rattle.expression_types.specs.ValueTree.{ValueTree, is_error, named_set}
-use Rattle.types.specs.Checker.{CheckerTree, some_integer, some_condition, as_integer, as_condition, as_members}
+use Rattle.expression_types.specs.ValueTree.{ValueTree, is_error, entity_set}
+use Rattle.types.specs.Checker.{CheckerTree, some_integer, some_condition, integer_wanted, condition_wanted, as_members}
 
 -- What an initial value is: an expression's value, what a set gets, the edges, the out-degrees, or one with a faulty part.
 pub data InitializerTree : Type 0 where
@@ -91,9 +91,9 @@ filter_named (entity.Filter index) = Given (filter.Function index)
 filter_named entity.Main = Wrong
 filter_named entity.Error = ErrorEnd
 
-abbrev pub end_of : ScopeTree → Option Identifier → WithFaults ApplyEndTree
-end_of scope None = sure Absent
-end_of scope (Some name) = used scope name >>= λ e. sure (filter_named e)
+abbrev pub apply_end_of : ScopeTree → Option Identifier → WithFaults ApplyEndTree
+apply_end_of scope None = sure Absent
+apply_end_of scope (Some name) = used_name scope name >>= λ e. sure (filter_named e)
 
 abbrev pub is_wrong : ApplyEndTree → Bool
 is_wrong Absent = false
@@ -172,27 +172,27 @@ edge_function entity.Main = None
 edge_function entity.Error = None
 
 -- an edge function whose third parameter is the edge's weight
-abbrev pub reads_weight : Entity → Bool
-reads_weight (entity.Edges weights) = false
-reads_weight (entity.Vector index) = false
-reads_weight (entity.ConstantSet slot) = false
-reads_weight (entity.IntegerConstant name n) = false
-reads_weight (entity.ConditionConstant name b) = false
-reads_weight (entity.IntegerVariable slot) = false
-reads_weight (entity.ConditionVariable slot) = false
-reads_weight (entity.SetVariable slot) = false
-reads_weight (entity.LoopVariable slot) = false
-reads_weight (entity.Parameter p) = false
-reads_weight entity.Weight = false
-reads_weight (entity.EdgeFunction index weighted) = weighted
-reads_weight (entity.VertexFunction index) = false
-reads_weight (entity.Filter index) = false
-reads_weight entity.Main = false
-reads_weight entity.Error = false
+abbrev pub takes_edge_weight : Entity → Bool
+takes_edge_weight (entity.Edges weights) = false
+takes_edge_weight (entity.Vector index) = false
+takes_edge_weight (entity.ConstantSet slot) = false
+takes_edge_weight (entity.IntegerConstant name n) = false
+takes_edge_weight (entity.ConditionConstant name b) = false
+takes_edge_weight (entity.IntegerVariable slot) = false
+takes_edge_weight (entity.ConditionVariable slot) = false
+takes_edge_weight (entity.SetVariable slot) = false
+takes_edge_weight (entity.LoopVariable slot) = false
+takes_edge_weight (entity.Parameter p) = false
+takes_edge_weight entity.Weight = false
+takes_edge_weight (entity.EdgeFunction index weighted) = weighted
+takes_edge_weight (entity.VertexFunction index) = false
+takes_edge_weight (entity.Filter index) = false
+takes_edge_weight entity.Main = false
+takes_edge_weight entity.Error = false
 
 -- an edgeset in which no weights are seen, for a function that reads them
 abbrev pub lacks_weights : Entity → Entity → Bool
-lacks_weights (entity.Edges weights) f = not weights && reads_weight f
+lacks_weights (entity.Edges weights) f = not weights && takes_edge_weight f
 lacks_weights (entity.Vector index) f = false
 lacks_weights (entity.ConstantSet slot) f = false
 lacks_weights (entity.IntegerConstant name n) f = false
@@ -273,8 +273,8 @@ filtered_by at None index = fault_at at rule.WrongType ErrorInitializer
 filtered_by at (Some slot) None = fault_at at rule.WrongType ErrorInitializer
 filtered_by at (Some slot) (Some index) = sure (Members (set.Filter slot index))
 
-abbrev pub filtered : ℕ → Entity → Entity → WithFaults InitializerTree
-filtered at s f = if names_error s || names_error f then sure ErrorInitializer else filtered_by at (named_set s) (filter_function f)
+abbrev pub filtered_set : ℕ → Entity → Entity → WithFaults InitializerTree
+filtered_set at s f = if names_error s || names_error f then sure ErrorInitializer else filtered_by at (entity_set s) (filter_function f)
 
 -- the vector is one that the edge function writes
 abbrev pub writes_vector : List (List (ℕ × Reduction)) → ℕ → ℕ → Bool
@@ -287,8 +287,8 @@ modified_by c at ends (Some function) (Some vector) =
     if writes_vector c.written function vector then sure (Members (set.Modified ends function vector)) else fault_at at rule.WrongType ErrorInitializer
 
 -- a name in a value that is not clear ends all further rules on it
-abbrev pub modified : CheckerTree → ℕ → Entity → ApplyEndTree → ApplyEndTree → Entity → Entity → WithFaults InitializerTree
-modified c at edges a b f v =
+abbrev pub initial_modified : CheckerTree → ℕ → Entity → ApplyEndTree → ApplyEndTree → Entity → Entity → WithFaults InitializerTree
+initial_modified c at edges a b f v =
     if names_error edges || is_error_end a || is_error_end b || names_error f || names_error v then sure ErrorInitializer
     else (if is_edges edges then
     (if is_wrong a || is_wrong b || lacks_weights edges f then fault_at at rule.WrongType ErrorInitializer else modified_by c at (ends_given a b)
@@ -310,24 +310,24 @@ loaded at (negsuc n) = fault_at at rule.WrongType ErrorInitializer
 abbrev pub initializer_of : CheckerTree → ℕ → InitialTree → WithFaults InitializerTree
 initializer_of c at (NewSet size) = new_set at size
 initializer_of c at (Load argument) = loaded at argument
-initializer_of c at (Vertices edges) = used c.scope edges >>= of_edges at (Members set.All)
-initializer_of c at (OutDegrees edges) = used c.scope edges >>= of_edges at Degrees
-initializer_of c at (Filter s f) = used c.scope s >>= λ s. used c.scope f >>= λ f. filtered at s f
+initializer_of c at (Vertices edges) = used_name c.scope edges >>= of_edges at (Members set.All)
+initializer_of c at (OutDegrees edges) = used_name c.scope edges >>= of_edges at Degrees
+initializer_of c at (Filter s f) = used_name c.scope s >>= λ s. used_name c.scope f >>= λ f. filtered_set at s f
 initializer_of c at (ApplyModified edges ends f v) =
-    used c.scope edges >>= λ e. end_of c.scope ends.from >>= λ a. end_of c.scope ends.to >>= λ b.
-    used c.scope f >>= λ f. used c.scope v >>= λ v. modified c at e a b f v
+    used_name c.scope edges >>= λ e. apply_end_of c.scope ends.from >>= λ a. apply_end_of c.scope ends.to >>= λ b.
+    used_name c.scope f >>= λ f. used_name c.scope v >>= λ v. initial_modified c at e a b f v
 initializer_of c at (Value e) = value_of c.scope at e >>= λ v. sure (Typed v)
 
 -- what a variable or a constant of each type gets
 abbrev pub initializer_integer : ℕ → InitializerTree → WithFaults IntExpressionTree
-initializer_integer at (Typed v) = as_integer at v
+initializer_integer at (Typed v) = integer_wanted at v
 initializer_integer at (Members s) = fault_at at rule.WrongType some_integer
 initializer_integer at Loaded = fault_at at rule.WrongType some_integer
 initializer_integer at Degrees = fault_at at rule.WrongType some_integer
 initializer_integer at ErrorInitializer = sure some_integer
 
 abbrev pub initializer_condition : ℕ → InitializerTree → WithFaults BoolExpressionTree
-initializer_condition at (Typed v) = as_condition at v
+initializer_condition at (Typed v) = condition_wanted at v
 initializer_condition at (Members s) = fault_at at rule.WrongType some_condition
 initializer_condition at Loaded = fault_at at rule.WrongType some_condition
 initializer_condition at Degrees = fault_at at rule.WrongType some_condition

@@ -7,9 +7,9 @@ use Rattle.syntax.specs.Nesting.{◌>>=◌}
 use Rattle.expression_types.specs.BareNames.{only_operand}
 
 -- a number without its sign is changed; a source has no other
-abbrev pub negated : ℤ → Option ℤ
-negated (pos n) = Some (neg_ℤ (pos n))
-negated (negsuc n) = None
+abbrev pub negated_literal : ℤ → Option ℤ
+negated_literal (pos n) = Some (neg_ℤ (pos n))
+negated_literal (negsuc n) = None
 
 -- a literal of type int is a number, after one `-` or none
 abbrev pub primary_number : PrimaryTree → Option ℤ
@@ -22,7 +22,7 @@ primary_number (tree.Parentheses inside) = None
 
 abbrev pub unary_number : UnaryTree → Option ℤ
 unary_number (tree.Bare p) = primary_number p
-unary_number (tree.Signed prefix.Minus (tree.Bare p)) = primary_number p >>= negated
+unary_number (tree.Signed prefix.Minus (tree.Bare p)) = primary_number p >>= negated_literal
 unary_number (tree.Signed prefix.Minus (tree.Signed sign u)) = None
 unary_number (tree.Signed prefix.Not u) = None
 

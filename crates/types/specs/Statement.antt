@@ -12,13 +12,13 @@ use Rattle.typed_tree.specs.BlockTree.{DeclareSet, AssignSet, AddVertex, PrintIn
 use Rattle.expression_types.specs.declared.fault.TypeRule.TheVariants as rule
 use Rattle.expression_types.specs.declared.scope.Entity.{Entity}
 use Rattle.expression_types.specs.declared.scope.Entity.TheVariants as entity
-use Rattle.expression_types.specs.Expression.{used, value_of, vector_index}
+use Rattle.expression_types.specs.Expression.{used_name, value_of, vector_index}
 use Rattle.expression_types.specs.Faults.{WithFaults, sure, fault_at, ◌>>=◌}
 use Rattle.expression_types.specs.ScopeTree.{ScopeTree}
-use Rattle.expression_types.specs.ValueTree.{ValueTree, Integer, Condition, Vertex, Set, ErrorValue, named_set}
-use Rattle.types.specs.Checker.{CheckerTree, integer_slot, condition_slot, set_slot, declared_in, some_integer, as_integer, as_index, integer_in}
-use Rattle.types.specs.Initial.{InitializerTree, ApplyEndTree, initializer_of, end_of, is_wrong, is_error_end, ends_given, names_error, is_edges, lacks_weights}
-use Rattle.types.specs.Initial.{edge_function, vertex_function, initializer_integer, initializer_condition, initializer_members}
+use Rattle.expression_types.specs.ValueTree.{ValueTree, Integer, Condition, Vertex, Set, ErrorValue, entity_set}
+use Rattle.types.specs.Checker.{CheckerTree, integer_slot, condition_slot, set_slot, declared_in, some_integer, integer_wanted, as_index, integer_in}
+use Rattle.types.specs.Initial.{InitializerTree, ApplyEndTree, initializer_of, apply_end_of, is_wrong, is_error_end, ends_given, names_error, is_edges}
+use Rattle.types.specs.Initial.{lacks_weights, edge_function, vertex_function, initializer_integer, initializer_condition, initializer_members}
 
 -- what stands in place of a faulty statement
 abbrev pub no_action : StatementKindTree
@@ -62,7 +62,7 @@ assigned at initializer entity.Main = fault_at at rule.WrongType no_action
 assigned at initializer entity.Error = sure no_action
 
 abbrev pub assign : CheckerTree → ℕ → Identifier → InitialTree → WithFaults StatementKindTree
-assign c at name initial = used c.scope name >>= λ e. initializer_of c at initial >>= λ initializer. assigned at initializer e
+assign c at name initial = used_name c.scope name >>= λ e. initializer_of c at initial >>= λ initializer. assigned at initializer e
 
 -- int variables are reduced
 abbrev pub reduced : ℕ → Reduction → ValueTree → Entity → WithFaults StatementKindTree
@@ -71,7 +71,7 @@ reduced at by v (entity.Vector index) = fault_at at rule.WrongType no_action
 reduced at by v (entity.ConstantSet slot) = fault_at at rule.WrongType no_action
 reduced at by v (entity.IntegerConstant name n) = fault_at at rule.WrongType no_action
 reduced at by v (entity.ConditionConstant name b) = fault_at at rule.WrongType no_action
-reduced at by v (entity.IntegerVariable slot) = as_integer at v >>= λ e. sure (ReduceInteger slot by e)
+reduced at by v (entity.IntegerVariable slot) = integer_wanted at v >>= λ e. sure (ReduceInteger slot by e)
 reduced at by v (entity.ConditionVariable slot) = fault_at at rule.WrongType no_action
 reduced at by v (entity.SetVariable slot) = fault_at at rule.WrongType no_action
 reduced at by v (entity.LoopVariable slot) = fault_at at rule.WrongType no_action
@@ -84,7 +84,7 @@ reduced at by v entity.Main = fault_at at rule.WrongType no_action
 reduced at by v entity.Error = sure no_action
 
 abbrev pub reduce : ScopeTree → ℕ → Identifier → Reduction → ExpressionTree → WithFaults StatementKindTree
-reduce scope at name by e = used scope name >>= λ n. value_of scope at e >>= λ v. reduced at by v n
+reduce scope at name by e = used_name scope name >>= λ n. value_of scope at e >>= λ v. reduced at by v n
 
 -- an entry at an index
 abbrev pub entry_set : Option ℕ → Option IntExpressionTree → IntExpressionTree → StatementKindTree
@@ -108,26 +108,26 @@ reduce_entry scope at name index by e =
     integer_in scope at e >>= λ x. sure (entry_reduced vector i by x)
 
 -- set variables get vertices
-abbrev pub added : ℕ → ValueTree → Entity → WithFaults StatementKindTree
-added at v (entity.Edges weights) = fault_at at rule.WrongType no_action
-added at v (entity.Vector index) = fault_at at rule.WrongType no_action
-added at v (entity.ConstantSet slot) = fault_at at rule.WrongType no_action
-added at v (entity.IntegerConstant name n) = fault_at at rule.WrongType no_action
-added at v (entity.ConditionConstant name b) = fault_at at rule.WrongType no_action
-added at v (entity.IntegerVariable slot) = fault_at at rule.WrongType no_action
-added at v (entity.ConditionVariable slot) = fault_at at rule.WrongType no_action
-added at v (entity.SetVariable slot) = as_integer at v >>= λ e. sure (AddVertex slot e)
-added at v (entity.LoopVariable slot) = fault_at at rule.WrongType no_action
-added at v (entity.Parameter p) = fault_at at rule.WrongType no_action
-added at v entity.Weight = fault_at at rule.WrongType no_action
-added at v (entity.EdgeFunction index weighted) = fault_at at rule.WrongType no_action
-added at v (entity.VertexFunction index) = fault_at at rule.WrongType no_action
-added at v (entity.Filter index) = fault_at at rule.WrongType no_action
-added at v entity.Main = fault_at at rule.WrongType no_action
-added at v entity.Error = sure no_action
+abbrev pub added_to_set : ℕ → ValueTree → Entity → WithFaults StatementKindTree
+added_to_set at v (entity.Edges weights) = fault_at at rule.WrongType no_action
+added_to_set at v (entity.Vector index) = fault_at at rule.WrongType no_action
+added_to_set at v (entity.ConstantSet slot) = fault_at at rule.WrongType no_action
+added_to_set at v (entity.IntegerConstant name n) = fault_at at rule.WrongType no_action
+added_to_set at v (entity.ConditionConstant name b) = fault_at at rule.WrongType no_action
+added_to_set at v (entity.IntegerVariable slot) = fault_at at rule.WrongType no_action
+added_to_set at v (entity.ConditionVariable slot) = fault_at at rule.WrongType no_action
+added_to_set at v (entity.SetVariable slot) = integer_wanted at v >>= λ e. sure (AddVertex slot e)
+added_to_set at v (entity.LoopVariable slot) = fault_at at rule.WrongType no_action
+added_to_set at v (entity.Parameter p) = fault_at at rule.WrongType no_action
+added_to_set at v entity.Weight = fault_at at rule.WrongType no_action
+added_to_set at v (entity.EdgeFunction index weighted) = fault_at at rule.WrongType no_action
+added_to_set at v (entity.VertexFunction index) = fault_at at rule.WrongType no_action
+added_to_set at v (entity.Filter index) = fault_at at rule.WrongType no_action
+added_to_set at v entity.Main = fault_at at rule.WrongType no_action
+added_to_set at v entity.Error = sure no_action
 
 abbrev pub add_vertex : ScopeTree → ℕ → Identifier → ExpressionTree → WithFaults StatementKindTree
-add_vertex scope at set e = used scope set >>= λ s. value_of scope at e >>= λ v. added at v s
+add_vertex scope at set e = used_name scope set >>= λ s. value_of scope at e >>= λ v. added_to_set at v s
 
 -- a number or a truth value is printed
 abbrev pub printed : ℕ → ValueTree → WithFaults StatementKindTree
@@ -160,7 +160,7 @@ applied at t a b ends f =
     if names_error t then sure no_action
     else (if is_edges t then
     (if is_wrong a || is_wrong b || lacks_weights t f then fault_at at rule.WrongType no_action else edges_applied at a b (names_error f) (edge_function f))
-    else set_applied at ends f (named_set t))
+    else set_applied at ends f (entity_set t))
 
 -- whether an end is written
 abbrev pub has_ends : EndsTree → Bool
@@ -168,5 +168,5 @@ has_ends ends = is_some ends.from || is_some ends.to
 
 abbrev pub apply : ScopeTree → ℕ → Identifier → EndsTree → Identifier → WithFaults StatementKindTree
 apply scope at target ends function =
-    used scope target >>= λ t. end_of scope ends.from >>= λ a. end_of scope ends.to >>= λ b. used scope function >>= λ f.
+    used_name scope target >>= λ t. apply_end_of scope ends.from >>= λ a. apply_end_of scope ends.to >>= λ b. used_name scope function >>= λ f.
     applied at t a b (has_ends ends) f

@@ -16,15 +16,15 @@ use Rattle.typed_tree.specs.FunctionStatementTree.{ReduceInteger, SetEntry, Redu
 use Rattle.typed_tree.specs.declared.expression.Endpoint.TheVariants as endpoint
 use Rattle.expression_types.specs.declared.scope.Entity.{Entity}
 use Rattle.expression_types.specs.declared.scope.Inside.{Inside}
-use Rattle.expression_types.specs.Expression.{index_value, used, value_of, vector_index}
+use Rattle.expression_types.specs.Expression.{index_value, used_name, value_of, vector_index}
 use Rattle.expression_types.specs.Faults.{WithFaults, sure, fault_at, ◌>>=◌}
 use Rattle.expression_types.specs.ScopeTree.{ScopeTree}
 use Rattle.expression_types.specs.ValueTree.{ValueTree, Integer, Condition, Vertex, Set, ErrorValue}
 use Rattle.expression_types.specs.declared.fault.TypeRule.TheVariants as rule
 use Rattle.expression_types.specs.declared.scope.Entity.TheVariants as entity
 use Rattle.expression_types.specs.declared.scope.Inside.TheVariants as inside
-use Rattle.types.specs.Checker.{CheckerTree, integer_slot, condition_slot, with_scope, declared_in, labelled, as_integer, integer_in, condition_in}
-use Rattle.types.specs.Initial.{InitializerTree, end_of, initializer_of, initializer_integer, initializer_condition}
+use Rattle.types.specs.Checker.{CheckerTree, integer_slot, condition_slot, in_scope, declared_in, with_label, integer_wanted, integer_in, condition_in}
+use Rattle.types.specs.Initial.{InitializerTree, apply_end_of, initializer_of, initializer_integer, initializer_condition}
 
 -- what stands in place of a faulty statement
 abbrev pub no_step : FunctionStatementTree
@@ -68,7 +68,7 @@ assigned_step at initializer entity.Main = fault_at at rule.WrongType no_step
 assigned_step at initializer entity.Error = sure no_step
 
 abbrev pub assign_step : CheckerTree → ℕ → Identifier → InitialTree → WithFaults FunctionStatementTree
-assign_step c at name initial = used c.scope name >>= λ e. initializer_of c at initial >>= λ initializer. assigned_step at initializer e
+assign_step c at name initial = used_name c.scope name >>= λ e. initializer_of c at initial >>= λ initializer. assigned_step at initializer e
 
 abbrev pub reduced_step : ℕ → Reduction → ValueTree → Entity → WithFaults FunctionStatementTree
 reduced_step at by v (entity.Edges weights) = fault_at at rule.WrongType no_step
@@ -76,7 +76,7 @@ reduced_step at by v (entity.Vector index) = fault_at at rule.WrongType no_step
 reduced_step at by v (entity.ConstantSet slot) = fault_at at rule.WrongType no_step
 reduced_step at by v (entity.IntegerConstant name n) = fault_at at rule.WrongType no_step
 reduced_step at by v (entity.ConditionConstant name b) = fault_at at rule.WrongType no_step
-reduced_step at by v (entity.IntegerVariable slot) = as_integer at v >>= λ e. sure (ReduceInteger slot by e)
+reduced_step at by v (entity.IntegerVariable slot) = integer_wanted at v >>= λ e. sure (ReduceInteger slot by e)
 reduced_step at by v (entity.ConditionVariable slot) = fault_at at rule.WrongType no_step
 reduced_step at by v (entity.SetVariable slot) = fault_at at rule.WrongType no_step
 reduced_step at by v (entity.LoopVariable slot) = fault_at at rule.WrongType no_step
@@ -89,7 +89,7 @@ reduced_step at by v entity.Main = fault_at at rule.WrongType no_step
 reduced_step at by v entity.Error = sure no_step
 
 abbrev pub reduce_step : ScopeTree → ℕ → Identifier → Reduction → ExpressionTree → WithFaults FunctionStatementTree
-reduce_step scope at name by e = used scope name >>= λ n. value_of scope at e >>= λ v. reduced_step at by v n
+reduce_step scope at name by e = used_name scope name >>= λ n. value_of scope at e >>= λ v. reduced_step at by v n
 
 -- the vertex at which a function writes
 abbrev pub own_vertex : Inside → Endpoint
@@ -184,12 +184,12 @@ reduce_entry_step c at name index by e =
 
 -- a statement that no function may hold; its parts are looked at too
 abbrev pub no_add : ScopeTree → ℕ → Identifier → ExpressionTree → WithFaults FunctionStatementTree
-no_add scope at set e = fault_at at rule.WrongType no_step >>= λ s. used scope set >>= λ n. value_of scope at e >>= λ v. sure s
+no_add scope at set e = fault_at at rule.WrongType no_step >>= λ s. used_name scope set >>= λ n. value_of scope at e >>= λ v. sure s
 
 abbrev pub no_apply : ScopeTree → ℕ → Identifier → source.EndsTree → Identifier → WithFaults FunctionStatementTree
 no_apply scope at target ends function =
-    fault_at at rule.WrongType no_step >>= λ s. used scope target >>= λ t. end_of scope ends.from >>= λ a. end_of scope ends.to >>= λ b.
-    used scope function >>= λ f. sure s
+    fault_at at rule.WrongType no_step >>= λ s. used_name scope target >>= λ t. apply_end_of scope ends.from >>= λ a. apply_end_of scope ends.to >>= λ b.
+    used_name scope function >>= λ f. sure s
 
 -- a statement that declares nothing
 abbrev pub step_in_place : CheckerTree → WithFaults FunctionStatementTree → WithFaults (FunctionStatementTree × CheckerTree)
@@ -202,7 +202,7 @@ step_after (StepThen s others) step = StepThen s (step_after others step)
 
 -- after a block the names that became visible in it are forgotten
 abbrev pub steps_after : CheckerTree → CheckerTree → CheckerTree
-steps_after c d = with_scope d c.scope
+steps_after c d = in_scope d c.scope
 
 -- The name of a `for` is visible in its body alone, and its bounds are looked at before.
 abbrev pub no_for : CheckerTree → ℕ → Identifier → (first limit : ExpressionTree) → (CheckerTree → WithFaults (FunctionStatementsTree × CheckerTree))
@@ -235,4 +235,4 @@ abbrev mutual
   pub steps_typed : CheckerTree → FunctionStatementsTree → source.BlockTree → WithFaults (FunctionStatementsTree × CheckerTree)
   steps_typed c so_far source.Empty = sure (so_far, c)
   steps_typed c so_far (source.Then label action others) =
-      labelled c label >>= λ l. step_typed l.1 action >>= λ s. steps_typed s.1 (step_after so_far s.0) others
+      with_label c label >>= λ l. step_typed l.1 action >>= λ s. steps_typed s.1 (step_after so_far s.0) others

@@ -3,7 +3,7 @@ ghost use Rattle.std.specs.Prelude.{◌≡◌, OnOk};
 ghost use Rattle.syntax.specs.SourceViews.{statement_kind_tree as source_action, block_tree as source_block};
 ghost use Rattle.typed_tree.specs.BlockTree.{Empty, statement_kind_tree, block_tree};
 ghost use Rattle.expression_types.specs.Faults.{ReportsFaults};
-ghost use Rattle.expression_types.specs.ScopeTree.{Keeps};
+ghost use Rattle.expression_types.specs.ScopeTree.{KeepsNames};
 ghost use Rattle.types.specs.Block.{action_typed, statements_typed};
 ghost use Rattle.types.specs.inside.Block.{block_typed, statement_tree, statement_typed};
 ghost use Rattle.types.specs.inside.Checker.{checker_of};
@@ -30,7 +30,7 @@ pub(crate) fn statements(
 ) -> Result<Vec<MainStatement>, AllocError>
     ensures typed { ReportsFaults (λ b. (block_tree b.items, checker_of checker.new)) first_fault.old first_fault.new result
         (statements_typed (checker_of checker.old) Empty (source_block block.now)) }
-    ensures kept { OnOk result (Keeps checker.old.scope checker.new.scope) }
+    ensures kept { OnOk result (KeepsNames checker.old.scope checker.new.scope) }
 {
     let mut typed = Vec::new(alloc);
     'statements: for statement in block {
@@ -50,7 +50,7 @@ fn one(
 ) -> Result<MainStatement, AllocError>
     ensures typed { ReportsFaults (λ s. (statement_tree s, checker_of checker.new)) first_fault.old first_fault.new result
         (statement_typed (checker_of checker.old) statement.now.label (source_action statement.now.action)) }
-    ensures kept { OnOk result (Keeps checker.old.scope checker.new.scope) }
+    ensures kept { OnOk result (KeepsNames checker.old.scope checker.new.scope) }
 {
     let label = label(alloc, checker, &statement.label, first_fault)?;
     let number = count(checker, label)?;
@@ -72,7 +72,7 @@ fn inner(
 ) -> Result<Vec<MainStatement>, AllocError>
     ensures typed { ReportsFaults (λ b. (block_tree b.items, checker_of checker.new)) first_fault.old first_fault.new result
         (block_typed (checker_of checker.old) (source_block block.now)) }
-    ensures kept { OnOk result (Keeps checker.old.scope checker.new.scope) }
+    ensures kept { OnOk result (KeepsNames checker.old.scope checker.new.scope) }
 {
     let mark = checker.scope.mark();
     let typed = statements(alloc, block, checker, first_fault)?;
@@ -90,7 +90,7 @@ fn action(
 ) -> Result<StatementKind, AllocError>
     ensures typed { ReportsFaults (λ a. (statement_kind_tree a, checker_of checker.new)) first_fault.old first_fault.new result
         (action_typed (checker_of checker.old) (source_action action.now)) }
-    ensures kept { OnOk result (Keeps checker.old.scope checker.new.scope) }
+    ensures kept { OnOk result (KeepsNames checker.old.scope checker.new.scope) }
 {
     match action {
         Written::Declare {
@@ -117,7 +117,7 @@ fn tested(
     requires { HasTest action.now }
     ensures typed { ReportsFaults (λ a. (statement_kind_tree a, checker_of checker.new)) first_fault.old first_fault.new result
         (action_typed (checker_of checker.old) (source_action action.now)) }
-    ensures kept { OnOk result (Keeps checker.old.scope checker.new.scope) }
+    ensures kept { OnOk result (KeepsNames checker.old.scope checker.new.scope) }
 {
     match action {
         Written::While { at, test, body } => {
@@ -220,7 +220,7 @@ fn repeat(
     requires { IsFor action.now }
     ensures typed { ReportsFaults (λ a. (statement_kind_tree a, checker_of checker.new)) first_fault.old first_fault.new result
         (action_typed (checker_of checker.old) (source_action action.now)) }
-    ensures kept { OnOk result (Keeps checker.old.scope checker.new.scope) }
+    ensures kept { OnOk result (KeepsNames checker.old.scope checker.new.scope) }
 {
     let Written::For {
         at,

@@ -2,9 +2,9 @@
 ghost use Rattle.std.specs.Prelude.{◌≡◌, suc, IfOk, OnOk};
 ghost use Rattle.expression_types.specs.declared.scope.Entity.TheVariants.{LoopVariable};
 ghost use Rattle.expression_types.specs.Faults.{ReportsFaults};
-ghost use Rattle.expression_types.specs.ScopeTree.{Keeps};
+ghost use Rattle.expression_types.specs.ScopeTree.{KeepsNames};
 ghost use Rattle.types.specs.inside.Checker.{checker_of};
-ghost use Rattle.types.specs.Checker.{condition_slot as slot_of_condition, counted, declared_in, integer_slot as slot_of_integer, labelled, set_slot as slot_of_set};
+ghost use Rattle.types.specs.Checker.{condition_slot as slot_of_condition, counted, declared_in, integer_slot as slot_of_integer, with_label, set_slot as slot_of_set};
 
 use crate::quoted_names::between_ends;
 use crate::reductions::Reductions;
@@ -102,7 +102,7 @@ pub(crate) fn declare(
 ) -> Result<(), AllocError>
     ensures declared { ReportsFaults (λ _. checker_of checker.new) first_fault.old first_fault.new result
         (declared_in (checker_of checker.old) name.now entity) }
-    ensures kept { OnOk result (Keeps checker.old.scope checker.new.scope) }
+    ensures kept { OnOk result (KeepsNames checker.old.scope checker.new.scope) }
 {
     checker.scope.declare(alloc, name, entity, first_fault)?;
     let copy = Sequence::new(Vec::from_slice(alloc, name.bytes())?);
@@ -120,7 +120,7 @@ pub(crate) fn declare_loop_variable(
     ensures declared { ReportsFaults (λ _. checker_of checker.new) first_fault.old first_fault.new result
         (declared_in (checker_of checker.old) name.now (LoopVariable (slot_of_integer (checker_of checker.old)))) }
     ensures slot { IfOk result (λ slot. slot ≡ slot_of_integer (checker_of checker.old)) }
-    ensures kept { OnOk result (Keeps checker.old.scope checker.new.scope) }
+    ensures kept { OnOk result (KeepsNames checker.old.scope checker.new.scope) }
 {
     let slot = checker.integer_slot();
     declare(
@@ -141,7 +141,7 @@ pub(crate) fn label(
     first_fault: &mut Option<Fault>,
 ) -> Result<Option<usize>, AllocError>
     ensures labelled { ReportsFaults (λ index. (index, checker_of checker.new)) first_fault.old first_fault.new result
-        (labelled (checker_of checker.old) label.now) }
+        (with_label (checker_of checker.old) label.now) }
     ensures kept { checker.new.scope ≡ checker.old.scope }
 {
     let Some(label) = label else {

@@ -5,11 +5,11 @@ ghost use Rattle.typed_tree.specs.BlockTree.{block_tree};
 ghost use Rattle.typed_tree.specs.ProgramTree.{call_tree, program_tree};
 ghost use Rattle.types.specs.Program.{program_tree_of};
 ghost use Rattle.typed_tree.specs.FunctionStatementTree.{function_tree, function_statements_tree};
-ghost use Rattle.expression_types.specs.ScopeTree.{Keeps};
+ghost use Rattle.expression_types.specs.ScopeTree.{KeepsNames};
 ghost use Rattle.expression_types.specs.Faults.{earlier, ReportsFaults, outcome};
 ghost use Rattle.types.specs.Initial.{ErrorInitializer, is_sound};
 ghost use Rattle.types.specs.inside.Checker.{checker_of};
-ghost use Rattle.types.specs.Declaration.{declaration_typed, declarations_typed, declare_condition, declare_constant, declare_constant_as, declare_edges, declare_integer, declare_name, declare_set, declare_vector, edge_function_declared, function_declared, has_all, begins, inside_of, literal_or_fault, kind_fits, loads, main_declared, opened, only_edges, parameter, parameters_declared, result_declared, result_entity, steps_declared, takes_weight as weight_taken, with_main};
+ghost use Rattle.types.specs.Declaration.{declaration_typed, declarations_typed, declare_condition, declare_constant, declare_constant_as, declare_edges, declare_integer, declare_name, declare_set, declare_vector, edge_function_declared, function_declared, has_all, begins, inside_of, literal_or_fault, kind_fits, loads, main_declared, opened, only_edges, parameter, parameters_declared, result_declared, result_entity, steps_declared, takes_weight as weight_taken, with_main_block};
 ghost use Rattle.types.specs.inside.Declaration.{declared_of};
 ghost use Rattle.types.specs.inside.Initializer.{initializer_tree};
 ghost use Rattle.types.specs.inside.FunctionKind.{function_kind_tree};
@@ -485,7 +485,7 @@ fn open(
 ) -> Result<(), AllocError>
     ensures opened { ReportsFaults (λ _. checker_of checker.new) first_fault.old first_fault.new result
         (opened (checker_of checker.old) (function_kind_tree kind) (map parameter_tree parameters.now) (option_map parameter_tree gives.now)) }
-    ensures kept { OnOk result (Keeps checker.old.scope checker.new.scope) }
+    ensures kept { OnOk result (KeepsNames checker.old.scope checker.new.scope) }
 {
     checker.scope.enter(inside(kind));
     checker.writes = Reductions::new(alloc);
@@ -513,7 +513,7 @@ fn declare_parameters(
 ) -> Result<(), AllocError>
     ensures declared { ReportsFaults (λ _. checker_of checker.new) first_fault.old first_fault.new result
         (parameters_declared weighted (checker_of checker.old) Endpoint.Source (map parameter_tree parameters.now)) }
-    ensures kept { OnOk result (Keeps checker.old.scope checker.new.scope) }
+    ensures kept { OnOk result (KeepsNames checker.old.scope checker.new.scope) }
 {
     let mut endpoint = Endpoint::Source;
     'parameters: for parameter in parameters {
@@ -545,7 +545,7 @@ fn declare_result(
 ) -> Result<(), AllocError>
     ensures declared { ReportsFaults (λ _. checker_of checker.new) first_fault.old first_fault.new result
         (result_declared (checker_of checker.old) (function_kind_tree kind) (option_map parameter_tree gives.now)) }
-    ensures kept { OnOk result (Keeps checker.old.scope checker.new.scope) }
+    ensures kept { OnOk result (KeepsNames checker.old.scope checker.new.scope) }
 {
     match gives {
         None => Ok(()),
@@ -600,7 +600,7 @@ fn main_function(
 
 /// Keeps the statements of the function that is run, where it has neither parameters nor a result.
 fn keep_main(fits: bool, body: Vec<MainStatement>, declared: &mut Declared)
-    ensures { declared_of declared.new ≡ with_main (declared_of declared.old) fits (block_tree body.items) }
+    ensures { declared_of declared.new ≡ with_main_block (declared_of declared.old) fits (block_tree body.items) }
 {
     if fits {
         declared.main = Some(body);

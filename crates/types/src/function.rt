@@ -4,7 +4,7 @@ ghost use Rattle.syntax.specs.SourceViews.{ends_tree, initial_tree};
 ghost use Rattle.typed_tree.specs.IntExpressionTree.{int_expression_tree};
 ghost use Rattle.typed_tree.specs.FunctionStatementTree.{function_statement_tree};
 ghost use Rattle.expression_types.specs.Faults.{earlier, ReportsFaults, outcome};
-ghost use Rattle.expression_types.specs.ScopeTree.{Keeps};
+ghost use Rattle.expression_types.specs.ScopeTree.{KeepsNames};
 ghost use Rattle.expression_types.specs.ValueTree.{value_tree};
 ghost use Rattle.types.specs.inside.Checker.{checker_of};
 ghost use Rattle.types.specs.inside.Initializer.{initializer_tree};
@@ -61,7 +61,7 @@ pub(crate) fn declare_variable(
 ) -> Result<FunctionStatement, AllocError>
     ensures typed { ReportsFaults (λ s. (function_statement_tree s, checker_of checker.new)) first_fault.old first_fault.new result
         (declare_step (checker_of checker.old) at variable.now.name variable.now.declared (initial_tree initial.now)) }
-    ensures kept { OnOk result (Keeps checker.old.scope checker.new.scope) }
+    ensures kept { OnOk result (KeepsNames checker.old.scope checker.new.scope) }
 {
     let initializer = read_initial(alloc, checker, at, initial, first_fault)?;
     declare_initialized(alloc, checker, at, variable, initializer, first_fault)
@@ -77,7 +77,7 @@ fn declare_initialized(
 ) -> Result<FunctionStatement, AllocError>
     ensures typed { ReportsFaults (λ s. (function_statement_tree s, checker_of checker.new)) first_fault.old first_fault.new result
         (declare_step_as (checker_of checker.old) at variable.now.name (initializer_tree initializer) variable.now.declared) }
-    ensures kept { OnOk result (Keeps checker.old.scope checker.new.scope) }
+    ensures kept { OnOk result (KeepsNames checker.old.scope checker.new.scope) }
 {
     let (entity, step) = declaration(
         alloc,

@@ -2,7 +2,7 @@
 ghost use Rattle.std.specs.Prelude.{◌≡◌, ◌∷◌, [], None, map, option_map};
 ghost use Rattle.syntax.specs.SourceTrees.{ParameterTree};
 ghost use Rattle.syntax.specs.SourceViews.{parameter_tree};
-ghost use Rattle.types.specs.Declaration.{is_bool as bool_type, is_int as int_type, is_vertex as vertex_type, kind as kind_by, kind_of as kind_by_parameters};
+ghost use Rattle.types.specs.Declaration.{is_bool_type as bool_type, is_int_type as int_type, is_vertex_type as vertex_type, kind as kind_by, kind_of as kind_by_parameters};
 ghost use Rattle.types.specs.inside.FunctionKind.{function_kind_tree};
 
 use crate::declaration::FunctionKind;

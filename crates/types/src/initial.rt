@@ -7,7 +7,7 @@ ghost use Rattle.expression_types.specs.Faults.{ReportsFaults, outcome, earlier}
 ghost use Rattle.types.specs.inside.Checker.{checker_of};
 ghost use Rattle.types.specs.inside.Initializer.{apply_end_tree, initializer_tree};
 ghost use Rattle.types.specs.inside.Applies.{apply_named, apply_tree};
-ghost use Rattle.types.specs.Initial.{ErrorInitializer, initializer_condition, edge_function, end_of, ends_given, filter_function, filter_named, filtered, initializer_of, given_filter, initializer_integer, is_all, is_degrees, is_edges, is_loaded, is_sound, names_error, is_error_end, is_wrong, lacks_weights, loaded, initializer_members, modified as vertices_modified, new_set, of_edges, reads_weight, vertex_function, writes_vector};
+ghost use Rattle.types.specs.Initial.{ErrorInitializer, initializer_condition, edge_function, apply_end_of, ends_given, filter_function, filter_named, filtered_set, initializer_of, given_filter, initializer_integer, is_all, is_degrees, is_edges, is_loaded, is_sound, names_error, is_error_end, is_wrong, lacks_weights, loaded, initializer_members, initial_modified as vertices_modified, new_set, of_edges, takes_edge_weight, vertex_function, writes_vector};
 
 use crate::checker::Checker;
 use crate::wanted::{condition_of, integer_of, members_of};
@@ -221,7 +221,7 @@ pub(crate) fn read_apply(
 
 /// What an end lets through.
 fn read_end(scope: &Scope, name: &Option<Name>, first_fault: &mut Option<Fault>) -> ApplyEnd
-    ensures { outcome first_fault.old (end_of scope.now name.now) ≡ (apply_end_tree result, first_fault.new) }
+    ensures { outcome first_fault.old (apply_end_of scope.now name.now) ≡ (apply_end_tree result, first_fault.new) }
 {
     match name {
         None => ApplyEnd::Absent,
@@ -306,7 +306,7 @@ pub(crate) fn are_weights_lacking(edges: Entity, function: Entity) -> bool
 
 /// Whether a name is that of an edge function whose third parameter is the edge's weight.
 fn is_weight_read(function: Entity) -> bool
-    ensures { result ≡ reads_weight function }
+    ensures { result ≡ takes_edge_weight function }
 {
     match function {
         Entity::EdgeFunction(_, weighted) => weighted,
@@ -407,7 +407,7 @@ fn on_edges(
 
 /// The members of a set that a filter passes.
 fn filter(at: usize, set: Entity, test: Entity, first_fault: &mut Option<Fault>) -> Initializer
-    ensures { outcome first_fault.old (filtered at set test) ≡ (initializer_tree result, first_fault.new) }
+    ensures { outcome first_fault.old (filtered_set at set test) ≡ (initializer_tree result, first_fault.new) }
 {
     if is_error_entity(set) || is_error_entity(test) {
         return Initializer::Error;

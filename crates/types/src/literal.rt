@@ -2,7 +2,7 @@
 ghost use Rattle.std.specs.Prelude.{◌≡◌};
 ghost use Rattle.syntax.specs.ExpressionViews.{primary_of, unary_of};
 ghost use Rattle.syntax.specs.SourceViews.{initial_tree};
-ghost use Rattle.types.specs.Literal.{expression_integer, expression_truth, literal_condition, literal_integer, negated, primary_number, primary_truth, unary_number, unary_truth};
+ghost use Rattle.types.specs.Literal.{expression_integer, expression_truth, literal_condition, literal_integer, negated_literal, primary_number, primary_truth, unary_number, unary_truth};
 
 use expression_types::lone_operand;
 use syntax::{Expression, Initial, Prefix, Primary, Unary};
@@ -66,7 +66,7 @@ fn unary_condition(unary: &Unary) -> Option<bool>
 }
 
 fn minus(n: i64) -> Option<i64>
-    ensures { result ≡ negated n }
+    ensures { result ≡ negated_literal n }
 {
     if n < 0 { None } else { Some(-n) }
 }

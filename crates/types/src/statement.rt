@@ -5,12 +5,12 @@ ghost use Rattle.syntax.specs.SourceViews.{ends_tree, initial_tree};
 ghost use Rattle.typed_tree.specs.BlockTree.{statement_kind_tree};
 ghost use Rattle.typed_tree.specs.IntExpressionTree.{int_expression_tree};
 ghost use Rattle.expression_types.specs.Faults.{earlier, ReportsFaults, outcome};
-ghost use Rattle.expression_types.specs.ScopeTree.{Keeps};
+ghost use Rattle.expression_types.specs.ScopeTree.{KeepsNames};
 ghost use Rattle.expression_types.specs.ValueTree.{value_tree};
 ghost use Rattle.types.specs.inside.Checker.{checker_of};
 ghost use Rattle.types.specs.inside.Initializer.{apply_end_tree, initializer_tree};
 ghost use Rattle.types.specs.Initial.{edge_function, names_error, vertex_function};
-ghost use Rattle.types.specs.Statement.{add_vertex as vertex_added, added, applied, apply as apply_statement, assign as assignment, assigned, declare_as, declare_variable as variable_declared, edges_applied, entry_reduced, entry_set, has_ends as ends_are_written, no_action, print as print_statement, printed, reduce as reduction_statement, reduce_entry as entry_reduction, reduced, set_entry as entry_setting, vertices_applied};
+ghost use Rattle.types.specs.Statement.{add_vertex as vertex_added, added_to_set, applied, apply as apply_statement, assign as assignment, assigned, declare_as, declare_variable as variable_declared, edges_applied, entry_reduced, entry_set, has_ends as ends_are_written, no_action, print as print_statement, printed, reduce as reduction_statement, reduce_entry as entry_reduction, reduced, set_entry as entry_setting, vertices_applied};
 ghost use Rattle.types.specs.inside.Variables.{variable_as};
 
 use crate::checker::{Checker, declare};
@@ -56,7 +56,7 @@ pub(crate) fn declare_variable(
 ) -> Result<StatementKind, AllocError>
     ensures typed { ReportsFaults (λ a. (statement_kind_tree a, checker_of checker.new)) first_fault.old first_fault.new result
         (variable_declared (checker_of checker.old) at variable.now.name variable.now.declared (initial_tree initial.now)) }
-    ensures kept { OnOk result (Keeps checker.old.scope checker.new.scope) }
+    ensures kept { OnOk result (KeepsNames checker.old.scope checker.new.scope) }
 {
     let initializer = read_initial(alloc, checker, at, initial, first_fault)?;
     declare_initialized(alloc, checker, at, variable, initializer, first_fault)
@@ -72,7 +72,7 @@ fn declare_initialized(
 ) -> Result<StatementKind, AllocError>
     ensures typed { ReportsFaults (λ a. (statement_kind_tree a, checker_of checker.new)) first_fault.old first_fault.new result
         (declare_as (checker_of checker.old) at variable.now.name (initializer_tree initializer) variable.now.declared) }
-    ensures kept { OnOk result (Keeps checker.old.scope checker.new.scope) }
+    ensures kept { OnOk result (KeepsNames checker.old.scope checker.new.scope) }
 {
     let (entity, action) = declaration(checker, at, variable.declared, initializer, first_fault);
     declare(alloc, checker, &variable.name, entity, first_fault)?;
@@ -279,7 +279,7 @@ fn add_value(
     entity: Entity,
     first_fault: &mut Option<Fault>,
 ) -> StatementKind
-    ensures { outcome first_fault.old (added at (value_tree value) entity) ≡ (statement_kind_tree result, first_fault.new) }
+    ensures { outcome first_fault.old (added_to_set at (value_tree value) entity) ≡ (statement_kind_tree result, first_fault.new) }
 {
     match entity {
         Entity::SetVariable(slot) => StatementKind::AddVertex(

@@ -4,7 +4,7 @@ ghost use Rattle.std.specs.Prelude.{◌≡◌, OnOk};
 ghost use Rattle.syntax.specs.SourceViews.{statement_kind_tree as source_action, block_tree as source_block};
 ghost use Rattle.typed_tree.specs.FunctionStatementTree.{NoStep, function_statement_tree, function_statements_tree};
 ghost use Rattle.expression_types.specs.Faults.{ReportsFaults};
-ghost use Rattle.expression_types.specs.ScopeTree.{Keeps};
+ghost use Rattle.expression_types.specs.ScopeTree.{KeepsNames};
 ghost use Rattle.types.specs.inside.Checker.{checker_of};
 ghost use Rattle.types.specs.inside.Plain.{DeclaresNothing, HasTest, IsFor, ReducesOrSetsEntry};
 ghost use Rattle.types.specs.inside.Step.{labelled_step, steps_inside};
@@ -31,7 +31,7 @@ pub(crate) fn steps(
 ) -> Result<Vec<FunctionStatement>, AllocError>
     ensures typed { ReportsFaults (λ b. (function_statements_tree b.items, checker_of checker.new)) first_fault.old first_fault.new result
         (steps_typed (checker_of checker.old) NoStep (source_block block.now)) }
-    ensures kept { OnOk result (Keeps checker.old.scope checker.new.scope) }
+    ensures kept { OnOk result (KeepsNames checker.old.scope checker.new.scope) }
 {
     let mut typed = Vec::new(alloc);
     'statements: for statement in block {
@@ -51,7 +51,7 @@ fn one(
 ) -> Result<FunctionStatement, AllocError>
     ensures typed { ReportsFaults (λ s. (function_statement_tree s, checker_of checker.new)) first_fault.old first_fault.new result
         (labelled_step (checker_of checker.old) statement.now.label (λ c. step_typed c (source_action statement.now.action))) }
-    ensures kept { OnOk result (Keeps checker.old.scope checker.new.scope) }
+    ensures kept { OnOk result (KeepsNames checker.old.scope checker.new.scope) }
 {
     let _index = label(alloc, checker, &statement.label, first_fault)?;
     step(alloc, &statement.action, checker, first_fault)
@@ -67,7 +67,7 @@ fn inner(
 ) -> Result<Vec<FunctionStatement>, AllocError>
     ensures typed { ReportsFaults (λ b. (function_statements_tree b.items, checker_of checker.new)) first_fault.old first_fault.new result
         (steps_inside (checker_of checker.old) (source_block block.now)) }
-    ensures kept { OnOk result (Keeps checker.old.scope checker.new.scope) }
+    ensures kept { OnOk result (KeepsNames checker.old.scope checker.new.scope) }
 {
     let mark = checker.scope.mark();
     let typed = steps(alloc, block, checker, first_fault)?;
@@ -85,7 +85,7 @@ fn step(
 ) -> Result<FunctionStatement, AllocError>
     ensures typed { ReportsFaults (λ s. (function_statement_tree s, checker_of checker.new)) first_fault.old first_fault.new result
         (step_typed (checker_of checker.old) (source_action action.now)) }
-    ensures kept { OnOk result (Keeps checker.old.scope checker.new.scope) }
+    ensures kept { OnOk result (KeepsNames checker.old.scope checker.new.scope) }
 {
     match action {
         Written::Declare {
@@ -112,7 +112,7 @@ fn tested(
     requires { HasTest action.now }
     ensures typed { ReportsFaults (λ s. (function_statement_tree s, checker_of checker.new)) first_fault.old first_fault.new result
         (step_typed (checker_of checker.old) (source_action action.now)) }
-    ensures kept { OnOk result (Keeps checker.old.scope checker.new.scope) }
+    ensures kept { OnOk result (KeepsNames checker.old.scope checker.new.scope) }
 {
     match action {
         Written::While { at, test, body } => {
@@ -218,7 +218,7 @@ fn repeat(
     requires { IsFor action.now }
     ensures typed { ReportsFaults (λ s. (function_statement_tree s, checker_of checker.new)) first_fault.old first_fault.new result
         (step_typed (checker_of checker.old) (source_action action.now)) }
-    ensures kept { OnOk result (Keeps checker.old.scope checker.new.scope) }
+    ensures kept { OnOk result (KeepsNames checker.old.scope checker.new.scope) }
 {
     let Written::For {
         at,

@@ -5,7 +5,7 @@ ghost use Rattle.typed_tree.specs.BoolExpressionTree.{bool_expression_tree};
 ghost use Rattle.typed_tree.specs.IntExpressionTree.{int_expression_tree};
 ghost use Rattle.expression_types.specs.Faults.{ReportsFaults, outcome};
 ghost use Rattle.expression_types.specs.ValueTree.{value_tree};
-ghost use Rattle.types.specs.Checker.{as_condition, as_index, as_integer, as_members, condition_in, integer_in};
+ghost use Rattle.types.specs.Checker.{condition_wanted, as_index, integer_wanted, as_members, condition_in, integer_in};
 
 use expression_types::{Fault, Scope, TypeRule, Value, note, reads_entry, type_expression};
 use std::alloc::{AllocError, Global};
@@ -14,7 +14,7 @@ use typed_tree::{BoolExpression, IntExpression, SetValue};
 
 /// The integer that a value reads as. The fault is noted where it is none.
 pub(crate) fn integer_of(at: usize, value: Value, first_fault: &mut Option<Fault>) -> IntExpression
-    ensures { outcome first_fault.old (as_integer at (value_tree value)) ≡ (int_expression_tree result, first_fault.new) }
+    ensures { outcome first_fault.old (integer_wanted at (value_tree value)) ≡ (int_expression_tree result, first_fault.new) }
 {
     if value.is_error() {
         return IntExpression::Number(0);
@@ -34,7 +34,7 @@ pub(crate) fn condition_of(
     value: Value,
     first_fault: &mut Option<Fault>,
 ) -> BoolExpression
-    ensures { outcome first_fault.old (as_condition at (value_tree value)) ≡ (bool_expression_tree result, first_fault.new) }
+    ensures { outcome first_fault.old (condition_wanted at (value_tree value)) ≡ (bool_expression_tree result, first_fault.new) }
 {
     if value.is_error() {
         return BoolExpression::Literal(false);

@@ -8,8 +8,8 @@ pub record VectorsValue : Type 0 where
   pub vectors : List (List ℤ)
   pub groups : List (List ℕ)
 
-abbrev pub with_vectors : VectorsValue → List (List ℤ) → VectorsValue
-with_vectors v vectors = record v { vectors = vectors }
+abbrev pub value_with_vectors : VectorsValue → List (List ℤ) → VectorsValue
+value_with_vectors v vectors = record v { vectors = vectors }
 
 -- groups of vectors that are there, each once in one group, and those of a group with the same number of entries
 pub record IsGrouping (vectors : List (List ℤ)) (groups : List (List ℕ)) : Type 0 where

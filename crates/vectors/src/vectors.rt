@@ -45,7 +45,7 @@ impl Vectors {
     ghost use Rattle.algorithm_meaning.specs.Value.{with_entry};
     ghost use Rattle.vectors.specs.Changes.{with_all_changes, with_changes};
     ghost use Rattle.vectors.specs.Lanes.{lane_entry};
-    ghost use Rattle.vectors.specs.Vectors.{HasRows, IsGrouping, VectorsValue, with_vectors};
+    ghost use Rattle.vectors.specs.Vectors.{HasRows, IsGrouping, VectorsValue, value_with_vectors};
 
     /// These vectors, in their order, each with an array of its own.
     pub fn new(alloc: Global, arrays: Vec<Sequence<i64>>) -> Result<Vectors, AllocError>
@@ -86,7 +86,7 @@ impl Vectors {
     fn load_all(&mut self, arrays: &[Sequence<i64>])
         requires count { length arrays.now ≡ length self.old.vectors }
         requires even { (i : ℕ) → length (slice_index_or arrays.now i []) ≡ length (slice_index_or self.old.vectors i []) }
-        ensures { self.new ≡ with_vectors self.old arrays.now }
+        ensures { self.new ≡ value_with_vectors self.old arrays.now }
     {
         'arrays: for (vector, array) in arrays.iter().enumerate() {
             self.load(vector, array.as_slice());
@@ -97,7 +97,7 @@ impl Vectors {
     fn load(&mut self, vector: usize, numbers: &[i64])
         requires vector { vector < length self.old.vectors }
         requires even { length numbers.now ≡ length (slice_index_or self.old.vectors vector []) }
-        ensures { self.new ≡ with_vectors self.old (slice_set self.old.vectors vector numbers.now) }
+        ensures { self.new ≡ value_with_vectors self.old (slice_set self.old.vectors vector numbers.now) }
     {
         'numbers: for (vertex, number) in numbers.iter().enumerate() {
             self.put(vector, vertex, *number);
@@ -118,13 +118,13 @@ impl Vectors {
 
     /// Puts an entry of a vector; where there is no such index nothing is changed.
     pub fn set(&mut self, vector: usize, vertex: u32, number: i64)
-        ensures { self.new ≡ with_vectors self.old (with_entry self.old.vectors vector vertex number) }
+        ensures { self.new ≡ value_with_vectors self.old (with_entry self.old.vectors vector vertex number) }
     {
         self.put(vector, vertex as usize, number);
     }
 
     fn put(&mut self, vector: usize, vertex: usize, number: i64)
-        ensures { self.new ≡ with_vectors self.old (with_entry self.old.vectors vector vertex number) }
+        ensures { self.new ≡ value_with_vectors self.old (with_entry self.old.vectors vector vertex number) }
     {
         if vector < self.locations.len() {
             let location = self.locations[vector];
@@ -137,7 +137,7 @@ impl Vectors {
 
     /// Writes the changes of one vector, in time in proportion to them.
     pub fn write_vector(&mut self, vector: usize, changes: &[EntryChange])
-        ensures { self.new ≡ with_vectors self.old (with_changes vector changes.now self.old.vectors) }
+        ensures { self.new ≡ value_with_vectors self.old (with_changes vector changes.now self.old.vectors) }
     {
         'changes: for change in changes {
             self.set(vector, change.vertex(), change.number());
@@ -146,7 +146,7 @@ impl Vectors {
 
     /// Writes what an apply changes, in time in proportion to the changes.
     pub fn write(&mut self, changes: &Changes)
-        ensures { self.new ≡ with_vectors self.old (with_all_changes changes.now.vectors.items self.old.vectors) }
+        ensures { self.new ≡ value_with_vectors self.old (with_all_changes changes.now.vectors.items self.old.vectors) }
     {
         'vectors: for of_vector in &changes.vectors {
             self.write_vector(of_vector.vector, &of_vector.changes);

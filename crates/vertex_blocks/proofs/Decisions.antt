@@ -22,7 +22,7 @@ use Rattle.edge_updates.specs.EdgeUpdate.{neighbour_of, adds}
 use Rattle.c_tree.specs.Chunks.{ChunkedSet, IsSetOf}
 use Rattle.set_ops.specs.declared.error.SetError.{SetError}
 use Rattle.set_ops.specs.Outcome.{Inserts, Removes, Unites, Subtracts}
-use Rattle.pages.specs.Updates.{added, updated, decided, NeighboursAscend}
+use Rattle.pages.specs.Updates.{added, updated, weight_decided, NeighboursAscend}
 use Rattle.pages.proofs.Merging.{neighbour_small, added_ascends, updated_ascends}
 use Rattle.pages.proofs.Deciding.{updated_weight}
 use Rattle.pages.proofs.UpdateRuns.{no_update}
@@ -62,7 +62,7 @@ updated_nothing (u ∷ us) = ap (added u) (updated_nothing us)
 
 -- an update that names a neighbour decides, by both lists
 decided_parts : (low v : ℕ) (us : List (EdgeUpdate × ℤ)) (was : Option ℤ) → NeighboursAscend low us
-    → decided v us was ≡ (if has v (removed_in us) then None else option_or (lookup v (added_in us)) was)
+    → weight_decided v us was ≡ (if has v (removed_in us) then None else option_or (lookup v (added_in us)) was)
 decided_parts low v [] was s = refl
 decided_parts low v (u ∷ us) was s =
     let n : ℕ = neighbour_of u.0 in

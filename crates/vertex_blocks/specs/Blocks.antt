@@ -34,14 +34,14 @@ vertices_at None = []
 vertices_at (Some b) = b
 
 -- the vertices of the block k by their numbers in a graph
-abbrev pub numbered : ℕ → Block → List (ℕ × List (ℕ × ℤ))
-numbered k [] = []
-numbered k (e ∷ es) = (64 * k + e.0, e.1) ∷ numbered k es
+abbrev pub numbered_vertices : ℕ → Block → List (ℕ × List (ℕ × ℤ))
+numbered_vertices k [] = []
+numbered_vertices k (e ∷ es) = (64 * k + e.0, e.1) ∷ numbered_vertices k es
 
 -- the vertices of blocks by their numbers in a graph
 abbrev pub lists_of : List (ℕ × Block) → List (ℕ × List (ℕ × ℤ))
 lists_of [] = []
-lists_of (b ∷ bs) = numbered b.0 b.1 ++ lists_of bs
+lists_of (b ∷ bs) = numbered_vertices b.0 b.1 ++ lists_of bs
 
 -- each of these is a block with a vertex
 abbrev pub AreBlocks : List (ℕ × Block) → Type 0

@@ -14,7 +14,7 @@ use Rattle.edge_updates.proofs.KeepingLast.{lasts_ascend}
 use Rattle.edge_updates.proofs.Packing.{same_vertex, same_neighbour}
 use Rattle.edge_updates.proofs.SortedUpdates.{option_or-none}
 use Rattle.weighted_updates.specs.declared.weighted_update.WeightedUpdate.{WeightedUpdate}
-use Rattle.weighted_updates.specs.WeightedUpdates.{decided_weight, one_decided, pairs_in, updates_in}
+use Rattle.weighted_updates.specs.WeightedUpdates.{decided_weight, one_weight_decided, pairs_in, updates_in}
 use Rattle.weighted_updates.specs.inside.Lasts.{begins_same, last_weighted}
 
 -- what stands first from an index on
@@ -70,12 +70,12 @@ weighted_ascend ws order = rw (updates_kept ws) (lasts_ascend (updates_in ws) or
 
 -- an edge that the first update names is decided after it where the next one names it too
 next_decides : (w : WeightedUpdate) (ws : List WeightedUpdate) (e : Edge) → begins_same w ws ≡ true → names w.update e ≡ true
-    → option_or (decided_weight (pairs_in ws) e) (one_decided (w.update, w.weight) e) ≡ decided_weight (pairs_in ws) e
+    → option_or (decided_weight (pairs_in ws) e) (one_weight_decided (w.update, w.weight) e) ≡ decided_weight (pairs_in ws) e
 next_decides w [] e same is = absurd (false≢true same)
 next_decides w (v ∷ vs) e same is =
     let key : key_of v.update ≡ key_of w.update = eqb-true (key_of v.update) (key_of w.update) same in
     let next : names v.update e ≡ true = rw (same_vertex v.update w.update key, same_neighbour v.update w.update key) is in
-    some_decides (decided_weight (pairs_in vs) e) (one_decided (v.update, v.weight) e) (one_decided (w.update, w.weight) e) (rw next (λ f. cc))
+    some_decides (decided_weight (pairs_in vs) e) (one_weight_decided (v.update, v.weight) e) (one_weight_decided (w.update, w.weight) e) (rw next (λ f. cc))
   where
     some_decides : (a b o : Option (Option ℤ)) → (b ≡ None → ⊥) → option_or (option_or a b) o ≡ option_or a b
     some_decides None None o f = absurd (f refl)
@@ -90,7 +90,7 @@ decided_lasts (w ∷ ws) e = elim (cases_Bool (begins_same w ws)) [
     | inl is ↦ sym (next_decides w ws e same is)
     | inr other ↦ rw other (sym (option_or-none (decided_weight (pairs_in ws) e)))
   ])
-  | inr last ↦ rw last (ap (λ o. option_or o (one_decided (w.update, w.weight) e)) (decided_lasts ws e))
+  | inr last ↦ rw last (ap (λ o. option_or o (one_weight_decided (w.update, w.weight) e)) (decided_lasts ws e))
 ]
 
 -- a slice that is written back where it came from

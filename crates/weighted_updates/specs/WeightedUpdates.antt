@@ -11,13 +11,13 @@ abbrev pub weight_said : EdgeUpdate × ℤ → Option ℤ
 weight_said u = if adds u.0 then Some u.1 else None
 
 -- what one update says of an edge
-abbrev pub one_decided : EdgeUpdate × ℤ → Edge → Option (Option ℤ)
-one_decided u e = if names u.0 e then Some (weight_said u) else None
+abbrev pub one_weight_decided : EdgeUpdate × ℤ → Edge → Option (Option ℤ)
+one_weight_decided u e = if names u.0 e then Some (weight_said u) else None
 
 -- what the last update that names an edge makes of it; None where none names it
 abbrev pub decided_weight : List (EdgeUpdate × ℤ) → Edge → Option (Option ℤ)
 decided_weight [] e = None
-decided_weight (u ∷ us) e = option_or (decided_weight us e) (one_decided u e)
+decided_weight (u ∷ us) e = option_or (decided_weight us e) (one_weight_decided u e)
 
 -- each update with its weight
 abbrev pub pairs_in : List WeightedUpdate → List (EdgeUpdate × ℤ)

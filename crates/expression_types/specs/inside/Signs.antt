@@ -4,13 +4,13 @@ use Rattle.syntax.specs.declared.operators.Prefix.{Prefix}
 use Rattle.syntax.specs.declared.operators.Prefix.TheVariants as prefix
 use Rattle.expression_types.specs.declared.fault.TypeRule.TheVariants as rule
 use Rattle.expression_types.specs.Faults.{WithFaults, sure, ◌>>=◌}
-use Rattle.expression_types.specs.Operators.{given, signed_value}
+use Rattle.expression_types.specs.Operators.{given_or_fault, signed_value}
 use Rattle.expression_types.specs.ValueTree.{ValueTree}
 
 -- after signs, of which the last is the closest
 abbrev pub signs_value : ℕ → List Prefix → ValueTree → WithFaults ValueTree
 signs_value at [] value = sure value
-signs_value at (sign ∷ signs) value = signs_value at signs value >>= λ v. given at rule.WrongType (signed_value sign v)
+signs_value at (sign ∷ signs) value = signs_value at signs value >>= λ v. given_or_fault at rule.WrongType (signed_value sign v)
 
 abbrev pub all_minus : List Prefix → Bool
 all_minus [] = true

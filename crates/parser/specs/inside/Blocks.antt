@@ -7,7 +7,7 @@ use Rattle.syntax.specs.Terminals.{Terminal, Identifier, OfKeyword, OfSymbol}
 use Rattle.syntax.specs.SourceTrees.{ExpressionTree, StatementKindTree, Declare, While, For, If, IfElse, Print, BlockTree}
 use Rattle.syntax.specs.ExpressionReading.{Reader}
 use Rattle.syntax.specs.Nesting.{◌>>=◌}
-use Rattle.syntax.specs.SourceReading.{expression, typed_at, assigned_at, ended_at, name_at, after_terminal, closed, no_block, block_at, action_by}
+use Rattle.syntax.specs.SourceReading.{expression, typed_at, assigned_at, ended_at, name_reader, after_terminal, closed_by, no_block, block_at, action_by}
 use Rattle.parser.specs.declared.block.Opening.{Opening}
 use Rattle.parser.specs.declared.block.Opening.TheVariants as opening
 
@@ -39,17 +39,17 @@ printed_at at ws = ended_at ws >>= λ e. Some (Print at e.0, e.1)
 -- a variable and the two ends of what it runs over
 abbrev pub range_at : Reader (Identifier × ExpressionTree × ExpressionTree)
 range_at ws =
-    name_at ws >>= λ n. after_terminal (OfKeyword keyword.In) n.1 >>= λ a. expression a >>= λ e.
+    name_reader ws >>= λ n. after_terminal (OfKeyword keyword.In) n.1 >>= λ a. expression a >>= λ e.
     after_terminal (OfSymbol symbol.Colon) e.1 >>= λ c. expression c >>= λ f. Some ((n.0, e.0, f.0), f.1)
 
 -- a block and `end`
 abbrev pub to_end_by : Reader BlockTree → Reader BlockTree
-to_end_by block ws = block ws >>= closed (OfKeyword keyword.End ∷ [])
+to_end_by block ws = block ws >>= closed_by (OfKeyword keyword.End ∷ [])
 
 -- what stands after the body of an `if`
 abbrev pub otherwise_by : Reader BlockTree → ℕ → ExpressionTree → BlockTree × List Terminal → Option (List Terminal)
     → Option (StatementKindTree × List Terminal)
-otherwise_by block at test body None = closed (OfKeyword keyword.End ∷ []) (If at test body.0, body.1)
+otherwise_by block at test body None = closed_by (OfKeyword keyword.End ∷ []) (If at test body.0, body.1)
 otherwise_by block at test body (Some after) = to_end_by block after >>= λ b. Some (IfElse at test body.0 b.0, b.1)
 
 -- what stands after that keyword

@@ -7,7 +7,7 @@ use Rattle.syntax.specs.Terminals.{Terminal, Identifier, OfKeyword, OfSymbol}
 use Rattle.syntax.specs.ExpressionReading.{Reader}
 use Rattle.syntax.specs.Nesting.{◌>>=◌}
 use Rattle.syntax.specs.SourceTrees.{ParameterTree, DeclarationTree, Constant, Function}
-use Rattle.syntax.specs.SourceReading.{block, typed_at, assigned_at, name_at, parameters_at, result_by, after_terminal, closed, each_at, next_parameter}
+use Rattle.syntax.specs.SourceReading.{block, typed_at, assigned_at, name_reader, parameters_at, result_by, after_terminal, closed_by, each_at, next_parameter}
 use Rattle.parser.specs.declared.declaration.Beginning.{Beginning}
 use Rattle.parser.specs.declared.declaration.Beginning.TheVariants as beginning
 
@@ -24,13 +24,13 @@ constant_at at ws = typed_at ws >>= λ n. assigned_at n.1 >>= λ i. Some (Consta
 -- a name, the parameters and the result
 abbrev pub signature_at : Reader (Identifier × List ParameterTree × Option ParameterTree)
 signature_at ws =
-    name_at ws >>= λ n. parameters_at n.1 >>= λ p. result_by p.1 (after_terminal (OfSymbol symbol.Arrow) p.1) >>= λ r.
+    name_reader ws >>= λ n. parameters_at n.1 >>= λ p. result_by p.1 (after_terminal (OfSymbol symbol.Arrow) p.1) >>= λ r.
     Some ((n.0, p.0, r.0), r.1)
 
 -- what stands after `func`
 abbrev pub function_at : ℕ → Reader DeclarationTree
 function_at at ws =
-    signature_at ws >>= λ s. block s.1 >>= λ b. closed (OfKeyword keyword.End ∷ []) (Function at s.0.0 s.0.1 s.0.2 b.0, b.1)
+    signature_at ws >>= λ s. block s.1 >>= λ b. closed_by (OfKeyword keyword.End ∷ []) (Function at s.0.0 s.0.1 s.0.2 b.0, b.1)
 
 abbrev pub declared_by : Beginning → ℕ → Reader DeclarationTree
 declared_by beginning.Constant at ws = constant_at at ws

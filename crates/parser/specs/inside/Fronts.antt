@@ -11,8 +11,8 @@ use Rattle.syntax.specs.declared.declaration.DeclaredType.TheVariants as type
 use Rattle.apply_options.specs.declared.setting.Setting.{Setting}
 use Rattle.apply_options.specs.declared.setting.Setting.TheVariants as setting
 use Rattle.syntax.specs.SourceTrees.{StatementKindTree, InitialTree, Apply, NewSet, Load, Vertices, OutDegrees, Filter, ApplyModified}
-use Rattle.syntax.specs.SourceReading.{in_braces, in_parentheses, after_terminal, after_terminals, closed, name_at, number_at, argument_at, method_at, ends_at}
-use Rattle.syntax.specs.SourceReading.{edge_ends, edgeset_at}
+use Rattle.syntax.specs.SourceReading.{in_braces, in_parentheses, after_terminal, after_terminals, closed_by, name_reader, number_at, argument_at, method_at}
+use Rattle.syntax.specs.SourceReading.{ends_at, edge_ends, edgeset_at}
 
 -- the type that begins with a keyword
 abbrev pub begun_type : Keyword → Option DeclaredType
@@ -29,8 +29,8 @@ abbrev pub type_after : DeclaredType → Reader DeclaredType
 type_after type.Int ws = Some (type.Int, ws)
 type_after type.Bool ws = Some (type.Bool, ws)
 type_after type.Vertex ws = Some (type.Vertex, ws)
-type_after type.VertexSet ws = closed (in_braces (OfKeyword keyword.Vertex)) (type.VertexSet, ws)
-type_after type.Vector ws = closed (in_braces (OfKeyword keyword.Vertex) ++ in_parentheses (OfKeyword keyword.Int ∷ [])) (type.Vector, ws)
+type_after type.VertexSet ws = closed_by (in_braces (OfKeyword keyword.Vertex)) (type.VertexSet, ws)
+type_after type.Vector ws = closed_by (in_braces (OfKeyword keyword.Vertex) ++ in_parentheses (OfKeyword keyword.Int ∷ [])) (type.Vector, ws)
 type_after type.EdgeSet ws = after_terminals edge_ends ws >>= edgeset_at
 type_after type.WeightedEdgeSet ws = after_terminals edge_ends ws >>= edgeset_at
 
@@ -57,8 +57,8 @@ begins_call _ = false
 -- two names in parentheses
 abbrev pub name_pair_at : Reader (Identifier × Identifier)
 name_pair_at ws =
-    after_terminal (OfSymbol symbol.OpenParenthesis) ws >>= λ a. name_at a >>= λ f. after_terminal (OfSymbol symbol.Comma) f.1 >>= λ b.
-    name_at b >>= λ s. after_terminal (OfSymbol symbol.CloseParenthesis) s.1 >>= λ c. Some ((f.0, s.0), c)
+    after_terminal (OfSymbol symbol.OpenParenthesis) ws >>= λ a. name_reader a >>= λ f. after_terminal (OfSymbol symbol.Comma) f.1 >>= λ b.
+    name_reader b >>= λ s. after_terminal (OfSymbol symbol.CloseParenthesis) s.1 >>= λ c. Some ((f.0, s.0), c)
 
 -- what `applyModified` and its ends give
 abbrev pub modified_by : Identifier → Reader InitialTree
@@ -69,7 +69,7 @@ modified_by name ws =
 -- `.apply`, its function in parentheses and `;`
 abbrev pub applied_function_at : Reader Identifier
 applied_function_at ws =
-    after_terminals (OfSymbol symbol.Dot ∷ OfKeyword keyword.Apply ∷ []) ws >>= λ a. argument_at a >>= closed (OfSymbol symbol.Semicolon ∷ [])
+    after_terminals (OfSymbol symbol.Dot ∷ OfKeyword keyword.Apply ∷ []) ws >>= λ a. argument_at a >>= closed_by (OfSymbol symbol.Semicolon ∷ [])
 
 -- what an apply and its ends give
 abbrev pub applied_by : Identifier → Reader StatementKindTree
@@ -82,9 +82,9 @@ filter_at set ws = argument_at ws >>= λ n. Some (Filter set n.0, n.1)
 -- an initial value that is no expression, after its name
 abbrev pub call_by : Identifier → List Terminal → Option Keyword → Option (InitialTree × List Terminal)
 call_by name ws (Some keyword.GetVertices) =
-    closed (OfSymbol symbol.Dot ∷ OfKeyword keyword.GetVertices ∷ in_parentheses []) (Vertices name, ws)
+    closed_by (OfSymbol symbol.Dot ∷ OfKeyword keyword.GetVertices ∷ in_parentheses []) (Vertices name, ws)
 call_by name ws (Some keyword.GetOutDegrees) =
-    closed (OfSymbol symbol.Dot ∷ OfKeyword keyword.GetOutDegrees ∷ in_parentheses []) (OutDegrees name, ws)
+    closed_by (OfSymbol symbol.Dot ∷ OfKeyword keyword.GetOutDegrees ∷ in_parentheses []) (OutDegrees name, ws)
 call_by name ws (Some keyword.Filter) =
     after_terminals (OfSymbol symbol.Dot ∷ OfKeyword keyword.Filter ∷ []) ws >>= filter_at name
 call_by name ws _ = modified_by name ws
@@ -93,13 +93,13 @@ call_by name ws _ = modified_by name ws
 abbrev pub new_set_at : Reader InitialTree
 new_set_at ws =
     after_terminals (OfKeyword keyword.VertexSet ∷ (in_braces (OfKeyword keyword.Vertex) ++ OfSymbol symbol.OpenParenthesis ∷ [])) ws >>= λ a.
-    number_at a >>= λ n. closed (OfSymbol symbol.CloseParenthesis ∷ []) (NewSet n.0, n.1)
+    number_at a >>= λ n. closed_by (OfSymbol symbol.CloseParenthesis ∷ []) (NewSet n.0, n.1)
 
 -- what stands after `load`
 abbrev pub load_at : Reader InitialTree
 load_at ws =
     after_terminals (OfSymbol symbol.OpenParenthesis ∷ OfKeyword keyword.Argv ∷ OfSymbol symbol.OpenBracket ∷ []) ws >>= λ a.
-    number_at a >>= λ n. closed (OfSymbol symbol.CloseBracket ∷ OfSymbol symbol.CloseParenthesis ∷ []) (Load n.0, n.1)
+    number_at a >>= λ n. closed_by (OfSymbol symbol.CloseBracket ∷ OfSymbol symbol.CloseParenthesis ∷ []) (Load n.0, n.1)
 
 -- the schedule call whose name is a keyword
 abbrev pub begun_setting : Keyword → Option Setting

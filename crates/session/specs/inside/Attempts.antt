@@ -8,7 +8,7 @@ use Rattle.session.specs.declared.error.SessionError.TheVariants.{NoMemory}
 use Rattle.session.specs.declared.step.SessionReply.{SessionReply}
 use Rattle.session.specs.declared.step.SessionReply.TheVariants.{Of}
 use Rattle.session.specs.Refusal.{number_of}
-use Rattle.session.specs.World.{ScheduledProgram, World, Answer, refused}
+use Rattle.session.specs.World.{ScheduledProgram, World, StepAnswer, step_refused}
 use Rattle.session.specs.Standing.{SessionValue, Takes}
 
 -- the versions are stepped as the machine does, or refuse as it refuses, or memory runs out; and nothing else is changed
@@ -18,10 +18,10 @@ StepsVersions old step (Err NoMemory) new = new ≡ old
 StepsVersions old step (Err e) new = (reply_to old.versions step ≡ Refused (number_of e)) × (new ≡ old)
 
 -- a step that is answered so in a world is taken, or refused as there, or memory runs out; where it is not taken, nothing is changed
-abbrev pub Attempts : List ScheduledProgram → World → Answer → SessionValue → Result SessionReply SessionError → SessionValue → Type 0
+abbrev pub Attempts : List ScheduledProgram → World → StepAnswer → SessionValue → Result SessionReply SessionError → SessionValue → Type 0
 Attempts programs w a old (Ok reply) new = Takes programs a reply new
 Attempts programs w a old (Err NoMemory) new = new ≡ old
-Attempts programs w a old (Err e) new = (a ≡ refused w (number_of e)) × (new ≡ old)
+Attempts programs w a old (Err e) new = (a ≡ step_refused w (number_of e)) × (new ≡ old)
 
 -- a refusal is told as a reply
 abbrev pub told_of : Result SessionReply SessionError → Result SessionReply SessionError

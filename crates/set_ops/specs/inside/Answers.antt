@@ -2,7 +2,7 @@
 use Rattle.std.specs.Prelude.{◌≡◌, ℕ, ◌+◌, ℤ, if◌then◌else◌, Option, Some, None, List, ◌∷◌, ◌++◌, length}
 use Rattle.std.specs.Option.{is_some, unwrap_or}
 use Rattle.ascending_lists.specs.Operations.{most}
-use Rattle.tail_codec.specs.Operations.{combined, on_keys}
+use Rattle.tail_codec.specs.Operations.{combined_maps, on_keys}
 use Rattle.tail_codec.specs.declared.operation.MapOperation.{MapOperation}
 use Rattle.tail_codec.specs.declared.operation.MapOperation.TheVariants.{Union, UnionKeepingFirst, Difference}
 use Rattle.c_tree.specs.Chunks.{ChunkedSet, IsSetOf}
@@ -11,8 +11,8 @@ use Rattle.set_ops.specs.declared.combined.Head.{Head}
 
 -- The set m is the answer for xs and ys in chunks of size b, which have common keys.
 pub record IsCombined (op : MapOperation) (b : ℕ) (xs ys : List (ℕ × ℤ)) (m : ChunkedSet) (common : ℕ) : Type 0 where
-  pub set : IsSetOf (combined op xs ys) b m
-  pub count : common + length (combined op xs ys) ≡ most (on_keys op) (length xs) (length ys)
+  pub set : IsSetOf (combined_maps op xs ys) b m
+  pub count : common + length (combined_maps op xs ys) ≡ most (on_keys op) (length xs) (length ys)
 
 -- the weight of a key of the first list in the answer if the answer has the key, where found is the
 -- second's weight if the second has it

@@ -7,7 +7,7 @@ use Rattle.syntax.specs.declared.expression.Primary.{Primary}
 use Rattle.syntax.specs.declared.expression.Expression.TheDeep.{deep-Primary, deep-Unary, deep-Term, deep-Sum, deep-Comparison, deep-Conjunction}
 use Rattle.syntax.specs.declared.expression.Expression.TheDeep.{deep-Expression}
 use Rattle.syntax.specs.ExpressionDepth.{primary_depth, unary_depth, term_depth, sum_depth, comparison_depth, conjunction_depth, expression_depth}
-use Rattle.syntax.specs.ExpressionViews.{primary_of, behind, unary_of, term_from, sum_from, conjunction_from, expression_from}
+use Rattle.syntax.specs.ExpressionViews.{primary_of, signed_operand, unary_of, term_from, sum_from, conjunction_from, expression_from}
 use Rattle.syntax.specs.inside.ExpressionViews.{term_of, sum_of, comparison_from, comparison_of, conjunction_of}
 use Rattle.syntax.specs.declared.operators.Prefix.{Prefix}
 use Rattle.syntax.specs.SourceTrees.{UnaryTree, Bare, TermTree, SumTree, ComparisonTree, ConjunctionTree}
@@ -31,7 +31,7 @@ primary_falls (primary.Entry name index) = omega arith
 primary_falls (primary.Size name) = omega arith
 primary_falls (primary.Parentheses inside) = omega arith
 
-unary_depth-behind : (signs : List Prefix) (u : UnaryTree) → unary_depth (behind signs u) ≡ unary_depth u
+unary_depth-behind : (signs : List Prefix) (u : UnaryTree) → unary_depth (signed_operand signs u) ≡ unary_depth u
 unary_depth-behind [] u = refl
 unary_depth-behind (sign ∷ signs) u = unary_depth-behind signs u
 

@@ -2,11 +2,11 @@
 use Rattle.syntax.specs.Terminals.{Identifier}
 use Rattle.syntax.specs.SourceTrees.{EndsTree}
 use Rattle.expression_types.specs.declared.scope.Entity.{Entity}
-use Rattle.expression_types.specs.Expression.{used}
+use Rattle.expression_types.specs.Expression.{used_name}
 use Rattle.expression_types.specs.Faults.{WithFaults, sure, ◌>>=◌}
 use Rattle.expression_types.specs.ScopeTree.{ScopeTree}
 use Rattle.types.specs.declared.initial.NamedApply.{NamedApply}
-use Rattle.types.specs.Initial.{ApplyEndTree, end_of}
+use Rattle.types.specs.Initial.{ApplyEndTree, apply_end_of}
 use Rattle.types.specs.inside.Initializer.{apply_end_tree}
 
 -- an apply with its target, its ends and its function
@@ -21,5 +21,5 @@ apply_tree a = record { target = a.target; from = apply_end_tree a.from; to = ap
 
 abbrev pub apply_named : ScopeTree → Identifier → EndsTree → Identifier → WithFaults ApplyTree
 apply_named scope target ends function =
-    used scope target >>= λ t. end_of scope ends.from >>= λ a. end_of scope ends.to >>= λ b. used scope function >>= λ f.
+    used_name scope target >>= λ t. apply_end_of scope ends.from >>= λ a. apply_end_of scope ends.to >>= λ b. used_name scope function >>= λ f.
     sure (record { target = t; from = a; to = b; function = f })

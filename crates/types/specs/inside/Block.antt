@@ -5,7 +5,7 @@ use Rattle.syntax.specs.SourceTrees as source
 use Rattle.typed_tree.specs.BlockTree.{StatementKindTree, statement_kind_tree, BlockTree, Empty}
 use Rattle.typed_tree.specs.declared.statement.MainStatement.{MainStatement}
 use Rattle.expression_types.specs.Faults.{WithFaults, sure, ◌>>=◌}
-use Rattle.types.specs.Checker.{CheckerTree, labelled, counted}
+use Rattle.types.specs.Checker.{CheckerTree, with_label, counted}
 use Rattle.types.specs.Block.{action_typed, closed, statements_typed}
 
 -- a statement with its number and its label
@@ -21,7 +21,7 @@ statement_tree s = record { number = s.number; label = s.label; action = stateme
 -- one statement
 abbrev pub statement_typed : CheckerTree → Option Identifier → source.StatementKindTree → WithFaults (StatementTree × CheckerTree)
 statement_typed c label action =
-    labelled c label >>= λ l. action_typed (counted l.1) action >>= λ a.
+    with_label c label >>= λ l. action_typed (counted l.1) action >>= λ a.
     sure (record { number = suc l.1.statements; label = l.0; action = a.0 }, a.1)
 
 -- a block of its own

@@ -1,7 +1,7 @@
 -- Proofs of `push_runs`, src/partition.rt.
 use Rattle.std.proofs.Common.{◌≡◌, ◌+◌, ◌*◌, ◌++◌, ◌∷◌, [], ap, sym, ◌∙◌, append_assoc, arith, List, ℕ, replicate}
 use Rattle.std.proofs.Math.Nat.{add-mul, one-mul}
-use Rattle.crew.specs.Boundaries.{ends_from}
+use Rattle.crew.specs.Boundaries.{run_ends_from}
 use Rattle.crew.proofs.Runs.{one_run_more}
 use Rattle.crew.proofs.partition.push_runs.Goals as goal
 
@@ -19,7 +19,7 @@ runs-preserved c =
       end = omega (arith, e, f, g);
       ends = c.in_ok-push.ensures.items
           ∙ ap (λ (es : List ℕ). es ++ (c.runs.end + r) ∷ []) c.runs.invariant.ends
-          ∙ append_assoc before (ends_from s (replicate n r)) ((c.runs.end + r) ∷ [])
-          ∙ ap (λ k. before ++ (ends_from s (replicate n r) ++ k ∷ [])) h
+          ∙ append_assoc before (run_ends_from s (replicate n r)) ((c.runs.end + r) ∷ [])
+          ∙ ap (λ k. before ++ (run_ends_from s (replicate n r) ++ k ∷ [])) h
           ∙ ap (λ (es : List ℕ). before ++ es) (sym (one_run_more s n r));
     }

@@ -4,9 +4,9 @@ use Rattle.std.proofs.lemmas.List.{length-take-le, take_more}
 use Rattle.edge_fold.specs.declared.apply_context.FoldStart.TheVariants as start
 use Rattle.edge_fold.specs.declared.gathered.GatheredIn.{GatheredIn}
 use Rattle.edge_fold.specs.declared.vector_accumulator.VectorAccumulator.{VectorAccumulator}
-use Rattle.edge_fold.specs.Gathered.{AreAscending, IsGatheredBy, gathered_for}
+use Rattle.edge_fold.specs.Gathered.{AllAreNonDescending, IsGatheredBy, gathered_for}
 use Rattle.edge_fold.specs.Contributions.{reduced_at}
-use Rattle.edge_fold.specs.FoldStarts.{combined}
+use Rattle.edge_fold.specs.FoldStarts.{combined_with_seed}
 use Rattle.edge_fold.specs.VectorAccumulators.{held_in_with, reduction_in}
 use Rattle.edge_fold.specs.inside.VectorAccumulators.{index_in}
 use Rattle.edge_fold.proofs.Ascending.{ascending_push}
@@ -29,7 +29,7 @@ slots-preserved-then-find-position c =
       reduction = λ x r now. c.slots.invariant.reduction x r (sym (ap (λ ss. reduction_in ss x r) step ∙ hidden_slot (λ t. t.reduction) ts s x r before) ∙ now);
       numbers = λ m test vectors sizes is x v r h l.
           c.slots.invariant.numbers m test vectors sizes is x v r h l
-          ∙ ap (λ (n : ℤ). if test v then n else h) (sym (ap (λ ss. held_in_with (combined start.Unit r) ss x v h) step ∙ hidden_slot (λ t. onto r t.entries v h) ts s x h before));
+          ∙ ap (λ (n : ℤ). if test v then n else h) (sym (ap (λ ss. held_in_with (combined_with_seed start.Unit r) ss x v h) step ∙ hidden_slot (λ t. onto r t.entries v h) ts s x h before));
     }
 
 pub slots-preserved : goal.slots-preserved
@@ -47,11 +47,11 @@ slots-preserved c =
     let g : GatheredIn = record { vector = s.vector; reduction = s.reduction; numbers = c.in_ok-numbers.numbers } in
     let more = c.in_ok-push.ensures.items in
     record {
-      ascending = subst (λ (gs : List GatheredIn). AreAscending gs) (sym more) (ascending_push vs g c.slots.invariant.ascending c.in_ok-numbers.ensures.ascending);
+      ascending = subst (λ (gs : List GatheredIn). AllAreNonDescending gs) (sym more) (ascending_push vs g c.slots.invariant.ascending c.in_ok-numbers.ensures.ascending);
       reduction = λ x r now. subst (λ (gs : List GatheredIn). IsGatheredBy r x gs) (sym more)
           (gathered_by_more r x ts s vs g refl refl first (c.slots.invariant.reduction x r) (sym (ap (λ ss. reduction_in ss x r) step) ∙ now));
       numbers = λ m test vectors sizes is x v r h l.
           ap (λ (gs : List GatheredIn). reduced_at r v h (gathered_for x gs)) more
           ∙ gathered_more r x v h (test v) ts s vs g refl first (c.slots.invariant.numbers m test vectors sizes is x v r h l) (λ n. c.in_ok-numbers.ensures.given m test vectors sizes is r v n l)
-          ∙ ap (λ ss. if test v then held_in_with (combined start.Unit r) ss x v h else h) (sym step);
+          ∙ ap (λ ss. if test v then held_in_with (combined_with_seed start.Unit r) ss x v h else h) (sym step);
     }

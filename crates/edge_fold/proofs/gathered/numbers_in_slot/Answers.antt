@@ -6,7 +6,7 @@ use Rattle.std.specs.List.Sorted.{IsNonDecreasing}
 use Rattle.kernels.specs.declared.endpoint_filter.EndpointFilter.{EndpointFilter}
 use Rattle.edge_fold.specs.declared.apply_context.FoldStart.TheVariants as start
 use Rattle.edge_fold.specs.Ends.{IsEndTest}
-use Rattle.edge_fold.specs.FoldStarts.{combined}
+use Rattle.edge_fold.specs.FoldStarts.{combined_with_seed}
 use Rattle.edge_fold.proofs.Findings.{kept_passes, not_kept}
 use Rattle.edge_fold.proofs.Gathering.{onto}
 use Rattle.edge_fold.proofs.gathered.numbers_in_slot.Goals as goal
@@ -23,7 +23,7 @@ returns-in-None-clause-given c m test vectors sizes is r v h l =
     let marked = c.in_ok-marked.ensures in
     c.in_ok-numbers-in-None.ensures.given (subst (λ (ks : List ℕ). IsNonDecreasing ks) (sym same) marked.ascending) r h (λ u. if test u then onto r e u h else h)
     (λ u has. ap (λ (b : Bool). if b then onto r e u h else h) (all u))
-    (λ u k absent. same_either (test u) (onto r e u h) h (marked.covers (combined start.Unit r) u h (λ has. absent (subst (λ (ks : List ℕ). Contains ks u) (sym same) has))))
+    (λ u k absent. same_either (test u) (onto r e u h) h (marked.covers (combined_with_seed start.Unit r) u h (λ has. absent (subst (λ (ks : List ℕ). Contains ks u) (sym same) has))))
     v l
 
 pub returns-clause-given : goal.returns-clause-given
@@ -38,5 +38,5 @@ returns-clause-given c m test vectors sizes is r v h l =
     c.in_ok-numbers-in-Some.ensures.given (subst (λ (ks : List ℕ). IsNonDecreasing ks) (sym same) rising) r h (λ u. if test u then onto r e u h else h)
     (λ u has. ap (λ (b : Bool). if b then onto r e u h else h) (kept_passes test vertices u (subst (λ (ks : List ℕ). Contains ks u) same has)))
     (λ u k absent. not_kept test vertices u (test u) (onto r e u h) h refl (λ has. absent (subst (λ (ks : List ℕ). Contains ks u) (sym same) has))
-    (λ has. marked.covers (combined start.Unit r) u h has))
+    (λ has. marked.covers (combined_with_seed start.Unit r) u h has))
     v l

@@ -2,7 +2,7 @@
 use Rattle.std.proofs.Common.{◌≡◌, ◌-◌, ◌/◌, ◌<◌, ◌≤◌, ◌+◌, ℕ, List, length, get_or, refl, ap, ◌∙◌, arith}
 use Rattle.std.proofs.lemmas.List.{get_or_default}
 use Rattle.vectors.specs.declared.changes.EntryChange.{EntryChange}
-use Rattle.edge_fold.specs.Gathered.{IsAscending}
+use Rattle.edge_fold.specs.Gathered.{IsNonDescending}
 use Rattle.edge_fold.proofs.gathered_ranges.count_below.Goals as goal
 
 -- the middle of what is left
@@ -10,13 +10,13 @@ middle_inside : (low high middle : ℕ) → middle ≡ low + (high - low) / 2 �
 middle_inside low high middle is some = (omega (arith, is, some), omega (arith, is, some))
 
 -- what the number in the middle says of those before it and after it
-before_middle : (cs : List EntryChange) (k middle : ℕ) (d e : EntryChange) (x : ℕ) → IsAscending cs → k ≤ middle → middle < length cs → (get_or cs middle e).vertex < x → (get_or cs k d).vertex < x
+before_middle : (cs : List EntryChange) (k middle : ℕ) (d e : EntryChange) (x : ℕ) → IsNonDescending cs → k ≤ middle → middle < length cs → (get_or cs middle e).vertex < x → (get_or cs k d).vertex < x
 before_middle cs k middle d e x up l inside less =
     let most = up k middle d l inside in
     let same = ap (λ (c : EntryChange). c.vertex) (get_or_default cs middle d e inside) in
     omega (arith, most, same, less)
 
-after_middle : (cs : List EntryChange) (k middle : ℕ) (d e : EntryChange) (x : ℕ) → IsAscending cs → middle ≤ k → k < length cs → x ≤ (get_or cs middle e).vertex → x ≤ (get_or cs k d).vertex
+after_middle : (cs : List EntryChange) (k middle : ℕ) (d e : EntryChange) (x : ℕ) → IsNonDescending cs → middle ≤ k → k < length cs → x ≤ (get_or cs middle e).vertex → x ≤ (get_or cs k d).vertex
 after_middle cs k middle d e x up l inside more =
     let most = up middle k d l inside in
     let same = ap (λ (c : EntryChange). c.vertex) (get_or_default cs middle d e (omega (arith, l, inside))) in

@@ -6,10 +6,11 @@ use Rattle.syntax.specs.ExpressionViews.{unary_of, primary_of}
 use Rattle.syntax.specs.inside.ExpressionViews.{term_of, sum_of, comparison_of, comparison_from, conjunction_of}
 use Rattle.typed_tree.specs.declared.expression.Connective.TheVariants as connective
 use Rattle.expression_types.specs.declared.fault.TypeRule.TheVariants as rule
-use Rattle.expression_types.specs.Expression.{value_of, conjunction_value, comparison_value, index_lacks_value, no_vertex, sum_value, term_value, unary_value, primary_value, used, entry_of}
+use Rattle.expression_types.specs.Expression.{value_of, conjunction_value, comparison_value, index_lacks_value, no_vertex, sum_value, term_value, unary_value, primary_value, used_name, entry_of}
 use Rattle.expression_types.specs.Faults.{WithFaults, ReportsFaults, sure, outcome, ◌>>=◌}
 use Rattle.expression_types.specs.inside.Operands.{conditions_of, integers_of}
-use Rattle.expression_types.specs.Operators.{added, multiplied, given, related_value, first_integer, first_condition, beside_integer, beside_condition, grouped_integers, grouped_conditions}
+use Rattle.expression_types.specs.Operators.{addition_operator, multiplied, given_or_fault, related_value, first_integer, first_condition, beside_integer, beside_condition, grouped_integers}
+use Rattle.expression_types.specs.Operators.{grouped_conditions}
 use Rattle.expression_types.specs.inside.Signs.{signs_value}
 use Rattle.expression_types.specs.ScopeTree.{ScopeTree}
 use Rattle.expression_types.specs.ValueTree.{ValueTree, value_tree}
@@ -37,7 +38,7 @@ sum-operands-preserved t c =
     c.operands.invariant ∙ row_on (sum_step c.args.scope.now c.args.at) left (integers_of c.in_ok-operands.operands) items c.operands.operator-index m c.operands.first_fault new
     (grouped_integers c.args.at) inside is
     (outcome_then c.operands.first_fault new (term_value c.args.scope.now c.args.at (term_of m.1)) (value_tree c.in_ok-value.value)
-    (λ v. sure (beside_integer (added m.0) left (first_integer v))) c.in_ok-value.ensures
+    (λ v. sure (beside_integer (addition_operator m.0) left (first_integer v))) c.in_ok-value.ensures
     ∙ ap (λ s. (s, new)) (sym (c.in_ok-operands.ensures ∙ ap (λ o. beside_integer o left (first_integer (value_tree c.in_ok-value.value))) c.addition.ensures)))
 
 pub term-operands-init : goal.term-operands-init
@@ -117,15 +118,15 @@ comparison-returns-in_ok-right-in-Some t c =
     let b = value_tree c.in_ok-right-in-Some.right in
     subst (λ r. ReportsFaults value_tree c.args.first_fault.now c.relate.new.first_fault c.relate.result (comparison_value scope at (comparison_from left r))) (sym c.in-Some.is)
     (reports_then value_tree c.args.first_fault.now c.sum.new.first_fault c.relate.new.first_fault (sum_value scope at left) a
-    (λ a. sum_value scope at right >>= λ b. given at rule.WrongType (related_value c.in-Some.relation a b)) c.relate.result c.in_ok-left.ensures
+    (λ a. sum_value scope at right >>= λ b. given_or_fault at rule.WrongType (related_value c.in-Some.relation a b)) c.relate.result c.in_ok-left.ensures
     (reports_then value_tree c.sum.new.first_fault c.sum-in-Some.new.first_fault c.relate.new.first_fault (sum_value scope at right) b
-    (λ b. given at rule.WrongType (related_value c.in-Some.relation a b)) c.relate.result
+    (λ b. given_or_fault at rule.WrongType (related_value c.in-Some.relation a b)) c.relate.result
     (subst (λ s. outcome c.sum.new.first_fault (sum_value scope at (sum_of s)) ≡ (b, c.sum-in-Some.new.first_fault)) c.deref.ensures c.in_ok-right-in-Some.ensures) c.relate.ensures))
 
 -- an entry at an index that has no value, and at one that has
 abbrev entry_at : ScopeTree → ℕ → Identifier → ExpressionTree → Bool → WithFaults ValueTree
 entry_at scope at name index lacks =
-    used scope name >>= λ e. (if lacks then sure no_vertex else value_of scope at index) >>= λ v. entry_of scope.inside at e v
+    used_name scope name >>= λ e. (if lacks then sure no_vertex else value_of scope at index) >>= λ v. entry_of scope.inside at e v
 
 pub primary-returns-then-is_name_without_value : goal.primary-returns-then-is_name_without_value
 primary-returns-then-is_name_without_value t c =
@@ -136,7 +137,7 @@ primary-returns-then-is_name_without_value t c =
     subst (λ p. ReportsFaults value_tree c.args.first_fault.now c.entry.new.first_fault c.entry.result (primary_value scope at (primary_of p))) (sym c.in-Entry.is)
     (subst (λ b. ReportsFaults value_tree c.args.first_fault.now c.entry.new.first_fault c.entry.result (entry_at scope at c.in-Entry.name index b))
     (sym c.if-is_name_without_value.true ∙ c.is_name_without_value.ensures ∙ ap (index_lacks_value scope.inside scope) c.deref.ensures)
-    (reports_then value_tree c.args.first_fault.now c.entity-entity.new.first_fault c.entry.new.first_fault (used scope c.in-Entry.name) entity
+    (reports_then value_tree c.args.first_fault.now c.entity-entity.new.first_fault c.entry.new.first_fault (used_name scope c.in-Entry.name) entity
     (λ e. sure no_vertex >>= λ v. entry_of scope.inside at e v) c.entry.result c.entity-entity.ensures
     (subst (λ inside. ReportsFaults value_tree c.entity-entity.new.first_fault c.entry.new.first_fault c.entry.result (entry_of inside at entity no_vertex)) c.inside.ensures
     (subst (λ v. ReportsFaults value_tree c.entity-entity.new.first_fault c.entry.new.first_fault c.entry.result (entry_of c.inside.result at entity v)) c.other_index.ensures c.entry.ensures))))
@@ -151,7 +152,7 @@ primary-returns-in_ok-index-in-Entry t c =
     subst (λ p. ReportsFaults value_tree c.args.first_fault.now c.entry-in-Entry.new.first_fault c.entry-in-Entry.result (primary_value scope at (primary_of p))) (sym c.in-Entry.is)
     (subst (λ b. ReportsFaults value_tree c.args.first_fault.now c.entry-in-Entry.new.first_fault c.entry-in-Entry.result (entry_at scope at c.in-Entry.name index b))
     (sym c.if-is_name_without_value.false ∙ c.is_name_without_value.ensures ∙ ap (index_lacks_value scope.inside scope) c.deref.ensures)
-    (reports_then value_tree c.args.first_fault.now c.entity-entity.new.first_fault c.entry-in-Entry.new.first_fault (used scope c.in-Entry.name) entity
+    (reports_then value_tree c.args.first_fault.now c.entity-entity.new.first_fault c.entry-in-Entry.new.first_fault (used_name scope c.in-Entry.name) entity
     (λ e. value_of scope at index >>= λ v. entry_of scope.inside at e v) c.entry-in-Entry.result c.entity-entity.ensures
     (reports_then value_tree c.entity-entity.new.first_fault c.type_expression.new.first_fault c.entry-in-Entry.new.first_fault (value_of scope at index) v
     (λ v. entry_of scope.inside at entity v) c.entry-in-Entry.result

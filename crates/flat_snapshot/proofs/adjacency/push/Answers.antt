@@ -1,6 +1,6 @@
 -- Proofs of `push`, src/adjacency.rt.
 use Rattle.std.proofs.Common.{◌+◌, Some, [], ◌∷◌, ◌++◌, ◌∙◌, ap, arith, length-append}
-use Rattle.vertex_blocks.specs.Blocks.{numbered}
+use Rattle.vertex_blocks.specs.Blocks.{numbered_vertices}
 use Rattle.flat_snapshot.specs.inside.Lists.{lists_in}
 use Rattle.flat_snapshot.proofs.Numbered.{lists_more, blocks_more}
 use Rattle.flat_snapshot.proofs.adjacency.push.Goals as goal
@@ -16,6 +16,6 @@ returns c =
     rw (is, same)
     (record {
       count = omega (arith, length-append mid (Some b ∷ []), padded.count);
-      lists = λ k. lists_more k mid (Some b) ∙ ap (λ j. lists_in k mid ++ numbered (k + j) b) padded.count ∙ ap (λ r. r ++ numbered (k + c.args.number) b) (padded.lists k);
+      lists = λ k. lists_more k mid (Some b) ∙ ap (λ j. lists_in k mid ++ numbered_vertices (k + j) b) padded.count ∙ ap (λ r. r ++ numbered_vertices (k + c.args.number) b) (padded.lists k);
       blocks = λ are is_block. blocks_more mid (Some b) (padded.blocks are) is_block;
     })

@@ -7,14 +7,14 @@ use mir.Val.{to_z, of_z}
 use Rattle.lexer.specs.declared.token.TokenKind.TheVariants as kind
 use Rattle.lexer.specs.inside.Runs.{IsFirst}
 use Rattle.lexer.specs.Tokens.{Lexeme}
-use Rattle.decimal.specs.Numbers.{value_of}
+use Rattle.decimal.specs.Numbers.{digits_number}
 use Rattle.lexer.proofs.FrontLaws.{number_first, large_prefix}
 use Rattle.lexer.proofs.front.number.Goals as goal
 
 pub returns-in-Ok : goal.returns-in-Ok
 returns-in-Ok c =
-    let value : value_of (take c.in-Some.len c.args.bytes.now) ≡ c.in-Some.value = c.in-Some.ensures.1 in
-    let same : to_z w64 (of_z w64 c.in-Ok.number) ≡ pos (value_of (take c.in-Some.len c.args.bytes.now)) =
+    let value : digits_number (take c.in-Some.len c.args.bytes.now) ≡ c.in-Some.value = c.in-Some.ensures.1 in
+    let same : to_z w64 (of_z w64 c.in-Ok.number) ≡ pos (digits_number (take c.in-Some.len c.args.bytes.now)) =
     ap (λ z. to_z w64 (of_z w64 z)) (c.in-Ok.ensures.1) ∙ to_z-of_z w64 (pos c.in-Some.value) c.in-Ok.ensures.0 ∙ ap pos (sym value) in
     subst (λ z. IsFirst (Lexeme (kind.Number z)) c.args.bytes.now c.in-Some.len) (sym same)
     (number_first c.args.bytes.now c.in-Some.len c.requires.some c.requires.digit (search rules) (search rules) c.in-Some.ensures.2

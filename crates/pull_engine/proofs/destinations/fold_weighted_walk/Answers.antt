@@ -1,6 +1,6 @@
 -- Proofs of `fold_weighted_walk`, src/destinations.rt.
 use Rattle.std.proofs.Common.{rules, ℕ, ℤ, ◌++◌, List, ap, refl, subst, take, arith}
-use Rattle.edge_fold.specs.Contributions.{column, entries_of}
+use Rattle.edge_fold.specs.Contributions.{column, weighted_entries}
 use Rattle.edge_fold.proofs.Walks.{HasWalked, folded_along, parts_of, walk_begun, walk_done, walk_more}
 use Rattle.edge_apply.specs.Words.{passes_words}
 use Rattle.pull_engine.proofs.ColumnFolds.{column_from, column_in_row, kept_entries, none_left}
@@ -18,7 +18,7 @@ rounds-preserved g c =
     let rest = g.W.NeighbourWalk.coming filled.new.self in
     let kept = c.keep_members_weighted-kept in
     let then = c.fold_into_weighted.new.self in
-    let lent = entries_of (take kept.result kept.new.block) (take kept.result kept.new.weights) in
+    let lent = weighted_entries (take kept.result kept.new.block) (take kept.result kept.new.weights) in
     let same = kept_entries from left filled.new.keys filled.new.weights n lent filled.ensures.keys filled.ensures.weights kept.ensures.kept in
     record {
       room = search rules;

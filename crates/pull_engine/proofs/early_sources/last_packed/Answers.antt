@@ -4,7 +4,7 @@ use Rattle.std.proofs.lemmas.Map.Entries.{length-keys_of}
 use Rattle.std.specs.List.{filter}
 use Rattle.std.specs.Map.{keys_of}
 use Rattle.edge_apply.specs.Words.{passes_words}
-use Rattle.pull_engine.specs.EarlySources.{last_of}
+use Rattle.pull_engine.specs.EarlySources.{last_source}
 use Rattle.pull_engine.proofs.Deciding.{last_passes}
 use Rattle.pull_engine.proofs.early_sources.last_packed.Goals as goal
 
@@ -19,4 +19,4 @@ returns-then-passes c =
     let next : i + 1 ≡ c.down.end = omega (arith, some) in
     let inside : i < length xs = omega (arith, some, within, long) in
     let is : p (get_or xs i 0) ≡ true = ap p (sym c.neighbour-source.ensures) ∙ sym c.passes.ensures ∙ c.if-passes.true in
-    ap Some c.neighbour-source.ensures ∙ sym (last_passes p xs i true inside is) ∙ ap (λ k. last_of (filter p (take k xs))) next ∙ c.down.invariant.left
+    ap Some c.neighbour-source.ensures ∙ sym (last_passes p xs i true inside is) ∙ ap (λ k. last_source (filter p (take k xs))) next ∙ c.down.invariant.left

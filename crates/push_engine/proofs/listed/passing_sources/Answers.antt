@@ -8,7 +8,7 @@ use Rattle.edge_fold.specs.Ends.{IsTest}
 use Rattle.kernels.specs.Registers.{HasSizes}
 use Rattle.vertex_sets.specs.VertexSet.{IsAscendingBelow}
 use Rattle.edge_apply.specs.inside.Lists.{AscendsFrom}
-use Rattle.edge_apply.specs.Lists.{IsEndOf}
+use Rattle.edge_apply.specs.Lists.{IsEndFor}
 use Rattle.edge_apply.proofs.Listed.{ascends, filter_ascends, members_listed}
 use Rattle.push_engine.proofs.SourceLists.{filtered_sources}
 use Rattle.vertex_sets.proofs.Ascending.{rises_range}
@@ -40,6 +40,6 @@ returns-in_ok-members-in-Members-clause-list c m test vectors sizes is within =
     let n = c.args.apply.now.flat.now.vertices in
     let set = c.in-Members.set.now in
     let test_is : (v : ℕ) → test v ≡ is_member v set.members = subst (λ (e : EndpointFilter). IsTest e m test) c.in-Members.is is in
-    let count : set.vertices ≡ n = subst (λ (e : EndpointFilter). IsEndOf n (Some e)) c.in-Members.is within in
+    let count : set.vertices ≡ n = subst (λ (e : EndpointFilter). IsEndFor n (Some e)) c.in-Members.is within in
     c.in_ok-members-in-Members.ensures.members
     ∙ members_listed n set.members test (subst (λ (k : ℕ). IsAscendingBelow k set.members) count c.members_of.ensures.valid) test_is

@@ -1,6 +1,6 @@
 -- Proofs of `fold_weighted`, src/sources.rt.
 use Rattle.std.proofs.Common.{◌++◌, take, refl, ap, arith}
-use Rattle.edge_fold.specs.Contributions.{entries_of, row}
+use Rattle.edge_fold.specs.Contributions.{weighted_entries, row}
 use Rattle.edge_fold.proofs.Walks.{folded_along, parts_of, walk_begun, walk_done, walk_more}
 use Rattle.edge_apply.specs.Words.{passes_words}
 use Rattle.push_engine.proofs.Blocks.{entries_kept, none_left}
@@ -18,7 +18,7 @@ rounds-preserved g c =
     let rest = g.W.NeighbourWalk.coming c.fill_weighted-count.new.self in
     let read = c.fill_weighted-count.ensures in
     let k = c.keep_members_weighted-kept.result in
-    let kept = entries_of (take k c.keep_members_weighted-kept.new.block) (take k c.keep_members_weighted-kept.new.weights) in
+    let kept = weighted_entries (take k c.keep_members_weighted-kept.new.block) (take k c.keep_members_weighted-kept.new.weights) in
     let same = entries_kept to n coming c.fill_weighted-count.new.keys c.fill_weighted-count.new.weights kept read.keys read.weights c.keep_members_weighted-kept.ensures.kept in
     let then = c.fold_weighted.new.self in
     walk_more a.input.context (row_to to u) (g.W.NeighbourWalk.coming a.walk) coming part rest a.scratch.now c.rounds.scratch then

@@ -2,7 +2,7 @@
 use Rattle.std.proofs.Common.{[], ap, sym, subst, map}
 use Rattle.syntax.specs.SourceSpelling.{declaration_before, each_before, schedule_before, source_terminals}
 use Rattle.syntax.specs.SourceViews.{declaration_tree, source_tree}
-use Rattle.source_text.specs.ReadBack.{IsReadBack}
+use Rattle.source_text.specs.ReadBack.{IsSourceReadBack}
 use Rattle.source_text.proofs.Puts.{completes_same, completes_from, written_whole}
 use Rattle.source_text.proofs.ReadBack.{text_of-IsReadBack}
 use Rattle.source_text.proofs.writer.write.Goals as goal
@@ -21,4 +21,4 @@ returns-clause-text c = written c
 
 pub returns-clause-read_back : goal.returns-clause-read_back
 returns-clause-read_back c = λ writable.
-    subst (λ t. IsReadBack t (source_tree c.args.source.now)) (sym (written c)) (text_of-IsReadBack (source_tree c.args.source.now) writable)
+    subst (λ t. IsSourceReadBack t (source_tree c.args.source.now)) (sym (written c)) (text_of-IsReadBack (source_tree c.args.source.now) writable)

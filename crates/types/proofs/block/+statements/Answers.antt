@@ -8,11 +8,11 @@ use Rattle.typed_tree.specs.IntExpressionTree.{int_expression_tree}
 use Rattle.typed_tree.proofs.Blocks.{statement_kind_tree-While, statement_kind_tree-If, statement_kind_tree-IfElse, statement_kind_tree-For}
 use Rattle.expression_types.specs.declared.scope.Entity.TheVariants as entity
 use Rattle.expression_types.specs.Faults.{outcome, sure, ◌>>=◌}
-use Rattle.expression_types.specs.ScopeTree.{Keeps, left}
+use Rattle.expression_types.specs.ScopeTree.{KeepsNames, left}
 use Rattle.expression_types.proofs.Steps.{outcome_then}
 use Rattle.types.specs.Block.{action_typed, closed, statements_typed}
 use Rattle.types.specs.inside.Checker.{checker_of}
-use Rattle.types.specs.Checker.{counted, declared_in, integer_slot, labelled, with_scope, integer_in}
+use Rattle.types.specs.Checker.{counted, declared_in, integer_slot, with_label, in_scope, integer_in}
 use Rattle.types.proofs.BlockLaws.{while_typed, if_typed, if_else_typed, statement_on}
 use Rattle.types.proofs.Kept.{keeps_on, keeps_same, left_again}
 use Rattle.types.proofs.Sources as sources
@@ -69,8 +69,8 @@ repeat-returns-clause-typed t c =
     (λ d. statements_typed d Empty body >>= λ b. sure (For (length checker.names) a z b.0, closed checker b.1))
     c.in_ok-slot.ensures.declared
     ∙ outcome_then c.declare_loop_variable.new.first_fault new (statements_typed d Empty body) (b, last) (λ b. sure (For (length checker.names) a z b.0, closed checker b.1)) c.in_ok-body.ensures.typed
-    ∙ (λ i. ((For (ap (λ s. s.name) (sym c.in_ok-slot.ensures.slot) i) a z b, with_scope last (sym again i)), new))
-    ∙ ap (λ x. ((x, with_scope last c.leave.new.self), new)) (sym (statement_kind_tree-For c.in_ok-slot.slot.name c.in_ok-first.first c.in_ok-limit.limit c.in_ok-body.body))
+    ∙ (λ i. ((For (ap (λ s. s.name) (sym c.in_ok-slot.ensures.slot) i) a z b, in_scope last (sym again i)), new))
+    ∙ ap (λ x. ((x, in_scope last c.leave.new.self), new)) (sym (statement_kind_tree-For c.in_ok-slot.slot.name c.in_ok-first.first c.in_ok-limit.limit c.in_ok-body.body))
 
 pub statements-statements-preserved : goal.statements-statements-preserved
 statements-statements-preserved t c =
@@ -90,7 +90,7 @@ inner-returns-clause-typed t c =
     let new = c.statements.new.first_fault in
     let again = c.leave.ensures ∙ ap (λ m. left m last.scope) c.mark-mark.ensures.mark ∙ left_again checker.scope last.scope c.in_ok-typed.ensures.kept in
     outcome_then c.args.first_fault.now new (statements_typed checker Empty (source_block c.args.block.now)) (b, last) (λ b. sure (b.0, closed checker b.1)) c.in_ok-typed.ensures.typed
-    ∙ (λ i. ((b, with_scope last (sym again i)), new))
+    ∙ (λ i. ((b, in_scope last (sym again i)), new))
 
 pub inner-returns-clause-kept : goal.inner-returns-clause-kept
 inner-returns-clause-kept t c =
@@ -100,7 +100,7 @@ inner-returns-clause-kept t c =
 
 pub one-returns-clause-kept : goal.one-returns-clause-kept
 one-returns-clause-kept t c =
-    subst (λ scope. Keeps scope c.action.new.checker.scope) (c.in_ok-number.ensures.kept ∙ c.in_ok-label.ensures.kept) c.in_ok-action.ensures.kept
+    subst (λ scope. KeepsNames scope c.action.new.checker.scope) (c.in_ok-number.ensures.kept ∙ c.in_ok-label.ensures.kept) c.in_ok-action.ensures.kept
 
 pub one-returns-clause-typed : goal.one-returns-clause-typed
 one-returns-clause-typed t c =
@@ -111,7 +111,7 @@ one-returns-clause-typed t c =
     let a = statement_kind_tree c.in_ok-action.action in
     let last = checker_of c.action.new.checker in
     let number = suc labelled_checker.statements in
-    outcome_then c.args.first_fault.now c.label.new.first_fault (labelled checker c.args.statement.now.label) (index, labelled_checker)
+    outcome_then c.args.first_fault.now c.label.new.first_fault (with_label checker c.args.statement.now.label) (index, labelled_checker)
     (λ l. action_typed (counted l.1) action >>= λ a. sure (record { number = suc l.1.statements; label = l.0; action = a.0 }, a.1)) c.in_ok-label.ensures.labelled
     ∙ outcome_then c.label.new.first_fault c.action.new.first_fault (action_typed (counted labelled_checker) action) (a, last)
     (λ a. sure (record { number = number; label = index; action = a.0 }, a.1))

@@ -2,7 +2,7 @@ use Rattle.std.proofs.Common.{◌≡◌, drop}
 use Rattle.syntax.specs.SourceViews.{block_tree as source_block}
 use Rattle.typed_tree.specs.BlockTree.{Empty, block_tree}
 use Rattle.expression_types.specs.Faults.{outcome}
-use Rattle.expression_types.specs.ScopeTree.{Keeps}
+use Rattle.expression_types.specs.ScopeTree.{KeepsNames}
 use Rattle.types.specs.Block.{statements_typed}
 use Rattle.types.specs.inside.Checker.{checker_of}
 use Rattle.types.proofs.block.+statements.Given as goal
@@ -12,4 +12,4 @@ abbrev pub invariant-statements-statements : goal.invariant-statements-statement
 invariant-statements-statements l =
     (outcome l.fn.first_fault (statements_typed (checker_of l.fn.checker) Empty (source_block l.block))
     ≡ outcome l.first_fault (statements_typed (checker_of l.checker) (block_tree l.typed.items) (source_block (drop l.statement-index l.block))))
-    × Keeps l.fn.checker.scope l.checker.scope
+    × KeepsNames l.fn.checker.scope l.checker.scope

@@ -1,10 +1,10 @@
 -- Proofs of `read_apply`, src/initial.rt.
 use Rattle.std.proofs.Common.{◌∙◌}
-use Rattle.expression_types.specs.Expression.{used}
+use Rattle.expression_types.specs.Expression.{used_name}
 use Rattle.expression_types.specs.Faults.{sure, ◌>>=◌}
 use Rattle.expression_types.proofs.Steps.{outcome_then}
 use Rattle.types.specs.inside.Initializer.{apply_end_tree}
-use Rattle.types.specs.Initial.{end_of}
+use Rattle.types.specs.Initial.{apply_end_of}
 use Rattle.types.specs.inside.Applies.{ApplyTree}
 use Rattle.types.proofs.initial.read_apply.Goals as goal
 
@@ -16,10 +16,10 @@ returns c =
     let b = apply_end_tree c.read_end-2.result in
     let f = c.entity-2.result in
     let made : _ → _ → _ → _ → ApplyTree = λ t a b f. record { target = t; from = a; to = b; function = f } in
-    outcome_then c.args.first_fault.now c.entity.new.first_fault (used scope c.args.target.now) t
-    (λ t. end_of scope c.args.ends.now.from >>= λ a. end_of scope c.args.ends.now.to >>= λ b. used scope c.args.function.now >>= λ f. sure (made t a b f)) c.entity.ensures
-    ∙ outcome_then c.entity.new.first_fault c.read_end.new.first_fault (end_of scope c.args.ends.now.from) a
-    (λ a. end_of scope c.args.ends.now.to >>= λ b. used scope c.args.function.now >>= λ f. sure (made t a b f)) c.read_end.ensures
-    ∙ outcome_then c.read_end.new.first_fault c.read_end-2.new.first_fault (end_of scope c.args.ends.now.to) b
-    (λ b. used scope c.args.function.now >>= λ f. sure (made t a b f)) c.read_end-2.ensures
-    ∙ outcome_then c.read_end-2.new.first_fault c.entity-2.new.first_fault (used scope c.args.function.now) f (λ f. sure (made t a b f)) c.entity-2.ensures
+    outcome_then c.args.first_fault.now c.entity.new.first_fault (used_name scope c.args.target.now) t
+    (λ t. apply_end_of scope c.args.ends.now.from >>= λ a. apply_end_of scope c.args.ends.now.to >>= λ b. used_name scope c.args.function.now >>= λ f. sure (made t a b f)) c.entity.ensures
+    ∙ outcome_then c.entity.new.first_fault c.read_end.new.first_fault (apply_end_of scope c.args.ends.now.from) a
+    (λ a. apply_end_of scope c.args.ends.now.to >>= λ b. used_name scope c.args.function.now >>= λ f. sure (made t a b f)) c.read_end.ensures
+    ∙ outcome_then c.read_end.new.first_fault c.read_end-2.new.first_fault (apply_end_of scope c.args.ends.now.to) b
+    (λ b. used_name scope c.args.function.now >>= λ f. sure (made t a b f)) c.read_end-2.ensures
+    ∙ outcome_then c.read_end-2.new.first_fault c.entity-2.new.first_fault (used_name scope c.args.function.now) f (λ f. sure (made t a b f)) c.entity-2.ensures

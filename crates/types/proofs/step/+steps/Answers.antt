@@ -13,7 +13,7 @@ use Rattle.expression_types.specs.ScopeTree.{left}
 use Rattle.expression_types.proofs.Steps.{outcome_then}
 use Rattle.types.specs.Step.{no_step, step_typed, steps_after, steps_typed}
 use Rattle.types.specs.inside.Checker.{checker_of}
-use Rattle.types.specs.Checker.{declared_in, integer_slot, with_scope, integer_in}
+use Rattle.types.specs.Checker.{declared_in, integer_slot, in_scope, integer_in}
 use Rattle.types.proofs.StepLaws.{while_step, if_step, if_else_step, step_on}
 use Rattle.types.proofs.Kept.{keeps_on, keeps_same, left_again}
 use Rattle.types.proofs.Sources as sources
@@ -74,7 +74,7 @@ repeat-returns-clause-typed t c =
     (λ d. steps_typed d NoStep body >>= λ b. sure (no_step, steps_after checker b.1))
     c.in_ok-declare_loop_variable.ensures.declared
     ∙ outcome_then c.declare_loop_variable.new.first_fault new (steps_typed d NoStep body) (b, last) (λ b. sure (no_step, steps_after checker b.1)) c.in_ok-_body.ensures.typed
-    ∙ (λ i. ((sym c.wrong-step.ensures.step i, with_scope last (sym again i)), new))
+    ∙ (λ i. ((sym c.wrong-step.ensures.step i, in_scope last (sym again i)), new))
 
 pub steps-statements-preserved : goal.steps-statements-preserved
 steps-statements-preserved t c =
@@ -94,7 +94,7 @@ inner-returns-clause-typed t c =
     let new = c.steps.new.first_fault in
     let again = c.leave.ensures ∙ ap (λ m. left m last.scope) c.mark-mark.ensures.mark ∙ left_again checker.scope last.scope c.in_ok-typed.ensures.kept in
     outcome_then c.args.first_fault.now new (steps_typed checker NoStep (source_block c.args.block.now)) (b, last) (λ b. sure (b.0, steps_after checker b.1)) c.in_ok-typed.ensures.typed
-    ∙ (λ i. ((b, with_scope last (sym again i)), new))
+    ∙ (λ i. ((b, in_scope last (sym again i)), new))
 
 pub inner-returns-clause-kept : goal.inner-returns-clause-kept
 inner-returns-clause-kept t c =

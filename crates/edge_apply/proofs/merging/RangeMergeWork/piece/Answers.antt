@@ -7,7 +7,7 @@ use Rattle.crew.specs.Partition.{end_of}
 use Rattle.crew.specs.Pieces.{pieces_of}
 use Rattle.edge_fold.specs.declared.apply_context.ApplyContext.{ApplyContext}
 use Rattle.edge_fold.specs.Changed.{changed, changed_from}
-use Rattle.edge_fold.specs.Gathered.{is_between}
+use Rattle.edge_fold.specs.Gathered.{is_in_range}
 use Rattle.kernels.specs.EdgeApply.{after_edges}
 use Rattle.edge_apply.specs.Pieces.{EachGathered}
 use Rattle.edge_apply.proofs.Listed.{filter_all, piece_inside}
@@ -42,7 +42,7 @@ returns-clause-out c m steps edges_of vectors sizes kernels up each x r by long 
     let high = c.piece-range.result.end in
     let inside = piece_inside n w.ranges k w.whole c.requires.piece.0 c.requires.piece.1 in
     let all = flat_map edges_of (pieces_of w.found.now) in
-    let part = filter (λ (e : Edge). is_between low high e.1) all in
+    let part = filter (λ (e : Edge). is_in_range low high e.1) all in
     let count = ap (λ (f : ApplyContext). f.vertices) c.context-context.ensures.context in
     let starts = ap (λ (f : ApplyContext). f.start) c.context-context.ensures.context in
     let reads = c.context-context.ensures.reads m steps (record { vectors = vectors; sizes = sizes; kernels = kernels }) in

@@ -3,7 +3,7 @@ use Rattle.edge_fold.specs.Between.{firsts}
 use Rattle.edge_fold.specs.inside.Contributions.{each_given}
 use Rattle.edge_fold.specs.Contributions.{reduced_at}
 use Rattle.edge_fold.specs.Held.{held_with}
-use Rattle.edge_fold.specs.FoldStarts.{combined}
+use Rattle.edge_fold.specs.FoldStarts.{combined_with_seed}
 use Rattle.edge_fold.specs.inside.FoldStarts.{opening_seed, start_of}
 use Rattle.edge_fold.proofs.accumulator.Accumulator.join_each.Given as goal
 
@@ -11,5 +11,5 @@ use Rattle.edge_fold.proofs.accumulator.Accumulator.join_each.Given as goal
 abbrev pub invariant-each : goal.invariant-each
 invariant-each g l =
     let ds = firsts (g.E.NeighbourEntries.entries l.destinations) in
-    (v : ℕ) (h : ℤ) → reduced_at l.reduction v (held_with (combined (start_of l.opening) l.reduction) l.self v (opening_seed l.opening v h)) (each_given l.number (drop l.index ds))
-    ≡ reduced_at l.reduction v (held_with (combined (start_of l.opening) l.reduction) l.fn.self v (opening_seed l.opening v h)) (each_given l.number ds)
+    (v : ℕ) (h : ℤ) → reduced_at l.reduction v (held_with (combined_with_seed (start_of l.opening) l.reduction) l.self v (opening_seed l.opening v h)) (each_given l.number (drop l.index ds))
+    ≡ reduced_at l.reduction v (held_with (combined_with_seed (start_of l.opening) l.reduction) l.fn.self v (opening_seed l.opening v h)) (each_given l.number ds)

@@ -3,7 +3,7 @@ use Rattle.std.proofs.Common.{ℕ, ◌<◌, ◌≤◌, inl, ℤ, List, length, g
 use Rattle.std.proofs.lemmas.List.Elements.{Contains-get_or}
 use Rattle.apply_options.specs.declared.reduction.Reduction.{Reduction}
 use Rattle.vectors.specs.declared.changes.EntryChange.{EntryChange}
-use Rattle.edge_fold.specs.Gathered.{numbers_of}
+use Rattle.edge_fold.specs.Gathered.{given_numbers}
 use Rattle.edge_fold.specs.Contributions.{reduced_at}
 use Rattle.edge_fold.proofs.Ascending.{ascends_more, no_numbers}
 use Rattle.edge_fold.proofs.ChangedRows.{between_kept}
@@ -15,7 +15,7 @@ kept-init c = record {
   inside = omega arith;
   passed = λ up i l. absurd (omega (arith, l));
   found = λ up r h new here there v l. absurd (omega (arith, l));
-  left = λ r v h l. ap (λ (cs : List EntryChange). reduced_at r v h (numbers_of cs)) c.in_ok-numbers.ensures.items;
+  left = λ r v h l. ap (λ (cs : List EntryChange). reduced_at r v h (given_numbers cs)) c.in_ok-numbers.ensures.items;
   ascends = no_numbers 0 c.in_ok-numbers.numbers.items c.in_ok-numbers.ensures.items;
 }
 
@@ -34,7 +34,7 @@ kept-preserved c =
       inside = omega (arith, c.if-vertices-vertex.false);
       passed = λ up i l. let most = up i index 0 (omega (arith, l)) inside in inl (omega (arith, most));
       found = λ up r h new here there v l.
-          let y = reduced_at r v h (numbers_of was) in
+          let y = reduced_at r v h (given_numbers was) in
           more r v h
           ∙ found_step new (λ n. onto r a.self.now v n) y h k v next from l
           (c.kept.invariant.found up r h new here there v)
@@ -42,7 +42,7 @@ kept-preserved c =
           (λ own. here v (subst (λ (u : ℕ). Contains kept u) own (Contains-get_or kept index 0 inside)))
           (λ b d. there v (omega (arith, d, c.if-vertices-vertex.false)) (between_kept kept index next a.vertices v up (c.kept.invariant.passed up) b (omega (arith, d, c.if-vertices-vertex.false))
           (λ _. d)));
-      left = λ r v h l. more r v h ∙ left_step (λ n. onto r a.self.now v n) (reduced_at r v h (numbers_of was)) h k v l (c.kept.invariant.left r v h (omega (arith, from, l)));
+      left = λ r v h l. more r v h ∙ left_step (λ n. onto r a.self.now v n) (reduced_at r v h (given_numbers was)) h k v l (c.kept.invariant.left r v h (omega (arith, from, l)));
       ascends = ascends_more a.self.now next k was c.push_number.new.numbers.items from c.in_ok-push_number.ensures c.kept.invariant.ascends;
     }
 
@@ -53,7 +53,7 @@ returns-clause-given c up r h new here there v l =
     let index = c.kept.vertex-index in
     let next = c.kept.next in
     let done = c.kept-test.false in
-    all_found (reduced_at r v h (numbers_of c.kept.numbers.items)) (new v) h v next
+    all_found (reduced_at r v h (given_numbers c.kept.numbers.items)) (new v) h v next
     (c.kept.invariant.found up r h new here there v)
     (c.kept.invariant.left r v h)
     (λ b. there v l (between_kept kept index next a.vertices v up (c.kept.invariant.passed up) b l (λ m. absurd (omega (arith, done, m)))))

@@ -2,7 +2,7 @@
 use Rattle.std.proofs.Common.{◌≡◌, ◌<◌, ◌≤◌, ◌++◌, ◌∷◌, [], ℤ, cond, length, get_or, take, sym, ap, ◌∙◌, subst}
 use Rattle.std.proofs.lemmas.List.{take_all, take_more}
 use Rattle.edge_fold.specs.declared.gathered.GatheredIn.{GatheredIn}
-use Rattle.edge_fold.specs.Gathered.{IsAscending, IsGatheredBy, gathered_for, is_between}
+use Rattle.edge_fold.specs.Gathered.{IsNonDescending, IsGatheredBy, gathered_for, is_in_range}
 use Rattle.edge_fold.specs.Contributions.{all_given, reduced_at}
 use Rattle.edge_fold.proofs.Ascending.{ascending_at, none_between, part_more}
 use Rattle.edge_fold.proofs.Gathering.{is_gathered_at, is_gathered_by-push}
@@ -27,10 +27,10 @@ vectors-preserved c =
           subst (λ hs. IsGatheredBy r x hs) (sym more) (is_gathered_by-push r x fs f (c.vectors.invariant.reduction x r by)
           (λ at. part.reduction ∙ ap (λ h. h.reduction) is ∙ is_gathered_at r x gs i g by inside (sym (ap (λ h. h.vector) is) ∙ sym part.vector ∙ at)));
       numbers = λ up x r v h.
-          let own = subst (λ (d : GatheredIn). IsAscending d.numbers.items) (sym is) (ascending_at gs i g up inside) in
+          let own = subst (λ (d : GatheredIn). IsNonDescending d.numbers.items) (sym is) (ascending_at gs i g up inside) in
           ap (λ hs. reduced_at r v h (gathered_for x hs)) more
-          ∙ part_more r x v h (is_between c.args.low c.args.high v) fs (take i gs) f g part.vector (c.vectors.invariant.numbers up x r v h) (λ n. part.numbers own r v n)
-          ∙ ap (λ hs. cond (is_between c.args.low c.args.high v) (reduced_at r v h (gathered_for x hs)) h) (sym step);
+          ∙ part_more r x v h (is_in_range c.args.low c.args.high v) fs (take i gs) f g part.vector (c.vectors.invariant.numbers up x r v h) (λ n. part.numbers own r v n)
+          ∙ ap (λ hs. cond (is_in_range c.args.low c.args.high v) (reduced_at r v h (gathered_for x hs)) h) (sym step);
     }
 
 pub vectors-init : goal.vectors-init
@@ -38,7 +38,7 @@ vectors-init c =
     let none = c.in_ok-vectors.ensures.items in
     record {
       reduction = λ x r by. subst (λ hs. IsGatheredBy r x hs) (sym none) tt;
-      numbers = λ up x r v h. ap (λ hs. reduced_at r v h (gathered_for x hs)) none ∙ none_between (is_between c.args.low c.args.high v) h;
+      numbers = λ up x r v h. ap (λ hs. reduced_at r v h (gathered_for x hs)) none ∙ none_between (is_in_range c.args.low c.args.high v) h;
     }
 
 pub returns : goal.returns
@@ -47,7 +47,7 @@ returns c n m steps edges up are x r by =
     let i = c.vectors.of_vector-index in
     let all : length gs ≤ i = subst (λ hs. length hs ≤ i) c.deref-of_vector-items.ensures.value c.vectors-test.false in
     let is = are x r by in
-    let inside = is_between c.args.low c.args.high in
+    let inside = is_in_range c.args.low c.args.high in
     record {
       reduction = c.vectors.invariant.reduction x r is.reduction;
       numbers = λ v h l.

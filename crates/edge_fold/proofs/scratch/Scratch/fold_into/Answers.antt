@@ -4,7 +4,7 @@ use Rattle.std.proofs.lemmas.Result.{on_ok_weaker}
 use Rattle.apply_options.specs.declared.reduction.Reduction.{Reduction}
 use Rattle.edge_fold.specs.declared.scratch.Scratch.{Scratch}
 use Rattle.edge_fold.specs.Folded.{HasFolded}
-use Rattle.edge_fold.specs.Contributions.{IsBy, all_given, column, entries_of, given_on}
+use Rattle.edge_fold.specs.Contributions.{IsBy, all_given, column, weighted_entries, given_on}
 use Rattle.edge_fold.specs.inside.Contributions.{each_given}
 use Rattle.edge_fold.proofs.Columns.{together_given}
 use Rattle.edge_fold.proofs.JoinedSlots.{folded_before, joined_alike}
@@ -32,7 +32,7 @@ pub returns-then-done : goal.returns-then-done
 returns-then-done c m steps edges es keys are has =
     let d = c.args.destination in
     let ss = c.args.sources.now in
-    folded_more_alike c.args.context m steps edges (column d (entries_of ss [])) (column d es) _ (λ x. weightless_column x d m steps ss es (are.weightless c.requires.unweighted) keys)
+    folded_more_alike c.args.context m steps edges (column d (weighted_entries ss [])) (column d es) _ (λ x. weightless_column x d m steps ss es (are.weightless c.requires.unweighted) keys)
     (c.in_ok-done.ensures.folded c.if-done.true m steps edges are has)
 
 pub returns : goal.returns
@@ -43,6 +43,6 @@ returns c =
     let same = sym (c.in_ok-done.ensures.unchanged c.if-done.false) in
     on_ok_weaker c.gather_into.result
     (λ done m steps edges es keys are has.
-    folded_more_alike f m steps edges (column d (entries_of ss [])) (column d es) _ (λ x. weightless_column x d m steps ss es (are.weightless c.requires.unweighted) keys)
+    folded_more_alike f m steps edges (column d (weighted_entries ss [])) (column d es) _ (λ x. weightless_column x d m steps ss es (are.weightless c.requires.unweighted) keys)
     (done m steps edges are (subst (λ (t : Scratch). HasFolded f m steps edges t) same has)))
     c.gather_into.ensures

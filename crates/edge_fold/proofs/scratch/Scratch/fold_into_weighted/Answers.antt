@@ -4,7 +4,7 @@ use Rattle.apply_options.specs.declared.reduction.Reduction.{Reduction}
 use Rattle.std.proofs.lemmas.Result.{on_ok_weaker}
 use Rattle.edge_fold.specs.declared.scratch.Scratch.{Scratch}
 use Rattle.edge_fold.specs.Folded.{HasFolded}
-use Rattle.edge_fold.specs.Contributions.{IsBy, all_given, column, entries_of, given_on}
+use Rattle.edge_fold.specs.Contributions.{IsBy, all_given, column, weighted_entries, given_on}
 use Rattle.edge_fold.specs.inside.Contributions.{each_given}
 use Rattle.edge_fold.proofs.EntryRows.{weighed_together}
 use Rattle.edge_fold.proofs.JoinedSlots.{folded_before, joined_alike}
@@ -15,7 +15,7 @@ returns-in-Some c m steps edges are has x r by =
     let now = c.args.self.now in
     let f = c.args.context in
     let d = c.args.destination in
-    let es = entries_of c.args.sources.now c.args.weights.now in
+    let es = weighted_entries c.args.sources.now c.args.weights.now in
     let contribution = c.in-Some.contribution in
     let g = all_given m steps in
     let is = c.in-Some.ensures m steps are in

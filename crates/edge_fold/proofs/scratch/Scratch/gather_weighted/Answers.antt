@@ -1,7 +1,7 @@
 -- Proofs of `gather_weighted`, src/weighted.rt.
 use Rattle.std.proofs.Common.{ℕ, ℤ, List, ◌++◌, take, drop, true, refl, ap, ◌∙◌}
 use Rattle.edge_fold.specs.Folded.{waiting}
-use Rattle.edge_fold.specs.Contributions.{entries_of, row}
+use Rattle.edge_fold.specs.Contributions.{weighted_entries, row}
 use Rattle.edge_fold.proofs.Edges.{row_parts}
 use Rattle.edge_fold.proofs.JoinedSlots.{folded_later}
 use Rattle.edge_fold.proofs.Walks.{folded_along}
@@ -11,7 +11,7 @@ use Rattle.edge_fold.proofs.scratch.Scratch.gather_weighted.Goals as goal
 pub returns-then-destinations-room : goal.returns-then-destinations-room
 returns-then-destinations-room c m steps edges are has x r by =
     folded_later c.args.context m steps edges
-    (row c.args.source (entries_of c.args.destinations.now c.args.weights.now)) c.args.self.now _ x r true c.requires.weighted refl c.add_weighted.ensures.waiting (has x r by)
+    (row c.args.source (weighted_entries c.args.destinations.now c.args.weights.now)) c.args.self.now _ x r true c.requires.weighted refl c.add_weighted.ensures.waiting (has x r by)
 
 pub returns : goal.returns
 returns c m steps edges are has =
@@ -23,13 +23,14 @@ returns c m steps edges are has =
     let ws = c.args.weights.now in
     let k = c.room-room.result in
     let counts = c.requires.weighted in
-    let front = entries_of (take k ds) (take k ws) in
-    let back = entries_of (drop k ds) (drop k ws) in
-    let added = λ (us : List ℕ) (vs : List ℤ). waiting true now.pairs ++ row s (entries_of us vs) in
-    let more = λ (us : List ℕ) (vs : List ℤ). waiting true then.pairs ++ row s (entries_of us vs) in
+    let front = weighted_entries (take k ds) (take k ws) in
+    let back = weighted_entries (drop k ds) (drop k ws) in
+    let added = λ (us : List ℕ) (vs : List ℤ). waiting true now.pairs ++ row s (weighted_entries us vs) in
+    let more = λ (us : List ℕ) (vs : List ℤ). waiting true then.pairs ++ row s (weighted_entries us vs) in
     let flushed = c.in_ok-flush.ensures.folded m steps (edges ++ row s front) are
     (λ y t own. folded_later f m steps edges (row s front) now _ y t true counts refl
     (c.add_weighted-2.ensures.waiting ∙ ap (λ us. added us c.split_at-2.result.0.now) c.split_at.ensures.front ∙ ap (added (take k ds)) c.split_at-2.ensures.front) (has y t own)) in
-    folded_along f m steps ((edges ++ row s front) ++ row s back) (edges ++ row s (entries_of ds ws)) _ (row_parts s front back (entries_of ds ws) edges (entries_parts k ds ws c.requires.same))
+    folded_along f m steps ((edges ++ row s front) ++ row s back) (edges ++ row s (weighted_entries ds ws)) _
+    (row_parts s front back (weighted_entries ds ws) edges (entries_parts k ds ws c.requires.same))
     (λ x r by. folded_later f m steps (edges ++ row s front) (row s back) then _ x r true counts refl
     (c.add_weighted-3.ensures.waiting ∙ ap (λ us. more us c.split_at-2.result.1.now) c.split_at.ensures.back ∙ ap (more (drop k ds)) c.split_at-2.ensures.back) (flushed x r by))

@@ -4,7 +4,7 @@ use Rattle.weighted_edges.specs.Edge.{Edge}
 use Rattle.edge_fold.specs.declared.apply_context.FoldStart.TheVariants as start
 use Rattle.edge_fold.specs.Folded.{waiting}
 use Rattle.edge_fold.specs.Contributions.{all_given, given_on, pairs, reduced_at}
-use Rattle.edge_fold.specs.FoldStarts.{combined}
+use Rattle.edge_fold.specs.FoldStarts.{combined_with_seed}
 use Rattle.edge_fold.specs.VectorAccumulators.{active, held_in_with}
 use Rattle.edge_fold.proofs.JoinedSlots.{unit_entries}
 use Rattle.edge_fold.proofs.Meaning.{filtered_edges}
@@ -19,7 +19,7 @@ returns-clause-given c m steps edges test are is has unit x r by =
     let none = ap (λ (k : ℕ). pairs (take k flushed.pairs.sources) (take k flushed.pairs.destinations) (if f.weighted then take k flushed.pairs.weights else [])) c.in_ok-flush.ensures.none in
     let now = c.in_ok-flush.ensures.folded m steps edges are has x r by in
     let folded = λ (v : ℕ) (h : ℤ) (l : v < f.vertices).
-    sym (ap (λ (ws : List Edge). reduced_at r v (held_in_with (combined start.Unit r) ss x v h) (given_on x g ws)) none)
+    sym (ap (λ (ws : List Edge). reduced_at r v (held_in_with (combined_with_seed start.Unit r) ss x v h) (given_on x g ws)) none)
     ∙ unit_entries f x v h r ss (given_on x g (waiting f.weighted flushed.pairs)) (given_on x g edges) unit (now.entries v h l) in
     record {
       reduction = c.in_ok-gathered.ensures.reduction x r now.reduction;

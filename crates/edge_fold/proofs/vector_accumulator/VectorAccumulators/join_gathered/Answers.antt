@@ -1,7 +1,7 @@
 -- Proofs of `join_gathered`, src/vector_accumulators.rt.
 use Rattle.std.proofs.Common.{◌≡◌, ◌<◌, ◌≤◌, ◌==◌, ◌++◌, ◌+◌, [], cond, length, get_or, take, sym, ap, ◌∙◌}
 use Rattle.std.proofs.lemmas.List.{take_all}
-use Rattle.edge_fold.specs.Gathered.{gathered_for, numbers_of}
+use Rattle.edge_fold.specs.Gathered.{gathered_for, given_numbers}
 use Rattle.edge_fold.specs.Contributions.{reduced_at}
 use Rattle.edge_fold.proofs.Gathering.{gathered_for_next, is_gathered_at}
 use Rattle.edge_fold.proofs.JoinedSlots.{joined_alike, joined_more}
@@ -16,7 +16,7 @@ vectors-preserved c = λ x r by.
     let inside : i < length gs = c.vectors-test.true in
     let is : g ≡ get_or gs i g = c.of_vector-item.is in
     let first = gathered_for x (take i gs) in
-    let one = cond (g.vector == x) (numbers_of g.numbers.items) [] in
+    let one = cond (g.vector == x) (given_numbers g.numbers.items) [] in
     let own = λ (at : g.vector ≡ x). ap (λ h. h.reduction) is ∙ is_gathered_at r x gs i g by inside (sym (ap (λ h. h.vector) is) ∙ at) in
     joined_alike f x r c.args.self.now c.join_numbers.new.self (first ++ one) (gathered_for x (take (i + 1) gs))
     (λ v n. ap (λ hs. reduced_at r v n hs) (gathered_for_next x gs i g inside is))

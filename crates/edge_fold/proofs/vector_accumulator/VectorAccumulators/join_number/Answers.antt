@@ -6,7 +6,7 @@ use Rattle.edge_fold.specs.Between.{firsts}
 use Rattle.edge_fold.specs.inside.Contributions.{each_given}
 use Rattle.edge_fold.specs.Contributions.{reduced_at}
 use Rattle.edge_fold.specs.Held.{held_with}
-use Rattle.edge_fold.specs.FoldStarts.{combined, first_entry}
+use Rattle.edge_fold.specs.FoldStarts.{combined_with_seed, first_entry}
 use Rattle.edge_fold.specs.inside.FoldStarts.{opening_seed, start_of}
 use Rattle.edge_fold.proofs.JoinedSlots.{along, equal, joined_slot}
 use Rattle.edge_fold.proofs.vector_accumulator.VectorAccumulators.join_number.Goals as goal
@@ -24,7 +24,7 @@ returns g c x r own =
     let few : now.used ≤ length now.slots.items = search rules in
     let at = c.in_ok-position.ensures.position in
     let op = c.opening-opening in
-    let combine = combined (start_of op.result) contribution.reduction in
+    let combine = combined_with_seed (start_of op.result) contribution.reduction in
     let joined = λ (v : ℕ) (h : ℤ). c.in_ok-join_number.ensures v h
     ∙ ap (λ (n : ℤ). reduced_at contribution.reduction v (held_with combine was.entries v (opening_seed op.result v h)) (each_given n ds)) (to_z-of_z w64 number fits) in
     let all = each_given number ds in
@@ -33,5 +33,5 @@ returns g c x r own =
     at.0 at.1 few c.index_mut.ensures.value refl refl c.in_ok-position.ensures.held (c.in_ok-position.ensures.reduction x r own)
     (λ v h same. along f x contribution.vector v contribution.reduction r (start_of op.result) was.entries c.join_number.new.self h _ (λ _. all) (equal contribution.vector x same)
     (own (equal contribution.vector x same)) op.ensures.start (op.ensures.seed v h) (joined v h)
-    ∙ ap (λ (b : Bool). reduced_at r v (held_with (combined f.start r) was.entries v (first_entry f x v h)) (cond b all [])) (sym same))
+    ∙ ap (λ (b : Bool). reduced_at r v (held_with (combined_with_seed f.start r) was.entries v (first_entry f x v h)) (cond b all [])) (sym same))
     (λ off. ap (λ (b : Bool). cond b all []) off)

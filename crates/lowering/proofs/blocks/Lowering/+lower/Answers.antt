@@ -10,7 +10,7 @@ use Rattle.typed_tree.proofs.Blocks.{statement_kind_tree-If, statement_kind_tree
 use Rattle.plans.specs.Fusing.{fusion_role_of}
 use Rattle.plans.specs.Instruction.{UnlessBelow, Jump, Turn, Advance}
 use Rattle.plans.specs.inside.Plan.{IsWithin}
-use Rattle.plans.specs.Plan.{behind, behind_all, in_loop, loop_step, plain, plan, plan_all}
+use Rattle.plans.specs.Plan.{depth_after, depth_after_all, depth_in_loop, loop_step, plain, plan, plan_all}
 use Rattle.plans.proofs.Depths.{within_after_all}
 use Rattle.lowering.specs.inside.Putting.{BeginsLoop, Fills, Puts}
 use Rattle.lowering.specs.inside.Visible.{depth_of}
@@ -38,9 +38,9 @@ put_all-statements-preserved t c =
     subst (λ (ls : List MainStatement). block_size (block_tree ls) ≤ block_size (block_tree c.args.statements.now)) left c.statements.invariant.size in
     record {
       put = subst (λ e. HasPut p s whole a k e c.in_ok-is_done.is_done rest) (sym c.in_ok-is_done.ensures.visible)
-          (subst (λ e. HasPut p s whole a k (behind (statement_kind_tree here.action) d) e rest) (sym c.in_ok-is_done.ensures.next) put);
+          (subst (λ e. HasPut p s whole a k (depth_after (statement_kind_tree here.action) d) e rest) (sym c.in_ok-is_done.ensures.next) put);
       size = omega (arith, size);
-      visible = c.statements.invariant.visible ∙ ap (λ (ls : List MainStatement). behind_all (block_tree ls) d) left ∙ ap (λ e. behind_all rest e) (sym c.in_ok-is_done.ensures.visible);
+      visible = c.statements.invariant.visible ∙ ap (λ (ls : List MainStatement). depth_after_all (block_tree ls) d) left ∙ ap (λ e. depth_after_all rest e) (sym c.in_ok-is_done.ensures.visible);
     }
 
 pub put_inside-returns-clause-visible : goal.put_inside-returns-clause-visible
@@ -110,10 +110,10 @@ put_if-returns-clause-code t c label =
     let d = c.depth-depth.result in
     let body = block_tree c.args.body.now in
     let put : Puts p b k (plan_all p s (length b) d false body) = subst (λ x. Puts p b k (plan_all p s (length b) x false body)) (sym c.depth-depth.ensures) c.in_ok-put_inside.ensures.code in
-    let behind : c.len.result ≡ length k = c.len.ensures ∙ c.put_inside.new.code.ok.0 in
+    let depth_after : c.len.result ≡ length k = c.len.ensures ∙ c.put_inside.new.code.ok.0 in
     on_ok_weaker c.fill_unless.result (λ fills.
     subst (λ x. Puts p a e (plan p s (length a) x c.args.number label (If (bool_expression_tree c.args.c.now) body))) c.depth-depth.ensures
-    (puts_if p s a b k e c.in_ok-test.test c.len.result d c.args.number label (bool_expression_tree c.args.c.now) body c.in_ok-test.ensures put behind fills))
+    (puts_if p s a b k e c.in_ok-test.test c.len.result d c.args.number label (bool_expression_tree c.args.c.now) body c.in_ok-test.ensures put depth_after fills))
     c.fill_unless.ensures
 
 pub put_if-returns-clause-visible : goal.put_if-returns-clause-visible
@@ -159,10 +159,10 @@ put_while-returns-clause-code t c label =
     let d = c.depth-depth.result in
     let body = block_tree c.args.body.now in
     let put : Puts p b k (plan_all p s (length b) d false body) = subst (λ x. Puts p b k (plan_all p s (length b) x false body)) (sym c.depth-depth.ensures) c.in_ok-put_inside.ensures.code in
-    let behind : c.len.result ≡ length g = c.len.ensures ∙ c.put_jump.new.code.ok.0 in
+    let depth_after : c.len.result ≡ length g = c.len.ensures ∙ c.put_jump.new.code.ok.0 in
     on_ok_weaker c.fill_unless.result (λ fills.
     subst (λ x. Puts p a e (plan p s (length a) x c.args.number label (While (bool_expression_tree c.args.c.now) body))) c.depth-depth.ensures
-    (puts_while p s a b k g e c.in_ok-test.test c.len.result d c.args.number label (bool_expression_tree c.args.c.now) body c.in_ok-test.ensures put c.in_ok-put_jump.ensures behind fills))
+    (puts_while p s a b k g e c.in_ok-test.test c.len.result d c.args.number label (bool_expression_tree c.args.c.now) body c.in_ok-test.ensures put c.in_ok-put_jump.ensures depth_after fills))
     c.fill_unless.ensures
 
 pub put_while-returns-clause-visible : goal.put_while-returns-clause-visible
@@ -183,17 +183,17 @@ put_for-returns-clause-code t c label =
     let name = c.args.range.name in
     let test = c.in_ok-test.test in
     let body = block_tree c.args.body.now in
-    let inside : c.depth-inside.result ≡ in_loop d = c.depth-inside.ensures ∙ c.in_ok-put_bounds.ensures.visible in
+    let inside : c.depth-inside.result ≡ depth_in_loop d = c.depth-inside.ensures ∙ c.in_ok-put_bounds.ensures.visible in
     let shown = c.depth-depth.ensures in
-    let begins : BeginsLoop p f b test (loop_step n (in_loop d) d Turn) =
-    subst (λ x. BeginsLoop p f b test (loop_step n (in_loop d) x Turn)) shown (subst (λ x. BeginsLoop p f b test (loop_step n x c.depth-depth.result Turn)) inside c.in_ok-test.ensures) in
-    let put : Puts p b k (plan_all p s (length b) (in_loop d) false body) = subst
+    let begins : BeginsLoop p f b test (loop_step n (depth_in_loop d) d Turn) =
+    subst (λ x. BeginsLoop p f b test (loop_step n (depth_in_loop d) x Turn)) shown (subst (λ x. BeginsLoop p f b test (loop_step n x c.depth-depth.result Turn)) inside c.in_ok-test.ensures) in
+    let put : Puts p b k (plan_all p s (length b) (depth_in_loop d) false body) = subst
     (λ x. Puts p b k (plan_all p s (length b) x false body)) c.in_ok-put_bounds.ensures.visible c.in_ok-put_inside.ensures.code in
-    let back : Puts p k g (plain n d (Advance name) ∷ loop_step n (in_loop d) d (Jump test) ∷ []) =
-    subst (λ x. Puts p k g (plain n x (Advance name) ∷ loop_step n (in_loop d) x (Jump test) ∷ [])) shown
+    let back : Puts p k g (plain n d (Advance name) ∷ loop_step n (depth_in_loop d) d (Jump test) ∷ []) =
+    subst (λ x. Puts p k g (plain n x (Advance name) ∷ loop_step n (depth_in_loop d) x (Jump test) ∷ [])) shown
     (subst (λ x. Puts p k g (plain n c.depth-depth.result (Advance name) ∷ loop_step n x c.depth-depth.result (Jump test) ∷ [])) inside c.in_ok-put_back.ensures) in
-    let fills : Fills p g e test (loop_step n (in_loop d) d (UnlessBelow name (length g))) =
-    subst (λ x. Fills p g e test (loop_step n (in_loop d) x (UnlessBelow name (length g)))) shown
+    let fills : Fills p g e test (loop_step n (depth_in_loop d) d (UnlessBelow name (length g))) =
+    subst (λ x. Fills p g e test (loop_step n (depth_in_loop d) x (UnlessBelow name (length g)))) shown
     (subst (λ x. Fills p g e test (loop_step n x c.depth-depth.result (UnlessBelow name (length g)))) inside c.in_ok-fill_unless_below.ensures) in
     puts_for p s a f b k g e test d n label name (int_expression_tree c.args.range.first.now) (int_expression_tree c.args.range.end.now) body c.in_ok-put_bounds.ensures.code begins put back fills
 

@@ -1,7 +1,7 @@
 use Rattle.std.proofs.Common.{◌≡◌, ◌≤◌, ◌+◌, ◌*◌, false, length}
 use Rattle.typed_tree.specs.BlockTree.{statement_kind_tree, block_tree}
 use Rattle.typed_tree.specs.ProgramTree.{program_tree}
-use Rattle.plans.specs.Plan.{behind_all, plan_all}
+use Rattle.plans.specs.Plan.{depth_after_all, plan_all}
 use Rattle.lowering.specs.inside.Visible.{depth_of}
 use Rattle.lowering.proofs.Measures.{action_size, block_size}
 use Rattle.lowering.proofs.Statements.{HasPut}
@@ -15,7 +15,7 @@ invariant-put_all-statements l =
     record {
       put : HasPut p s whole l.fn.code.items l.code.items (depth_of l.visible) l.is_done (block_tree l.left);
       size : block_size (block_tree l.left) ≤ block_size (block_tree l.fn.statements);
-      visible : behind_all (block_tree l.fn.statements) (depth_of l.fn.visible) ≡ behind_all (block_tree l.left) (depth_of l.visible);
+      visible : depth_after_all (block_tree l.fn.statements) (depth_of l.fn.visible) ≡ depth_after_all (block_tree l.left) (depth_of l.visible);
     }
 
 abbrev pub decreases-put_all-statements : goal.decreases-put_all-statements

@@ -5,7 +5,7 @@ use Rattle.typed_tree.specs.BlockTree.{DeclareInteger}
 use Rattle.typed_tree.specs.IntExpressionTree.{int_expression_tree}
 use Rattle.typed_tree.specs.ProgramTree.{program_tree}
 use Rattle.plans.specs.Instruction.{Do, Enter}
-use Rattle.plans.specs.Plan.{loop_step, plain, with_integer}
+use Rattle.plans.specs.Plan.{loop_step, plain, depth_with_integer}
 use Rattle.lowering.specs.inside.Putting.{Puts}
 use Rattle.lowering.specs.inside.Visible.{depth_of}
 use Rattle.lowering.proofs.Putting.{puts_both}
@@ -22,9 +22,9 @@ returns-clause-code c =
     let e = c.put_enter.new.code.items in
     let first = subst (λ x. Puts p a b (plain n x (Do (DeclareInteger name (int_expression_tree c.args.range.first.now))) ∷ [])) c.depth-depth.ensures c.in_ok-put_first.ensures in
     let keep = c.depth.ensures ∙ c.in_ok-declare_integer.ensures in
-    let enter = subst (λ x. Puts p b e (loop_step n (with_integer d) x (Enter name (int_expression_tree c.args.range.end.now)) ∷ [])) c.depth-depth.ensures
+    let enter = subst (λ x. Puts p b e (loop_step n (depth_with_integer d) x (Enter name (int_expression_tree c.args.range.end.now)) ∷ [])) c.depth-depth.ensures
     (subst (λ x. Puts p b e (loop_step n x c.depth-depth.result (Enter name (int_expression_tree c.args.range.end.now)) ∷ [])) keep c.in_ok-put_enter.ensures) in
     on_ok_weaker c.declare_integer-2.result (λ more. puts_both p a b e _ _ first enter) c.declare_integer-2.ensures
 
 pub returns-clause-visible : goal.returns-clause-visible
-returns-clause-visible c = on_ok_weaker c.declare_integer-2.result (λ more. more ∙ ap with_integer c.in_ok-declare_integer.ensures) c.declare_integer-2.ensures
+returns-clause-visible c = on_ok_weaker c.declare_integer-2.result (λ more. more ∙ ap depth_with_integer c.in_ok-declare_integer.ensures) c.declare_integer-2.ensures

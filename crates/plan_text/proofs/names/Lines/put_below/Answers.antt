@@ -2,7 +2,7 @@
 use Rattle.std.proofs.Common.{◌∷◌, [], ◌++◌, codes, ap, ◌∙◌}
 use Rattle.std.proofs.lemmas.Result.{on_ok_weaker}
 use Rattle.typed_tree.specs.ProgramTree.{program_tree}
-use Rattle.plan_text.specs.Expressions.{name_at, bracketed, spaced}
+use Rattle.plan_text.specs.Expressions.{program_name_at, bracketed, spaced}
 use Rattle.plan_text.specs.Lines.{end_name}
 use Rattle.plan_text.proofs.Spaces.{absurd_cons, bracket_closed, put_after}
 use Rattle.plan_text.proofs.names.Lines.put_below.Goals as goal
@@ -10,7 +10,7 @@ use Rattle.plan_text.proofs.names.Lines.put_below.Goals as goal
 pub returns : goal.returns
 returns c =
     let p = program_tree c.args.self.program.now in
-    let ws = name_at p c.args.name ∷ end_name p c.args.name ∷ codes "<" ∷ [] in
+    let ws = program_name_at p c.args.name ∷ end_name p c.args.name ∷ codes "<" ∷ [] in
     let middle = c.put_word.new.out.items in
     on_ok_weaker c.close_bracket.result (λ closes.
     put_after c.args.out.now.items middle c.close_bracket.new.out.items (codes "unless" ∷ []) (bracketed ws ∷ []) c.in_ok-put_word.ensures

@@ -6,7 +6,7 @@ use Rattle.std.specs.List.{list_any}
 use Rattle.std.specs.Prelude.{if◌then◌else◌}
 use Rattle.typed_tree.specs.ProgramTree.{program_tree}
 use Rattle.schedule.specs.Calls.{grown}
-use Rattle.schedule.specs.Schedule.{vector_index}
+use Rattle.schedule.specs.Schedule.{vector_by_name}
 use Rattle.schedule.proofs.Growing.{grown_on, grown_taken, grown_unknown}
 use Rattle.schedule.proofs.calls.Tables.group_of.Goals as goal
 
@@ -15,7 +15,7 @@ returns-in_default c =
     let p = program_tree c.args.self.now.program.now in
     sym c.names.invariant.group
     ∙ grown_unknown p c.args.taken.now.keys c.names.group.items c.args.names.now c.names.name-index c.name-item.result c.names-test.true c.name-item.is
-    (ap (vector_index p) (sym c.as_slice.ensures) ∙ sym c.vector.ensures ∙ c.in_default.is)
+    (ap (vector_by_name p) (sym c.as_slice.ensures) ∙ sym c.vector.ensures ∙ c.in_default.is)
 
 pub returns-then-not-branch : goal.returns-then-not-branch
 returns-then-not-branch c =
@@ -23,7 +23,7 @@ returns-then-not-branch c =
     let v = c.in-Some.vector in
     sym c.names.invariant.group
     ∙ grown_taken p c.args.taken.now.keys c.names.group.items c.args.names.now c.names.name-index c.name-item.result c.names-test.true c.name-item.is v
-    (ap (vector_index p) (sym c.as_slice.ensures) ∙ sym c.vector.ensures ∙ c.in-Some.is)
+    (ap (vector_by_name p) (sym c.as_slice.ensures) ∙ sym c.vector.ensures ∙ c.in-Some.is)
     (ap (list_any (nat_eq v)) (sym c.names.invariant.taken) ∙ not-false _ (sym c.in_ok-insert.ensures.added ∙ c.if-not-branch.true))
 
 pub names-preserved : goal.names-preserved
@@ -37,7 +37,7 @@ names-preserved c =
       group =
           ap (λ (group : List ℕ). grown p taken group (drop (c.names.name-index + 1) c.args.names.now)) c.in_ok-push.ensures.items
           ∙ sym (grown_on p taken c.names.group.items c.args.names.now c.names.name-index c.name-item.result c.names-test.true c.name-item.is v
-          (ap (vector_index p) (sym c.as_slice.ensures) ∙ sym c.vector.ensures ∙ c.in-Some.is)
+          (ap (vector_by_name p) (sym c.as_slice.ensures) ∙ sym c.vector.ensures ∙ c.in-Some.is)
           (ap (list_any (nat_eq v)) (sym c.names.invariant.taken) ∙ new))
           ∙ c.names.invariant.group;
       taken =

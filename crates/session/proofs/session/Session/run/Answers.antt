@@ -5,7 +5,7 @@ use Rattle.std.specs.Result.{IsErrAnd}
 use Rattle.session.specs.declared.error.SessionError.{SessionError}
 use Rattle.session.specs.declared.error.SessionError.TheVariants.{NoMemory}
 use Rattle.session.specs.declared.step.SessionStep.{SessionStep}
-use Rattle.session.specs.World.{replies_to, world_after}
+use Rattle.session.specs.World.{step_replies, world_after}
 use Rattle.session.specs.Standing.{SessionValue, IsAt}
 use Rattle.session.proofs.Running.{one_more_taken, stops}
 use Rattle.session.proofs.session.Session.run.Goals as goal
@@ -47,4 +47,4 @@ returns-clause-runs c = λ programs w at.
     let past : length steps ≤ i = c.loop-step-test.false in
     let all : take i steps ≡ steps = take_all i steps past in
     let there = c.loop-step.invariant.stands programs w at in
-    (there.0 ∙ ap (replies_to programs w) all, subst (λ (ss : List SessionStep). IsAt programs (world_after programs w ss) c.loop-step.self) all there.1)
+    (there.0 ∙ ap (step_replies programs w) all, subst (λ (ss : List SessionStep). IsAt programs (world_after programs w ss) c.loop-step.self) all there.1)

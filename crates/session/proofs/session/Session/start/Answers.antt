@@ -6,7 +6,7 @@ use Rattle.runner.specs.Resting.{JobValue}
 use Rattle.tree_batch.specs.Digraph.{Digraph}
 use Rattle.version_list.specs.Machine.{ticket_version, ticket_graph}
 use Rattle.version_list.specs.Kept.{IsHeld}
-use Rattle.session.specs.World.{numbered}
+use Rattle.session.specs.World.{nth_from_one}
 use Rattle.session.specs.Standing.{SessionValue}
 use Rattle.session.proofs.Taking.{starts_no_program, starts_no_ticket, starts_there}
 use Rattle.session.proofs.session.Session.start.Goals as goal
@@ -15,7 +15,7 @@ pub returns-in_default-clause-attempts : goal.returns-in_default-clause-attempts
 returns-in_default-clause-attempts c = λ programs w at. (
   starts_no_program arc_value c.self.inside.plans.items c.deref.result.now programs w c.args.self.now c.args.program c.args.turns (ticket_graph w.versions c.args.ticket) at
       (ap (λ (v : SessionValue). v.plans) (sym c.self.view_is)) c.deref.ensures.value
-      (subst (λ found. option_copied found ≡ numbered c.deref.result.now c.args.program) c.in_default.is c.numbered_in.ensures),
+      (subst (λ found. option_copied found ≡ nth_from_one c.deref.result.now c.args.program) c.in_default.is c.numbered_in.ensures),
   refl,
 )
 
@@ -27,7 +27,7 @@ returns-in_default-kept-clause-attempts c = λ programs w at.
     subst (λ (found : Option (ℕ × Bor Digraph)). MatchOption found (ticket_version s.open_tickets ticket ≡ None) (λ v. IsHeld s ticket v.0 v.1.now)) c.in_default-kept.is c.kept.ensures in (
       starts_no_ticket arc_value c.self.inside.plans.items c.deref.result.now programs w c.args.self.now s c.args.program ticket c.args.turns c.in-Some.plan.now at
           (ap (λ (v : SessionValue). v.plans) (sym c.self.view_is)) c.deref.ensures.value
-          (subst (λ found. option_copied found ≡ numbered c.deref.result.now c.args.program) c.in-Some.is c.numbered_in.ensures)
+          (subst (λ found. option_copied found ≡ nth_from_one c.deref.result.now c.args.program) c.in-Some.is c.numbered_in.ensures)
           (ap (λ (v : SessionValue). v.versions) (sym c.self.view_is)) none,
       refl,
     )
@@ -66,7 +66,7 @@ returns-clause-attempts c = λ programs w at.
     (arc_value c.in_ok-flat.flat)
     (arc_value c.in_ok-clone.field-0) job c.len.result at
     (ap (λ (v : SessionValue). v.plans) (sym c.self.view_is)) c.deref.ensures.value
-    (subst (λ found. option_copied found ≡ numbered c.deref.result.now c.args.program) c.in-Some.is c.numbered_in.ensures)
+    (subst (λ found. option_copied found ≡ nth_from_one c.deref.result.now c.args.program) c.in-Some.is c.numbered_in.ensures)
     (ap (λ (v : SessionValue). v.versions) (sym c.self.view_is)) held.ticket held.graph c.in_ok-clone.ensures.cases c.in_ok-flat.ensures.flat c.in_ok-job.ensures
     (ap (λ (js : List JobValue). record { plans = map arc_value inside.plans.items; versions = s; jobs = js }) c.in_ok-push.ensures.items
     ∙ ap (λ (v : SessionValue). record v { jobs = v.jobs ++ job ∷ [] }) c.self.view_is)
