@@ -1,5 +1,7 @@
 //! The first of a request's runs that ended by a fault, and where it was.
 
+ghost use Rattle.std.specs.Prelude.{◌≡◌};
+
 use crate::refused_lines::RefusedLines;
 use algorithm_meaning::End;
 use std::cell::Cell;
@@ -48,4 +50,21 @@ pub(crate) struct ProgramFiles<'p, 'a> {
     pub(crate) names: &'p [&'a str],
     pub(crate) first_fault: &'p FirstFault,
     pub(crate) refused: &'p RefusedLines,
+}
+
+impl<'p, 'a> ProgramFiles<'p, 'a> {
+    /// The files of these names.
+    pub(crate) fn new(
+        names: &'p [&'a str],
+        first_fault: &'p FirstFault,
+        refused: &'p RefusedLines,
+    ) -> ProgramFiles<'p, 'a>
+        ensures { result.names ≡ names }
+    {
+        ProgramFiles {
+            names,
+            first_fault,
+            refused,
+        }
+    }
 }

@@ -75,11 +75,7 @@ pub fn serve<T: Threads + Wait + Sync, F: Files, R: Feed, W: Drain, E: Drain>(
             script,
             programs: names,
         } => {
-            let programs = ProgramFiles {
-                names,
-                first_fault,
-                refused,
-            };
+            let programs = ProgramFiles::new(names, first_fault, refused);
             let (ended, state) = if *script == STREAM {
                 run_stream(rt, alloc, programs, files, input, out)
             } else {
@@ -94,11 +90,7 @@ pub fn serve<T: Threads + Wait + Sync, F: Files, R: Feed, W: Drain, E: Drain>(
             workers,
             turns,
         } => {
-            let programs = ProgramFiles {
-                names,
-                first_fault,
-                refused,
-            };
+            let programs = ProgramFiles::new(names, first_fault, refused);
             let bounds = RaceBounds {
                 workers: *workers,
                 turns: *turns,

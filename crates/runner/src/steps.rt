@@ -191,7 +191,7 @@ impl Memory {
         }
     }
 
-    /// Does an instruction that takes values of expressions, writes to no vector, and goes on at the next index.
+    /// Does an instruction that takes values of expressions and writes to no vector, and is followed by that at the next index.
     fn evaluate(&mut self, i: &Instruction) -> Result<Flow, AllocError>
         requires kept { IsKept i.now.keep self.old.state.state }
         requires ready { IsReady i.now.keep i.now.shown i.now.operation }

@@ -21,7 +21,7 @@ use Rattle.runner.specs.declared.flow.Flow.TheVariants as flow
 abbrev pub IsKept : Depth → StateValue → Type 0
 IsKept d s = forget_beyond d s ≡ s
 
--- where a run stands after an instruction at an index
+-- the configuration of a run after an instruction at an index
 abbrev pub after_flow : Flow → (number : ℕ) → (shown : Depth) → (index : ℕ) → List LoopCounter → StateValue → Configuration
 after_flow flow.Next number shown index loops s = At (index + 1) loops s
 after_flow (flow.Goto to) number shown index loops s = At to loops s
@@ -69,7 +69,7 @@ WritesEntry (op.SetEntry vector index k) = Unit {0}
 WritesEntry (op.ReduceEntry vector index reduction k) = Unit {0}
 WritesEntry other = ⊥
 
--- it takes values of expressions and writes to no vector, and the run goes on at the next index
+-- it takes values of expressions, writes to no vector, and is followed by the instruction at the next index
 abbrev pub TakesValues : PlanOperation → Type 0
 TakesValues (op.DeclareInteger name k) = Unit {0}
 TakesValues (op.DeclareCondition name k) = Unit {0}

@@ -9,8 +9,8 @@ use Rattle.runner.specs.inside.Position.{configuration_of, steps_left}
 use Rattle.runner.proofs.Running.{IsReached}
 use Rattle.runner.proofs.whole_run.run_by.Given as goal
 
--- the run is on the graph, its vectors stand in the groups of the plan, it stands where the machine gets to, and the applier knows
--- its vectors
+-- the run is on the graph, its vectors are grouped as the plan says, it is in a configuration that the machine reaches, and the applier
+-- knows its vectors
 abbrev pub invariant-steps : goal.invariant-steps
 invariant-steps g l = record {
   on : l.run.memory.state.vertices ≡ l.graph.vertices;
