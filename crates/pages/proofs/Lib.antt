@@ -16,4 +16,3 @@ pub mod Building
 pub mod UpdateRuns
 pub mod Steps
 pub mod Deciding
-pub mod Loads

@@ -1,5 +1,4 @@
 pub mod Vertices
 pub mod Widths
 pub mod Updates
-pub mod Keys
 pub mod inside

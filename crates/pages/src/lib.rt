@@ -11,10 +11,9 @@
 //! lie: one by one by index, as look-ups that give the weight, or as walks upward and downward that fill
 //! blocks ([`Ascending`], [`Descending`]), with the neighbours alone or with a second block for the
 //! weights. `iter` goes over the vertices. `push` and `push_run` build a page up, vertex by vertex and
-//! by runs of another page, whose bytes are copied whole; `from_keys` builds one from sorted edges
-//! (`specs/Keys.antt`). `apply` makes a new page of an old one and a list of updates, the `Updates` of
-//! `edge_updates`, which may be a run of a longer list as it stands there; the old page stays as it is,
-//! and an added edge gets the update's weight, also where it was there. [`merge`] makes the new list of
+//! by runs of another page, whose bytes are copied whole. `apply` makes a new page of an old one and a list of
+//! updates, the `Updates` of `edge_updates`, which may be a run of a longer list; the old page stays as it is,
+//! and an added edge gets the update's weight, also if it was there. [`merge`] makes the new list of
 //! one vertex, and [`run_length`] finds its updates. `specs/Updates.antt` says what updates make of a
 //! list. [`changes_decide`], [`blocks_ascend`] and [`pages_are_their_lists`] are laws of updates and of
 //! pages, and do nothing when called.
@@ -47,7 +46,6 @@ mod entry;
 mod index;
 mod iter;
 mod laws;
-mod loading;
 mod neighbours;
 mod offsets;
 mod packed_list;

@@ -35,14 +35,6 @@ impl<T> Sequence<T> {
     {
         self.items.as_slice()
     }
-
-    /// The `Vec` that this is made of.
-    pub fn into_vec(self) -> Vec<T>
-        ensures { result.items ≡ self }
-    {
-        let Sequence { items } = self;
-        items
-    }
 }
 
 impl<T: Copy> Sequence<T> {
