@@ -11,6 +11,7 @@ ghost use Rattle.flat_snapshot.specs.inside.Lists.{degrees_of};
 ghost use Rattle.flat_snapshot.specs.inside.Slots.{IsPadded, IsPut};
 
 use crate::degrees::Degrees;
+use pages::BLOCK_SIZE;
 use shared_tree::Share;
 use std::alloc::{AllocError, Global};
 use std::marker::Model;
@@ -56,7 +57,7 @@ impl Adjacency {
         requires few { HaveFew (lists_of blocks) }
         ensures { IfOk result (λ a. a ≡ lists_of blocks.entry) }
     {
-        let mut slots = Vec::with_capacity(alloc, (vertices / 64) as usize + 1)?;
+        let mut slots = Vec::with_capacity(alloc, (vertices / BLOCK_SIZE) as usize + 1)?;
         let mut blocks = blocks;
         while let Some((number, block)) = blocks.next() {
             push(&mut slots, number, block)?;
@@ -85,7 +86,7 @@ impl Adjacency {
         ensures few { length (neighbours_of vertex self.now) ≤ 16777216 }
     {
         let _ = &self.blocks;
-        self.block_at(vertex / 64)
+        self.block_at(vertex / BLOCK_SIZE)
     }
 
     /// The neighbours of a vertex.
@@ -94,7 +95,7 @@ impl Adjacency {
         ensures { result ≡ neighbours_of vertex self.now }
     {
         match self.block(vertex) {
-            Some(block) => block.neighbours(vertex % 64),
+            Some(block) => block.neighbours(vertex % BLOCK_SIZE),
             None => NeighbourSet::none(),
         }
     }
@@ -105,7 +106,7 @@ impl Adjacency {
         ensures { result ≡ length (neighbours_of vertex self.now) }
     {
         match self.block(vertex) {
-            Some(block) => block.degree(vertex % 64) as u32,
+            Some(block) => block.degree(vertex % BLOCK_SIZE) as u32,
             None => 0,
         }
     }
@@ -117,14 +118,14 @@ impl Adjacency {
             ≡ d ∷ degrees_of (vertices_from (d.0 + 1) self.now)) }
         ensures within { IfSome result (λ d. d.0 < 2 ^ 24) }
     {
-        let end = self.blocks.len() as u32 * 64;
+        let end = self.blocks.len() as u32 * BLOCK_SIZE;
         let mut vertex = from;
         while vertex < end {
             let Some(block) = self.block(vertex) else {
-                vertex += 64 - vertex % 64;
+                vertex += BLOCK_SIZE - vertex % BLOCK_SIZE;
                 continue;
             };
-            let degree = block.degree(vertex % 64) as u32;
+            let degree = block.degree(vertex % BLOCK_SIZE) as u32;
             if degree > 0 {
                 return Some((vertex, degree));
             }

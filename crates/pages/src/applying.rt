@@ -9,7 +9,7 @@ ghost use Rattle.pages.specs.Updates.{updated, updates_of, NeighboursAscend, Edg
 ghost use Rattle.pages.specs.inside.Built.{entry_of};
 
 use crate::columns::EntryColumns;
-use crate::page::{MAX_PACKED, Page};
+use crate::page::{BLOCK_SIZE, MAX_PACKED, Page};
 use crate::updates::{merge, run_length};
 use edge_updates::Updates;
 use std::alloc::{AllocError, Global};
@@ -34,13 +34,13 @@ impl Page {
         let mut list = EntryColumns::with_capacity(alloc, MAX_PACKED)?;
         let (mut low, mut rest) = (0, updates.lend());
         while let Some(first) = rest.first() {
-            let vertex = first.vertex() % 64;
+            let vertex = first.vertex() % BLOCK_SIZE;
             let (run, others) = rest.split_at(run_length(&rest, vertex));
             page.push_updated(self, low, vertex, &run, &mut list)?;
             low = vertex + 1;
             rest = others;
         }
-        page.push_run(self, self.index(low), self.index(64))?;
+        page.push_run(self, self.index(low), self.index(BLOCK_SIZE))?;
         Ok(page)
     }
 

@@ -62,7 +62,7 @@ pub use iter::PageIter;
 pub use laws::{blocks_ascend, changes_decide, pages_are_their_lists};
 pub use neighbours::{ByWidth, Neighbours};
 pub use packed_list::{MAX_LONG, PackedList};
-pub use page::{MAX_PACKED, Page};
+pub use page::{BLOCK_SIZE, MAX_PACKED, Page};
 pub use updates::{merge, run_length};
 pub use walks::{Ascending, Descending};
 pub use weights::weight_width_of;

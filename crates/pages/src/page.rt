@@ -15,6 +15,9 @@ use crate::neighbours::Neighbours;
 use std::alloc::{AllocError, Global};
 use std::marker::Model;
 
+/// How many vertices a block of a graph has.
+pub const BLOCK_SIZE: u32 = 64;
+
 /// How many neighbours a vertex has at most in a page.
 pub const MAX_PACKED: usize = 256;
 
@@ -145,7 +148,11 @@ impl Page {
         ensures empty { IfOk result (λ p. p ≡ []) }
         ensures page { IsPage self.now }
     {
-        let vertices = self.entries.len().saturating_add(updates).min(64);
+        let vertices = self
+            .entries
+            .len()
+            .saturating_add(updates)
+            .min(BLOCK_SIZE as usize);
         let size = updates.saturating_mul(8).saturating_add(self.bytes.len());
         Page::with_capacity(alloc, vertices, size)
     }

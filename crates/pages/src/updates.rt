@@ -8,6 +8,7 @@ ghost use Rattle.pages.specs.Updates.{updated, updates_of, NeighboursAscend, Edg
 
 use crate::columns::EntryColumns;
 use crate::neighbours::Neighbours;
+use crate::page::BLOCK_SIZE;
 use edge_updates::{EdgeUpdate, Updates};
 use std::alloc::AllocError;
 
@@ -76,7 +77,7 @@ pub fn run_length(updates: &Updates<'_>, vertex: u32) -> usize
     ensures others { (u : ℕ) → u ≢ vertex → updates_of u updates.now ≡ updates_of u (drop result updates.now) }
 {
     let mut count = 0;
-    while count < updates.len() && updates.update(count).vertex() % 64 == vertex {
+    while count < updates.len() && updates.update(count).vertex() % BLOCK_SIZE == vertex {
         count += 1;
     }
     count

@@ -8,6 +8,7 @@ use crate::source_block::SourceBlock;
 use crate::source_folds::SourceFold;
 use edge_fold::push_change;
 use flat_snapshot::Flat;
+use pages::BLOCK_SIZE;
 use std::alloc::AllocError;
 use vectors::{EntryChange, Lane};
 
@@ -42,7 +43,7 @@ pub(crate) fn pull_block<F: SourceFold>(
     'vertices: while left != 0 {
         let vertex = left.trailing_zeros();
         left &= left - 1;
-        let destination = block * 64 + vertex;
+        let destination = block * BLOCK_SIZE + vertex;
         let before = pull.old.get(destination as usize);
         let number = lists.fold(vertex, before, fold, pull.from, room);
         push_change(destination, before, number, changes)?;

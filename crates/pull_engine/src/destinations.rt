@@ -23,6 +23,7 @@ use crate::source_block::SourceBlock;
 use edge_apply::{keep_members, keep_members_weighted};
 use edge_fold::{ApplyContext, Scratch};
 use flat_snapshot::Flat;
+use pages::BLOCK_SIZE;
 use std::alloc::{AllocError, Global};
 use vertex_blocks::{NeighbourForm, NeighbourWalk, SetWalk};
 
@@ -79,7 +80,7 @@ fn fold_words(
         from: range.from,
     };
     let mut room = SourceBlock::new();
-    let first = range.low / 64;
+    let first = range.low / BLOCK_SIZE;
     let stop = blocks_below(range.high);
     'rounds: for block in first..stop {
         let word = range_word(block, range.low, range.high) & to.word(block);
@@ -108,7 +109,7 @@ fn fold_block(
     };
     let mut left = word & BlockLists::of(found).present();
     'vertices: while left != 0 {
-        let destination = block * 64 + left.trailing_zeros();
+        let destination = block * BLOCK_SIZE + left.trailing_zeros();
         left &= left - 1;
         fold_column(alloc, input, destination, room, scratch)?;
     }

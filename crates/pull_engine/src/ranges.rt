@@ -15,6 +15,7 @@ use edge_apply::passing_between;
 use edge_fold::{ApplyContext, Scratch};
 use flat_snapshot::Flat;
 use kernels::EndpointFilter;
+use pages::BLOCK_SIZE;
 use std::alloc::{AllocError, Global};
 use vectors::EntryChange;
 use vertex_sets::{Form, VertexSet};
@@ -126,7 +127,7 @@ fn pull_words<F: SourceFold>(
     };
     let mut room = SourceBlock::new();
     let mut changes = Vec::new(alloc);
-    let first = range.low / 64;
+    let first = range.low / BLOCK_SIZE;
     let stop = blocks_below(range.high);
     'rounds: for block in first..stop {
         let word = range_word(block, range.low, range.high) & to.word(block);

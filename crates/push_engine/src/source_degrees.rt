@@ -8,6 +8,7 @@ ghost use Rattle.push_engine.specs.inside.Degrees.{out_degrees, AreRunTotals};
 
 use crew::DegreeList;
 use flat_snapshot::Flat;
+use pages::BLOCK_SIZE;
 use std::alloc::{AllocError, Global};
 
 /// The numbers of edges from listed sources. Those of each run of 64 sources are counted once, and if a run is a block of the
@@ -110,7 +111,7 @@ fn block_of(run: &[u32]) -> Option<u32>
     if run.len() != 64 {
         return None;
     }
-    let block = run[0] / 64;
+    let block = run[0] / BLOCK_SIZE;
     'vertices: for (index, vertex) in run.iter().enumerate() {
         if *vertex as usize != 64 * block as usize + index {
             return None;

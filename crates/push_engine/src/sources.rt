@@ -26,6 +26,7 @@ use edge_apply::{keep_members, keep_members_weighted, passes, take_part};
 use edge_fold::{ApplyContext, Scratch};
 use flat_snapshot::Flat;
 use kernels::{EndpointFilter, PAIRS};
+use pages::BLOCK_SIZE;
 use std::alloc::{AllocError, Global};
 use vertex_blocks::{
     ByWidth, NeighbourForm, NeighbourSet, NeighbourWalk, Neighbours, SetWalk, VertexBlock,
@@ -86,7 +87,7 @@ fn fold_words(
         → HasFolded input.entry.context m steps (edges_between (passes_words words.entry) (passes_words input.entry.to) input.entry.flat.now.edges)
         scratch.new) }
 {
-    let stop = input.flat.vertices() / 64 + 1;
+    let stop = input.flat.vertices() / BLOCK_SIZE + 1;
     'rounds: for number in 0..stop {
         fold_block(alloc, input, words, number, block, scratch)?;
     }
@@ -113,7 +114,7 @@ fn fold_block(
     };
     let mut left = word_at(words, number) & present_in(found);
     'vertices: while left != 0 {
-        let source = number * 64 + left.trailing_zeros();
+        let source = number * BLOCK_SIZE + left.trailing_zeros();
         left &= left - 1;
         fold_row(alloc, input, source, Some(found), block, scratch)?;
     }
@@ -166,7 +167,7 @@ fn fold_members(
         scratch.new) }
 {
     'sources: for source in set.iter() {
-        let found = input.flat.out_block(source / 64);
+        let found = input.flat.out_block(source / BLOCK_SIZE);
         fold_row(alloc, input, source, found, block, scratch)?;
     }
     Ok(())
@@ -212,7 +213,7 @@ pub(crate) fn fold_rows(
         ++ rows_to (passes_words input.entry.to) input.entry.flat.now.edges sources.now) scratch.new) }
 {
     'sources: for source in sources {
-        let found = input.flat.out_block(*source / 64);
+        let found = input.flat.out_block(*source / BLOCK_SIZE);
         fold_row(alloc, input, *source, found, block, scratch)?;
     }
     Ok(())
@@ -235,7 +236,7 @@ fn fold_row(
     let Some(lists) = found else {
         return Ok(());
     };
-    let vertex = source % 64;
+    let vertex = source % BLOCK_SIZE;
     let (page, own) = lists.packed();
     if (own >> vertex) % 2 == 0 {
         let list = page.list(vertex);

@@ -9,12 +9,10 @@ ghost use Rattle.tree_batch.specs.inside.Forking.{IsChangedTree};
 
 use c_tree::ChunkSize;
 use edge_updates::Updates;
+use pages::BLOCK_SIZE;
 use shared_tree::{Changed, Tree};
 use std::alloc::{AllocError, Global};
 use vertex_blocks::{BlockUpdates, VertexBlock};
-
-/// How many vertices a block has.
-pub(crate) const BLOCK: u32 = 64;
 
 /// The tree after updates whose edges ascend.
 pub(crate) fn changed(
@@ -42,7 +40,7 @@ fn cut_by_block<'a>(
     let mut changes = Vec::new(alloc);
     let mut rest = updates.lend();
     while let Some(first) = rest.first() {
-        let block = first.vertex() / BLOCK;
+        let block = first.vertex() / BLOCK_SIZE;
         let (cut, after) = rest.split_at(cut_length(&rest, block));
         changes.push((block, BlockUpdates::new(cut, chunk_size)))?;
         rest = after;
@@ -58,7 +56,7 @@ pub(crate) fn cut_length(updates: &Updates<'_>, block: u32) -> usize
 {
     let mut count = 0;
     while count < updates.len() {
-        if updates.update(count).vertex() / BLOCK != block {
+        if updates.update(count).vertex() / BLOCK_SIZE != block {
             return count;
         }
         count += 1;

@@ -7,8 +7,9 @@ ghost use Rattle.edge_updates.specs.Updates.{Ascend};
 ghost use Rattle.tree_batch.specs.inside.BlockCuts.{AreBelow, BeginsFrom};
 ghost use Rattle.tree_batch.specs.inside.Forking.{AreAround};
 
-use crate::cuts::{BLOCK, cut_length};
+use crate::cuts::cut_length;
 use edge_updates::Updates;
+use pages::BLOCK_SIZE;
 use shared_tree::Tree;
 use std::alloc::{AllocError, Global};
 use vertex_blocks::VertexBlock;
@@ -66,12 +67,12 @@ pub(crate) fn cut_at_middle<'a>(
     if half >= updates.len() {
         return Ok(None);
     }
-    let middle = updates.update(half).vertex() / BLOCK;
+    let middle = updates.update(half).vertex() / BLOCK_SIZE;
     let (below, rest) = updates.split_at(count_below(updates, middle));
     let Some(first) = rest.first() else {
         return Ok(None);
     };
-    let number = first.vertex() / BLOCK;
+    let number = first.vertex() / BLOCK_SIZE;
     let (block, above) = rest.split_at(cut_length(&rest, number));
     let (lower, found, upper) = split_at(alloc, tree, number)?;
     let is_heavy = block.len() > half;
@@ -110,7 +111,7 @@ fn count_below(updates: &Updates<'_>, block: u32) -> usize
 {
     let mut count = 0;
     while count < updates.len() {
-        if updates.update(count).vertex() / BLOCK >= block {
+        if updates.update(count).vertex() / BLOCK_SIZE >= block {
             return count;
         }
         count += 1;

@@ -5,7 +5,7 @@ ghost use Rattle.vertex_blocks.specs.Blocks.{lists_of};
 ghost use Rattle.tree_batch.specs.Neighbours.{HasNeighbours};
 ghost use Rattle.tree_batch.specs.inside.VertexBlocks.{AreGraphBlocks};
 
-use crate::cuts::BLOCK;
+use pages::BLOCK_SIZE;
 use shared_tree::Tree;
 use vertex_blocks::{NeighbourSet, VertexBlock};
 
@@ -14,10 +14,10 @@ pub(crate) fn neighbours(tree: &Tree<VertexBlock>, vertex: u32) -> Option<Neighb
     requires { AreGraphBlocks tree.now.entries }
     ensures { HasNeighbours (neighbours_of vertex (lists_of tree.now.entries)) result }
 {
-    let Some(block) = tree.find(vertex / BLOCK) else {
+    let Some(block) = tree.find(vertex / BLOCK_SIZE) else {
         return None;
     };
-    let neighbours = block.neighbours(vertex % BLOCK);
+    let neighbours = block.neighbours(vertex % BLOCK_SIZE);
     if neighbours.is_empty() {
         return None;
     }

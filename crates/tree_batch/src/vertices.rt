@@ -5,7 +5,7 @@ ghost use Rattle.std.specs.Iterator.{YieldsFirst, item_count};
 ghost use Rattle.vertex_blocks.specs.Blocks.{lists_of};
 ghost use Rattle.tree_batch.specs.inside.VertexBlocks.{AreGraphBlocks};
 
-use crate::cuts::BLOCK;
+use pages::BLOCK_SIZE;
 use shared_tree::Tree;
 use std::marker::Model;
 use vertex_blocks::{BlockIter, NeighbourSet, VertexBlock};
@@ -57,7 +57,7 @@ impl<'a> Iterator for AdjacencyIter<'a> {
     fn next(&mut self) -> Option<(u32, NeighbourSet<'a>)> {
         if let Some(vertices) = &mut self.vertices {
             if let Some((vertex, neighbours)) = vertices.next() {
-                return Some((BLOCK * self.number + vertex, neighbours));
+                return Some((BLOCK_SIZE * self.number + vertex, neighbours));
             }
         }
         let (number, block) = self.rest.next()?;
@@ -67,6 +67,6 @@ impl<'a> Iterator for AdjacencyIter<'a> {
         };
         self.number = number;
         self.vertices = Some(vertices);
-        Some((BLOCK * number + vertex, neighbours))
+        Some((BLOCK_SIZE * number + vertex, neighbours))
     }
 }

@@ -6,6 +6,7 @@ ghost use Rattle.vertex_blocks.specs.Blocks.{IsBlock};
 
 use crate::block::VertexBlock;
 use crate::neighbour_set::NeighbourSet;
+use pages::BLOCK_SIZE;
 use std::marker::Model;
 
 /// The vertices of a block that are still to come, ascending, each with its neighbours and their weights.
@@ -44,7 +45,7 @@ impl<'a> Iterator for BlockIter<'a> {
     ghost remaining = { item_count (λ i. i) };
 
     fn next(&mut self) -> Option<(u32, NeighbourSet<'a>)> {
-        while self.vertex < 64 {
+        while self.vertex < BLOCK_SIZE {
             let vertex = self.vertex;
             self.vertex += 1;
             let set = self.block.neighbours(vertex);

@@ -12,7 +12,7 @@ use crate::neighbour_set::NeighbourForm;
 use crate::runs::update_set_forked;
 use c_tree::ChunkSize;
 use edge_updates::Updates;
-use pages::{EntryColumns, MAX_PACKED, run_length};
+use pages::{BLOCK_SIZE, EntryColumns, MAX_PACKED, run_length};
 use set_ops::{Fork, Forking};
 use shared_tree::ValueChange;
 use std::alloc::{AllocError, Global};
@@ -108,7 +108,7 @@ fn ready_set<R: Threads + Sync, F: Fork + Sync>(
     if forking.forks == 0 || middle == 0 {
         return Ok(None);
     }
-    let vertex = updates.update(middle).vertex() % 64;
+    let vertex = updates.update(middle).vertex() % BLOCK_SIZE;
     let run = updates_at(updates, vertex);
     match form_at(old, vertex) {
         NeighbourForm::Chunked(set) if run.len() > middle => {
@@ -126,7 +126,7 @@ fn updates_at<'a>(updates: &Updates<'a>, vertex: u32) -> Updates<'a>
     ensures ascending { NeighboursAscend 0 result }
 {
     let mut start = 0;
-    while start < updates.len() && updates.update(start).vertex() % 64 < vertex {
+    while start < updates.len() && updates.update(start).vertex() % BLOCK_SIZE < vertex {
         start += 1;
     }
     let (_, rest) = updates.split_at(start);
@@ -153,7 +153,7 @@ fn build(
     let mut list = EntryColumns::with_capacity(alloc, MAX_PACKED)?;
     let (mut low, mut rest) = (0, updates.lend());
     while let Some(first) = rest.first() {
-        let vertex = first.vertex() % 64;
+        let vertex = first.vertex() % BLOCK_SIZE;
         let (run, others) = rest.split_at(run_length(&rest, vertex));
         building.carry(old, low, vertex)?;
         let run = VertexUpdates {
@@ -164,7 +164,7 @@ fn build(
         low = vertex + 1;
         rest = others;
     }
-    building.carry(old, low, 64)?;
+    building.carry(old, low, BLOCK_SIZE)?;
     Ok(building)
 }
 

@@ -5,7 +5,7 @@ ghost use Rattle.std.specs.Prelude.{◌≡◌, ◌-◌, ◌<◌, ◌≤◌, [], 
 use crate::block::VertexBlock;
 use crate::long_lists::LongLists;
 use edge_updates::Updates;
-use pages::{MAX_PACKED, Page, weight_width_of, width_of};
+use pages::{BLOCK_SIZE, MAX_PACKED, Page, weight_width_of, width_of};
 use std::alloc::{AllocError, Global};
 
 /// A page of no vertex, with room for those lists of a block after updates that go into it. No contract
@@ -32,7 +32,7 @@ fn page_updates(long: &LongLists, updates: &Updates<'_>) -> usize {
     while start < updates.len() {
         let vertex = updates.update(start).vertex();
         let next = run_end(updates, start);
-        if next - start <= MAX_PACKED && long.get(vertex % 64).is_none() {
+        if next - start <= MAX_PACKED && long.get(vertex % BLOCK_SIZE).is_none() {
             total = total.saturating_add(next - start);
         }
         start = next;
