@@ -24,16 +24,16 @@ pub record WorkValue : Type 0 where
 abbrev pub first_work : List (List ℤ) → ScopeValue → WorkValue
 first_work vectors scope = record { vectors = vectors; scope = scope; given = [] }
 
--- an entry gets a number, at the vertex of a vertex function; an edge function sets none
-abbrev pub after_set : Writing → ℕ → ℤ → WorkValue → WorkValue
-after_set writing.AtOnce vector n w = record w { vectors = with_entry w.vectors vector w.scope.source n }
-after_set writing.Collected vector n w = w
-
 -- an entry is reduced with a number: at the vertex of a vertex function, and an edge function gives the number
 abbrev pub after_reduce : Writing → ℕ → Reduction → ℤ → WorkValue → WorkValue
 after_reduce writing.AtOnce vector reduction n w = record w { vectors = reduce_at w.vectors vector w.scope.source reduction n }
 after_reduce writing.Collected vector reduction n w =
     record w { given = w.given ++ record { vector = vector; reduction = reduction; number = n } ∷ [] }
+
+-- an entry gets a number, at the vertex of a vertex function; an edge function sets none
+abbrev pub after_set : Writing → ℕ → ℤ → WorkValue → WorkValue
+after_set writing.AtOnce vector n w = record w { vectors = with_entry w.vectors vector w.scope.source n }
+after_set writing.Collected vector n w = w
 
 -- a block forgets its variables
 abbrev pub after_block : WorkValue → WorkValue → WorkValue

@@ -95,6 +95,11 @@ abbrev pub declared_over : Option Entity → Identifier → Entity → ScopeTree
 declared_over None name entity scope = sure (with_entity name.bytes entity scope)
 declared_over (Some old) name entity scope = fault_at name.at rule.Redeclared scope
 
+-- what a name stands for, none where it is not there
+abbrev pub found : {T : Type 0} → List ℕ → List (List ℕ × T) → Option T
+found name [] = None
+found name (e ∷ others) = if bytes_eq name e.0 then Some e.1 else found name others
+
 abbrev pub declared : Identifier → Entity → ScopeTree → WithFaults ScopeTree
 declared name entity scope = declared_over (found name.bytes scope.visible) name entity scope
 
@@ -119,8 +124,3 @@ left mark scope = record {
 -- all names that were visible still are, before those that became so
 abbrev pub KeepsNames : ScopeTree → ScopeTree → Type 0
 KeepsNames old new = take (length old.visible) new.visible ≡ old.visible
-
--- what a name stands for, none where it is not there
-abbrev pub found : {T : Type 0} → List ℕ → List (List ℕ × T) → Option T
-found name [] = None
-found name (e ∷ others) = if bytes_eq name e.0 then Some e.1 else found name others

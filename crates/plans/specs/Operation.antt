@@ -57,6 +57,14 @@ pub record HasEntry (d : Depth) (index value : ExpressionKernel) (make : IntExpr
   pub index_visible : IsFor d index
   pub value_visible : IsFor d value
 
+abbrev pub result_tree : PartResult → ResultTree
+result_tree result.Dropped = Dropped
+result_tree (result.Declared name vector) = Declared name vector
+result_tree (result.Assigned slot vector) = Assigned slot vector
+
+abbrev pub part_tree : EdgePart → EdgePartTree
+part_tree part = record { function = part.function; result = result_tree part.result }
+
 -- the operation is a statement that is this edge apply
 pub record AppliesEdges (ends : ApplyEnds) (part : EdgePart) (o : OperationTree) : Type 0 where
   pub action : StatementKindTree
@@ -66,6 +74,13 @@ pub record AppliesEdges (ends : ApplyEnds) (part : EdgePart) (o : OperationTree)
 abbrev pub ApplyEdgesOf : ApplyEnds → (first : EdgePart) → (second : Option EdgePart) → OperationTree → Type 0
 ApplyEdgesOf ends first None o = AppliesEdges ends first o
 ApplyEdgesOf ends first (Some second) o = o ≡ ApplyEdgesTogether ends (part_tree first) (part_tree second)
+
+-- the value of the program that it is
+abbrev pub set_value : SetExpression → SetValue
+set_value Nothing = set.Empty
+set_value All = set.All
+set_value (Copy slot) = set.Copy slot
+set_value (Filter slot function) = set.Filter slot function
 
 -- the operation is this one, where so much is kept and so much is shown
 abbrev pub IsOperation : (keep shown : Depth) → PlanOperation → OperationTree → Type 0
@@ -99,9 +114,6 @@ pub record IsInstruction (i : Instruction) (t : InstructionTree) : Type 0 where
   pub apply_schedule : i.apply_schedule ≡ t.apply_schedule
   pub operation : IsOperation i.keep i.shown i.operation t.operation
 
-abbrev pub AreInstructions : List Instruction → List InstructionTree → Type 0
-AreInstructions is ts = ArePairwise IsInstruction is ts
-
 -- two lists are as long as each other, and the items at the same indices are in a relation
 abbrev pub ArePairwise : {A B : Type 0} → (A → B → Type 0) → List A → List B → Type 0
 ArePairwise R [] [] = Unit {0}
@@ -109,24 +121,12 @@ ArePairwise R [] (y ∷ ys) = ⊥
 ArePairwise R (x ∷ xs) [] = ⊥
 ArePairwise R (x ∷ xs) (y ∷ ys) = R x y × ArePairwise R xs ys
 
+abbrev pub AreInstructions : List Instruction → List InstructionTree → Type 0
+AreInstructions is ts = ArePairwise IsInstruction is ts
+
 -- what runs for an index: the kernel there, or the one that does nothing
 abbrev pub kernel_at : {K : Type 0} → Kernels K → ℕ → K
 kernel_at ks index = unwrap_or (slice_get ks.at.items index) ks.nothing
-
-abbrev pub result_tree : PartResult → ResultTree
-result_tree result.Dropped = Dropped
-result_tree (result.Declared name vector) = Declared name vector
-result_tree (result.Assigned slot vector) = Assigned slot vector
-
-abbrev pub part_tree : EdgePart → EdgePartTree
-part_tree part = record { function = part.function; result = result_tree part.result }
-
--- the value of the program that it is
-abbrev pub set_value : SetExpression → SetValue
-set_value Nothing = set.Empty
-set_value All = set.All
-set_value (Copy slot) = set.Copy slot
-set_value (Filter slot function) = set.Filter slot function
 
 -- they are the kernels of a program's functions, also where none is at an index
 pub record AreFunctionKernels (f : FunctionKernels) (p : ProgramTree) : Type 0 where

@@ -71,51 +71,6 @@ abbrev pub found_request : Option (Text × List Row) → Asked
 found_request None = the_input
 found_request (Some p) = command_named p.0 p.1
 
--- what the words ask for
-abbrev pub request_of : List Text → Asked
-request_of words = found_request (subcommand_of command_line words)
-
--- out of memory, or a fault of one of these kinds
-abbrev pub IsFaultAmong : Kinds → RequestError → Type 0
-IsFaultAmong kinds error.NoMemory = Unit {0}
-IsFaultAmong kinds error.NotText = ⊥
-IsFaultAmong kinds (error.Fault e) = (kind_of e ≢ kind.OutOfMemory) × IsAmong (kind_of e) kinds
-
--- the words are without a fault, and this is what they ask for; or they have a fault of this kind, or memory ran out
-abbrev pub Answers : List Text → Result Request RequestError → Type 0
-Answers words (Ok request) = (fault_of command_line words ≡ []) × (asked_by request ≡ request_of words)
-Answers words (Err e) = IsFaultAmong (fault_of command_line words) e
-
--- the words are without a fault, and ask for this
-abbrev pub Asks : List Text → Asked → Type 0
-Asks words asked = (fault_of command_line words ≡ []) × (request_of words ≡ asked)
-
--- 1 to 64 workers, where a race is asked for
-abbrev pub HasFewWorkers : Asked → Type 0
-HasFewWorkers (a_race script programs workers turns) = (0 < workers) × (workers ≤ 64)
-HasFewWorkers asked = Unit {0}
-
--- the name of the one file that a command takes
-abbrev pub one_file : Rule
-one_file = record (new_rule (codes "FILE")) { required = true }
-
--- a command of this name that takes one file
-abbrev pub file_command : Text → App
-file_command name = with_rule (new_app name) one_file
-
--- the files' names after `script`: that of the script, and then those of programs
-abbrev pub script_files : Rule
-script_files = record (new_rule (codes "FILE")) {
-  required = true;
-  action = Some Append;
-  value_names = 2;
-  range = Some (record { start_inclusive = 1; end_inclusive = usize_max });
-}
-
--- the command `script`
-abbrev pub script_command : App
-script_command = with_rule (new_app (codes "script")) script_files
-
 -- the name of the script's file after `race`
 abbrev pub race_script : Rule
 race_script = record (new_rule (codes "SCRIPT")) { required = true }
@@ -143,6 +98,27 @@ turns_option = number_option (codes "turns") 0 18446744073709551615
 abbrev pub race_command : App
 race_command = with_rule (with_rule (with_rule (with_rule (new_app (codes "race")) race_script) race_programs) workers_option) turns_option
 
+-- the name of the one file that a command takes
+abbrev pub one_file : Rule
+one_file = record (new_rule (codes "FILE")) { required = true }
+
+-- a command of this name that takes one file
+abbrev pub file_command : Text → App
+file_command name = with_rule (new_app name) one_file
+
+-- the files' names after `script`: that of the script, and then those of programs
+abbrev pub script_files : Rule
+script_files = record (new_rule (codes "FILE")) {
+  required = true;
+  action = Some Append;
+  value_names = 2;
+  range = Some (record { start_inclusive = 1; end_inclusive = usize_max });
+}
+
+-- the command `script`
+abbrev pub script_command : App
+script_command = with_rule (new_app (codes "script")) script_files
+
 -- the program, which clap gets the words of without its name
 abbrev pub program : App
 program =
@@ -157,3 +133,27 @@ file_commands =
 -- the whole command line
 abbrev pub command_line : App
 command_line = with_subcommand file_commands race_command.top
+
+-- what the words ask for
+abbrev pub request_of : List Text → Asked
+request_of words = found_request (subcommand_of command_line words)
+
+-- out of memory, or a fault of one of these kinds
+abbrev pub IsFaultAmong : Kinds → RequestError → Type 0
+IsFaultAmong kinds error.NoMemory = Unit {0}
+IsFaultAmong kinds error.NotText = ⊥
+IsFaultAmong kinds (error.Fault e) = (kind_of e ≢ kind.OutOfMemory) × IsAmong (kind_of e) kinds
+
+-- the words are without a fault, and this is what they ask for; or they have a fault of this kind, or memory ran out
+abbrev pub Answers : List Text → Result Request RequestError → Type 0
+Answers words (Ok request) = (fault_of command_line words ≡ []) × (asked_by request ≡ request_of words)
+Answers words (Err e) = IsFaultAmong (fault_of command_line words) e
+
+-- the words are without a fault, and ask for this
+abbrev pub Asks : List Text → Asked → Type 0
+Asks words asked = (fault_of command_line words ≡ []) × (request_of words ≡ asked)
+
+-- 1 to 64 workers, where a race is asked for
+abbrev pub HasFewWorkers : Asked → Type 0
+HasFewWorkers (a_race script programs workers turns) = (0 < workers) × (workers ≤ 64)
+HasFewWorkers asked = Unit {0}

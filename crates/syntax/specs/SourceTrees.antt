@@ -19,6 +19,45 @@ pub record EndsTree : Type 0 where
   pub from : Option Identifier
   pub to : Option Identifier
 
+mutual
+  -- conjunctions with `or` between them
+  pub data ExpressionTree : Type 0 where
+    LastConjunction : ConjunctionTree → ExpressionTree
+    ConjunctionThen : ConjunctionTree → ExpressionTree → ExpressionTree
+
+  -- comparisons with `and` between them
+  pub data ConjunctionTree : Type 0 where
+    LastComparison : ComparisonTree → ConjunctionTree
+    ComparisonThen : ComparisonTree → ConjunctionTree → ConjunctionTree
+
+  -- one sum, or two with a relation between them
+  pub data ComparisonTree : Type 0 where
+    OneSum : SumTree → ComparisonTree
+    TwoSums : SumTree → Relation → SumTree → ComparisonTree
+
+  -- terms with `+` and `-` between them
+  pub data SumTree : Type 0 where
+    LastTerm : TermTree → SumTree
+    TermThen : TermTree → Addition → SumTree → SumTree
+
+  -- operands with `*`, `/` and `%` between them
+  pub data TermTree : Type 0 where
+    LastUnary : UnaryTree → TermTree
+    UnaryThen : UnaryTree → Multiplication → TermTree → TermTree
+
+  -- a primary after any number of `-` and `not`
+  pub data UnaryTree : Type 0 where
+    Bare : PrimaryTree → UnaryTree
+    Signed : Prefix → UnaryTree → UnaryTree
+
+  pub data PrimaryTree : Type 0 where
+    Literal : ℤ → PrimaryTree
+    Truth : Bool → PrimaryTree
+    Variable : Identifier → PrimaryTree
+    Entry : Identifier → ExpressionTree → PrimaryTree
+    Size : Identifier → PrimaryTree
+    Parentheses : ExpressionTree → PrimaryTree
+
 -- an initial or assigned value
 pub data InitialTree : Type 0 where
   NewSet : (size : ℤ) → InitialTree
@@ -70,42 +109,3 @@ pub record ChainTree : Type 0 where
 pub record SourceTree : Type 0 where
   pub declarations : List DeclarationTree
   pub schedule : Option (List ChainTree)
-
-mutual
-  -- conjunctions with `or` between them
-  pub data ExpressionTree : Type 0 where
-    LastConjunction : ConjunctionTree → ExpressionTree
-    ConjunctionThen : ConjunctionTree → ExpressionTree → ExpressionTree
-
-  -- comparisons with `and` between them
-  pub data ConjunctionTree : Type 0 where
-    LastComparison : ComparisonTree → ConjunctionTree
-    ComparisonThen : ComparisonTree → ConjunctionTree → ConjunctionTree
-
-  -- one sum, or two with a relation between them
-  pub data ComparisonTree : Type 0 where
-    OneSum : SumTree → ComparisonTree
-    TwoSums : SumTree → Relation → SumTree → ComparisonTree
-
-  -- terms with `+` and `-` between them
-  pub data SumTree : Type 0 where
-    LastTerm : TermTree → SumTree
-    TermThen : TermTree → Addition → SumTree → SumTree
-
-  -- operands with `*`, `/` and `%` between them
-  pub data TermTree : Type 0 where
-    LastUnary : UnaryTree → TermTree
-    UnaryThen : UnaryTree → Multiplication → TermTree → TermTree
-
-  -- a primary after any number of `-` and `not`
-  pub data UnaryTree : Type 0 where
-    Bare : PrimaryTree → UnaryTree
-    Signed : Prefix → UnaryTree → UnaryTree
-
-  pub data PrimaryTree : Type 0 where
-    Literal : ℤ → PrimaryTree
-    Truth : Bool → PrimaryTree
-    Variable : Identifier → PrimaryTree
-    Entry : Identifier → ExpressionTree → PrimaryTree
-    Size : Identifier → PrimaryTree
-    Parentheses : ExpressionTree → PrimaryTree

@@ -42,16 +42,6 @@ abbrev pub is_end_of_name : List (List ℕ) → Option ℕ → Option VertexFilt
 is_end_of_name names (Some name) (Some (end.Members set)) = are_same names name set.name
 is_end_of_name names _ _ = false
 
--- no vector that the first function writes is read or written by the second, or read by a filter of the second's ends, and
--- no end of the second is the set that the first one's changes go to; two vertex applies are independent
-abbrev pub are_independent : ProgramTree → StatementApply → StatementApply → Bool
-are_independent p (Edges a f r) (Edges b g s) =
-    not (is_end_of_name p.names r b.from || is_end_of_name p.names r b.to)
-    && (are_apart (function_uses p.edge_functions g) (function_writes p.edge_functions f)
-    && (are_apart (end_reads p.filters b.from) (function_writes p.edge_functions f)
-    && are_apart (end_reads p.filters b.to) (function_writes p.edge_functions f)))
-are_independent p _ _ = true
-
 -- the vector of which an entry is read or written
 abbrev pub vector_of : Access → List ℕ
 vector_of (ReadAtVertex vector) = vector ∷ []
@@ -63,12 +53,12 @@ vector_of (Write vector) = vector ∷ []
 abbrev pub used : Fold (List ℕ)
 used = gathered vector_of
 
+abbrev pub function_uses : List FunctionTree → ℕ → List ℕ
+function_uses functions index = function_fold used functions index
+
 -- those that are written alone, as no expression writes
 abbrev pub written : Fold (List ℕ)
 written = record used { expression = λ reads. [] }
-
-abbrev pub function_uses : List FunctionTree → ℕ → List ℕ
-function_uses functions index = function_fold used functions index
 
 abbrev pub function_writes : List FunctionTree → ℕ → List ℕ
 function_writes functions index = function_fold written functions index
@@ -84,3 +74,13 @@ is_none_of vector vectors = not (list_any (λ v. v == vector) vectors)
 -- none of the vectors is one of the others
 abbrev pub are_apart : List ℕ → List ℕ → Bool
 are_apart vectors others = list_all (λ v. is_none_of v others) vectors
+
+-- no vector that the first function writes is read or written by the second, or read by a filter of the second's ends, and
+-- no end of the second is the set that the first one's changes go to; two vertex applies are independent
+abbrev pub are_independent : ProgramTree → StatementApply → StatementApply → Bool
+are_independent p (Edges a f r) (Edges b g s) =
+    not (is_end_of_name p.names r b.from || is_end_of_name p.names r b.to)
+    && (are_apart (function_uses p.edge_functions g) (function_writes p.edge_functions f)
+    && (are_apart (end_reads p.filters b.from) (function_writes p.edge_functions f)
+    && are_apart (end_reads p.filters b.to) (function_writes p.edge_functions f)))
+are_independent p _ _ = true

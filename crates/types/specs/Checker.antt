@@ -26,6 +26,22 @@ pub record CheckerTree : Type 0 where
   pub writes : List (ℕ × Reduction)
   pub written : List (List (ℕ × Reduction))
 
+-- a text or a label without the bytes at its ends
+abbrev pub without_ends : List ℕ → List ℕ
+without_ends bytes = take (length bytes - 2) (drop 1 bytes)
+
+-- one more label, at its index among all, which must not stand already
+abbrev pub new_label : CheckerTree → Identifier → Option ℕ → WithFaults (Option ℕ × CheckerTree)
+new_label c label None = sure (
+  Some (length c.labels),
+  record c {
+    labels = c.labels ++ (label.bytes, length c.labels) ∷ [];
+    label_names =
+        c.label_names ++ without_ends label.bytes ∷ [];
+  },
+)
+new_label c label (Some index) = fault_at label.at rule.BadLabel (Some index, c)
+
 -- the next index of a variable of each kind, for the next name
 abbrev pub integer_slot : CheckerTree → VarRef
 integer_slot c = record { index = c.scope.integers; name = length c.names }
@@ -47,22 +63,6 @@ with_name c name scope = record c { scope = scope; names = c.names ++ name ∷ [
 -- a name is declared
 abbrev pub declared_in : CheckerTree → Identifier → Entity → WithFaults CheckerTree
 declared_in c name entity = declared name entity c.scope >>= λ scope. sure (with_name c name.bytes scope)
-
--- a text or a label without the bytes at its ends
-abbrev pub without_ends : List ℕ → List ℕ
-without_ends bytes = take (length bytes - 2) (drop 1 bytes)
-
--- one more label, at its index among all, which must not stand already
-abbrev pub new_label : CheckerTree → Identifier → Option ℕ → WithFaults (Option ℕ × CheckerTree)
-new_label c label None = sure (
-  Some (length c.labels),
-  record c {
-    labels = c.labels ++ (label.bytes, length c.labels) ∷ [];
-    label_names =
-        c.label_names ++ without_ends label.bytes ∷ [];
-  },
-)
-new_label c label (Some index) = fault_at label.at rule.BadLabel (Some index, c)
 
 abbrev pub with_label : CheckerTree → Option Identifier → WithFaults (Option ℕ × CheckerTree)
 with_label c None = sure (None, c)

@@ -33,6 +33,15 @@ pub record State : Type 0 where
 abbrev pub opened : ℕ → ℕ → State
 opened n room = record { opening = empty_graph n; batches = []; open_tickets = []; given = 0; used = 0; room = min room 16777216; steps = 0 }
 
+-- the state after a step that was answered so; a refusal changes nothing
+abbrev pub changed : State → Step → Reply → State
+changed s (Commit batch) (Version number) = record s { batches = s.batches ++ batch ∷ []; used = s.used + 1; steps = s.steps + 1 }
+changed s (Acquire which) (Ticket number version) =
+    record s { open_tickets = s.open_tickets ++ record { number = number; version = version } ∷ []; given = number; used = s.used + 1; steps = s.steps + 1 }
+changed s (Release number) Released = record s { open_tickets = filter (λ t. not (t.number == number)) s.open_tickets; used = s.used + 1; steps = s.steps + 1 }
+changed s Trim (Trimmed count) = record s { used = 0; steps = s.steps + 1 }
+changed s step reply = s
+
 -- the number of the newest version
 abbrev pub newest_number : State → ℕ
 newest_number s = length s.batches
@@ -91,15 +100,6 @@ reply_to s (Acquire which) =
     else Ticket (s.given + 1) (number_asked s which))
 reply_to s (Release number) = if is_open s number then Released else Refused 122
 reply_to s Trim = if lacks_steps s 1 then Refused 123 else Trimmed s.used
-
--- the state after a step that was answered so; a refusal changes nothing
-abbrev pub changed : State → Step → Reply → State
-changed s (Commit batch) (Version number) = record s { batches = s.batches ++ batch ∷ []; used = s.used + 1; steps = s.steps + 1 }
-changed s (Acquire which) (Ticket number version) =
-    record s { open_tickets = s.open_tickets ++ record { number = number; version = version } ∷ []; given = number; used = s.used + 1; steps = s.steps + 1 }
-changed s (Release number) Released = record s { open_tickets = filter (λ t. not (t.number == number)) s.open_tickets; used = s.used + 1; steps = s.steps + 1 }
-changed s Trim (Trimmed count) = record s { used = 0; steps = s.steps + 1 }
-changed s step reply = s
 
 -- the state after a step
 abbrev pub state_after : State → Step → State
