@@ -1,5 +1,5 @@
 -- Statements of functions. One definition does for all functions: what a statement writes changes the vectors at once in a vertex function, and is collected in
--- an edge function, which reads the vectors as they were.
+-- an edge function, which reads the vectors as they were. And filters, the functions that give a truth value.
 use Rattle.std.specs.Prelude.{ℕ, ℤ, List, [], ◌∷◌, ◌++◌, if◌then◌else◌, Option, Some, None, Bool, false, slice_index_or, slice_get}
 use Rattle.std.specs.List.{filter}
 use Rattle.apply_options.specs.declared.reduction.Reduction.{Reduction}

@@ -1,4 +1,4 @@
--- What statements of main do, and the state before the first one.
+-- What statements of main do, the state before the first one, and what a run shows in the end.
 use Rattle.std.specs.Prelude.{ℕ, suc, ℤ, pos, if◌then◌else◌, ◌==◌, List, [], ◌∷◌, map, replicate, slice_index_or, ◌-◌}
 use Rattle.weighted_edges.specs.Edge.{Edge}
 use Rattle.typed_tree.specs.declared.program.InitialValue.{InitialValue}

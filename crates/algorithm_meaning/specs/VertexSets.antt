@@ -1,4 +1,4 @@
--- The statements of main on vertex sets.
+-- The statements of main on vertex sets, and `apply` of vertex functions to their members.
 use Rattle.std.specs.Prelude.{ℕ, zero, suc, ℤ, if◌then◌else◌, nat_lt, ◌==◌, List, [], ◌∷◌, ◌++◌, slice_get}
 use Rattle.std.specs.List.{range_with_len}
 use Rattle.typed_tree.specs.declared.statement.SetValue.{SetValue}

@@ -1,4 +1,4 @@
--- Faults, and which of several is told.
+-- Faults, which of several is reported, and values with the faults that were found on the way to them.
 use Rattle.std.specs.Prelude.{ℕ, Bool, ◌&&◌, ◌||◌, nat_lt, ◌==◌, if◌then◌else◌, List, [], ◌∷◌, Option, Some, None, ◌++◌, ◌≡◌, Result, Ok, Err}
 use Rattle.std.specs.declared.alloc.AllocError.{AllocError}
 use Rattle.expression_types.specs.declared.fault.Fault.{Fault}

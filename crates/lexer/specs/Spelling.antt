@@ -1,4 +1,4 @@
--- How keywords and symbols are spelled.
+-- Kinds of bytes, and how keywords and symbols are spelled.
 use Rattle.std.specs.Prelude.{ℕ, List, codes, ◌≡◌, Bool, true, ◌==◌, ◌||◌, ◌&&◌, not, nat_le}
 use Rattle.std.specs.List.{AllByRecursion}
 use Rattle.std.specs.Char.{is_ascii_alphabetic, is_ascii_digit}

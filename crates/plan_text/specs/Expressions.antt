@@ -1,4 +1,4 @@
--- The words of expressions of `main`, operands first.
+-- Words with spaces between them, and the words of expressions of `main`, operands first.
 use Rattle.std.specs.Prelude.{ℕ, Bool, true, false, List, [], ◌∷◌, ◌++◌, Option, Some, None, codes, slice_get, slice_index_or}
 use Rattle.std.specs.Fmt.{signed_decimal}
 use Rattle.typed_tree.specs.declared.expression.ComparisonOperator.{ComparisonOperator}

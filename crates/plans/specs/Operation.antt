@@ -1,4 +1,4 @@
--- Of which operation of a plan an operation is.
+-- Of which operation of a plan an operation is, with its kernels, its parts and its set.
 use Rattle.std.specs.Prelude.{[], ◌≡◌, List, Option, Some, None, ◌∷◌, ℕ, slice_get}
 use Rattle.std.specs.Option.{unwrap_or}
 use Rattle.typed_tree.specs.declared.statement.ApplyEnds.{ApplyEnds}

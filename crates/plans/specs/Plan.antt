@@ -1,4 +1,4 @@
--- The plan of a program.
+-- The plan of a program, and of which program a plan is.
 use Rattle.std.specs.Prelude.{[], ℕ, ◌+◌, Bool, false, List, ◌∷◌, ◌++◌, length, Option, ◌≡◌}
 use Rattle.apply_options.specs.ScheduleTree.{ScheduleTree, apply_schedule_at, no_apply_schedule}
 use Rattle.typed_tree.specs.BlockTree.{StatementKindTree, DeclareInteger, DeclareCondition, DeclareSet, If, IfElse, While, For, BlockTree, Empty, Then}

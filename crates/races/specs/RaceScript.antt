@@ -1,4 +1,4 @@
--- Scripts of races: a text as the opening and the batches of one.
+-- Scripts of races: a text as the opening and the batches of one, and which are refused.
 use Rattle.std.specs.Prelude.{◌≡◌, ℕ, List, [], ◌∷◌, ◌++◌, Option, Some, None, Result, Ok, Err, true, ◌+◌, ◌⊎◌}
 use Rattle.std.specs.Option.{option_map}
 use Rattle.tree_batch.specs.declared.batch.Entry.{Entry, Entry as Change}

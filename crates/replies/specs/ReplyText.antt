@@ -1,4 +1,4 @@
--- The lines of replies.
+-- The lines of replies, and the text of the outcome of a run.
 use Rattle.std.specs.Prelude.{ℕ, ℤ, List, [], ◌∷◌, ◌++◌, length, codes, decimal, if◌then◌else◌, Bool, true, false}
 use Rattle.std.specs.Fmt.{signed_decimal}
 use Rattle.std.specs.List.{flat_map}

@@ -1,4 +1,4 @@
--- What words ask for, as clap reads them.
+-- The commands and options of the command line, and what words ask for, as clap reads them.
 use Rattle.std.specs.Prelude.{◌≡◌, ◌≢◌, ℕ, ◌<◌, ◌≤◌, List, [], ◌∷◌, Option, Some, None, Result, Ok, Err, false, codes, map, unwrap_or, if◌then◌else◌, true}
 use Rattle.std.specs.Option.{option_map_or}
 use Rattle.std.specs.Str.{bytes_eq}

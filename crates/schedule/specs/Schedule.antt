@@ -1,4 +1,4 @@
--- Accepted schedules: the apply schedules of labels, and the groups of vectors.
+-- Accepted schedules: the apply schedules of labels, and the groups of vectors. What labels are of, and what the texts of calls name.
 use Rattle.std.specs.Prelude.{ℕ, Bool, is_some, List, [], ◌∷◌, ◌++◌, nat_eq, suc, Option, Some, None, if◌then◌else◌, map, codes}
 use Rattle.indexmap.specs.IndexMap.{insert_entry}
 use Rattle.std.specs.Str.{bytes_eq}

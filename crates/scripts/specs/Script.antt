@@ -1,4 +1,4 @@
--- Runs of a script, as changes of its reader and its writer.
+-- Runs of a script, as changes of its reader and its writer, and the replies to a text.
 use Rattle.std.specs.Prelude.{◌≡◌, ℕ, ◌<◌, Bool, true, List, [], ◌++◌, Result, Ok, Err, Option}
 use Rattle.algorithm_meaning.specs.ProgramTree.{ProgramTree}
 use Rattle.scripts.specs.declared.error.ScriptError.{ScriptError}

@@ -1,4 +1,5 @@
--- Histories of a shared graph: the accepted steps in order, each with its reply and the reader that made it.
+-- Histories of a shared graph: the accepted steps in order, each with its reply and the reader that made it; and readers, each with the
+-- history that it shows.
 use Rattle.std.specs.Prelude.{[], ◌≡◌, ℕ, ◌≤◌, ◌==◌, List, length, map, take, zero, suc, ◌∷◌, ◌++◌}
 use Rattle.std.specs.List.{filter}
 use mathlib.Core.List.{IsPrefix}

@@ -1,4 +1,4 @@
--- Answers of the calls of a shared graph, case by case.
+-- Answers of the calls of a shared graph, case by case, and the numbers of its refusals.
 use Rattle.std.specs.Prelude.{◌≡◌, ℕ, nat_le, ◌&&◌, Bool, true, false, Result, Ok, Err, List}
 use Rattle.tree_batch.specs.Digraph.{is_vertex_count, is_chunk_size}
 use Rattle.version_list.specs.declared.step.Step.{Step}

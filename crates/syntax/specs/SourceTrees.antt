@@ -1,4 +1,5 @@
--- The trees of a source, one constructor for each rule of the grammar. Offsets of first tokens stand where no name tells them.
+-- The trees of expressions and of sources, one constructor for each rule of the grammar, with the offset of the first token if no name
+-- has it.
 use Rattle.std.specs.Prelude.{ℕ, ℤ, List, Option, Bool}
 use Rattle.apply_options.specs.declared.setting.Setting.{Setting}
 use Rattle.apply_options.specs.declared.reduction.Reduction.{Reduction}

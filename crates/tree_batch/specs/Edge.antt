@@ -1,4 +1,4 @@
--- Lists of edges in order, and the weights that they give ends.
+-- Lists of edges in order, the weights that they give ends, and what entries of a batch make of them.
 use Rattle.std.specs.Prelude.{ℕ, ◌+◌, ◌*◌, ◌^◌, ◌<◌, ◌≤◌, ◌==◌, ℤ, Bool, ◌&&◌, if◌then◌else◌, Option, Some, None, zero, suc, List, [], ◌∷◌, map, not, false}
 use Rattle.std.specs.Prelude.{max, nat_le, nat_lt, ◌||◌, unwrap_or, ◌≡◌}
 use Rattle.std.specs.List.{flat_map, list_any}

@@ -1,4 +1,4 @@
--- Which two applies have the same sets, and which are independent.
+-- The vectors that functions read and write, which two applies have the same sets, and which are independent.
 use Rattle.std.specs.Prelude.{ℕ, Bool, true, false, not, ◌&&◌, ◌||◌, nat_eq, List, [], Option, Some, None, slice_get, ◌∷◌, ◌==◌}
 use Rattle.std.specs.Str.{bytes_eq}
 use Rattle.std.specs.List.{list_any, list_all}

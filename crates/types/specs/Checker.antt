@@ -1,4 +1,4 @@
--- The state of the checker on its way through a source.
+-- The state of the checker on its way through a source, and values of the type that is wanted.
 use Rattle.std.specs.Prelude.{[], ℕ, suc, List, ◌∷◌, ◌++◌, ◌-◌, length, take, drop, Option, Some, None, pos, false, if◌then◌else◌, Bool, true}
 use Rattle.apply_options.specs.declared.reduction.Reduction.{Reduction}
 use Rattle.syntax.specs.Terminals.{Identifier}

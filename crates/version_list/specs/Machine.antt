@@ -1,4 +1,4 @@
--- The version machine: what each step replies in a state, and the state after it.
+-- The version machine: what each step replies in a state, the state after it, and the batches that are committed.
 use Rattle.std.specs.Prelude.{ℕ, ◌+◌, ◌==◌, nat_lt, min, Bool, not, ◌||◌, if◌then◌else◌, Option, Some, None, List, [], ◌∷◌, ◌++◌, length, take}
 use Rattle.std.specs.Option.{option_map}
 use Rattle.std.specs.List.{filter, list_any}
