@@ -1,6 +1,6 @@
 //! The replies of one line.
 
-/// What a line is answered, where that is one line.
+/// A reply of one line to a line of a script.
 #[derive(Clone, Copy, Debug, PartialEq, Eq)]
 pub enum LineReply {
     /// A graph of n vertices is open.

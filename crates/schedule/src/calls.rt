@@ -44,7 +44,7 @@ impl Drop for Tables<'_> {
 /// What a program's schedule says. The time is in proportion to the program and to the calls, and for a fusing to
 /// the two functions and the filters besides.
 ///
-/// Errors: `Faulty` where a call breaks a rule: the first that does, with the least number of the rules that it
+/// Errors: `Faulty` if a call breaks a rule: the first that does, with the least number of the rules that it
 /// breaks, and a wrong number of arguments before all; and `NoMemory`.
 pub fn accept(alloc: Global, program: &Typed) -> Result<Schedule, ScheduleError>
     ensures { Accepts (program_tree program.now) result }
@@ -57,7 +57,7 @@ pub fn accept(alloc: Global, program: &Typed) -> Result<Schedule, ScheduleError>
     }
 }
 
-/// The arguments, where they are two.
+/// The two arguments, if there are two.
 fn two_of(arguments: &[Name]) -> Option<(&[u8], &[u8])>
     ensures { option_map bytes_of_two result ≡ two_in arguments.now }
 {
@@ -262,7 +262,7 @@ impl Tables<'_> {
         }
     }
 
-    /// The vectors of these names, where each is one that was not taken and stands there once. They are taken then.
+    /// The vectors of these names, if each is one that was not taken and is named once. They are taken then.
     fn group_of(
         &self,
         alloc: Global,

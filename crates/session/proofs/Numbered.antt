@@ -40,18 +40,18 @@ set_length [] i x = refl
 set_length (y ∷ ys) zero x = refl
 set_length (y ∷ ys) (suc i) x = ap suc (set_length ys i x)
 
--- what was put under a number stands there
+-- the item at a number is the one that was put there last
 pub numbered_same : {A : Type 0} (xs : List A) (number : ℕ) (old x : A) → nth_from_one xs number ≡ Some old → nth_from_one (with_numbered xs number x) number ≡ Some x
 numbered_same xs zero old x is = absurd (none_is old is)
 numbered_same xs (suc index) old x is = get_set_same xs index old x is
 
--- what stands under another number stays
+-- the items at other numbers stay
 pub numbered_other : {A : Type 0} (xs : List A) (number other : ℕ) (x : A) → number ≢ other → nth_from_one (with_numbered xs number x) other ≡ nth_from_one xs other
 numbered_other xs zero other x apart = refl
 numbered_other xs (suc index) zero x apart = refl
 numbered_other xs (suc index) (suc other) x apart = get_set_other xs index other x (λ same. apart (ap suc same))
 
--- a longer list has the same under the numbers of its beginning
+-- items that are appended change none at the numbers that were there
 pub numbered_append : {A : Type 0} (xs more : List A) (number : ℕ) (x : A) → nth_from_one xs number ≡ Some x → nth_from_one (xs ++ more) number ≡ Some x
 numbered_append xs more zero x is = absurd (none_is x is)
 numbered_append xs more (suc index) x is = get_append xs more index x is
