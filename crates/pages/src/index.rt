@@ -6,7 +6,6 @@ ghost use Rattle.pages.specs.inside.Entries.{lists_in};
 ghost use Rattle.pages.specs.inside.Index.{IsIndex};
 
 use crate::entry::ListEntry;
-use crate::page::BLOCK_SIZE;
 
 /// How many vertices below one are present, or `None` where the vertex is not. It takes constant time.
 #[inline]
@@ -42,7 +41,7 @@ pub(crate) fn with_marks(present: u64, run: &[ListEntry]) -> u64
 {
     let mut bits = present;
     for entry in run {
-        bits |= 1 << (entry.vertex % BLOCK_SIZE);
+        bits |= 1 << (entry.vertex % 64);
     }
     bits
 }
