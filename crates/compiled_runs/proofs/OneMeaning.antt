@@ -10,7 +10,7 @@ use Rattle.parser.specs.Outcome.{IsSource}
 use Rattle.parser.proofs.AnswerLaws.{one_answer}
 use Rattle.types.specs.Program.{program_of as checked}
 use Rattle.plans.specs.declared.plan.Plan.{Plan}
-use Rattle.plans.specs.Plan.{program_of}
+use Rattle.plans.specs.PlanOf.{program_of}
 use Rattle.compiler.specs.Outcome.{IsPlanOfText, IsTyped}
 use Rattle.compiler.specs.inside.Outcome.{is_compiled}
 use Rattle.snapshot_runs.specs.Outcome.{IsOutcomeOn}

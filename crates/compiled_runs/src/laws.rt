@@ -6,7 +6,7 @@ ghost use Rattle.compiler.specs.Outcome.{IsPlanOfText, IsTyped};
 ghost use Rattle.flat_snapshot.specs.Digraph.{Digraph};
 ghost use Rattle.parser.specs.SourceTrees.{SourceTree};
 ghost use Rattle.plans.specs.declared.plan.Plan as plan;
-ghost use Rattle.plans.specs.Plan.{IsCompiled, IsPlan, program_of};
+ghost use Rattle.plans.specs.PlanOf.{IsCompiled, IsPlan, program_of};
 ghost use Rattle.snapshot_runs.specs.Outcome.{IsOutcomeOn};
 ghost use Rattle.compiled_runs.specs.Outcome.{IsMeaningOf};
 ghost use Rattle.typed_tree.specs.ProgramTree.{ProgramTree};

@@ -9,7 +9,8 @@ use Rattle.schedule.specs.declared.error.ScheduleError.{ScheduleError}
 use Rattle.schedule.specs.declared.error.ScheduleError.TheVariants.{Faulty, NoMemory}
 use Rattle.schedule.specs.ScheduleTree.{ScheduleTree}
 use Rattle.plans.specs.declared.plan.Plan.{Plan}
-use Rattle.plans.specs.Plan.{plan_of, IsPlan, program_of}
+use Rattle.plans.specs.Plan.{plan_of}
+use Rattle.plans.specs.PlanOf.{IsPlan, program_of}
 use Rattle.plans.specs.Reducing.{AppliesReduce}
 use Rattle.lowering.specs.Text.{HasText}
 use Rattle.compiler.specs.Outcome.{Compiles, IsTyped}

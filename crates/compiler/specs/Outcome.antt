@@ -10,7 +10,8 @@ use Rattle.schedule.specs.Calls.{schedule_of}
 use Rattle.schedule.specs.ScheduleTree.{ScheduleTree}
 use Rattle.schedule.specs.declared.error.ScheduleRule.{ScheduleRule}
 use Rattle.plans.specs.declared.plan.Plan.{Plan}
-use Rattle.plans.specs.Plan.{plan_of, IsPlan, program_of}
+use Rattle.plans.specs.Plan.{plan_of}
+use Rattle.plans.specs.PlanOf.{IsPlan, program_of}
 use Rattle.plans.specs.Reducing.{AppliesReduce}
 use Rattle.lowering.specs.Text.{HasText}
 use Rattle.compiler.specs.declared.error.CompileError.{CompileError}

@@ -6,7 +6,7 @@ use Rattle.algorithm_meaning.specs.ProgramTree.{ProgramTree}
 use Rattle.driver.specs.declared.compiled_plan.CompiledPlan.{CompiledPlan}
 use Rattle.driver.specs.Reading.{tree_of, HoldPrograms, HoldsPlan, HoldsProgram, IsNoProgram, LacksProgram}
 use Rattle.plans.specs.declared.plan.Plan.{Plan}
-use Rattle.plans.specs.Plan.{program_of}
+use Rattle.plans.specs.PlanOf.{program_of}
 use Rattle.driver.specs.declared.error.ServeError.{ServeError}
 use Rattle.driver.specs.declared.error.ServeError.TheVariants.{NoMemory}
 

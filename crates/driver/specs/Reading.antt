@@ -5,7 +5,7 @@ use Rattle.std.specs.Global.{Vec}
 use Rattle.std.specs.declared.io.Error.{Error}
 use Rattle.algorithm_meaning.specs.ProgramTree.{ProgramTree}
 use Rattle.plans.specs.declared.plan.Plan.{Plan}
-use Rattle.plans.specs.Plan.{program_of}
+use Rattle.plans.specs.PlanOf.{program_of}
 use Rattle.compiler.specs.declared.error.CompileError.{CompileError}
 use Rattle.compiler.specs.Outcome.{Compiles, IsPlanOfText, IsProgram}
 use Rattle.compiler.specs.declared.error.CompileError.TheVariants as compiler

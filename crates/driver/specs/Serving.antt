@@ -6,7 +6,7 @@ use Rattle.clap.specs.Words.{fault_of}
 use Rattle.devices.specs.Devices.{TakesPart}
 use Rattle.algorithm_meaning.specs.ProgramTree.{ProgramTree}
 use Rattle.plans.specs.declared.plan.Plan.{Plan}
-use Rattle.plans.specs.Plan.{program_of}
+use Rattle.plans.specs.PlanOf.{program_of}
 use Rattle.lowering.specs.Text.{text_of}
 use Rattle.scripts.specs.declared.error.ScriptError.{ScriptError}
 use Rattle.scripts.specs.Script.{Input, Written, RunsScript, RunsText}

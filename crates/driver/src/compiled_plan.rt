@@ -1,5 +1,5 @@
 //! One program that was compiled.
-ghost use Rattle.plans.specs.Plan.{IsCompiled};
+ghost use Rattle.plans.specs.PlanOf.{IsCompiled};
 
 use plans::Plan;
 

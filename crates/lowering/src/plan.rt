@@ -1,7 +1,8 @@
 //! The lowering of whole programs.
 ghost use Rattle.std.specs.Prelude.{◌≡◌, ◌++◌, IfOk, OnOk};
 ghost use Rattle.typed_tree.specs.ProgramTree.{program_tree};
-ghost use Rattle.plans.specs.Plan.{plan_of, IsPlan, program_of};
+ghost use Rattle.plans.specs.Plan.{plan_of};
+ghost use Rattle.plans.specs.PlanOf.{IsPlan, program_of};
 ghost use Rattle.plan_text.specs.Lines.{group_words};
 ghost use Rattle.lowering.specs.Text.{AreWritten, HasText, group_lines, line_of};
 

@@ -9,7 +9,8 @@ use Rattle.typed_tree.specs.BlockTree.{PrintInteger, PrintCondition, ApplyVertex
 use Rattle.algorithm_meaning.specs.declared.state.Depth.{Depth}
 use Rattle.plans.specs.Instruction.{EdgePartTree, OperationTree, Do, ApplyEdgesTogether, ApplyVerticesTogether, Unless, Enter, UnlessBelow, Advance, Turn, Jump, End, InstructionTree}
 use Rattle.algorithm_meaning.specs.declared.state.LoopCounter.{LoopCounter}
-use Rattle.plans.specs.Plan.{plan_of, IsPlan, program_of}
+use Rattle.plans.specs.Plan.{plan_of}
+use Rattle.plans.specs.PlanOf.{IsPlan, program_of}
 use Rattle.plans.specs.Machine.{Configuration, At, Ended, step}
 use Rattle.plans.proofs.Whole.{steps_lower}
 use Rattle.algorithm_meaning.specs.State.{GraphValue, StateValue}

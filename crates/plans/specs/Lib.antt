@@ -1,3 +1,4 @@
+pub mod PlanOf
 pub mod Instruction
 pub mod Plan
 pub mod Fusing

@@ -2,7 +2,7 @@
 use Rattle.std.specs.Prelude.{[], ℕ, ◌+◌, Bool, false, List, ◌∷◌, ◌++◌, length, Option, ◌≡◌}
 use Rattle.apply_options.specs.ScheduleTree.{ScheduleTree, apply_schedule_at, no_apply_schedule}
 use Rattle.typed_tree.specs.BlockTree.{StatementKindTree, DeclareInteger, DeclareCondition, DeclareSet, If, IfElse, While, For, BlockTree, Empty, Then}
-use Rattle.typed_tree.specs.ProgramTree.{ProgramTree, program_tree}
+use Rattle.typed_tree.specs.ProgramTree.{ProgramTree}
 use Rattle.typed_tree.specs.declared.program.Vector.{Vector}
 use Rattle.algorithm_meaning.specs.declared.state.Depth.{Depth}
 use Rattle.plans.specs.Instruction.{OperationTree, Do, Unless, Enter, UnlessBelow, Advance, Turn, Jump, End, InstructionTree}
@@ -10,8 +10,6 @@ use Rattle.plans.specs.Fusing.{FusionRole, Alone, WithNext, WithPrevious, fusion
 use Rattle.plans.specs.declared.functions.FunctionKernels.{FunctionKernels}
 use Rattle.plans.specs.declared.instruction.Instruction.{Instruction}
 use Rattle.plans.specs.Operation.{AreFunctionKernels, AreInstructions}
-use Rattle.plans.specs.declared.plan.Plan.{Plan}
-use Rattle.plans.specs.Reducing.{AppliesReduce}
 
 -- one more of each kind
 abbrev pub depth_with_integer : Depth → Depth
@@ -128,17 +126,3 @@ pub record ArePartsOf (is : List Instruction) (f : FunctionKernels) (vs : List V
   pub sets : ss ≡ p.sets
   pub names : ns ≡ p.names
   pub groups : gs ≡ s.groups
-
--- the plan is that of a program under a schedule
-abbrev pub IsPlan : Plan → ProgramTree → ScheduleTree → Type 0
-IsPlan plan p s = ArePartsOf plan.instructions.items plan.functions plan.vectors.items plan.sets.items plan.names.items plan.groups.items p s
-
--- the program that a plan is of
-abbrev pub program_of : Plan → ProgramTree
-program_of plan = program_tree plan.program.value
-
--- the plan is that of its program under a schedule, and each edge apply of it gives a vector numbers by one reduction: what a run asks for
-pub record IsCompiled (plan : Plan) : Type 0 where
-  pub schedule : ScheduleTree
-  pub planned : IsPlan plan (program_of plan) schedule
-  pub reducing : AppliesReduce (program_of plan) (plan_of (program_of plan) schedule)

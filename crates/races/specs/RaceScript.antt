@@ -11,8 +11,7 @@ use Rattle.crew.specs.Outcome.{AreWorkers}
 use Rattle.snapshot_runs.specs.declared.error.LatestRunError.{LatestRunError}
 use Rattle.snapshot_runs.specs.declared.error.LatestRunError.TheVariants as run
 use Rattle.scripts.specs.declared.commands.Command.{Command}
-use Rattle.scripts.specs.Commands.{command_of}
-use Rattle.scripts.specs.Pieces.{lines_of}
+use Rattle.scripts.specs.Commands.{command_of, lines_of}
 use Rattle.scripts.specs.declared.commands.Command.TheVariants as command
 use Rattle.races.specs.declared.error.RaceScriptError.{RaceScriptError}
 use Rattle.races.specs.declared.error.RaceScriptError.TheVariants.{NoRace, NoMemory}

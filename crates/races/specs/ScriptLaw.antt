@@ -7,7 +7,7 @@ use Rattle.tree_batch.specs.Digraph.{is_chunk_size, is_vertex_count}
 use Rattle.version_list.specs.declared.step.Step.TheVariants.{Commit}
 use Rattle.version_list.specs.Machine.{State, opened, reply_to, state_after}
 use Rattle.replies.specs.ReplyText.{word_line}
-use Rattle.scripts.specs.Pieces.{lines_of}
+use Rattle.scripts.specs.Commands.{lines_of}
 use Rattle.scripts.specs.Replies.{replies, state_after_lines, step_line}
 use Rattle.races.specs.RaceScript.{Order, order_of}
 

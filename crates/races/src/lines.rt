@@ -1,6 +1,6 @@
 //! The lines of a text, read from the front.
 ghost use Rattle.std.specs.Prelude.{◌≡◌, [], ◌∷◌, MatchOption};
-ghost use Rattle.scripts.specs.Pieces.{lines_of};
+ghost use Rattle.scripts.specs.Commands.{lines_of};
 ghost use Rattle.races.specs.inside.Reading.{lines_left};
 
 use scripts::split_line;

@@ -8,7 +8,8 @@ use Rattle.kernels.specs.declared.vertex_kernel.VertexKernel.{VertexKernel}
 use Rattle.kernels.specs.Meaning.{IsVertexCode}
 use Rattle.algorithm_meaning.specs.declared.state.Depth.{Depth}
 use Rattle.plans.specs.Instruction.{OperationTree}
-use Rattle.plans.specs.Plan.{plan_of, program_of}
+use Rattle.plans.specs.Plan.{plan_of}
+use Rattle.plans.specs.PlanOf.{program_of}
 use Rattle.plans.specs.declared.functions.FunctionKernels.{FunctionKernels}
 use Rattle.plans.specs.declared.instruction.Instruction.{Instruction}
 use Rattle.plans.specs.declared.operation.PlanOperation.{PlanOperation}

@@ -13,7 +13,8 @@ use Rattle.algorithm_meaning.specs.Loop.{forget_beyond}
 use Rattle.plans.specs.Machine.{Configuration, At, Ended, act, act_at, step}
 use Rattle.plans.specs.Operation.{IsInstruction}
 use Rattle.plans.specs.inside.Plan.{IsWithin}
-use Rattle.plans.specs.Plan.{plan_of, IsPlan}
+use Rattle.plans.specs.Plan.{plan_of}
+use Rattle.plans.specs.PlanOf.{IsPlan}
 use Rattle.plans.proofs.Depths.{forgotten-less}
 use Rattle.plans.proofs.ShownDepths.{shows_within}
 use Rattle.runner.specs.Position.{outcome_so_far, shown_where}

@@ -17,7 +17,8 @@ use Rattle.plans.specs.Fused.{FitTogether}
 use Rattle.plans.specs.Instruction.{ApplyVerticesTogether, Do, InstructionTree, OperationTree}
 use Rattle.algorithm_meaning.specs.Loop.{forget_beyond, next_of}
 use Rattle.plans.specs.Machine.{Configuration, At, act, act_at, after_advance, step}
-use Rattle.plans.specs.Plan.{plan_of, IsPlan, program_of}
+use Rattle.plans.specs.Plan.{plan_of}
+use Rattle.plans.specs.PlanOf.{IsPlan, program_of}
 use Rattle.plans.proofs.Reaching.{is_inside}
 use Rattle.plans.proofs.Whole.{steps_lower}
 use Rattle.plans.specs.inside.Outline.{most_steps_of}

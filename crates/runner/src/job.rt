@@ -5,7 +5,8 @@ ghost use Rattle.typed_tree.specs.ProgramTree.{ProgramTree};
 ghost use Rattle.algorithm_meaning.specs.Meaning.{opening};
 ghost use Rattle.apply_options.specs.ScheduleTree.{ScheduleTree};
 ghost use Rattle.plans.specs.Machine.{first_configuration, step};
-ghost use Rattle.plans.specs.Plan.{plan_of, IsPlan};
+ghost use Rattle.plans.specs.Plan.{plan_of};
+ghost use Rattle.plans.specs.PlanOf.{IsPlan};
 ghost use Rattle.plans.specs.Reducing.{AppliesReduce};
 ghost use Rattle.run_state.specs.State.{graph_value};
 

@@ -4,7 +4,7 @@ use Rattle.std.proofs.Common.{append_assoc}
 use Rattle.std.proofs.lemmas.Bool.{cases_Bool, false≢true, eq-eqb, ne_eqb, lt-ltb}
 use Rattle.std.specs.Fmt.{digit_glyph, digits, digits_onto, signed_decimal}
 use Rattle.std.specs.List.{AllByRecursion, flat_map}
-use Rattle.scripts.specs.Pieces.{HasNone}
+use Rattle.scripts.specs.Commands.{HasNone}
 
 -- the test stops at no byte of the text
 abbrev pub Passes : (ℕ → Bool) → List ℕ → Type 0

@@ -6,8 +6,7 @@ use Rattle.std.specs.List.{AllByRecursion, AllZip, join_with_byte, list_all}
 use Rattle.std.specs.Str.{all_ascii_digits}
 use Rattle.scripts.specs.declared.commands.Command.{Command}
 use Rattle.scripts.specs.declared.commands.Command.TheVariants.{Vertices, Add, Remove, Grow, Commit, Hold, Release, Edges, EdgesOf, Run}
-use Rattle.scripts.specs.Commands.{command_of, command_of_words}
-use Rattle.scripts.specs.Pieces.{AreParts, HasNone, words_of}
+use Rattle.scripts.specs.Commands.{command_of, command_of_words, AreParts, HasNone, words_of}
 use Rattle.scripts.proofs.PieceLaws.{join_with_byte-pieces, pieces-join_with_byte}
 use Rattle.script_laws.specs.Spelling.{AreArguments, AreAt, AreEdge, HasWords, IsInRange, IsInteger, IsNumber, command_name, spelling_of}
 use Rattle.script_laws.proofs.DigitLaws.{number_digits}

@@ -12,7 +12,7 @@ use Rattle.algorithm_meaning.specs.declared.outcome.NamedVector.{NamedVector}
 use Rattle.algorithm_meaning.specs.declared.outcome.NamedSet.{NamedSet}
 use Rattle.algorithm_meaning.specs.declared.outcome.Outcome.{Outcome}
 use Rattle.replies.specs.ReplyText.{end_line, end_text, fault_text, labelled, outcome_text, set_line, vector_line}
-use Rattle.scripts.specs.Pieces.{HasNone}
+use Rattle.scripts.specs.Commands.{HasNone}
 use Rattle.meaning_laws.specs.Printing.{IsPrintedLine}
 use Rattle.meaning_laws.proofs.Sound.{prints}
 use Rattle.typed_tree.specs.ProgramTree.{ProgramTree}

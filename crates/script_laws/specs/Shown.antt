@@ -7,7 +7,7 @@ use Rattle.algorithm_meaning.specs.declared.outcome.End.TheVariants.{Finished, T
 use Rattle.algorithm_meaning.specs.declared.outcome.NamedVector.{NamedVector}
 use Rattle.algorithm_meaning.specs.declared.outcome.NamedSet.{NamedSet}
 use Rattle.algorithm_meaning.specs.declared.outcome.Outcome.{Outcome}
-use Rattle.scripts.specs.Pieces.{HasNone}
+use Rattle.scripts.specs.Commands.{HasNone}
 use Rattle.meaning_laws.specs.Printing.{IsPrinted}
 
 -- the numbers of a fault are below 2 ^ 64

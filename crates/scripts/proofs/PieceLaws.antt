@@ -6,7 +6,7 @@ use Rattle.std.specs.List.{join_with_byte, onto_first}
 use Rattle.std.proofs.lemmas.Bool.Decides.{eqb_tells}
 use Rattle.std.proofs.lemmas.Bool.{eq-eqb}
 use Rattle.std.proofs.lemmas.List.{take-append-drop, drop_more}
-use Rattle.scripts.specs.Pieces.{HasNone, pieces, lines_of, AreParts, JoinsAgain, all_but_last, last_of, ended_lines, unended_line}
+use Rattle.scripts.specs.Commands.{HasNone, pieces, lines_of, AreParts, JoinsAgain, all_but_last, last_of, ended_lines, unended_line}
 use Rattle.scripts.specs.inside.Parsing.{IsCutAt}
 
 -- two texts with no c, one after the other, have none

@@ -2,8 +2,7 @@
 use Rattle.std.proofs.Common.{◌≡◌, ℕ, ◌<◌, length, Option, None, List, [], ◌∷◌, ◌++◌, refl, sym, ap, ◌∙◌, subst, arith, append_assoc, append-nil}
 use Rattle.algorithm_meaning.specs.ProgramTree.{ProgramTree}
 use Rattle.replies.specs.declared.send_error.SendError.{SendError}
-use Rattle.scripts.specs.Commands.{command_of}
-use Rattle.scripts.specs.Pieces.{HasNone, ended_lines, unended_line}
+use Rattle.scripts.specs.Commands.{command_of, HasNone, ended_lines, unended_line}
 use Rattle.scripts.specs.Replies.{OpenState, answer, by_command, replies, replies_to_lines, replies_to_ended, state_after_lines, faults, has_faulted}
 use Rattle.replies.specs.declared.send_error.SendError.TheVariants.{NoMemory}
 use Rattle.replies.specs.Sending.{Output, Sends, Fails}

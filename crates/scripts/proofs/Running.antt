@@ -8,7 +8,7 @@ use Rattle.scripts.specs.declared.error.ScriptError.TheVariants.{ReadFailed}
 use Rattle.scripts.specs.Refusal.{error_of_send}
 use Rattle.replies.specs.declared.send_error.SendError.{SendError}
 use Rattle.replies.specs.declared.send_error.SendError.TheVariants.{NoMemory, WriteFailed}
-use Rattle.scripts.specs.Pieces.{HasNone}
+use Rattle.scripts.specs.Commands.{HasNone}
 use Rattle.scripts.specs.Replies.{OpenState, answer, replies, replies_to_ended, has_faulted}
 use Rattle.scripts.specs.Script.{Input, Written, taken_by_writer, IsBeginning, NoneFails, RepliesInPart, RepliesToEnded, RunsScript, Reading}
 use Rattle.replies.specs.Sending.{Output, Sends, SendsPart, Fails}

@@ -9,7 +9,7 @@ use Rattle.std.specs.Str.{all_ascii_digits}
 use Rattle.std.proofs.lemmas.Bool.{false≢true}
 use Rattle.std.proofs.lemmas.List.{length-take, take-append-drop, drop_more}
 use Rattle.decimal.specs.Numbers.{digits_number}
-use Rattle.scripts.specs.Pieces.{HasNone, pieces, words_of}
+use Rattle.scripts.specs.Commands.{HasNone, pieces, words_of}
 use Rattle.decimal.specs.Digits.{AreLeadingDigits}
 use Rattle.scripts.specs.inside.Parsing.{words_left, first_number}
 use Rattle.decimal.proofs.NumberLaws.{number_of-digits, number_of-large, number_of-other, value_of-longer}

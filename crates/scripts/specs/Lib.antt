@@ -1,4 +1,3 @@
-pub mod Pieces
 pub mod Commands
 pub mod Refusal
 pub mod Replies

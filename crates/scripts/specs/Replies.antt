@@ -16,8 +16,7 @@ use Rattle.version_list.specs.declared.step.Reply.TheVariants as reply
 use Rattle.version_list.specs.Machine.{State, opened, reply_to, state_after, newest_number, version_graph, ticket_graph}
 use Rattle.scripts.specs.declared.commands.Command.{Command}
 use Rattle.scripts.specs.declared.commands.Command.TheVariants as command
-use Rattle.scripts.specs.Commands.{command_of}
-use Rattle.scripts.specs.Pieces.{lines_of, ended_lines}
+use Rattle.scripts.specs.Commands.{command_of, lines_of, ended_lines}
 use Rattle.replies.specs.ReplyText.{is_fault, outcome_text, word_line, ticket_line, edges_text}
 
 -- an open graph: its versions, the entries that the next commit takes, and whether some run on it has ended by a fault

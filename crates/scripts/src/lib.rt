@@ -5,8 +5,8 @@
 //! its replies to a writer.
 //!
 //! What a script replies is a definition over the lines of its bytes, apart from the code
-//! (`specs/Replies.antt`): the lines are the pieces between the line feeds (`specs/Pieces.antt`), a
-//! table says which words are which command (`specs/Commands.antt`), and a run is answered by the text
+//! (`specs/Replies.antt`): the lines are the pieces between the line feeds, a
+//! table says which words are which command (`specs/Commands.antt`), and the reply to a run is the text
 //! of what its program means on its version (crate `replies`). Which programs there are, and how one
 //! runs, the caller says by [`Programs`].
 //!

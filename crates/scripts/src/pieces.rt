@@ -1,6 +1,6 @@
 //! The pieces of a text between its separators.
 ghost use Rattle.std.specs.Prelude.{◌≡◌, ◌<◌, ◌↔◌, ℕ, List, [], ◌∷◌, ◌++◌, length, IsNone, IfSome, MatchOption};
-ghost use Rattle.scripts.specs.Pieces.{HasNone, lines_of, JoinsAgain, IsFirstPiece, HasLastLine};
+ghost use Rattle.scripts.specs.Commands.{HasNone, lines_of, JoinsAgain, IsFirstPiece, HasLastLine};
 ghost use Rattle.scripts.specs.inside.Parsing.{IsCutAt};
 
 /// The first line, without its line feed, and what stands after that line feed; or `None` where the

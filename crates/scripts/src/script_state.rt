@@ -1,6 +1,6 @@
 //! The state of a script, and its lines, whose bytes come in pieces.
 ghost use Rattle.std.specs.Prelude.{◌≡◌, [], ◌++◌, None, OnOk};
-ghost use Rattle.scripts.specs.Pieces.{HasNone};
+ghost use Rattle.scripts.specs.Commands.{HasNone};
 ghost use Rattle.scripts.specs.inside.Progress.{at_start, reading_after, replies_within};
 ghost use Rattle.scripts.specs.Replies.{answer, unopened, has_faulted as state_has_faulted};
 ghost use Rattle.replies.specs.Sending.{Emits};

@@ -1,6 +1,6 @@
 //! The words of a line, read from the front.
 ghost use Rattle.std.specs.Prelude.{◌≡◌, ◌^◌, ℕ, List, [], ◌∷◌, IsTrue, ◌↔◌, MatchOption};
-ghost use Rattle.scripts.specs.Pieces.{words_of};
+ghost use Rattle.scripts.specs.Commands.{words_of};
 ghost use Rattle.scripts.specs.inside.Parsing.{words_left, IsFirstInteger, IsFirstNumber};
 
 use crate::pieces::split_piece;

@@ -11,7 +11,8 @@ use Rattle.plans.specs.declared.instruction.Instruction.{Instruction}
 use Rattle.plans.specs.declared.plan.Plan.{Plan}
 use Rattle.plans.specs.Operation.{ArePairwise}
 use Rattle.plans.specs.Machine.{Configuration, At, Ended, first_configuration, step}
-use Rattle.plans.specs.Plan.{plan_of, IsPlan}
+use Rattle.plans.specs.Plan.{plan_of}
+use Rattle.plans.specs.PlanOf.{IsPlan}
 use Rattle.plans.specs.Reducing.{AppliesReduce}
 use Rattle.plans.proofs.Pairwise.{pairwise_snoc}
 use Rattle.run_state.specs.State.{graph_value}

@@ -6,7 +6,7 @@ use Rattle.algorithm_meaning.specs.declared.outcome.End.{End}
 use Rattle.flat_snapshot.specs.Digraph.{Digraph}
 use Rattle.plans.specs.declared.plan.Plan.{Plan}
 use Rattle.plans.specs.Machine.{Configuration, At, Ended}
-use Rattle.plans.specs.Plan.{IsCompiled, program_of}
+use Rattle.plans.specs.PlanOf.{IsCompiled, program_of}
 use Rattle.run_state.specs.State.{graph_value}
 use Rattle.runner.specs.declared.job.Stand.TheVariants as stand
 use Rattle.runner.specs.Job.{stand_of}

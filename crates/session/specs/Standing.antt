@@ -2,7 +2,8 @@
 use Rattle.std.specs.Prelude.{◌≡◌, ℕ, ◌<◌, true, false, List, [], length, take, Result, Ok, Err}
 use Rattle.plans.specs.declared.plan.Plan.{Plan}
 use Rattle.plans.specs.Operation.{ArePairwise}
-use Rattle.plans.specs.Plan.{plan_of, IsPlan}
+use Rattle.plans.specs.Plan.{plan_of}
+use Rattle.plans.specs.PlanOf.{IsPlan}
 use Rattle.plans.specs.Reducing.{AppliesReduce}
 use Rattle.runner.specs.Resting.{JobValue, job_value}
 use Rattle.tree_batch.specs.Digraph.{is_vertex_count, is_chunk_size}

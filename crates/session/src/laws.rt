@@ -2,7 +2,7 @@
 ghost use Rattle.std.specs.Prelude.{◌≡◌, ◌≢◌, ℕ, false, Some, List, All, count_by};
 ghost use Rattle.std.specs.Option.{IsSomeAnd};
 ghost use Rattle.plans.specs.declared.plan.Plan.{Plan};
-ghost use Rattle.plans.specs.Plan.{IsCompiled};
+ghost use Rattle.plans.specs.PlanOf.{IsCompiled};
 ghost use Rattle.runner.specs.Resting.{JobValue};
 ghost use Rattle.session.specs.declared.step.SessionStep.{SessionStep};
 ghost use Rattle.session.specs.declared.step.SessionStep.TheVariants.{JobStep};

@@ -4,7 +4,7 @@ use Rattle.algorithm_meaning.specs.declared.outcome.Outcome.{Outcome}
 use Rattle.algorithm_meaning.specs.Meaning.{meaning}
 use Rattle.flat_snapshot.specs.Digraph.{Digraph}
 use Rattle.plans.specs.declared.plan.Plan.{Plan}
-use Rattle.plans.specs.Plan.{IsCompiled, program_of}
+use Rattle.plans.specs.PlanOf.{IsCompiled, program_of}
 use Rattle.run_state.specs.State.{graph_value}
 use Rattle.version_list.specs.Machine.{State}
 use Rattle.shared_graph.specs.Histories.{ReaderState, Shows}

@@ -161,7 +161,7 @@ impl Batch {
     /// Whether a graph with this many vertices refuses the batch: an entry names a vertex that the graph
     /// does not have after the batch, or asks for fewer vertices than there are or for more than
     /// 16,777,216.
-    #[tactic(auto, unfolding(crate::specs::Entry::misfits))]
+    #[tactic(auto, unfolding(crate::specs::Edge::misfits))]
     pub fn misfits(&self, vertices: u32) -> bool
         ensures { result ≡ misfits vertices self.now }
     {

@@ -1,7 +1,7 @@
 -- Beside `Outcome`: definitions that no public contract cites.
 use Rattle.std.specs.Prelude.{ℕ, List}
 use Rattle.plans.specs.declared.plan.Plan.{Plan}
-use Rattle.plans.specs.Plan.{IsCompiled}
+use Rattle.plans.specs.PlanOf.{IsCompiled}
 use Rattle.compiler.specs.Outcome.{IsPlanOfText}
 
 -- the plan is that of a text's program

@@ -1,7 +1,7 @@
 -- Beside `Programs`: definitions that no public contract cites.
 use Rattle.std.specs.Prelude.{◌≡◌}
 use Rattle.algorithm_meaning.specs.declared.outcome.Outcome.{Outcome}
-use Rattle.plans.specs.Plan.{program_of, IsCompiled}
+use Rattle.plans.specs.PlanOf.{program_of, IsCompiled}
 use Rattle.scripts.specs.Replies.{meaning_on}
 use Rattle.driver.specs.declared.programs.RunOrder.{RunOrder}
 

@@ -5,7 +5,7 @@ use Rattle.std.specs.Global.{Vec}
 use Rattle.std.specs.Option.{option_map}
 use Rattle.tree_batch.specs.declared.batch.Entry.{Entry}
 use Rattle.scripts.specs.declared.commands.Command.{Command}
-use Rattle.scripts.specs.Pieces.{lines_of}
+use Rattle.scripts.specs.Commands.{lines_of}
 use Rattle.races.specs.declared.error.RaceScriptError.{RaceScriptError}
 use Rattle.races.specs.declared.error.RaceScriptError.TheVariants.{NoRace, NoMemory}
 use Rattle.races.specs.RaceScript.{after_change, after_opening, batches_in, order}

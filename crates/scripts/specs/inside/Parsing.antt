@@ -3,7 +3,7 @@ use Rattle.std.specs.Prelude.{◌≡◌, ℕ, ℤ, List, [], ◌∷◌, ◌++◌
 use Rattle.std.specs.Borrow.{Bor}
 use Rattle.std.specs.Option.{option_map}
 use Rattle.decimal.specs.Numbers.{number_of, integer_of}
-use Rattle.scripts.specs.Pieces.{HasNone, words_of}
+use Rattle.scripts.specs.Commands.{HasNone, words_of}
 
 -- what stands before the first separator c and what stands after it, or nothing where there is none
 abbrev pub IsCutAt : ℕ → List ℕ → Option (Bor (List ℕ) × Bor (List ℕ)) → Type 0

@@ -1,7 +1,7 @@
 -- Progress of a script: how far it has been read.
 use Rattle.std.specs.Prelude.{[], ℕ, None, List, ◌++◌}
 use Rattle.algorithm_meaning.specs.ProgramTree.{ProgramTree}
-use Rattle.scripts.specs.Pieces.{ended_lines, unended_line}
+use Rattle.scripts.specs.Commands.{ended_lines, unended_line}
 use Rattle.scripts.specs.Replies.{replies_to_lines, state_after_lines}
 use Rattle.scripts.specs.Script.{Reading}
 

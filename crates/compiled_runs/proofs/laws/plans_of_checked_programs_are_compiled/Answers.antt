@@ -1,5 +1,5 @@
 -- Proofs of `plans_of_checked_programs_are_compiled`, src/laws.rt.
-use Rattle.plans.specs.Plan.{program_of}
+use Rattle.plans.specs.PlanOf.{program_of}
 use Rattle.compiler.proofs.Reduced.{applies_reduce}
 use Rattle.compiled_runs.proofs.laws.plans_of_checked_programs_are_compiled.Goals as goal
 

@@ -1,7 +1,7 @@
 -- Proofs of `run_by_workers`, src/programs.rt.
 use Rattle.std.proofs.Math.Logic.{∥∥₁_elim}
 use denote.Struct.Props.{props}
-use Rattle.plans.specs.Plan.{program_of}
+use Rattle.plans.specs.PlanOf.{program_of}
 use Rattle.driver.proofs.programs.run_by_workers.Goals as goal
 
 -- the program of a compiled plan is one that the run speaks of

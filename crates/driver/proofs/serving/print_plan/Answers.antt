@@ -1,7 +1,7 @@
 -- Proofs of `print_plan`, src/serving.rt.
 use Rattle.std.proofs.Common.{◌≡◌, ◌++◌, ◌∙◌, List, ℕ, ap, inr, refl, subst}
 use Rattle.devices.specs.Devices.{TakesPart}
-use Rattle.plans.specs.Plan.{program_of}
+use Rattle.plans.specs.PlanOf.{program_of}
 use Rattle.lowering.specs.Text.{text_of}
 use Rattle.driver.proofs.serving.print_plan.Goals as goal
 

@@ -1,5 +1,5 @@
 -- Proofs of `race_scripts_mean_what_scripts_mean`, src/laws.rt.
-use Rattle.scripts.specs.Pieces.{lines_of}
+use Rattle.scripts.specs.Commands.{lines_of}
 use Rattle.races.proofs.ScriptLaws.{order_left}
 use Rattle.races.proofs.laws.race_scripts_mean_what_scripts_mean.Goals as goal
 

@@ -1,7 +1,8 @@
 use Rattle.std.proofs.Common.{◌≡◌}
 use Rattle.typed_tree.specs.ProgramTree.{ProgramTree}
 use Rattle.apply_options.specs.ScheduleTree.{ScheduleTree}
-use Rattle.plans.specs.Plan.{plan_of, IsPlan}
+use Rattle.plans.specs.Plan.{plan_of}
+use Rattle.plans.specs.PlanOf.{IsPlan}
 use Rattle.plans.specs.Reducing.{AppliesReduce}
 use Rattle.run_state.specs.State.{graph_value}
 use Rattle.runner.specs.inside.Groups.{AreGroupsOf}

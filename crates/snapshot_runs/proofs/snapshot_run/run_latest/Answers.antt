@@ -2,7 +2,7 @@
 use Rattle.std.proofs.Common.{◌∙◌, ap}
 use Rattle.std.specs.Arc.{arc_value}
 use Rattle.algorithm_meaning.specs.Meaning.{meaning}
-use Rattle.plans.specs.Plan.{IsCompiled, program_of}
+use Rattle.plans.specs.PlanOf.{IsCompiled, program_of}
 use Rattle.flat_snapshot.specs.Digraph.{Digraph}
 use Rattle.run_state.specs.State.{graph_value}
 use Rattle.shared_graph.proofs.Versions.{newest_is}

@@ -2,7 +2,7 @@
 use Rattle.std.proofs.Common.{◌∙◌, ap}
 use Rattle.std.proofs.lemmas.Result.{IfOk-weaker}
 use Rattle.algorithm_meaning.specs.Meaning.{meaning}
-use Rattle.plans.specs.Plan.{IsCompiled, program_of}
+use Rattle.plans.specs.PlanOf.{IsCompiled, program_of}
 use Rattle.flat_snapshot.specs.Digraph.{Digraph}
 use Rattle.run_state.specs.State.{graph_value}
 use Rattle.snapshot_runs.proofs.snapshot_run.run_on.Goals as goal

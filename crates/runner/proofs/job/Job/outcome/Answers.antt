@@ -2,7 +2,8 @@
 use Rattle.std.proofs.Common.{◌∙◌, ap, sym, subst}
 use Rattle.std.specs.Arc.{arc_value}
 use Rattle.plans.specs.declared.plan.Plan.{Plan}
-use Rattle.plans.specs.Plan.{plan_of, IsPlan}
+use Rattle.plans.specs.Plan.{plan_of}
+use Rattle.plans.specs.PlanOf.{IsPlan}
 use Rattle.runner.specs.inside.Position.{configuration_of}
 use Rattle.runner.specs.Position.{outcome_so_far}
 use Rattle.runner.specs.Resting.{JobValue}

@@ -3,7 +3,8 @@ use Rattle.std.proofs.Common.{◌∙◌, Result, Ok, Err, OnOk, ap, sym, subst}
 use Rattle.std.specs.Arc.{arc_value}
 use Rattle.plans.specs.declared.plan.Plan.{Plan}
 use Rattle.plans.specs.Machine.{Configuration, step}
-use Rattle.plans.specs.Plan.{plan_of, IsPlan}
+use Rattle.plans.specs.Plan.{plan_of}
+use Rattle.plans.specs.PlanOf.{IsPlan}
 use Rattle.run_state.specs.State.{graph_value}
 use Rattle.flat_snapshot.specs.Digraph.{Digraph}
 use Rattle.runner.specs.inside.Position.{configuration_of}

@@ -1,6 +1,6 @@
 -- Proofs of `take`, src/script_state.rt.
 use Rattle.std.proofs.Common.{refl, rules}
-use Rattle.scripts.specs.Pieces.{HasNone}
+use Rattle.scripts.specs.Commands.{HasNone}
 use Rattle.scripts.proofs.ReadingLaws.{taking_starts, taking_ends, reading_ends, taking_line, taking_fails, taking_lacks}
 use Rattle.replies.proofs.SendingLaws.{emits_failed}
 use Rattle.scripts.proofs.script_state.ScriptState.take.Goals as goal
