@@ -6,7 +6,6 @@ use Rattle.syntax.specs.Terminals.{Identifier}
 use Rattle.syntax.specs.SourceTrees as tree
 use Rattle.syntax.specs.SourceTrees.{ExpressionTree, ConjunctionTree, ComparisonTree, SumTree, TermTree, UnaryTree, PrimaryTree, StatementKindTree, BlockTree, DeclarationTree, EndsTree, InitialTree}
 use Rattle.syntax.specs.SourceTrees.{ParameterTree, SourceTree}
-use Rattle.syntax.specs.SourceTrees as source
 use Rattle.typed_tree.specs.declared.expression.Endpoint.{Endpoint}
 use Rattle.typed_tree.specs.declared.expression.Endpoint.TheVariants as endpoint
 use Rattle.expression_types.specs.declared.fault.Fault.{Fault}
@@ -123,17 +122,17 @@ before_broken f scope at None others all = all
 before_broken f scope at (Some name) others all = (name_broken f scope at name, all)
 
 forms_broken : (f : Fault) (c : CheckerTree) (at : ℕ) (x : InitialTree) → AreBroken f (map (InExpression c.scope at) (initial_forms x))
-forms_broken f c at (source.NewSet size) = tt
-forms_broken f c at (source.Load argument) = tt
-forms_broken f c at (source.Vertices edges) = (name_broken f c.scope at edges, tt)
-forms_broken f c at (source.OutDegrees edges) = (name_broken f c.scope at edges, tt)
-forms_broken f c at (source.Filter set test) = (name_broken f c.scope at set, (name_broken f c.scope at test, tt))
-forms_broken f c at (source.ApplyModified edges sides function vector) = (
+forms_broken f c at (tree.NewSet size) = tt
+forms_broken f c at (tree.Load argument) = tt
+forms_broken f c at (tree.Vertices edges) = (name_broken f c.scope at edges, tt)
+forms_broken f c at (tree.OutDegrees edges) = (name_broken f c.scope at edges, tt)
+forms_broken f c at (tree.Filter set test) = (name_broken f c.scope at set, (name_broken f c.scope at test, tt))
+forms_broken f c at (tree.ApplyModified edges sides function vector) = (
   name_broken f c.scope at edges,
   before_broken f c.scope at sides.from _ (before_broken f c.scope at sides.to (form.Name function ∷ form.Name vector ∷ [])
       (name_broken f c.scope at function, (name_broken f c.scope at vector, tt))),
 )
-forms_broken f c at (source.Value e) = (expression_broken f c.scope at e, tt)
+forms_broken f c at (tree.Value e) = (expression_broken f c.scope at e, tt)
 
 initial_broken : (f : Fault) (c : CheckerTree) (at : ℕ) (x : InitialTree) → IsBroken f (Initial c at x)
 initial_broken f c at x = by_parts f (Initial c at x) (forms_broken f c at x)
@@ -144,73 +143,73 @@ label_broken f c label = by_parts f (Label c label) tt
 -- statements
 mutual
   main_broken : (f : Fault) (c : CheckerTree) (action : StatementKindTree) → IsBroken f (MainStatement c action)
-  main_broken f c (source.Declare at p initial) = by_parts f (MainStatement c (source.Declare at p initial)) (initial_broken f c at initial, (new_broken f c.scope p.name, tt))
-  main_broken f c (source.While at test body) = by_parts f (MainStatement c (source.While at test body)) (bool_broken f c.scope at test, (main_block_broken f _ body, tt))
-  main_broken f c (source.For at name first limit body) =
-      by_parts f (MainStatement c (source.For at name first limit body)) (int_broken f c.scope at first, (int_broken f c.scope at limit, (new_broken f c.scope name, (main_block_broken f _ body, tt))))
-  main_broken f c (source.If at test body) = by_parts f (MainStatement c (source.If at test body)) (bool_broken f c.scope at test, (main_block_broken f _ body, tt))
-  main_broken f c (source.IfElse at test body otherwise) =
-      by_parts f (MainStatement c (source.IfElse at test body otherwise)) (bool_broken f c.scope at test, (main_block_broken f _ body, (main_block_broken f _ otherwise, tt)))
-  main_broken f c (source.Print at e) = by_parts f (MainStatement c (source.Print at e)) (expression_broken f c.scope at e, tt)
-  main_broken f c (source.Assign name initial) = by_parts f (MainStatement c (source.Assign name initial)) (name_broken f c.scope name.at name, (initial_broken f c name.at initial, tt))
-  main_broken f c (source.Reduce name by e) = by_parts f (MainStatement c (source.Reduce name by e)) (name_broken f c.scope name.at name, (expression_broken f c.scope name.at e, tt))
-  main_broken f c (source.SetEntry vector index e) =
-      by_parts f (MainStatement c (source.SetEntry vector index e)) (vector_broken f c.scope vector.at vector, (main_index_broken f c.scope vector.at index, (int_broken f c.scope vector.at e, tt)))
-  main_broken f c (source.ReduceEntry vector index by e) =
-      by_parts f (MainStatement c (source.ReduceEntry vector index by e)) (
+  main_broken f c (tree.Declare at p initial) = by_parts f (MainStatement c (tree.Declare at p initial)) (initial_broken f c at initial, (new_broken f c.scope p.name, tt))
+  main_broken f c (tree.While at test body) = by_parts f (MainStatement c (tree.While at test body)) (bool_broken f c.scope at test, (main_block_broken f _ body, tt))
+  main_broken f c (tree.For at name first limit body) =
+      by_parts f (MainStatement c (tree.For at name first limit body)) (int_broken f c.scope at first, (int_broken f c.scope at limit, (new_broken f c.scope name, (main_block_broken f _ body, tt))))
+  main_broken f c (tree.If at test body) = by_parts f (MainStatement c (tree.If at test body)) (bool_broken f c.scope at test, (main_block_broken f _ body, tt))
+  main_broken f c (tree.IfElse at test body otherwise) =
+      by_parts f (MainStatement c (tree.IfElse at test body otherwise)) (bool_broken f c.scope at test, (main_block_broken f _ body, (main_block_broken f _ otherwise, tt)))
+  main_broken f c (tree.Print at e) = by_parts f (MainStatement c (tree.Print at e)) (expression_broken f c.scope at e, tt)
+  main_broken f c (tree.Assign name initial) = by_parts f (MainStatement c (tree.Assign name initial)) (name_broken f c.scope name.at name, (initial_broken f c name.at initial, tt))
+  main_broken f c (tree.Reduce name by e) = by_parts f (MainStatement c (tree.Reduce name by e)) (name_broken f c.scope name.at name, (expression_broken f c.scope name.at e, tt))
+  main_broken f c (tree.SetEntry vector index e) =
+      by_parts f (MainStatement c (tree.SetEntry vector index e)) (vector_broken f c.scope vector.at vector, (main_index_broken f c.scope vector.at index, (int_broken f c.scope vector.at e, tt)))
+  main_broken f c (tree.ReduceEntry vector index by e) =
+      by_parts f (MainStatement c (tree.ReduceEntry vector index by e)) (
         vector_broken f c.scope vector.at vector,
         (main_index_broken f c.scope vector.at index, (int_broken f c.scope vector.at e, tt)),
       )
-  main_broken f c (source.AddVertex set e) = by_parts f (MainStatement c (source.AddVertex set e)) (name_broken f c.scope set.at set, (expression_broken f c.scope set.at e, tt))
-  main_broken f c (source.Apply target sides function) =
-      by_parts f (MainStatement c (source.Apply target sides function)) (
+  main_broken f c (tree.AddVertex set e) = by_parts f (MainStatement c (tree.AddVertex set e)) (name_broken f c.scope set.at set, (expression_broken f c.scope set.at e, tt))
+  main_broken f c (tree.Apply target sides function) =
+      by_parts f (MainStatement c (tree.Apply target sides function)) (
         name_broken f c.scope target.at target,
         before_broken f c.scope target.at sides.from _
             (before_broken f c.scope target.at sides.to (form.Name function ∷ []) (name_broken f c.scope target.at function, tt)),
       )
 
   main_block_broken : (f : Fault) (c : CheckerTree) (block : BlockTree) → IsBroken f (MainBlock c block)
-  main_block_broken f c source.Empty = by_parts f (MainBlock c source.Empty) tt
-  main_block_broken f c (source.Then label action others) =
-      by_parts f (MainBlock c (source.Then label action others)) (label_broken f c label, (main_broken f _ action, (main_block_broken f _ others, tt)))
+  main_block_broken f c tree.Empty = by_parts f (MainBlock c tree.Empty) tt
+  main_block_broken f c (tree.Then label action others) =
+      by_parts f (MainBlock c (tree.Then label action others)) (label_broken f c label, (main_broken f _ action, (main_block_broken f _ others, tt)))
 
 mutual
   function_broken : (f : Fault) (c : CheckerTree) (action : StatementKindTree) → IsBroken f (FunctionStatement c action)
-  function_broken f c (source.Declare at p initial) = by_parts f (FunctionStatement c (source.Declare at p initial)) (initial_broken f c at initial, (new_broken f c.scope p.name, tt))
-  function_broken f c (source.While at test body) = by_parts f (FunctionStatement c (source.While at test body)) (bool_broken f c.scope at test, (function_block_broken f _ body, tt))
-  function_broken f c (source.For at name first limit body) =
-      by_parts f (FunctionStatement c (source.For at name first limit body)) (
+  function_broken f c (tree.Declare at p initial) = by_parts f (FunctionStatement c (tree.Declare at p initial)) (initial_broken f c at initial, (new_broken f c.scope p.name, tt))
+  function_broken f c (tree.While at test body) = by_parts f (FunctionStatement c (tree.While at test body)) (bool_broken f c.scope at test, (function_block_broken f _ body, tt))
+  function_broken f c (tree.For at name first limit body) =
+      by_parts f (FunctionStatement c (tree.For at name first limit body)) (
         int_broken f c.scope at first,
         (int_broken f c.scope at limit, (new_broken f c.scope name, (function_block_broken f _ body, tt))),
       )
-  function_broken f c (source.If at test body) = by_parts f (FunctionStatement c (source.If at test body)) (bool_broken f c.scope at test, (function_block_broken f _ body, tt))
-  function_broken f c (source.IfElse at test body otherwise) =
-      by_parts f (FunctionStatement c (source.IfElse at test body otherwise)) (bool_broken f c.scope at test, (function_block_broken f _ body, (function_block_broken f _ otherwise, tt)))
-  function_broken f c (source.Print at e) = by_parts f (FunctionStatement c (source.Print at e)) tt
-  function_broken f c (source.Assign name initial) = by_parts f (FunctionStatement c (source.Assign name initial)) (name_broken f c.scope name.at name, (initial_broken f c name.at initial, tt))
-  function_broken f c (source.Reduce name by e) = by_parts f (FunctionStatement c (source.Reduce name by e)) (name_broken f c.scope name.at name, (expression_broken f c.scope name.at e, tt))
-  function_broken f c (source.SetEntry vector index e) =
-      by_parts f (FunctionStatement c (source.SetEntry vector index e)) (
+  function_broken f c (tree.If at test body) = by_parts f (FunctionStatement c (tree.If at test body)) (bool_broken f c.scope at test, (function_block_broken f _ body, tt))
+  function_broken f c (tree.IfElse at test body otherwise) =
+      by_parts f (FunctionStatement c (tree.IfElse at test body otherwise)) (bool_broken f c.scope at test, (function_block_broken f _ body, (function_block_broken f _ otherwise, tt)))
+  function_broken f c (tree.Print at e) = by_parts f (FunctionStatement c (tree.Print at e)) tt
+  function_broken f c (tree.Assign name initial) = by_parts f (FunctionStatement c (tree.Assign name initial)) (name_broken f c.scope name.at name, (initial_broken f c name.at initial, tt))
+  function_broken f c (tree.Reduce name by e) = by_parts f (FunctionStatement c (tree.Reduce name by e)) (name_broken f c.scope name.at name, (expression_broken f c.scope name.at e, tt))
+  function_broken f c (tree.SetEntry vector index e) =
+      by_parts f (FunctionStatement c (tree.SetEntry vector index e)) (
         vector_broken f c.scope vector.at vector,
         (function_index_broken f c.scope vector.at index, (int_broken f c.scope vector.at e, tt)),
       )
-  function_broken f c (source.ReduceEntry vector index by e) =
-      by_parts f (FunctionStatement c (source.ReduceEntry vector index by e)) (
+  function_broken f c (tree.ReduceEntry vector index by e) =
+      by_parts f (FunctionStatement c (tree.ReduceEntry vector index by e)) (
         vector_broken f c.scope vector.at vector,
         (function_index_broken f c.scope vector.at index, (int_broken f c.scope vector.at e, tt)),
       )
-  function_broken f c (source.AddVertex set e) = by_parts f (FunctionStatement c (source.AddVertex set e)) (name_broken f c.scope set.at set, (expression_broken f c.scope set.at e, tt))
-  function_broken f c (source.Apply target sides function) =
-      by_parts f (FunctionStatement c (source.Apply target sides function)) (
+  function_broken f c (tree.AddVertex set e) = by_parts f (FunctionStatement c (tree.AddVertex set e)) (name_broken f c.scope set.at set, (expression_broken f c.scope set.at e, tt))
+  function_broken f c (tree.Apply target sides function) =
+      by_parts f (FunctionStatement c (tree.Apply target sides function)) (
         name_broken f c.scope target.at target,
         before_broken f c.scope target.at sides.from _
             (before_broken f c.scope target.at sides.to (form.Name function ∷ []) (name_broken f c.scope target.at function, tt)),
       )
 
   function_block_broken : (f : Fault) (c : CheckerTree) (block : BlockTree) → IsBroken f (FunctionBlock c block)
-  function_block_broken f c source.Empty = by_parts f (FunctionBlock c source.Empty) tt
-  function_block_broken f c (source.Then label action others) =
-      by_parts f (FunctionBlock c (source.Then label action others)) (label_broken f c label, (function_broken f _ action, (function_block_broken f _ others, tt)))
+  function_block_broken f c tree.Empty = by_parts f (FunctionBlock c tree.Empty) tt
+  function_block_broken f c (tree.Then label action others) =
+      by_parts f (FunctionBlock c (tree.Then label action others)) (label_broken f c label, (function_broken f _ action, (function_block_broken f _ others, tt)))
 
 -- declarations
 parameters_broken : (f : Fault) (weighted : Bool) (k : FunctionKindTree) (c : CheckerTree) (p : Endpoint) (vs : List ParameterTree) (result : Option ParameterTree)
@@ -231,9 +230,9 @@ body_broken f FilterKind c body = function_block_broken f c body
 body_broken f NoKind c body = function_block_broken f c body
 
 declaration_broken : (f : Fault) (d : DeclaredTree) (x : DeclarationTree) → IsBroken f (Declaration d x)
-declaration_broken f d (source.Constant at p initial) = by_parts f (Declaration d (source.Constant at p initial)) (initial_broken f d.checker at initial, (new_broken f d.checker.scope p.name, tt))
-declaration_broken f d (source.Function at name ps result body) =
-    by_parts f (Declaration d (source.Function at name ps result body))
+declaration_broken f d (tree.Constant at p initial) = by_parts f (Declaration d (tree.Constant at p initial)) (initial_broken f d.checker at initial, (new_broken f d.checker.scope p.name, tt))
+declaration_broken f d (tree.Function at name ps result body) =
+    by_parts f (Declaration d (tree.Function at name ps result body))
     (parameters_broken f _ _ _ _ ps result, (body_broken f (kind name.bytes ps result) _ body, (new_broken f d.checker.scope name, tt)))
 
 declarations_broken : (f : Fault) (d : DeclaredTree) (xs : List DeclarationTree) → IsBroken f (Declarations d xs)

@@ -10,7 +10,6 @@ use Rattle.syntax.specs.declared.operators.Relation.TheVariants as relation
 use Rattle.syntax.specs.SourceTrees as source
 use Rattle.syntax.specs.SourceTrees.{InitialTree, ExpressionTree, ConjunctionTree, ComparisonTree, SumTree, TermTree, UnaryTree, PrimaryTree}
 use Rattle.syntax.specs.Terminals.{Identifier}
-use Rattle.syntax.specs.SourceTrees as tree
 use Rattle.typed_tree.specs.declared.expression.ComparisonOperator.{ComparisonOperator}
 use Rattle.typed_tree.specs.declared.expression.ComparisonOperator.TheVariants as comparison
 use Rattle.typed_tree.specs.declared.expression.Connective.{Connective}
@@ -201,68 +200,68 @@ entry_silent i at e (Set slot) is = entry_of_faulty i at e (Set slot) (sym (or_f
 
 -- rows of operands
 pub disjuncts_faults : (scope : ScopeTree) (at : ℕ) (left : ConditionsTree) (e : ExpressionTree) → (disjuncts scope at left e).faults ≡ faults_of_all scope at (disjuncts_of e)
-disjuncts_faults scope at left (tree.LastConjunction c) = refl
-disjuncts_faults scope at left (tree.ConjunctionThen c others) =
+disjuncts_faults scope at left (source.LastConjunction c) = refl
+disjuncts_faults scope at left (source.ConjunctionThen c others) =
     let x = conjunction_value scope at c in
     ap (λ fs. x.faults ++ fs) (disjuncts_faults scope at (beside_condition connective.Or left (first_condition x.value)) others)
 
 pub disjuncts_error : (scope : ScopeTree) (at : ℕ) (left : ConditionsTree) (e : ExpressionTree)
     → is_error_row (disjuncts scope at left e).value ≡ (is_error_row left || any_faulty scope at (disjuncts_of e))
-disjuncts_error scope at left (tree.LastConjunction c) =
+disjuncts_error scope at left (source.LastConjunction c) =
     let x = conjunction_value scope at c in
     beside_value connective.Or left x.value ∙ ap (λ b. is_error_row left || b) (sym (or_false (is_error x.value)))
-disjuncts_error scope at left (tree.ConjunctionThen c others) =
+disjuncts_error scope at left (source.ConjunctionThen c others) =
     let x = conjunction_value scope at c in
     let rest = any_faulty scope at (disjuncts_of others) in
     disjuncts_error scope at (beside_condition connective.Or left (first_condition x.value)) others
     ∙ ap (λ b. b || rest) (beside_value connective.Or left x.value) ∙ or_assoc (is_error_row left) (is_error x.value) rest
 
 pub conjuncts_faults : (scope : ScopeTree) (at : ℕ) (left : ConditionsTree) (c : ConjunctionTree) → (conjuncts scope at left c).faults ≡ faults_of_all scope at (conjuncts_of c)
-conjuncts_faults scope at left (tree.LastComparison c) = refl
-conjuncts_faults scope at left (tree.ComparisonThen c others) =
+conjuncts_faults scope at left (source.LastComparison c) = refl
+conjuncts_faults scope at left (source.ComparisonThen c others) =
     let x = comparison_value scope at c in
     ap (λ fs. x.faults ++ fs) (conjuncts_faults scope at (beside_condition connective.And left (first_condition x.value)) others)
 
 pub conjuncts_error : (scope : ScopeTree) (at : ℕ) (left : ConditionsTree) (c : ConjunctionTree)
     → is_error_row (conjuncts scope at left c).value ≡ (is_error_row left || any_faulty scope at (conjuncts_of c))
-conjuncts_error scope at left (tree.LastComparison c) =
+conjuncts_error scope at left (source.LastComparison c) =
     let x = comparison_value scope at c in
     beside_value connective.And left x.value ∙ ap (λ b. is_error_row left || b) (sym (or_false (is_error x.value)))
-conjuncts_error scope at left (tree.ComparisonThen c others) =
+conjuncts_error scope at left (source.ComparisonThen c others) =
     let x = comparison_value scope at c in
     let rest = any_faulty scope at (conjuncts_of others) in
     conjuncts_error scope at (beside_condition connective.And left (first_condition x.value)) others
     ∙ ap (λ b. b || rest) (beside_value connective.And left x.value) ∙ or_assoc (is_error_row left) (is_error x.value) rest
 
 pub summands_faults : (scope : ScopeTree) (at : ℕ) (left : IntegersTree) (o : Addition) (s : SumTree) → (summands scope at left o s).faults ≡ faults_of_all scope at (summands_of s)
-summands_faults scope at left o (tree.LastTerm t) = refl
-summands_faults scope at left o (tree.TermThen t next others) =
+summands_faults scope at left o (source.LastTerm t) = refl
+summands_faults scope at left o (source.TermThen t next others) =
     let x = term_value scope at t in
     ap (λ fs. x.faults ++ fs) (summands_faults scope at (beside_integer (addition_operator o) left (first_integer x.value)) next others)
 
 pub summands_error : (scope : ScopeTree) (at : ℕ) (left : IntegersTree) (o : Addition) (s : SumTree)
     → is_error_integers (summands scope at left o s).value ≡ (is_error_integers left || any_faulty scope at (summands_of s))
-summands_error scope at left o (tree.LastTerm t) =
+summands_error scope at left o (source.LastTerm t) =
     let x = term_value scope at t in
     beside_number (addition_operator o) left x.value ∙ ap (λ b. is_error_integers left || b) (sym (or_false (is_error x.value)))
-summands_error scope at left o (tree.TermThen t next others) =
+summands_error scope at left o (source.TermThen t next others) =
     let x = term_value scope at t in
     let rest = any_faulty scope at (summands_of others) in
     summands_error scope at (beside_integer (addition_operator o) left (first_integer x.value)) next others
     ∙ ap (λ b. b || rest) (beside_number (addition_operator o) left x.value) ∙ or_assoc (is_error_integers left) (is_error x.value) rest
 
 pub factors_faults : (scope : ScopeTree) (at : ℕ) (left : IntegersTree) (o : Multiplication) (t : TermTree) → (factors scope at left o t).faults ≡ faults_of_all scope at (factors_of t)
-factors_faults scope at left o (tree.LastUnary u) = refl
-factors_faults scope at left o (tree.UnaryThen u next others) =
+factors_faults scope at left o (source.LastUnary u) = refl
+factors_faults scope at left o (source.UnaryThen u next others) =
     let x = unary_value scope at u in
     ap (λ fs. x.faults ++ fs) (factors_faults scope at (beside_integer (multiplied o) left (first_integer x.value)) next others)
 
 pub factors_error : (scope : ScopeTree) (at : ℕ) (left : IntegersTree) (o : Multiplication) (t : TermTree)
     → is_error_integers (factors scope at left o t).value ≡ (is_error_integers left || any_faulty scope at (factors_of t))
-factors_error scope at left o (tree.LastUnary u) =
+factors_error scope at left o (source.LastUnary u) =
     let x = unary_value scope at u in
     beside_number (multiplied o) left x.value ∙ ap (λ b. is_error_integers left || b) (sym (or_false (is_error x.value)))
-factors_error scope at left o (tree.UnaryThen u next others) =
+factors_error scope at left o (source.UnaryThen u next others) =
     let x = unary_value scope at u in
     let rest = any_faulty scope at (factors_of others) in
     factors_error scope at (beside_integer (multiplied o) left (first_integer x.value)) next others
@@ -288,60 +287,60 @@ abbrev AddsNone : ScopeTree → ℕ → Form → Type 0
 AddsNone scope at form = (form_faults scope at form ≡ faults_of_all scope at (parts scope form)) × (is_faulty scope at form ≡ true)
 
 pub faulty_parts : (scope : ScopeTree) (at : ℕ) (form : Form) → any_faulty scope at (parts scope form) ≡ true → AddsNone scope at form
-faulty_parts scope at (Expression (tree.LastConjunction c)) is = one_part (conjunction_value scope at c) is
-faulty_parts scope at (Expression (tree.ConjunctionThen c others)) is =
+faulty_parts scope at (Expression (source.LastConjunction c)) is = one_part (conjunction_value scope at c) is
+faulty_parts scope at (Expression (source.ConjunctionThen c others)) is =
     let x = conjunction_value scope at c in
     let rest = disjuncts scope at (first_condition x.value) others in
     let silent = grouped_silent at rest.value (disjuncts_error scope at (first_condition x.value) others ∙ ap (λ b. b || any_faulty scope at (disjuncts_of others)) (first_row x.value) ∙ is) in
     (row_faults x.faults rest.faults _ _ (disjuncts_faults scope at (first_condition x.value) others) silent.0, silent.1)
-faulty_parts scope at (Conjunction (tree.LastComparison c)) is = one_part (comparison_value scope at c) is
-faulty_parts scope at (Conjunction (tree.ComparisonThen c others)) is =
+faulty_parts scope at (Conjunction (source.LastComparison c)) is = one_part (comparison_value scope at c) is
+faulty_parts scope at (Conjunction (source.ComparisonThen c others)) is =
     let x = comparison_value scope at c in
     let rest = conjuncts scope at (first_condition x.value) others in
     let silent = grouped_silent at rest.value (conjuncts_error scope at (first_condition x.value) others ∙ ap (λ b. b || any_faulty scope at (conjuncts_of others)) (first_row x.value) ∙ is) in
     (row_faults x.faults rest.faults _ _ (conjuncts_faults scope at (first_condition x.value) others) silent.0, silent.1)
-faulty_parts scope at (Comparison (tree.OneSum s)) is = one_part (sum_value scope at s) is
-faulty_parts scope at (Comparison (tree.TwoSums left r right)) is =
+faulty_parts scope at (Comparison (source.OneSum s)) is = one_part (sum_value scope at s) is
+faulty_parts scope at (Comparison (source.TwoSums left r right)) is =
     let a = sum_value scope at left in
     let b = sum_value scope at right in
     let silent = given_silent at (related_value r a.value b.value)
     (related_silent r a.value b.value (ap (λ x. is_error a.value || x) (sym (or_false (is_error b.value))) ∙ is)) in
     (ap (λ fs. a.faults ++ (b.faults ++ fs)) silent.0, silent.1)
-faulty_parts scope at (Sum (tree.LastTerm t)) is = one_part (term_value scope at t) is
-faulty_parts scope at (Sum (tree.TermThen t o others)) is =
+faulty_parts scope at (Sum (source.LastTerm t)) is = one_part (term_value scope at t) is
+faulty_parts scope at (Sum (source.TermThen t o others)) is =
     let x = term_value scope at t in
     let rest = summands scope at (first_integer x.value) o others in
     let silent = grouped_integers_silent at rest.value (summands_error scope at (first_integer x.value) o others ∙ ap (λ b. b || any_faulty scope at (summands_of others)) (first_integers x.value)
     ∙ is) in
     (row_faults x.faults rest.faults _ _ (summands_faults scope at (first_integer x.value) o others) silent.0, silent.1)
-faulty_parts scope at (Term (tree.LastUnary u)) is = one_part (unary_value scope at u) is
-faulty_parts scope at (Term (tree.UnaryThen u o others)) is =
+faulty_parts scope at (Term (source.LastUnary u)) is = one_part (unary_value scope at u) is
+faulty_parts scope at (Term (source.UnaryThen u o others)) is =
     let x = unary_value scope at u in
     let rest = factors scope at (first_integer x.value) o others in
     let silent = grouped_integers_silent at rest.value (factors_error scope at (first_integer x.value) o others ∙ ap (λ b. b || any_faulty scope at (factors_of others)) (first_integers x.value)
     ∙ is) in
     (row_faults x.faults rest.faults _ _ (factors_faults scope at (first_integer x.value) o others) silent.0, silent.1)
-faulty_parts scope at (Unary (tree.Bare e)) is = one_part (primary_value scope at e) is
-faulty_parts scope at (Unary (tree.Signed sign u)) is =
+faulty_parts scope at (Unary (source.Bare e)) is = one_part (primary_value scope at e) is
+faulty_parts scope at (Unary (source.Signed sign u)) is =
     let x = unary_value scope at u in
     let silent = signed_silent at sign x.value (sym (or_false (is_error x.value)) ∙ is) in
     (ap (λ fs. x.faults ++ fs) silent.0, silent.1)
-faulty_parts scope at (Primary (tree.Literal n)) is = absurd cc
-faulty_parts scope at (Primary (tree.Truth b)) is = absurd cc
-faulty_parts scope at (Primary (tree.Variable name)) is =
+faulty_parts scope at (Primary (source.Literal n)) is = absurd cc
+faulty_parts scope at (Primary (source.Truth b)) is = absurd cc
+faulty_parts scope at (Primary (source.Variable name)) is =
     let e = used_name scope name in
     let silent = named_silent at e.value (sym (or_false (names_error e.value)) ∙ is) in
     (ap (λ fs. e.faults ++ fs) silent.0, silent.1)
-faulty_parts scope at (Primary (tree.Entry vector index)) is =
+faulty_parts scope at (Primary (source.Entry vector index)) is =
     let e = used_name scope vector in
     let v = index_value scope at index in
     let silent = entry_silent scope.inside at e.value v.value (ap (λ x. names_error e.value || x) (sym (or_false (is_error v.value))) ∙ is) in
     (ap (λ fs. e.faults ++ (v.faults ++ fs)) silent.0, silent.1)
-faulty_parts scope at (Primary (tree.Size set)) is =
+faulty_parts scope at (Primary (source.Size set)) is =
     let e = used_name scope set in
     let silent = size_silent at e.value (sym (or_false (names_error e.value)) ∙ is) in
     (ap (λ fs. e.faults ++ fs) silent.0, silent.1)
-faulty_parts scope at (Primary (tree.Parentheses inner)) is = one_part (value_of scope at inner) is
+faulty_parts scope at (Primary (source.Parentheses inner)) is = one_part (value_of scope at inner) is
 faulty_parts scope at (Index index) is = index_part scope at index (index_lacks_value scope.inside scope index) is
 faulty_parts scope at (Name name) is = absurd cc
 

@@ -5,7 +5,6 @@ use Rattle.syntax.specs.Terminals.{Identifier}
 use Rattle.syntax.specs.declared.operators.Prefix.TheVariants as prefix
 use Rattle.syntax.specs.SourceTrees as tree
 use Rattle.syntax.specs.SourceTrees.{ExpressionTree, PrimaryTree, UnaryTree, DeclarationTree, InitialTree, ParameterTree, SourceTree}
-use Rattle.syntax.specs.SourceTrees as source
 use Rattle.syntax.specs.declared.declaration.DeclaredType.{DeclaredType}
 use Rattle.syntax.specs.declared.declaration.DeclaredType.TheVariants as declared
 use Rattle.typed_tree.specs.declared.statement.SetValue.TheVariants as set
@@ -109,22 +108,22 @@ truth_literal scope at (tree.LastConjunction (tree.LastComparison (tree.OneSum (
 truth_literal scope at (tree.LastConjunction (tree.LastComparison (tree.OneSum (tree.LastTerm (tree.LastUnary u))))) is = unary_truth_literal scope at u is
 
 literal_number : (c : CheckerTree) (at : ℕ) (initial : InitialTree) → IsSome (literal_integer initial) → (initializer_of c at initial).faults ≡ []
-literal_number c at (source.Value e) is = both_none (value_of c.scope at e).faults [] (number_literal c.scope at e is) refl
-literal_number c at (source.NewSet size) is = absurd (false_is_not_true is)
-literal_number c at (source.Load argument) is = absurd (false_is_not_true is)
-literal_number c at (source.Vertices edges) is = absurd (false_is_not_true is)
-literal_number c at (source.OutDegrees edges) is = absurd (false_is_not_true is)
-literal_number c at (source.Filter set test) is = absurd (false_is_not_true is)
-literal_number c at (source.ApplyModified edges ends f v) is = absurd (false_is_not_true is)
+literal_number c at (tree.Value e) is = both_none (value_of c.scope at e).faults [] (number_literal c.scope at e is) refl
+literal_number c at (tree.NewSet size) is = absurd (false_is_not_true is)
+literal_number c at (tree.Load argument) is = absurd (false_is_not_true is)
+literal_number c at (tree.Vertices edges) is = absurd (false_is_not_true is)
+literal_number c at (tree.OutDegrees edges) is = absurd (false_is_not_true is)
+literal_number c at (tree.Filter set test) is = absurd (false_is_not_true is)
+literal_number c at (tree.ApplyModified edges ends f v) is = absurd (false_is_not_true is)
 
 literal_truth : (c : CheckerTree) (at : ℕ) (initial : InitialTree) → IsSome (literal_condition initial) → (initializer_of c at initial).faults ≡ []
-literal_truth c at (source.Value e) is = both_none (value_of c.scope at e).faults [] (truth_literal c.scope at e is) refl
-literal_truth c at (source.NewSet size) is = absurd (false_is_not_true is)
-literal_truth c at (source.Load argument) is = absurd (false_is_not_true is)
-literal_truth c at (source.Vertices edges) is = absurd (false_is_not_true is)
-literal_truth c at (source.OutDegrees edges) is = absurd (false_is_not_true is)
-literal_truth c at (source.Filter set test) is = absurd (false_is_not_true is)
-literal_truth c at (source.ApplyModified edges ends f v) is = absurd (false_is_not_true is)
+literal_truth c at (tree.Value e) is = both_none (value_of c.scope at e).faults [] (truth_literal c.scope at e is) refl
+literal_truth c at (tree.NewSet size) is = absurd (false_is_not_true is)
+literal_truth c at (tree.Load argument) is = absurd (false_is_not_true is)
+literal_truth c at (tree.Vertices edges) is = absurd (false_is_not_true is)
+literal_truth c at (tree.OutDegrees edges) is = absurd (false_is_not_true is)
+literal_truth c at (tree.Filter set test) is = absurd (false_is_not_true is)
+literal_truth c at (tree.ApplyModified edges ends f v) is = absurd (false_is_not_true is)
 
 literal_there : {A : Type 0} (at : ℕ) (sound : Bool) (other : A) (o : Option A) → IsSome o → (literal_or_fault at sound other o).faults ≡ []
 literal_there at sound other (Some x) is = refl
@@ -246,47 +245,47 @@ constant_kept d k a at p declared.Bool initial type keeps new =
     let g = (initializer_of d.checker at initial).value in
     known_given d k at p initial declared.Bool g (literal_truth d.checker at initial keeps) refl (truth_constant d k a at p initial g type keeps new)
 constant_kept d k a at p declared.Vertex initial type keeps new = absurd keeps
-constant_kept d k a at p declared.VertexSet (source.Vertices edges) type keeps new =
+constant_kept d k a at p declared.VertexSet (tree.Vertices edges) type keeps new =
     let c = d.checker in
     let e = used_kept inside.Main c (record k.known { reduced = c.writes }) (as_matches c k.known a.checker) edges (meaning.Edges keeps.0) keeps.1 in
     let x = of_edges_fine at (used_name c.scope edges).value keeps.0 e.1 (Members set.All) in
-    known_given d k at p (source.Vertices edges) declared.VertexSet (Members set.All) (both_none (used_name c.scope edges).faults _ e.0 x.0) x.1
-    (set_constant d k a at p (source.Vertices edges) type new)
-constant_kept d k a at p declared.VertexSet (source.NewSet size) type keeps new = absurd keeps
-constant_kept d k a at p declared.VertexSet (source.Load argument) type keeps new = absurd keeps
-constant_kept d k a at p declared.VertexSet (source.OutDegrees edges) type keeps new = absurd keeps
-constant_kept d k a at p declared.VertexSet (source.Filter s f) type keeps new = absurd keeps
-constant_kept d k a at p declared.VertexSet (source.ApplyModified edges ends f v) type keeps new = absurd keeps
-constant_kept d k a at p declared.VertexSet (source.Value e) type keeps new = absurd keeps
-constant_kept d k a at p declared.Vector (source.OutDegrees edges) type keeps new =
+    known_given d k at p (tree.Vertices edges) declared.VertexSet (Members set.All) (both_none (used_name c.scope edges).faults _ e.0 x.0) x.1
+    (set_constant d k a at p (tree.Vertices edges) type new)
+constant_kept d k a at p declared.VertexSet (tree.NewSet size) type keeps new = absurd keeps
+constant_kept d k a at p declared.VertexSet (tree.Load argument) type keeps new = absurd keeps
+constant_kept d k a at p declared.VertexSet (tree.OutDegrees edges) type keeps new = absurd keeps
+constant_kept d k a at p declared.VertexSet (tree.Filter s f) type keeps new = absurd keeps
+constant_kept d k a at p declared.VertexSet (tree.ApplyModified edges ends f v) type keeps new = absurd keeps
+constant_kept d k a at p declared.VertexSet (tree.Value e) type keeps new = absurd keeps
+constant_kept d k a at p declared.Vector (tree.OutDegrees edges) type keeps new =
     let c = d.checker in
     let e = used_kept inside.Main c (record k.known { reduced = c.writes }) (as_matches c k.known a.checker) edges (meaning.Edges keeps.0) keeps.1 in
     let x = of_edges_fine at (used_name c.scope edges).value keeps.0 e.1 Degrees in
-    known_given d k at p (source.OutDegrees edges) declared.Vector Degrees (both_none (used_name c.scope edges).faults _ e.0 x.0) x.1
-    (vector_constant d k a at p (source.OutDegrees edges) Degrees type refl new)
-constant_kept d k a at p declared.Vector (source.NewSet size) type keeps new = literal_vector d k a at p (source.NewSet size) type keeps new
-constant_kept d k a at p declared.Vector (source.Load argument) type keeps new = literal_vector d k a at p (source.Load argument) type keeps new
-constant_kept d k a at p declared.Vector (source.Vertices edges) type keeps new = literal_vector d k a at p (source.Vertices edges) type keeps new
-constant_kept d k a at p declared.Vector (source.Filter s f) type keeps new = literal_vector d k a at p (source.Filter s f) type keeps new
-constant_kept d k a at p declared.Vector (source.ApplyModified edges ends f v) type keeps new = literal_vector d k a at p (source.ApplyModified edges ends f v) type keeps new
-constant_kept d k a at p declared.Vector (source.Value e) type keeps new = literal_vector d k a at p (source.Value e) type keeps new
-constant_kept d k a at p declared.EdgeSet (source.Load argument) type keeps new =
+    known_given d k at p (tree.OutDegrees edges) declared.Vector Degrees (both_none (used_name c.scope edges).faults _ e.0 x.0) x.1
+    (vector_constant d k a at p (tree.OutDegrees edges) Degrees type refl new)
+constant_kept d k a at p declared.Vector (tree.NewSet size) type keeps new = literal_vector d k a at p (tree.NewSet size) type keeps new
+constant_kept d k a at p declared.Vector (tree.Load argument) type keeps new = literal_vector d k a at p (tree.Load argument) type keeps new
+constant_kept d k a at p declared.Vector (tree.Vertices edges) type keeps new = literal_vector d k a at p (tree.Vertices edges) type keeps new
+constant_kept d k a at p declared.Vector (tree.Filter s f) type keeps new = literal_vector d k a at p (tree.Filter s f) type keeps new
+constant_kept d k a at p declared.Vector (tree.ApplyModified edges ends f v) type keeps new = literal_vector d k a at p (tree.ApplyModified edges ends f v) type keeps new
+constant_kept d k a at p declared.Vector (tree.Value e) type keeps new = literal_vector d k a at p (tree.Value e) type keeps new
+constant_kept d k a at p declared.EdgeSet (tree.Load argument) type keeps new =
     let x = loaded_first at argument keeps.0 in
-    known_given d k at p (source.Load argument) declared.EdgeSet Loaded x.0 x.1
+    known_given d k at p (tree.Load argument) declared.EdgeSet Loaded x.0 x.1
     (subst (λ t. Fits (declare_edges false d at p.name Loaded) (after_constant k (record p { declared = t }))) (sym type) (edges_constant d k a false at p keeps.1 new))
-constant_kept d k a at p declared.WeightedEdgeSet (source.Load argument) type keeps new =
+constant_kept d k a at p declared.WeightedEdgeSet (tree.Load argument) type keeps new =
     let x = loaded_first at argument keeps.0 in
-    known_given d k at p (source.Load argument) declared.WeightedEdgeSet Loaded x.0 x.1
+    known_given d k at p (tree.Load argument) declared.WeightedEdgeSet Loaded x.0 x.1
     (subst (λ t. Fits (declare_edges true d at p.name Loaded) (after_constant k (record p { declared = t }))) (sym type) (edges_constant d k a true at p keeps.1 new))
-constant_kept d k a at p declared.EdgeSet (source.NewSet size) type keeps new = absurd keeps
-constant_kept d k a at p declared.WeightedEdgeSet (source.NewSet size) type keeps new = absurd keeps
-constant_kept d k a at p declared.EdgeSet (source.Vertices edges) type keeps new = absurd keeps
-constant_kept d k a at p declared.WeightedEdgeSet (source.Vertices edges) type keeps new = absurd keeps
-constant_kept d k a at p declared.EdgeSet (source.OutDegrees edges) type keeps new = absurd keeps
-constant_kept d k a at p declared.WeightedEdgeSet (source.OutDegrees edges) type keeps new = absurd keeps
-constant_kept d k a at p declared.EdgeSet (source.Filter s f) type keeps new = absurd keeps
-constant_kept d k a at p declared.WeightedEdgeSet (source.Filter s f) type keeps new = absurd keeps
-constant_kept d k a at p declared.EdgeSet (source.ApplyModified edges ends f v) type keeps new = absurd keeps
-constant_kept d k a at p declared.WeightedEdgeSet (source.ApplyModified edges ends f v) type keeps new = absurd keeps
-constant_kept d k a at p declared.EdgeSet (source.Value e) type keeps new = absurd keeps
-constant_kept d k a at p declared.WeightedEdgeSet (source.Value e) type keeps new = absurd keeps
+constant_kept d k a at p declared.EdgeSet (tree.NewSet size) type keeps new = absurd keeps
+constant_kept d k a at p declared.WeightedEdgeSet (tree.NewSet size) type keeps new = absurd keeps
+constant_kept d k a at p declared.EdgeSet (tree.Vertices edges) type keeps new = absurd keeps
+constant_kept d k a at p declared.WeightedEdgeSet (tree.Vertices edges) type keeps new = absurd keeps
+constant_kept d k a at p declared.EdgeSet (tree.OutDegrees edges) type keeps new = absurd keeps
+constant_kept d k a at p declared.WeightedEdgeSet (tree.OutDegrees edges) type keeps new = absurd keeps
+constant_kept d k a at p declared.EdgeSet (tree.Filter s f) type keeps new = absurd keeps
+constant_kept d k a at p declared.WeightedEdgeSet (tree.Filter s f) type keeps new = absurd keeps
+constant_kept d k a at p declared.EdgeSet (tree.ApplyModified edges ends f v) type keeps new = absurd keeps
+constant_kept d k a at p declared.WeightedEdgeSet (tree.ApplyModified edges ends f v) type keeps new = absurd keeps
+constant_kept d k a at p declared.EdgeSet (tree.Value e) type keeps new = absurd keeps
+constant_kept d k a at p declared.WeightedEdgeSet (tree.Value e) type keeps new = absurd keeps

@@ -8,7 +8,6 @@ use Rattle.syntax.specs.declared.operators.Addition.{Addition}
 use Rattle.syntax.specs.declared.operators.Multiplication.{Multiplication}
 use Rattle.syntax.specs.SourceTrees as tree
 use Rattle.syntax.specs.SourceTrees.{ExpressionTree, ConjunctionTree, ComparisonTree, SumTree, TermTree, UnaryTree, PrimaryTree, InitialTree, ParameterTree, DeclarationTree, SourceTree}
-use Rattle.syntax.specs.SourceTrees as source
 use Rattle.typed_tree.specs.BlockTree.{BlockTree, Empty}
 use Rattle.typed_tree.specs.FunctionStatementTree.{FunctionStatementsTree, NoStep}
 use Rattle.expression_types.specs.declared.scope.Entity.{Entity}
@@ -208,15 +207,15 @@ end_visible scope None none = tt
 end_visible scope (Some name) none = used_visible scope name (no_left (used_name scope name).faults [] none)
 
 initializer_visible : (c : CheckerTree) (at : ℕ) (initial : InitialTree) → (initializer_of c at initial).faults ≡ [] → InitialUsesVisible (seen c.scope) initial
-initializer_visible c at (source.NewSet size) none = tt
-initializer_visible c at (source.Load argument) none = tt
-initializer_visible c at (source.Vertices edges) none = used_visible c.scope edges (no_left (used_name c.scope edges).faults _ none)
-initializer_visible c at (source.OutDegrees edges) none = used_visible c.scope edges (no_left (used_name c.scope edges).faults _ none)
-initializer_visible c at (source.Filter s f) none = (
+initializer_visible c at (tree.NewSet size) none = tt
+initializer_visible c at (tree.Load argument) none = tt
+initializer_visible c at (tree.Vertices edges) none = used_visible c.scope edges (no_left (used_name c.scope edges).faults _ none)
+initializer_visible c at (tree.OutDegrees edges) none = used_visible c.scope edges (no_left (used_name c.scope edges).faults _ none)
+initializer_visible c at (tree.Filter s f) none = (
   used_visible c.scope s (no_left (used_name c.scope s).faults _ none),
   used_visible c.scope f (no_left (used_name c.scope f).faults _ (no_right (used_name c.scope s).faults _ none)),
 )
-initializer_visible c at (source.ApplyModified edges ends f x) none =
+initializer_visible c at (tree.ApplyModified edges ends f x) none =
     let behind_edges = no_right (used_name c.scope edges).faults _ none in
     let after_from = no_right (apply_end_of c.scope ends.from).faults _ behind_edges in
     let after_to = no_right (apply_end_of c.scope ends.to).faults _ after_from in (
@@ -228,19 +227,19 @@ initializer_visible c at (source.ApplyModified edges ends f x) none =
       used_visible c.scope f (no_left (used_name c.scope f).faults _ after_to),
       used_visible c.scope x (no_left (used_name c.scope x).faults _ (no_right (used_name c.scope f).faults _ after_to)),
     )
-initializer_visible c at (source.Value e) none = expression_visible c.scope at e (no_left (value_of c.scope at e).faults [] none)
+initializer_visible c at (tree.Value e) none = expression_visible c.scope at e (no_left (value_of c.scope at e).faults [] none)
 
 -- statements of functions
 mutual
-  step_visible : (c : CheckerTree) (action : source.StatementKindTree) → (step_typed c action).faults ≡ [] → ActionUsesVisible (seen c.scope) action
-  step_visible c (source.Declare at x initial) none = initializer_visible c at initial (no_left (initializer_of c at initial).faults _ none)
-  step_visible c (source.While at test body) none = absurd (not_empty _ _ none)
-  step_visible c (source.For at name first limit body) none = absurd (not_empty _ _ none)
-  step_visible c (source.If at test body) none =
+  step_visible : (c : CheckerTree) (action : tree.StatementKindTree) → (step_typed c action).faults ≡ [] → ActionUsesVisible (seen c.scope) action
+  step_visible c (tree.Declare at x initial) none = initializer_visible c at initial (no_left (initializer_of c at initial).faults _ none)
+  step_visible c (tree.While at test body) none = absurd (not_empty _ _ none)
+  step_visible c (tree.For at name first limit body) none = absurd (not_empty _ _ none)
+  step_visible c (tree.If at test body) none =
       let t = condition_in c.scope at test in
       let b = steps_typed c NoStep body in
       (condition_visible c.scope at test (no_left t.faults _ none), steps_visible c NoStep body (no_left b.faults [] (no_right t.faults _ none)))
-  step_visible c (source.IfElse at test body otherwise) none =
+  step_visible c (tree.IfElse at test body otherwise) none =
       let t = condition_in c.scope at test in
       let b = steps_typed c NoStep body in
       let d = steps_after c b.value.1 in
@@ -250,18 +249,18 @@ mutual
         steps_visible c NoStep body (no_left b.faults (o.faults ++ []) both),
         steps_visible d NoStep otherwise (no_left o.faults [] (no_right b.faults (o.faults ++ []) both)),
       )
-  step_visible c (source.Print at e) none = absurd (not_empty _ _ none)
-  step_visible c (source.Assign name initial) none =
+  step_visible c (tree.Print at e) none = absurd (not_empty _ _ none)
+  step_visible c (tree.Assign name initial) none =
       let all = no_left (assign_step c name.at name initial).faults [] none in (
         used_visible c.scope name (no_left (used_name c.scope name).faults _ all),
         initializer_visible c name.at initial (no_left (initializer_of c name.at initial).faults _ (no_right (used_name c.scope name).faults _ all)),
       )
-  step_visible c (source.Reduce name by e) none =
+  step_visible c (tree.Reduce name by e) none =
       let all = no_left (reduce_step c.scope name.at name by e).faults [] none in (
         used_visible c.scope name (no_left (used_name c.scope name).faults _ all),
         expression_visible c.scope name.at e (no_left (value_of c.scope name.at e).faults _ (no_right (used_name c.scope name).faults _ all)),
       )
-  step_visible c (source.SetEntry vector subscript e) none =
+  step_visible c (tree.SetEntry vector subscript e) none =
       let index = vector_index c.scope vector.at vector in
       let v = index_value c.scope vector.at subscript in
       let all = no_right (may_set vector.at c.scope.inside).faults _ (no_left (set_entry_step c.scope vector.at vector subscript e).faults [] none) in
@@ -271,7 +270,7 @@ mutual
         index_visible c.scope subscript (value_of c.scope vector.at subscript) (expression_visible c.scope vector.at subscript) (no_left v.faults _ after_vector),
         integer_visible c.scope vector.at e (no_left (integer_in c.scope vector.at e).faults _ behind_index),
       )
-  step_visible c (source.ReduceEntry vector subscript by e) none =
+  step_visible c (tree.ReduceEntry vector subscript by e) none =
       let index = vector_index c.scope vector.at vector in
       let v = index_value c.scope vector.at subscript in
       let after_vector = no_right (may_reduce vector.at c.scope.inside index.value by c.writes).faults _ (no_right index.faults _ none) in
@@ -280,12 +279,12 @@ mutual
         index_visible c.scope subscript (value_of c.scope vector.at subscript) (expression_visible c.scope vector.at subscript) (no_left v.faults _ after_vector),
         integer_visible c.scope vector.at e (no_left (integer_in c.scope vector.at e).faults _ behind_index),
       )
-  step_visible c (source.AddVertex set e) none = absurd (not_empty _ _ none)
-  step_visible c (source.Apply target ends function) none = absurd (not_empty _ _ none)
+  step_visible c (tree.AddVertex set e) none = absurd (not_empty _ _ none)
+  step_visible c (tree.Apply target ends function) none = absurd (not_empty _ _ none)
 
-  steps_visible : (c : CheckerTree) (so_far : FunctionStatementsTree) (block : source.BlockTree) → (steps_typed c so_far block).faults ≡ [] → BlockUsesVisible (seen c.scope) block
-  steps_visible c so_far source.Empty none = tt
-  steps_visible c so_far (source.Then label action others) none =
+  steps_visible : (c : CheckerTree) (so_far : FunctionStatementsTree) (block : tree.BlockTree) → (steps_typed c so_far block).faults ≡ [] → BlockUsesVisible (seen c.scope) block
+  steps_visible c so_far tree.Empty none = tt
+  steps_visible c so_far (tree.Then label action others) none =
       let l = with_label c label in
       let s = step_typed l.value.1 action in
       let rest = steps_typed s.value.1 (step_after so_far s.value.0) others in
@@ -297,13 +296,13 @@ mutual
 
 -- statements of main
 mutual
-  action_visible : (c : CheckerTree) (action : source.StatementKindTree) → (action_typed c action).faults ≡ [] → ActionUsesVisible (seen c.scope) action
-  action_visible c (source.Declare at x initial) none = initializer_visible c at initial (no_left (initializer_of c at initial).faults _ none)
-  action_visible c (source.While at test body) none =
+  action_visible : (c : CheckerTree) (action : tree.StatementKindTree) → (action_typed c action).faults ≡ [] → ActionUsesVisible (seen c.scope) action
+  action_visible c (tree.Declare at x initial) none = initializer_visible c at initial (no_left (initializer_of c at initial).faults _ none)
+  action_visible c (tree.While at test body) none =
       let t = condition_in c.scope at test in
       let b = statements_typed c Empty body in
       (condition_visible c.scope at test (no_left t.faults _ none), statements_visible c Empty body (no_left b.faults [] (no_right t.faults _ none)))
-  action_visible c (source.For at name first limit body) none =
+  action_visible c (tree.For at name first limit body) none =
       let e = entity.LoopVariable (integer_slot c) in
       let a = integer_in c.scope at first in
       let z = integer_in c.scope at limit in
@@ -316,11 +315,11 @@ mutual
         integer_visible c.scope at limit (no_left z.faults _ bounds),
         subst (λ visible. BlockUsesVisible visible body) (declared_new c name e (no_left d.faults (b.faults ++ []) both)).1 inner,
       )
-  action_visible c (source.If at test body) none =
+  action_visible c (tree.If at test body) none =
       let t = condition_in c.scope at test in
       let b = statements_typed c Empty body in
       (condition_visible c.scope at test (no_left t.faults _ none), statements_visible c Empty body (no_left b.faults [] (no_right t.faults _ none)))
-  action_visible c (source.IfElse at test body otherwise) none =
+  action_visible c (tree.IfElse at test body otherwise) none =
       let t = condition_in c.scope at test in
       let b = statements_typed c Empty body in
       let d = closed c b.value.1 in
@@ -330,19 +329,19 @@ mutual
         statements_visible c Empty body (no_left b.faults (o.faults ++ []) both),
         statements_visible d Empty otherwise (no_left o.faults [] (no_right b.faults (o.faults ++ []) both)),
       )
-  action_visible c (source.Print at e) none =
+  action_visible c (tree.Print at e) none =
       expression_visible c.scope at e (no_left (value_of c.scope at e).faults _ (no_left (print c.scope at e).faults [] none))
-  action_visible c (source.Assign name initial) none =
+  action_visible c (tree.Assign name initial) none =
       let all = no_left (assign c name.at name initial).faults [] none in (
         used_visible c.scope name (no_left (used_name c.scope name).faults _ all),
         initializer_visible c name.at initial (no_left (initializer_of c name.at initial).faults _ (no_right (used_name c.scope name).faults _ all)),
       )
-  action_visible c (source.Reduce name by e) none =
+  action_visible c (tree.Reduce name by e) none =
       let all = no_left (reduce c.scope name.at name by e).faults [] none in (
         used_visible c.scope name (no_left (used_name c.scope name).faults _ all),
         expression_visible c.scope name.at e (no_left (value_of c.scope name.at e).faults _ (no_right (used_name c.scope name).faults _ all)),
       )
-  action_visible c (source.SetEntry vector subscript e) none =
+  action_visible c (tree.SetEntry vector subscript e) none =
       let index = vector_index c.scope vector.at vector in
       let v = value_of c.scope vector.at subscript in
       let all = no_left (set_entry c.scope vector.at vector subscript e).faults [] none in
@@ -352,7 +351,7 @@ mutual
         expression_visible c.scope vector.at subscript (no_left v.faults _ after_vector),
         integer_visible c.scope vector.at e (no_left (integer_in c.scope vector.at e).faults _ behind_index),
       )
-  action_visible c (source.ReduceEntry vector subscript by e) none =
+  action_visible c (tree.ReduceEntry vector subscript by e) none =
       let index = vector_index c.scope vector.at vector in
       let v = value_of c.scope vector.at subscript in
       let all = no_left (reduce_entry c.scope vector.at vector subscript by e).faults [] none in
@@ -362,12 +361,12 @@ mutual
         expression_visible c.scope vector.at subscript (no_left v.faults _ after_vector),
         integer_visible c.scope vector.at e (no_left (integer_in c.scope vector.at e).faults _ behind_index),
       )
-  action_visible c (source.AddVertex set e) none =
+  action_visible c (tree.AddVertex set e) none =
       let all = no_left (add_vertex c.scope set.at set e).faults [] none in (
         used_visible c.scope set (no_left (used_name c.scope set).faults _ all),
         expression_visible c.scope set.at e (no_left (value_of c.scope set.at e).faults _ (no_right (used_name c.scope set).faults _ all)),
       )
-  action_visible c (source.Apply target ends function) none =
+  action_visible c (tree.Apply target ends function) none =
       let all = no_left (apply c.scope target.at target ends function).faults [] none in
       let after_target = no_right (used_name c.scope target).faults _ all in
       let after_from = no_right (apply_end_of c.scope ends.from).faults _ after_target in
@@ -380,9 +379,9 @@ mutual
         used_visible c.scope function (no_left (used_name c.scope function).faults _ after_to),
       )
 
-  statements_visible : (c : CheckerTree) (so_far : BlockTree) (block : source.BlockTree) → (statements_typed c so_far block).faults ≡ [] → BlockUsesVisible (seen c.scope) block
-  statements_visible c so_far source.Empty none = tt
-  statements_visible c so_far (source.Then label action others) none =
+  statements_visible : (c : CheckerTree) (so_far : BlockTree) (block : tree.BlockTree) → (statements_typed c so_far block).faults ≡ [] → BlockUsesVisible (seen c.scope) block
+  statements_visible c so_far tree.Empty none = tt
+  statements_visible c so_far (tree.Then label action others) none =
       let l = with_label c label in
       let d = counted l.value.1 in
       let a = action_typed d action in
@@ -395,7 +394,7 @@ mutual
       (action_visible d action clear, subst (λ visible. BlockUsesVisible visible others) (action_new d action clear).1 last)
 
 -- functions
-steps_declared_visible : (d : DeclaredTree) (at : ℕ) (kind : FunctionKindTree) (name : Identifier) (parameters : List ParameterTree) (result : Option ParameterTree) (body : source.BlockTree)
+steps_declared_visible : (d : DeclaredTree) (at : ℕ) (kind : FunctionKindTree) (name : Identifier) (parameters : List ParameterTree) (result : Option ParameterTree) (body : tree.BlockTree)
     → (steps_declared d at kind name parameters result body).faults ≡ [] → BlockUsesVisible (names_inside (seen d.checker.scope) parameters result) body
 steps_declared_visible d at kind name parameters result body none =
     let c = opened d.checker kind parameters result in
@@ -404,7 +403,7 @@ steps_declared_visible d at kind name parameters result body none =
     let clear = no_left b.faults _ (no_right c.faults _ inside) in
     subst (λ visible. BlockUsesVisible visible body) (opened_new d.checker kind parameters result (no_left c.faults _ inside)).2 (steps_visible c.value NoStep body clear)
 
-main_visible : (d : DeclaredTree) (fits : Bool) (name : Identifier) (parameters : List ParameterTree) (result : Option ParameterTree) (body : source.BlockTree)
+main_visible : (d : DeclaredTree) (fits : Bool) (name : Identifier) (parameters : List ParameterTree) (result : Option ParameterTree) (body : tree.BlockTree)
     → (main_declared d fits name parameters result body).faults ≡ [] → BlockUsesVisible (names_inside (seen d.checker.scope) parameters result) body
 main_visible d fits name parameters result body none =
     let c = opened (restarted d.checker) (MainKind fits) parameters result in
@@ -413,7 +412,7 @@ main_visible d fits name parameters result body none =
     subst (λ visible. BlockUsesVisible visible body) (opened_new (restarted d.checker) (MainKind fits) parameters result (no_left c.faults _ none)).2
     (statements_visible c.value Empty body clear)
 
-function_visible : (d : DeclaredTree) (at : ℕ) (name : Identifier) (parameters : List ParameterTree) (result : Option ParameterTree) (body : source.BlockTree) (kind : FunctionKindTree)
+function_visible : (d : DeclaredTree) (at : ℕ) (name : Identifier) (parameters : List ParameterTree) (result : Option ParameterTree) (body : tree.BlockTree) (kind : FunctionKindTree)
     → (declare_function d at name parameters result body kind).faults ≡ [] → BlockUsesVisible (names_inside (seen d.checker.scope) parameters result) body
 function_visible d at name parameters result body (MainKind fits) none = main_visible d fits name parameters result body none
 function_visible d at name parameters result body (EdgeKind weighted) none = steps_declared_visible d at (EdgeKind weighted) name parameters result body none
@@ -423,8 +422,8 @@ function_visible d at name parameters result body NoKind none = steps_declared_v
 
 -- declarations
 declaration_visible : (d : DeclaredTree) (x : DeclarationTree) → (declaration_typed d x).faults ≡ [] → DeclarationUsesVisible (seen d.checker.scope) x
-declaration_visible d (source.Constant at x initial) none = initializer_visible d.checker at initial (no_left (initializer_of d.checker at initial).faults _ none)
-declaration_visible d (source.Function at name parameters result body) none =
+declaration_visible d (tree.Constant at x initial) none = initializer_visible d.checker at initial (no_left (initializer_of d.checker at initial).faults _ none)
+declaration_visible d (tree.Function at name parameters result body) none =
     function_visible d at name parameters result body (kind name.bytes parameters result) none
 
 declarations_visible : (d : DeclaredTree) (xs : List DeclarationTree) → (declarations_typed d xs).faults ≡ [] → DeclarationsUseVisible (seen d.checker.scope) xs
@@ -437,7 +436,7 @@ declarations_visible d (x ∷ others) none =
       subst (λ visible. DeclarationsUseVisible visible others) (declaration_new d x clear).1 (declarations_visible e.value others (no_right e.faults rest.faults none)),
     )
 
-pub names_are_visible : (source : SourceTree) (length : ℕ) → (program_of source length).faults ≡ [] → DeclarationsUseVisible [] source.declarations
+pub names_are_visible : (source : SourceTree) (length : ℕ) → (program_of source length).faults ≡ [] → DeclarationsUseVisible [] tree.declarations
 names_are_visible source length none =
-    let start = opening (set_count source.declarations) in
-    declarations_visible start source.declarations (no_left (declarations_typed start source.declarations).faults _ none)
+    let start = opening (set_count tree.declarations) in
+    declarations_visible start tree.declarations (no_left (declarations_typed start tree.declarations).faults _ none)

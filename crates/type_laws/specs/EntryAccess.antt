@@ -4,7 +4,6 @@ use Rattle.std.specs.List.{Contains}
 use Rattle.syntax.specs.SourceTrees as tree
 use Rattle.syntax.specs.SourceTrees.{ExpressionTree, ConjunctionTree, ComparisonTree, SumTree, TermTree, UnaryTree, PrimaryTree, InitialTree, ParameterTree}
 use Rattle.syntax.specs.SourceTrees.{StatementKindTree, BlockTree, DeclarationTree}
-use Rattle.syntax.specs.SourceTrees as source
 use Rattle.syntax.specs.Terminals.{Identifier}
 use Rattle.expression_types.specs.BareNames.{lone_name}
 use Rattle.types.specs.Declaration.{main_bytes}
@@ -86,35 +85,35 @@ abbrev mutual
   PrimaryReadsAt Index (tree.Parentheses inside) = ExpressionReadsAt Index inside
 
 abbrev pub InitialReadsAt : (ExpressionTree → Type 0) → InitialTree → Type 0
-InitialReadsAt Index (source.NewSet size) = Unit {0}
-InitialReadsAt Index (source.Load argument) = Unit {0}
-InitialReadsAt Index (source.Vertices edges) = Unit {0}
-InitialReadsAt Index (source.OutDegrees edges) = Unit {0}
-InitialReadsAt Index (source.Filter set test) = Unit {0}
-InitialReadsAt Index (source.ApplyModified edges ends function vector) = Unit {0}
-InitialReadsAt Index (source.Value e) = ExpressionReadsAt Index e
+InitialReadsAt Index (tree.NewSet size) = Unit {0}
+InitialReadsAt Index (tree.Load argument) = Unit {0}
+InitialReadsAt Index (tree.Vertices edges) = Unit {0}
+InitialReadsAt Index (tree.OutDegrees edges) = Unit {0}
+InitialReadsAt Index (tree.Filter set test) = Unit {0}
+InitialReadsAt Index (tree.ApplyModified edges ends function vector) = Unit {0}
+InitialReadsAt Index (tree.Value e) = ExpressionReadsAt Index e
 
 abbrev mutual
   -- each entry that a statement reads is at an index of the first kind, and each that it writes at one of the second
   pub ActionAccesses : (Read Write : ExpressionTree → Type 0) → StatementKindTree → Type 0
-  ActionAccesses Read Write (source.Declare at variable initial) = InitialReadsAt Read initial
-  ActionAccesses Read Write (source.While at test body) = ExpressionReadsAt Read test × BlockAccesses Read Write body
-  ActionAccesses Read Write (source.For at name first limit body) =
+  ActionAccesses Read Write (tree.Declare at variable initial) = InitialReadsAt Read initial
+  ActionAccesses Read Write (tree.While at test body) = ExpressionReadsAt Read test × BlockAccesses Read Write body
+  ActionAccesses Read Write (tree.For at name first limit body) =
       ExpressionReadsAt Read first × ExpressionReadsAt Read limit × BlockAccesses Read Write body
-  ActionAccesses Read Write (source.If at test body) = ExpressionReadsAt Read test × BlockAccesses Read Write body
-  ActionAccesses Read Write (source.IfElse at test body otherwise) =
+  ActionAccesses Read Write (tree.If at test body) = ExpressionReadsAt Read test × BlockAccesses Read Write body
+  ActionAccesses Read Write (tree.IfElse at test body otherwise) =
       ExpressionReadsAt Read test × BlockAccesses Read Write body × BlockAccesses Read Write otherwise
-  ActionAccesses Read Write (source.Print at e) = ExpressionReadsAt Read e
-  ActionAccesses Read Write (source.Assign name initial) = InitialReadsAt Read initial
-  ActionAccesses Read Write (source.Reduce name by e) = ExpressionReadsAt Read e
-  ActionAccesses Read Write (source.SetEntry vector index e) = Write index × ExpressionReadsAt Read e
-  ActionAccesses Read Write (source.ReduceEntry vector index by e) = Write index × ExpressionReadsAt Read e
-  ActionAccesses Read Write (source.AddVertex set e) = ExpressionReadsAt Read e
-  ActionAccesses Read Write (source.Apply target ends function) = Unit {0}
+  ActionAccesses Read Write (tree.Print at e) = ExpressionReadsAt Read e
+  ActionAccesses Read Write (tree.Assign name initial) = InitialReadsAt Read initial
+  ActionAccesses Read Write (tree.Reduce name by e) = ExpressionReadsAt Read e
+  ActionAccesses Read Write (tree.SetEntry vector index e) = Write index × ExpressionReadsAt Read e
+  ActionAccesses Read Write (tree.ReduceEntry vector index by e) = Write index × ExpressionReadsAt Read e
+  ActionAccesses Read Write (tree.AddVertex set e) = ExpressionReadsAt Read e
+  ActionAccesses Read Write (tree.Apply target ends function) = Unit {0}
 
   pub BlockAccesses : (Read Write : ExpressionTree → Type 0) → BlockTree → Type 0
-  BlockAccesses Read Write source.Empty = Unit {0}
-  BlockAccesses Read Write (source.Then label action others) = ActionAccesses Read Write action × BlockAccesses Read Write others
+  BlockAccesses Read Write tree.Empty = Unit {0}
+  BlockAccesses Read Write (tree.Then label action others) = ActionAccesses Read Write action × BlockAccesses Read Write others
 
 -- A function of a user has one vertex or two as its first parameters. It reads entries at each of them and writes them at the last; a third
 -- parameter is no vertex.
@@ -129,6 +128,6 @@ AccessesOwnVertices (a ∷ b ∷ c ∷ d ∷ others) body = ⊥
 
 -- main, and each function of a user
 abbrev pub AccessesEntriesWell : DeclarationTree → Type 0
-AccessesEntriesWell (source.Constant at p initial) = Unit {0}
-AccessesEntriesWell (source.Function at name parameters result body) =
+AccessesEntriesWell (tree.Constant at p initial) = Unit {0}
+AccessesEntriesWell (tree.Function at name parameters result body) =
     (name.bytes ≡ main_bytes → BlockAccesses HasNoEntry HasNoEntry body) × (name.bytes ≢ main_bytes → AccessesOwnVertices parameters body)

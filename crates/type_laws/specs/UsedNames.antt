@@ -5,7 +5,6 @@ use Rattle.syntax.specs.Terminals.{Identifier}
 use Rattle.syntax.specs.SourceTrees as tree
 use Rattle.syntax.specs.SourceTrees.{ExpressionTree, ConjunctionTree, ComparisonTree, SumTree, TermTree, UnaryTree, PrimaryTree, EndsTree, InitialTree}
 use Rattle.syntax.specs.SourceTrees.{StatementKindTree, BlockTree, DeclarationTree}
-use Rattle.syntax.specs.SourceTrees as source
 use Rattle.type_laws.specs.NewNames.{names_after, names_inside, with_declaration, with_new}
 
 abbrev pub IsVisible : List (List ℕ) → Identifier → Type 0
@@ -55,43 +54,43 @@ EndsAreVisible visible ends = EndIsVisible visible ends.from × EndIsVisible vis
 
 -- an initial or assigned value
 abbrev pub InitialUsesVisible : List (List ℕ) → InitialTree → Type 0
-InitialUsesVisible visible (source.NewSet size) = Unit {0}
-InitialUsesVisible visible (source.Load argument) = Unit {0}
-InitialUsesVisible visible (source.Vertices edges) = IsVisible visible edges
-InitialUsesVisible visible (source.OutDegrees edges) = IsVisible visible edges
-InitialUsesVisible visible (source.Filter set test) = IsVisible visible set × IsVisible visible test
-InitialUsesVisible visible (source.ApplyModified edges ends function vector) =
+InitialUsesVisible visible (tree.NewSet size) = Unit {0}
+InitialUsesVisible visible (tree.Load argument) = Unit {0}
+InitialUsesVisible visible (tree.Vertices edges) = IsVisible visible edges
+InitialUsesVisible visible (tree.OutDegrees edges) = IsVisible visible edges
+InitialUsesVisible visible (tree.Filter set test) = IsVisible visible set × IsVisible visible test
+InitialUsesVisible visible (tree.ApplyModified edges ends function vector) =
     IsVisible visible edges × EndsAreVisible visible ends × IsVisible visible function × IsVisible visible vector
-InitialUsesVisible visible (source.Value e) = ExpressionUsesVisible visible e
+InitialUsesVisible visible (tree.Value e) = ExpressionUsesVisible visible e
 
 abbrev mutual
   pub ActionUsesVisible : List (List ℕ) → StatementKindTree → Type 0
-  ActionUsesVisible visible (source.Declare at variable initial) = InitialUsesVisible visible initial
-  ActionUsesVisible visible (source.While at test body) = ExpressionUsesVisible visible test × BlockUsesVisible visible body
-  ActionUsesVisible visible (source.For at name first limit body) =
+  ActionUsesVisible visible (tree.Declare at variable initial) = InitialUsesVisible visible initial
+  ActionUsesVisible visible (tree.While at test body) = ExpressionUsesVisible visible test × BlockUsesVisible visible body
+  ActionUsesVisible visible (tree.For at name first limit body) =
       ExpressionUsesVisible visible first × ExpressionUsesVisible visible limit × BlockUsesVisible (with_new visible name) body
-  ActionUsesVisible visible (source.If at test body) = ExpressionUsesVisible visible test × BlockUsesVisible visible body
-  ActionUsesVisible visible (source.IfElse at test body otherwise) =
+  ActionUsesVisible visible (tree.If at test body) = ExpressionUsesVisible visible test × BlockUsesVisible visible body
+  ActionUsesVisible visible (tree.IfElse at test body otherwise) =
       ExpressionUsesVisible visible test × BlockUsesVisible visible body × BlockUsesVisible visible otherwise
-  ActionUsesVisible visible (source.Print at e) = ExpressionUsesVisible visible e
-  ActionUsesVisible visible (source.Assign name initial) = IsVisible visible name × InitialUsesVisible visible initial
-  ActionUsesVisible visible (source.Reduce name by e) = IsVisible visible name × ExpressionUsesVisible visible e
-  ActionUsesVisible visible (source.SetEntry vector index e) =
+  ActionUsesVisible visible (tree.Print at e) = ExpressionUsesVisible visible e
+  ActionUsesVisible visible (tree.Assign name initial) = IsVisible visible name × InitialUsesVisible visible initial
+  ActionUsesVisible visible (tree.Reduce name by e) = IsVisible visible name × ExpressionUsesVisible visible e
+  ActionUsesVisible visible (tree.SetEntry vector index e) =
       IsVisible visible vector × ExpressionUsesVisible visible index × ExpressionUsesVisible visible e
-  ActionUsesVisible visible (source.ReduceEntry vector index by e) =
+  ActionUsesVisible visible (tree.ReduceEntry vector index by e) =
       IsVisible visible vector × ExpressionUsesVisible visible index × ExpressionUsesVisible visible e
-  ActionUsesVisible visible (source.AddVertex set e) = IsVisible visible set × ExpressionUsesVisible visible e
-  ActionUsesVisible visible (source.Apply target ends function) = IsVisible visible target × EndsAreVisible visible ends × IsVisible visible function
+  ActionUsesVisible visible (tree.AddVertex set e) = IsVisible visible set × ExpressionUsesVisible visible e
+  ActionUsesVisible visible (tree.Apply target ends function) = IsVisible visible target × EndsAreVisible visible ends × IsVisible visible function
 
   -- each statement, at what is visible after those before it
   pub BlockUsesVisible : List (List ℕ) → BlockTree → Type 0
-  BlockUsesVisible visible source.Empty = Unit {0}
-  BlockUsesVisible visible (source.Then label action others) = ActionUsesVisible visible action × BlockUsesVisible (names_after visible action) others
+  BlockUsesVisible visible tree.Empty = Unit {0}
+  BlockUsesVisible visible (tree.Then label action others) = ActionUsesVisible visible action × BlockUsesVisible (names_after visible action) others
 
 -- The name of a declaration is visible after its end.
 abbrev pub DeclarationUsesVisible : List (List ℕ) → DeclarationTree → Type 0
-DeclarationUsesVisible visible (source.Constant at p initial) = InitialUsesVisible visible initial
-DeclarationUsesVisible visible (source.Function at name parameters result body) = BlockUsesVisible (names_inside visible parameters result) body
+DeclarationUsesVisible visible (tree.Constant at p initial) = InitialUsesVisible visible initial
+DeclarationUsesVisible visible (tree.Function at name parameters result body) = BlockUsesVisible (names_inside visible parameters result) body
 
 abbrev pub DeclarationsUseVisible : List (List ℕ) → List DeclarationTree → Type 0
 DeclarationsUseVisible visible [] = Unit {0}
