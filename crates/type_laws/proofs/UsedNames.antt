@@ -436,7 +436,7 @@ declarations_visible d (x ∷ others) none =
       subst (λ visible. DeclarationsUseVisible visible others) (declaration_new d x clear).1 (declarations_visible e.value others (no_right e.faults rest.faults none)),
     )
 
-pub names_are_visible : (source : SourceTree) (length : ℕ) → (program_of source length).faults ≡ [] → DeclarationsUseVisible [] tree.declarations
+pub names_are_visible : (source : SourceTree) (length : ℕ) → (program_of source length).faults ≡ [] → DeclarationsUseVisible [] source.declarations
 names_are_visible source length none =
-    let start = opening (set_count tree.declarations) in
-    declarations_visible start tree.declarations (no_left (declarations_typed start tree.declarations).faults _ none)
+    let start = opening (set_count source.declarations) in
+    declarations_visible start source.declarations (no_left (declarations_typed start source.declarations).faults _ none)
