@@ -16,10 +16,9 @@ use Rattle.types.proofs.EdgeWrites.{edge_functions_write_well}
 use Rattle.plans.specs.State.{StateValue, edge_scope}
 use Rattle.plans.specs.Value.{value, truth}
 use Rattle.plans.specs.Function.{WorkValue, first_work, after_set, after_reduce, after_step, after_steps, after_block, steps_of}
-use Rattle.plans.specs.EdgeApply.{gives}
-use Rattle.algorithm_meaning.specs.EdgeApply.{for_vector}
+use Rattle.plans.specs.EdgeApply.{gives, for_vector}
 use Rattle.schedule.specs.Independence.{is_none_of, are_apart}
-use Rattle.typed_tree.specs.inside.Access.{step_writes, steps_write}
+use Rattle.schedule.specs.Access.{step_writes, steps_write}
 use Rattle.schedule.specs.ScheduleTree.{ScheduleTree}
 use Rattle.weighted_edges.specs.Edge.{Edge}
 use Rattle.plans.specs.Instruction.{OperationTree, Do, ApplyEdgesTogether, ApplyVerticesTogether, Unless, Enter, UnlessBelow, Advance, Turn, Jump, End}

@@ -6,14 +6,13 @@ use Rattle.std.specs.List.{filter, flat_map, range_with_len}
 use Rattle.weighted_edges.specs.Edge.{Edge}
 use Rattle.apply_options.specs.declared.reduction.Reduction.{Reduction}
 use Rattle.kernels.specs.FunctionStatementTree.{FunctionStatementsTree}
-use Rattle.algorithm_meaning.specs.EdgeApply.{IsGivenBy}
+use Rattle.kernels.specs.EdgeApply.{IsGivenBy, after_edges}
 use Rattle.kernels.specs.State.{StateValue}
 use Rattle.kernels.specs.Value.{entry}
 use Rattle.vectors.specs.declared.changes.EntryChange.{EntryChange}
 use Rattle.crew.specs.Partition.{AreEnds, end_of}
 use Rattle.edge_fold.specs.Changed.{change_at, changed, changed_from}
 use Rattle.edge_fold.specs.Gathered.{is_in_range}
-use Rattle.kernels.specs.EdgeApply.{after_edges}
 use Rattle.edge_fold.specs.Contributions.{all_given, given_on, reduced_at}
 use Rattle.edge_fold.proofs.Ascending.{within_test}
 use Rattle.edge_fold.proofs.ChangedRows.{changed_from-append, nothing_changed}

@@ -3,7 +3,7 @@ use Rattle.std.specs.Prelude.{◌≡◌, ℕ, ◌≤◌, Bool, List, [], length,
 use Rattle.weighted_edges.specs.Edge.{Edge}
 use Rattle.apply_options.specs.declared.reduction.Reduction.{Reduction}
 use Rattle.kernels.specs.FunctionStatementTree.{FunctionStatementsTree}
-use Rattle.algorithm_meaning.specs.EdgeApply.{IsGivenBy}
+use Rattle.kernels.specs.EdgeApply.{IsGivenBy, after_edges}
 use Rattle.kernels.specs.State.{StateValue}
 use Rattle.kernels.specs.Value.{entry}
 use Rattle.kernels.specs.Registers.{HasSizes}
@@ -12,7 +12,6 @@ use Rattle.edge_fold.specs.Between.{edges_between}
 use Rattle.edge_fold.specs.Changed.{changed, changes_of}
 use Rattle.edge_fold.specs.Ends.{IsEndTest}
 use Rattle.edge_fold.specs.Folded.{AreKernels}
-use Rattle.kernels.specs.EdgeApply.{after_edges}
 use Rattle.edge_apply.specs.declared.apply.Apply.{Apply}
 
 -- for each vector that has an entry for each vertex and to which the functions give by one reduction, the vertices whose

@@ -14,8 +14,7 @@ use Rattle.algorithm_meaning.specs.Meaning.{opening_entries, out_degree}
 use Rattle.algorithm_meaning.specs.VertexSets.{after_vertex, after_vertices}
 use Rattle.kernels.specs.RegisterInstruction.{RegisterInstruction}
 use Rattle.kernels.specs.RegisterInstruction.TheVariants.{SetEntry}
-use Rattle.kernels.specs.Registers.{Registers, HasSizes, CodeInput, after, is_active, step}
-use Rattle.register_code.specs.Registers.{vectors_written}
+use Rattle.kernels.specs.Registers.{Registers, HasSizes, CodeInput, after, is_active, step, vectors_written}
 use Rattle.kernels.specs.Meaning.{IsVertexCode, vertex_input}
 use Rattle.vectors.specs.declared.changes.EntryChange.{EntryChange}
 use Rattle.vectors.specs.declared.changes.VectorChanges.{VectorChanges}

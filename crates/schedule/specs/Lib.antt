@@ -6,6 +6,7 @@ pub mod Schedule
 pub use Rattle.apply_options.specs.ScheduleTree
 pub use Rattle.apply_options.specs.declared.reduction.Reduction
 pub use Rattle.typed_tree.specs.Independence
+pub use Rattle.typed_tree.specs.inside.Access
 pub use Rattle.typed_tree.specs.ProgramTree
 pub use Rattle.typed_tree.specs.FunctionStatementTree
 pub mod inside

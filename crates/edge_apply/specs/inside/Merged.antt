@@ -6,11 +6,10 @@ use Rattle.weighted_edges.specs.Edge.{Edge}
 use Rattle.vectors.specs.declared.changes.Changes.{Changes}
 use Rattle.vectors.specs.declared.changes.EntryChange.{EntryChange}
 use Rattle.kernels.specs.FunctionStatementTree.{FunctionStatementsTree}
-use Rattle.algorithm_meaning.specs.EdgeApply.{IsGivenBy}
+use Rattle.kernels.specs.EdgeApply.{IsGivenBy, after_edges}
 use Rattle.kernels.specs.State.{StateValue}
 use Rattle.kernels.specs.Value.{entry}
 use Rattle.kernels.specs.Registers.{HasSizes}
-use Rattle.kernels.specs.EdgeApply.{after_edges}
 use Rattle.crew.specs.declared.piece_results.Found.{Found}
 use Rattle.crew.specs.Partition.{end_of}
 use Rattle.crew.specs.Pieces.{pieces_of}
