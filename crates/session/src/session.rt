@@ -232,7 +232,7 @@ impl Session {
 
 /// What is told of a step: a refusal is a reply, and want of memory none.
 fn told(answer: Result<SessionReply, SessionError>) -> Result<SessionReply, SessionError>
-    ensures { result ≡ told_of step_answer }
+    ensures { result ≡ told_of answer }
 {
     match answer {
         Ok(reply) => Ok(reply),
