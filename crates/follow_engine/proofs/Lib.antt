@@ -10,3 +10,4 @@ mod Marked
 mod Merges
 mod Chosen
 pub mod Recorded
+pub mod KeptChanges

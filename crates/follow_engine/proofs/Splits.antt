@@ -1,5 +1,5 @@
 -- The changes found at some vertices, and those recorded at all others, are the changes of the whole.
-use Rattle.std.proofs.Common.{◌≡◌, ◌⊎◌, inl, inr, ℕ, zero, suc, ◌+◌, ◌<◌, ◌≤◌, ℤ, Bool, true, false, not, cond, nat_lt, List, [], ◌∷◌, ◌++◌, refl, ap, ap₂, ◌∙◌, arith}
+use Rattle.std.proofs.Common.{◌≡◌, ◌⊎◌, inl, inr, ℕ, zero, suc, ◌+◌, ◌<◌, ◌≤◌, ℤ, Bool, true, false, not, cond, nat_lt, List, [], ◌∷◌, ◌++◌, refl, sym, ap, ap₂, ◌∙◌, arith}
 use Rattle.std.proofs.lemmas.Bool.Decides.{nat_tests}
 use Rattle.std.specs.List.{filter}
 use Rattle.kernels.specs.Arithmetic.{int_equal}
@@ -122,9 +122,33 @@ split_from test old new found was became v (suc n) at =
     (at v (omega arith) (omega arith)) (begins_row old found (v + 1) n) (begins_kept test was became (v + 1) n)
     (split_from test old new found was became (v + 1) n (λ u from to. at u (omega (arith, from)) (omega (arith, to))))
 
+-- what was found is at vertices of the test
+marked_one : (test : ℕ → Bool) (v : ℕ) (n : ℤ) (b : Bool) (cs all : List EntryChange) → test v ≡ true → filter (λ c. test c.vertex) cs ≡ all
+    → filter (λ c. test c.vertex) (one_or_none b v n ++ cs) ≡ one_or_none b v n ++ all
+marked_one test v n true cs all on more = more
+marked_one test v n false cs all on more =
+    let c : EntryChange = record { vertex = v; number = n } in
+    ap (λ (t : Bool). cond t (c ∷ filter (λ d. test d.vertex) cs) (filter (λ d. test d.vertex) cs)) on ∙ ap (λ (ds : List EntryChange). c ∷ ds) more
+
+marked_at : (test : ℕ → Bool) (old new found was became : ℕ → ℤ) (v : ℕ) (cs all : List EntryChange) → SplitsAt test old new found was became v
+    → filter (λ c. test c.vertex) cs ≡ all → filter (λ c. test c.vertex) (change_at old found v ++ cs) ≡ change_at old found v ++ all
+marked_at test old new found was became v cs all (inl (on, is)) more = marked_one test v (found v) (int_equal (old v) (found v)) cs all on more
+marked_at test old new found was became v cs all (inr (off, is, before, after)) more =
+    let none = no_change old found v is in
+    ap (λ (a : List EntryChange). filter (λ c. test c.vertex) (a ++ cs)) none ∙ more ∙ ap (λ (a : List EntryChange). a ++ all) (sym none)
+
+marked_from : (test : ℕ → Bool) (old new found was became : ℕ → ℤ) (v n : ℕ) → ((u : ℕ) → v ≤ u → u < v + n → SplitsAt test old new found was became u)
+    → filter (λ c. test c.vertex) (changed_from old found v n) ≡ changed_from old found v n
+unfolding changed_from
+marked_from test old new found was became v zero at = refl
+marked_from test old new found was became v (suc n) at =
+    marked_at test old new found was became v (changed_from old found (v + 1) n) (changed_from old found (v + 1) n) (at v (omega arith) (omega arith))
+    (marked_from test old new found was became (v + 1) n (λ u from to. at u (omega (arith, from)) (omega (arith, to))))
+
 -- the changes of the whole
 pub split : (test : ℕ → Bool) (old new found was became : ℕ → ℤ) (n : ℕ) (fs rs : List EntryChange) → fs ≡ changed n old found → rs ≡ changed n was became
     → ((u : ℕ) → u < n → SplitsAt test old new found was became u) → spliced test fs rs ≡ changed n old new
 split test old new found was became n fs rs first second at =
     ap₂ (λ (a b : List EntryChange). spliced test a b) first second
+    ∙ ap (λ (a : List EntryChange). merged a (kept test (changed n was became))) (marked_from test old new found was became 0 n (λ u from to. at u (omega (arith, to))))
     ∙ split_from test old new found was became 0 n (λ u from to. at u (omega (arith, to)))

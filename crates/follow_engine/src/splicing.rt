@@ -1,5 +1,6 @@
 //! The changes of one vector: those that were found, and those of a record.
 ghost use Rattle.std.specs.Prelude.{◌≡◌, ◌≤◌, ◌++◌, length, take, drop, IfOk, OnOk};
+ghost use Rattle.std.specs.List.{filter};
 ghost use Rattle.vertex_marks.specs.Marks.{is_marked};
 ghost use Rattle.follow_engine.specs.Spliced.{changes_below, changes_from, spliced};
 
@@ -7,7 +8,7 @@ use std::alloc::{AllocError, Global};
 use vectors::EntryChange;
 use vertex_marks::VertexMarks;
 
-/// The changes that were found, and those of a record at the vertices that are not marked, by ascending vertices as both
+/// The changes that were found at the marked vertices, and those of a record at the others, by ascending vertices as both
 /// lists are. The only error is out of memory.
 pub fn splice(
     alloc: Global,
@@ -17,8 +18,9 @@ pub fn splice(
 ) -> Result<Vec<EntryChange>, AllocError>
     ensures { IfOk result (λ all. all.items ≡ spliced (is_marked marks.now) found.now recorded.now) }
 {
+    let marked = at_marked(alloc, marks, found)?;
     let mut all = Vec::new(alloc);
-    let mut left = found;
+    let mut left = marked.as_slice();
     'recorded: for change in recorded {
         if !marks.contains(change.vertex()) {
             left = push_below(left, change.vertex(), &mut all)?;
@@ -27,6 +29,23 @@ pub fn splice(
     }
     all.extend_from_slice(left)?;
     Ok(all)
+}
+
+/// The changes at the marked vertices. The only error is out of memory.
+fn at_marked(
+    alloc: Global,
+    marks: &VertexMarks,
+    changes: &[EntryChange],
+) -> Result<Vec<EntryChange>, AllocError>
+    ensures { IfOk result (λ marked. marked.items ≡ filter (λ c. is_marked marks.now c.vertex) changes.now) }
+{
+    let mut marked = Vec::new(alloc);
+    'changes: for change in changes {
+        if marks.contains(change.vertex()) {
+            marked.push(*change)?;
+        }
+    }
+    Ok(marked)
 }
 
 /// Appends the changes in front that are at vertices below this one, and gives the others.

@@ -1,11 +1,14 @@
-use Rattle.std.proofs.Common.{rules, ◌≡◌, nat_le, inr, true, false, ℕ, List, sym, ◌∙◌, subst}
+use Rattle.std.proofs.Common.{rules, ◌≡◌, nat_le, inr, true, false, ℕ, List, sym, ap, ◌∙◌, subst}
+use Rattle.edge_fold.specs.Changed.{changes_of}
 use Rattle.std.proofs.lemmas.Bool.{leb-false, leb-true}
 use Rattle.vertex_marks.specs.Marks.{is_marked}
 use Rattle.follow_engine.specs.Spent.{AreChosen}
 use Rattle.follow_engine.specs.Work.{edges_to}
 use Rattle.follow_engine.specs.inside.Among.{ArePulledAmong}
 use Rattle.follow_engine.proofs.Chosen.{member_tested, pull_work}
+use Rattle.follow_engine.specs.Spliced.{changes_at}
 use Rattle.follow_engine.proofs.FollowedChanges.{changes_followed}
+use Rattle.follow_engine.proofs.KeptChanges.{kept_changes}
 use Rattle.follow_engine.proofs.following.follow.Goals as goal
 
 pub returns-then-not-fits_budget-clause-spent : goal.returns-then-not-fits_budget-clause-spent
@@ -28,6 +31,14 @@ pub returns-clause-marked : goal.returns-clause-marked
 returns-clause-marked c =
     let on : c.mark_reached.result ≡ true = search rules in
     c.mark_reached.ensures.reached on
+
+pub returns-clause-kept : goal.returns-clause-kept
+returns-clause-kept c x v lt off =
+    let on : c.mark_reached.result ≡ true = search rules in
+    let found = changes_of x c.in_ok-changes.changes.vectors.items in
+    let recorded = changes_of x c.args.followed.now.former.changes.now.vectors.items in
+    ap (changes_at v) (c.in_ok-splice_all.ensures.changes x)
+    ∙ kept_changes (is_marked c.mark_reached.new.marks) v found recorded (c.mark_reached.ensures.reached on v lt ∙ off)
 
 pub returns-clause-within : goal.returns-clause-within
 returns-clause-within c =
