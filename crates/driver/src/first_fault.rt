@@ -59,7 +59,7 @@ impl<'p, 'a> ProgramFiles<'p, 'a> {
         first_fault: &'p FirstFault,
         refused: &'p RefusedLines,
     ) -> ProgramFiles<'p, 'a>
-        ensures { result.names ≡ names }
+        ensures { result.names ≡ names.entry }
     {
         ProgramFiles {
             names,
