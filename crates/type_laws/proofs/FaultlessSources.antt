@@ -52,8 +52,9 @@ use Rattle.type_laws.proofs.KeptDeclarations.{Agrees, CheckerAgrees, as_matches}
 use Rattle.type_laws.proofs.KeptSources.{begun, begun_matches, declaration_kept, edge_opens, filter_opens, left_agrees, parameter_opens, vertex_opens, Opens, weighted_edge_opens}
 use Rattle.type_laws.proofs.KeptStatements.{statements_kept}
 use Rattle.type_laws.proofs.KeptSteps.{steps_kept}
-use Rattle.type_laws.proofs.FaultlessStatements as means_something
-use Rattle.type_laws.proofs.FaultlessStatements.{AreMembers, AreSome, Gives, Sees, declares_new, initial_gives, more_some, statements_keep, value_typed}
+use Rattle.type_laws.proofs.FaultlessInitials as means_something
+use Rattle.type_laws.proofs.FaultlessInitials.{AreMembers, AreSome, Gives, Sees, initial_gives, more_some, value_typed}
+use Rattle.type_laws.proofs.FaultlessStatements.{declares_new, statements_keep}
 use Rattle.type_laws.proofs.FaultlessSteps.{steps_keep}
 
 pub record SeesAll (d : DeclaredTree) (k : Declarations) : Type 0 where

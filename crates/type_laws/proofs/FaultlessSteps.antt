@@ -33,8 +33,9 @@ use Rattle.type_laws.proofs.TypedExpressions.{IsOf}
 use Rattle.type_laws.proofs.FaultlessExpressions.{IsMeant, Typed}
 use Rattle.type_laws.proofs.KeptNames.{closed_kept}
 use Rattle.type_laws.proofs.KeptSteps.{IsUser, step_kept, steps_kept}
-use Rattle.type_laws.proofs.FaultlessStatements.{Sees, after_some, condition_truth, declares_new, gives_number, gives_truth, integer_number, labelled_sees, used_is, value_number, value_typed}
-use Rattle.type_laws.proofs.FaultlessStatements.{vector_is_found}
+use Rattle.type_laws.proofs.FaultlessInitials.{Sees, condition_truth, gives_number, gives_truth, integer_number, used_is, value_number, value_typed}
+use Rattle.type_laws.proofs.FaultlessStatements.{after_some, declares_new, labelled_sees}
+use Rattle.type_laws.proofs.FaultlessInitials.{vector_is_found}
 
 declare_step_keeps : (i : Inside) (c : CheckerTree) (k : Known) → Sees i c k → (at : ℕ) (name : Identifier) (initial : InitialTree) (type : DeclaredType)
     → (declare_step c at name type initial).faults ≡ []

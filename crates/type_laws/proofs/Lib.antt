@@ -9,6 +9,7 @@ pub mod ExpressionRules
 pub mod Faultless
 pub mod FaultlessExpressions
 pub mod FaultlessSources
+pub mod FaultlessInitials
 pub mod FaultlessStatements
 pub mod FaultlessSteps
 pub mod FaultyForms
