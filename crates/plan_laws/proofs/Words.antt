@@ -70,7 +70,7 @@ kind_at p apply_schedule operation.End = refl
 pub kind_is : (p : ProgramTree) (i : InstructionTree) → kind_in (instruction_words p i) ≡ instruction_kind_of i.operation
 kind_is p i = kind_at p i.apply_schedule i.operation
 
--- a statement goes on at no other index
+-- no other index may follow a statement
 no_index_of_set : (value : SetValue) (words : List (List ℕ)) → index_behind (Some (kind_of_set value)) words ≡ None
 no_index_of_set set.Empty words = refl
 no_index_of_set set.All words = refl

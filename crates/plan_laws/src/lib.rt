@@ -1,4 +1,4 @@
-//! Laws of plans and of their texts, for readers: no crate of the program stands on this one, so that its proofs are off the
+//! Laws of plans and of their texts, for readers: no crate of the program depends on this one, so that its proofs are off the
 //! way of a build. The calls do nothing: each is a fact that is proved of every program, state and instruction.
 //!
 //! **Plans** over accepted schedules of checked programs. Two statements that an accepted schedule fuses are one instruction of
